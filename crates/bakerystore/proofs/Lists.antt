@@ -1,0 +1,62 @@
+-- Lists from a place on, and a run after one more line.
+use Rattle.std.proofs.Common.{◌≡◌, ℕ, zero, suc, ◌+◌, ◌<◌, ◌≤◌, Bool, true, false, nat_lt, if◌then◌else◌, List, [], ◌∷◌, ◌++◌, Some, IsSome, length, drop, get_or, ap, sym, ◌∙◌, arith, add-one, refl, slice_get, append_assoc, flat_map, codes}
+use Rattle.std.proofs.Common.{drop-cons}
+use Rattle.std.proofs.lemmas.List.{length-set}
+use Rattle.std.specs.Fmt.{decimal}
+use Rattle.plain_store.specs.Shown.{value_text}
+use Rattle.plain_store.specs.declared.commands.Value.{Value}
+use Rattle.plain_store.specs.Pairs.{Pair}
+use Rattle.plain_store.specs.declared.setups.Setup.{Setup}
+use Rattle.scenario.specs.declared.lines.Line.{Line}
+use Rattle.scenario.specs.declared.lines.Line.TheVariants as line
+use Rattle.bakerystore.specs.Plain.{Run, reply_line, pair_text, text_from, line_text, run_after, applied}
+
+-- what is found at a place comes first from there on
+pub drop_at : {X : Type 0} (xs : List X) (k : ℕ) (x : X) → slice_get xs k ≡ Some x → drop k xs ≡ x ∷ drop (k + 1) xs
+drop_at [] k x at = cc
+drop_at (y ∷ ys) zero x at = let same : y ≡ x = cc in ap (λ z. z ∷ ys) same
+drop_at (y ∷ ys) (suc k) x at = rw add-one (rw add-one at (drop_at ys k x at))
+
+-- something is found at each place within
+pub some_within : {X : Type 0} (xs : List X) (k : ℕ) → k < length xs → IsSome (slice_get xs k)
+some_within [] k within = absurd (omega arith)
+some_within (y ∷ ys) zero within = refl
+some_within (y ∷ ys) (suc k) within = some_within ys k (omega arith)
+
+-- the text from a line on
+pub text_step : (setup : Setup) (run : Run) (lines : List Line) (k : ℕ) (here : Line) → k < length lines → here ≡ get_or lines k here → text_from setup run (drop k lines) ≡ line_text setup run here ++ text_from setup (run_after setup run here) (drop (k + 1) lines)
+text_step setup run lines k here within is =
+    ap (text_from setup run) (drop-cons lines k here within ∙ ap (λ l. l ∷ drop (suc k) lines) (sym is) ∙ ap (λ n. here ∷ drop n lines) (sym (add-one k)))
+
+-- a text and what is printed from a line on, one line later
+pub text_more : (told : List ℕ) (setup : Setup) (run : Run) (lines : List Line) (k : ℕ) (here : Line) → k < length lines → here ≡ get_or lines k here → (told ++ line_text setup run here) ++ text_from setup (run_after setup run here) (drop (k + 1) lines) ≡ told ++ text_from setup run (drop k lines)
+text_more told setup run lines k here within is = append_assoc told _ _ ∙ ap (λ more. told ++ more) (sym (text_step setup run lines k here within is))
+
+-- a text and the pairs from a place on, one pair later
+pub pairs_more : (told : List ℕ) (pairs : List Pair) (k : ℕ) (p : Pair) → slice_get pairs k ≡ Some p → (told ++ pair_text p) ++ flat_map pair_text (drop (k + 1) pairs) ≡ told ++ flat_map pair_text (drop k pairs)
+pairs_more told pairs k p at = append_assoc told _ _ ∙ ap (λ ps. told ++ flat_map pair_text ps) (sym (drop_at pairs k p at))
+
+-- each process keeps its count
+pub counts_kept : (setup : Setup) (run : Run) (here : Line) → length (run_after setup run here).counts ≡ length run.counts
+counts_kept setup run (line.Call p command) = by (nat_lt p setup.processes)
+  where
+    by : (b : Bool) → length (if b then applied setup run p command else run).counts ≡ length run.counts
+    by true = length-set run.counts p _
+    by false = refl
+counts_kept setup run other = refl
+
+-- a line applies one call at most
+pub place_next : (setup : Setup) (run : Run) (here : Line) → (run_after setup run here).place ≤ run.place + 1
+place_next setup run (line.Call p command) = by (nat_lt p setup.processes)
+  where
+    by : (b : Bool) → (if b then applied setup run p command else run).place ≤ run.place + 1
+    by true = omega arith
+    by false = omega arith
+place_next setup run other = omega arith
+
+-- a pair's text, as `format!` puts it together
+pub pair_text_is : (name : List ℕ) (value : Value) → codes " " ++ (name ++ (codes "=" ++ value_text value)) ≡ pair_text (name, value)
+pair_text_is name value = simp append_assoc
+
+pub reply_line_is : (place p : ℕ) (reply : List ℕ) → decimal place ++ (codes " " ++ (decimal p ++ (codes " " ++ (reply ++ codes "\n")))) ≡ reply_line place p reply
+reply_line_is place p reply = simp append_assoc

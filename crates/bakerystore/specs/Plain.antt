@@ -1,0 +1,87 @@
+-- What `plain` prints for a file.
+use Rattle.std.specs.Prelude.{ℕ, ◌+◌, ◌==◌, nat_lt, if◌then◌else◌, List, [], ◌∷◌, ◌++◌, codes, flat_map, replicate, slice_set, Result}
+use Rattle.std.specs.Fmt.{decimal}
+use Rattle.plain_store.specs.Pairs.{Pair}
+use Rattle.plain_store.specs.Shown.{value_text, reply_text}
+use Rattle.plain_store.specs.Setups.{opening_store}
+use Rattle.plain_store.specs.Store.{Contents, reply_to, after, number_of}
+use Rattle.plain_store.specs.declared.commands.Caller.{Caller}
+use Rattle.plain_store.specs.declared.commands.Command.{Command}
+use Rattle.plain_store.specs.declared.setups.Setup.{Setup}
+use Rattle.scenario.specs.Reading.{Script, scenario_of}
+use Rattle.scenario.specs.declared.faults.LineFault.{LineFault}
+use Rattle.scenario.specs.declared.lines.Line.{Line}
+use Rattle.scenario.specs.declared.lines.Line.TheVariants as line
+use Rattle.scenario.specs.Engines.{text_by}
+
+-- The store, how many calls were applied, and how many of each process.
+pub record Run : Type 0 where
+  pub store : Contents
+  pub place : ℕ
+  pub counts : List ℕ
+
+-- who calls: in version 1 calls have no numbers
+abbrev pub caller_of : Setup → Run → ℕ → Caller
+caller_of setup run p = record { process = p; number = if setup.version == 1 then 0 else number_of run.counts p + 1 }
+
+-- ` NAME=VALUE`
+abbrev pub pair_text : Pair → List ℕ
+pair_text pair = codes " " ++ pair.0 ++ codes "=" ++ value_text pair.1
+
+-- the store on one line
+abbrev pub show_text : List Pair → List ℕ
+show_text [] = codes "show empty\n"
+show_text (pair ∷ pairs) = codes "show" ++ flat_map pair_text (pair ∷ pairs) ++ codes "\n"
+
+-- what is printed for a call that is applied, and for one of a process that is not there
+abbrev pub reply_line : ℕ → ℕ → List ℕ → List ℕ
+reply_line place p reply = decimal place ++ codes " " ++ decimal p ++ codes " " ++ reply ++ codes "\n"
+
+abbrev pub refusal_line : ℕ → List ℕ
+refusal_line p = codes "- " ++ decimal p ++ codes " refused no-process\n"
+
+abbrev pub applied_text : Setup → Run → ℕ → Command → List ℕ
+applied_text setup run p command = reply_line run.place p (reply_text (reply_to run.store command (caller_of setup run p)))
+
+abbrev pub call_text : Setup → Run → ℕ → Command → List ℕ
+call_text setup run p command = if nat_lt p setup.processes then applied_text setup run p command else refusal_line p
+
+-- what is printed for a line
+abbrev pub line_text : Setup → Run → Line → List ℕ
+line_text setup run (line.Call p command) = call_text setup run p command
+line_text setup run line.Show = show_text run.store.pairs
+line_text setup run other = []
+
+-- one more call of a process
+abbrev pub counted : Run → ℕ → Run
+counted run p = record run { place = run.place + 1; counts = slice_set run.counts p (number_of run.counts p + 1) }
+
+-- the run after a call that is applied
+abbrev pub applied : Setup → Run → ℕ → Command → Run
+applied setup run p command = counted (record run { store = after run.store command (caller_of setup run p) }) p
+
+-- the run after a call
+abbrev pub called : Setup → Run → ℕ → Command → Run
+called setup run p command = if nat_lt p setup.processes then applied setup run p command else run
+
+-- the run after a line
+abbrev pub run_after : Setup → Run → Line → Run
+run_after setup run (line.Call p command) = called setup run p command
+run_after setup run other = run
+
+-- what is printed for lines
+abbrev pub text_from : Setup → Run → List Line → List ℕ
+text_from setup run [] = []
+text_from setup run (line ∷ lines) = line_text setup run line ++ text_from setup (run_after setup run line) lines
+
+-- the opening store, and no call yet
+abbrev pub run_at_start : Setup → Run
+run_at_start setup = record { store = opening_store setup; place = 0; counts = replicate setup.processes 0 }
+
+-- what is printed for a scenario
+abbrev pub printed : Script → List ℕ
+printed script = text_from script.setup (run_at_start script.setup) script.lines
+
+-- the text of a file, or its fault
+abbrev pub plain_text : List ℕ → Result (List ℕ) LineFault
+plain_text = text_by scenario_of printed

@@ -1,0 +1,96 @@
+//! Runs the files of a world of processes. Without words it is `plain -`.
+#![tactic(auto)]
+
+mod plain;
+mod statuses;
+mod store_line;
+#[cfg(test)]
+mod tests;
+mod words;
+
+use plain::run_plain;
+use scenario::{Fault, FromRead, IntoWrite};
+use statuses::fault_status;
+use std::alloc::AllocError;
+use std::env::{self, Env};
+use std::fs::{File, Files};
+use std::io;
+use std::io::{BufReader, ErrorKind, Input, Read};
+use std::process::ExitCode;
+use words::{Engine, Request, read_words};
+
+/// What is printed where the words ask for nothing that there is.
+const USAGE: &str =
+    "usage: bakerystore [plain FILE]  (FILE - is standard input; without words: plain -)";
+
+/// The exit status where the words ask for nothing that there is.
+const USAGE_STATUS: u8 = 2;
+
+fn main(rt: HostRuntime) -> ExitCode {
+    let status = match request(&rt) {
+        Ok(Some(request)) => told(&rt, run(&rt, &request)),
+        Ok(None) => {
+            let _ = eprintln!(rt; "{USAGE}");
+            USAGE_STATUS
+        }
+        Err(AllocError) => told(&rt, Err(Fault::Memory)),
+    };
+    ExitCode::from(status)
+}
+
+/// What the program's words ask for; `None` where they ask for nothing that there is.
+fn request<T: Env + AllocGlobal>(rt: &T) -> Result<Option<Request>, AllocError> {
+    let arguments = match env::args(rt) {
+        Ok(arguments) => arguments,
+        Err(error) if error.kind() == ErrorKind::OutOfMemory => return Err(AllocError),
+        Err(_) => return Ok(None),
+    };
+    let mut owned = Vec::new(rt.alloc());
+    for word in arguments {
+        owned.push(word)?;
+    }
+    let mut words = Vec::new(rt.alloc());
+    for word in &owned {
+        words.push(word.as_str())?;
+    }
+    read_words(rt.alloc(), words.as_slice())
+}
+
+/// Opens the file and runs the engine on it.
+fn run<T: Files + Input + Print + AllocGlobal>(rt: &T, request: &Request) -> Result<(), Fault> {
+    if request.file.as_str() == "-" {
+        return run_on(rt, request.engine, rt.reader());
+    }
+    match File::open(rt, request.file.as_str()) {
+        Ok(file) => run_on(rt, request.engine, file),
+        Err(error) if error.kind() == ErrorKind::OutOfMemory => Err(Fault::Memory),
+        Err(_) => Err(Fault::Read),
+    }
+}
+
+/// Runs the engine from a reader to standard output.
+fn run_on<T: Print + AllocGlobal, R: Read + Drop>(
+    rt: &T,
+    engine: Engine,
+    reader: R,
+) -> Result<(), Fault> {
+    let Ok(buffered) = BufReader::new(rt.alloc(), reader) else {
+        return Err(Fault::Memory);
+    };
+    let mut input = FromRead::new(buffered);
+    let mut output = IntoWrite::new(io::writer(rt));
+    match engine {
+        Engine::Plain => run_plain(rt.alloc(), &mut input, &mut output),
+    }
+}
+
+/// Tells a fault on standard error, and answers the exit status.
+fn told<T: Eprint>(rt: &T, ran: Result<(), Fault>) -> u8 {
+    match ran {
+        Ok(()) => 0,
+        Err(fault) => {
+            let _ = eprintln!(rt; "{fault}");
+            fault_status(&fault)
+        }
+    }
+}

@@ -1,0 +1,6 @@
+pub mod Ascii
+pub mod Changes
+pub mod GoodSetups
+pub mod Numbers
+pub mod OpeningPairs
+pub mod Places

@@ -1,0 +1,10 @@
+pub mod Commands
+pub mod Names
+pub mod Openings
+pub mod Outcomes
+pub mod Padding
+pub mod Pairs
+pub mod Setups
+pub mod Shown
+pub mod Store
+pub mod Values

@@ -1,0 +1,17 @@
+-- Names with their values, in a list or in eight places.
+use Rattle.std.specs.Prelude.{ℕ, ◌-◌, List, ◌++◌, length, map, replicate, Option, Some, None}
+use Rattle.std.specs.List.{flat_map}
+use Rattle.std.specs.Option.{option_to_list}
+use Rattle.plain_store.specs.declared.commands.Value.{Value}
+
+-- a name with its value
+abbrev pub Pair : Type 0
+Pair = List ℕ × Value
+
+-- the pairs in the first places, and nothing behind them
+abbrev pub placed : List Pair → List (Option Pair)
+placed pairs = map Some pairs ++ replicate (8 - length pairs) None
+
+-- what stands in the places
+abbrev pub pairs_in : List (Option Pair) → List Pair
+pairs_in = flat_map option_to_list

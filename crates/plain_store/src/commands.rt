@@ -1,0 +1,92 @@
+//! Commands, who gives them, and what is answered to them. All of it is this project's own profile.
+ghost use Rattle.std.specs.Prelude.{◌≡◌};
+ghost use Rattle.plain_store.specs.Commands.{name_of};
+
+use crate::names::Name;
+use crate::texts::Text;
+
+/// What a name stands for: a count of 64 bits with a sign, or a text. Values are equal if they are of one
+/// kind and equal.
+#[derive(Clone, Copy, Debug, PartialEq, Eq)]
+pub enum Value {
+    Count(i64),
+    Text(Text),
+}
+
+/// What is asked of a store.
+#[derive(Clone, Copy, Debug, PartialEq, Eq)]
+pub enum Command {
+    /// The value of the name.
+    Read(Name),
+    /// Sets the name to the value; a new name takes a slot.
+    Write(Name, Value),
+    /// Adds to the name's count.
+    Add(Name, i64),
+    /// Compare and swap: sets the name to the second value where its value is the first.
+    Cas(Name, Value, Value),
+    /// The number of the caller's last call that changed the pairs, by which a restarted process learns
+    /// whether its cut call was taken. Scenario files have it in version 2 alone.
+    Ask,
+}
+
+impl Command {
+    /// The name that the command is about; `Ask` has none.
+    pub fn name(&self) -> Option<Name>
+        ensures { result ≡ name_of self.now }
+    {
+        match self {
+            Command::Read(name) => Some(*name),
+            Command::Write(name, _) => Some(*name),
+            Command::Add(name, _) => Some(*name),
+            Command::Cas(name, _, _) => Some(*name),
+            Command::Ask => None,
+        }
+    }
+}
+
+/// Who calls, and the number of the call.
+#[derive(Clone, Copy, Debug, PartialEq, Eq)]
+pub struct Caller {
+    /// The calling process, from 0.
+    pub process: u8,
+    /// 1 for the first call of the process in version 2, and so on; always 0 in version 1.
+    pub number: u16,
+}
+
+/// What a store replies to a command.
+#[derive(Clone, Copy, Debug, PartialEq, Eq)]
+pub enum Reply {
+    /// To `Read`: the value of the name.
+    Value(Value),
+    /// To `Write`: the name has the value.
+    Done,
+    /// To `Add`: the new count.
+    Sum(i64),
+    /// To `Cas`: the name had the first value and has the second.
+    Swapped,
+    /// To `Cas`: the name has this other value, and keeps it.
+    Kept(Value),
+    /// The name has no value yet.
+    NoName,
+    /// To `Add`: the name has a text.
+    NotCounter,
+    /// To `Add`: the sum does not fit 64 bits.
+    Overflow,
+    /// To `Write` of a new name: all slots are used.
+    StoreFull,
+    /// To `Ask`: the number of the caller's last call that changed the pairs, or 0.
+    Last(u16),
+}
+
+/// How a call ends: by the store's reply, or without having reached the store.
+#[derive(Clone, Copy, Debug, PartialEq, Eq)]
+pub enum Answer {
+    /// The store's reply.
+    Reply(Reply),
+    /// No greater ticket fits the ticket bits; the lowest process that was read with the greatest one.
+    TicketsFull { process: u8 },
+    /// The command would change the store, and no greater stamp fits the stamp bits.
+    StampsFull,
+    /// The caller withdrew while it waited.
+    Withdrawn,
+}

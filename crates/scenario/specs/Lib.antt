@@ -1,0 +1,13 @@
+pub mod Checks
+pub mod Cuts
+pub mod Engines
+pub mod Files
+pub mod Keywords
+pub mod Numbers
+pub mod Operands
+pub mod Reading
+pub mod Reads
+pub mod Setting
+pub mod Statements
+pub mod Streams
+pub mod Words

@@ -1,0 +1,49 @@
+//! The lines of a scenario.
+use plain_store::Command;
+
+/// Where later steps get their flicks.
+#[derive(Clone, Copy, Debug, PartialEq, Eq)]
+pub enum Flick {
+    /// Each is 0.
+    Zero,
+    /// Each is 1.
+    One,
+    /// Each is the lowest bit of a word of the generator, made anew from this seed.
+    Pcg(u64),
+}
+
+/// The stage up to which a process goes.
+#[derive(Clone, Copy, Debug, PartialEq, Eq)]
+pub enum Target {
+    /// Past its doorway: none of Doorway, Settling.
+    Wait,
+    /// Past its waiting: none of Doorway, Waiting, Settling.
+    Inside,
+    /// Idle or Down.
+    Idle,
+    /// Down.
+    Down,
+}
+
+/// A line behind the headings and opening pairs. A process may be one that is not there.
+#[derive(Clone, Copy, Debug, PartialEq, Eq)]
+pub enum Line {
+    /// The process calls the command.
+    Call(u8, Command),
+    /// The process makes so many steps.
+    Step(u8, u32),
+    /// The process makes steps up to a stage.
+    Go(u8, Target),
+    /// The process fails.
+    Fail(u8),
+    /// The process gives up its waiting.
+    Withdraw(u8),
+    /// The process starts again.
+    Restart(u8),
+    /// Later steps get their flicks in this way.
+    Flick(Flick),
+    /// So many steps of picked processes are made.
+    Wander(u32),
+    /// The newest store is printed.
+    Show,
+}

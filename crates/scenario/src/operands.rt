@@ -1,0 +1,63 @@
+//! Numbers, names and values as words.
+ghost use Rattle.std.specs.Prelude.{◌≡◌, ◌≤◌, IfOk};
+ghost use Rattle.scenario.specs.Operands.{number_at, name_at, value_at, integer_at};
+
+use crate::faults::FaultKind;
+use crate::numbers;
+use plain_store::{Name, Text, Value};
+
+/// A number up to `most`.
+pub fn number(word: &[u8], most: u64) -> Result<u64, FaultKind>
+    ensures { result ≡ number_at most word.now }
+{
+    numbers::number(word, most).ok_or(FaultKind::Number)
+}
+
+/// The number of a process: 0 to 255.
+pub fn process(word: &[u8]) -> Result<u8, FaultKind>
+    ensures { result ≡ number_at 255 word.now }
+{
+    Ok(number(word, 255)? as u8)
+}
+
+/// How many steps or turns: 0 to 100,000.
+pub fn count(word: &[u8]) -> Result<u32, FaultKind>
+    ensures value { result ≡ number_at 100000 word.now }
+    ensures most { IfOk result (λ n. n ≤ 100000) }
+{
+    Ok(number(word, 100_000)? as u32)
+}
+
+/// A number of 64 bits with a sign.
+pub fn integer(word: &[u8]) -> Result<i64, FaultKind>
+    ensures { result ≡ integer_at word.now }
+{
+    numbers::integer(word).ok_or(FaultKind::Number)
+}
+
+/// A name.
+pub fn name(word: &[u8]) -> Result<Name, FaultKind>
+    ensures { result ≡ name_at word.now }
+{
+    match Name::new(word) {
+        Ok(name) => Ok(name),
+        Err(_) => Err(FaultKind::BadName),
+    }
+}
+
+/// A value: `c:` and a number with a sign, or `t:` and a text.
+pub fn value(word: &[u8]) -> Result<Value, FaultKind>
+    ensures { result ≡ value_at word.now }
+{
+    match word {
+        [b'c', b':', digits @ ..] => match numbers::integer(digits) {
+            Some(count) => Ok(Value::Count(count)),
+            None => Err(FaultKind::BadValue),
+        },
+        [b't', b':', bytes @ ..] => match Text::new(bytes) {
+            Ok(text) => Ok(Value::Text(text)),
+            Err(_) => Err(FaultKind::BadValue),
+        },
+        _ => Err(FaultKind::BadValue),
+    }
+}

@@ -1,0 +1,194 @@
+//! Reading a scenario file, line by line.
+ghost use Rattle.std.specs.Prelude.{◌≡◌, [], true, false, not, ◌&&◌, length};
+ghost use Rattle.std.specs.Int.{is_in_range};
+ghost use Rattle.scenario.specs.Files.{one_more};
+ghost use Rattle.scenario.specs.Reads.{Gives, Makes, Takes, script};
+ghost use Rattle.scenario.specs.Reading.{first_read, heading_read, pair_read, open_read, kept_read, other_read, opened_read, script_of, scenario_of};
+ghost use Rattle.scenario.specs.Setting.{most_of, may_open, and_given, with_heading, with_pair};
+ghost use Rattle.scenario.specs.Statements.{is_line_of};
+ghost use Rattle.scenario.specs.Words.{texts};
+
+use crate::faults::{FaultKind, LineFault};
+use crate::files::{FromLines, keep_line, read_file};
+use crate::headings::{Given, default_setup};
+use crate::keywords::{Heading, LineWord, Opener};
+use crate::lines::Line;
+use crate::operands::{name, number, value};
+use crate::scenarios::Scenario;
+use crate::statements;
+use plain_store::{Command, Name, Setup, Value};
+use std::alloc::Global;
+use std::marker::Model;
+
+/// What the bytes of a scenario file say, or the first fault of the first line that has one. A fault of
+/// kind `Memory` may name any line.
+pub fn read_scenario(alloc: Global, text: &[u8]) -> Result<Scenario, LineFault>
+    ensures { Gives result (scenario_of text.now) }
+{
+    Ok(read_file::<Reader>(alloc, text)?.into_scenario())
+}
+
+/// What has been read so far.
+#[derive(Drop)]
+pub struct Reader {
+    given: Given,
+    setup: Setup,
+    lines: Vec<Line>,
+}
+
+impl Model for Reader {
+    ghost use Rattle.std.specs.Prelude.{◌≡◌, ◌≤◌, true, length, Ok};
+    ghost use Rattle.std.specs.List.{list_all};
+    ghost use Rattle.plain_store.specs.Setups.{checked};
+    ghost use Rattle.scenario.specs.Reading.{Progress};
+    ghost use Rattle.scenario.specs.Statements.{is_line_of};
+
+    ghost Value = { Progress };
+
+    ghost view = { λ r. record { given = r.given; setup = r.setup; lines = r.lines.items } };
+
+    ghost invariant = { λ r. (checked r.setup ≡ Ok tt) × (length r.lines.items ≤ 4000) × (list_all (is_line_of r.setup.version) r.lines.items ≡ true) };
+}
+
+impl FromLines for Reader {
+    ghost use Rattle.scenario.specs.Reading.{scenario_grammar};
+
+    ghost grammar = { scenario_grammar };
+
+    fn first(alloc: Global, word: &[u8], words: &[&[u8]]) -> Result<Reader, FaultKind> {
+        Reader::new(alloc, word, words)
+    }
+
+    fn later(&mut self, word: &[u8], words: &[&[u8]]) -> Result<(), FaultKind> {
+        match Opener::of(word) {
+            None => Err(FaultKind::Unknown),
+            Some(opener) => self.opened(opener, words),
+        }
+    }
+}
+
+impl Reader {
+    /// What was read, once all lines were.
+    pub fn into_scenario(self) -> Scenario
+        ensures { script result ≡ script_of self }
+    {
+        Scenario {
+            setup: self.setup,
+            lines: self.lines,
+        }
+    }
+
+    /// The first line: `bakery 1` or `bakery 2`.
+    #[tactic(auto, unfolding(crate::specs::Reading::first_read))]
+    fn new(alloc: Global, word: &[u8], words: &[&[u8]]) -> Result<Reader, FaultKind>
+        ensures { Makes result (first_read word.now (texts words.now)) }
+    {
+        if word != b"bakery".as_slice() || words.len() != 1 {
+            return Err(FaultKind::NotFirst);
+        }
+        let version = match words[0] {
+            b"1" => 1,
+            b"2" => 2,
+            _ => return Err(FaultKind::NotFirst),
+        };
+        Ok(Reader {
+            given: Given::none(),
+            setup: default_setup(version),
+            lines: Vec::new(alloc),
+        })
+    }
+
+    /// A later line, by what its first word means.
+    fn opened(&mut self, opener: Opener, words: &[&[u8]]) -> Result<(), FaultKind>
+        ensures { Takes result (opened_read opener (texts words.now) self.old) self.new }
+    {
+        match opener {
+            Opener::Bakery => Err(FaultKind::NotFirst),
+            Opener::Heading(heading) => self.heading(heading, words),
+            Opener::Open => self.open(words),
+            Opener::Line(name) => self.other(name, words),
+        }
+    }
+
+    /// A heading and its number.
+    #[tactic(auto, unfolding(crate::specs::Reading::heading_read))]
+    fn heading(&mut self, heading: Heading, words: &[&[u8]]) -> Result<(), FaultKind>
+        ensures { Takes result (heading_read heading (texts words.now) self.old) self.new }
+    {
+        if self.given.has(heading) || self.setup.opening.len() != 0 || !self.lines.is_empty() {
+            return Err(FaultKind::NotFirst);
+        }
+        if words.len() != 1 {
+            return Err(FaultKind::Words);
+        }
+        let n = number(words[0], 255)? as u8;
+        if n < 1 || n > heading.most(self.setup.version) {
+            return Err(FaultKind::BadSetup);
+        }
+        self.set(heading, n);
+        Ok(())
+    }
+
+    /// Sets a heading whose number is in range.
+    #[tactic(auto, using(crate::proofs::Good::good_with_heading))]
+    fn set(&mut self, heading: Heading, n: u8)
+        requires fits { is_in_range 1 (most_of heading self.old.setup.version) n ≡ true }
+        requires none_open { self.old.setup.opening ≡ [] }
+        requires no_lines { self.old.lines ≡ [] }
+        ensures { self.new ≡ record self.old { given = and_given heading self.old.given; setup = with_heading heading n self.old.setup } }
+    {
+        self.given.add(heading);
+        heading.set(&mut self.setup, n);
+    }
+
+    /// `open NAME VALUE`.
+    #[tactic(auto, unfolding(crate::specs::Reading::open_read))]
+    fn open(&mut self, words: &[&[u8]]) -> Result<(), FaultKind>
+        ensures { Takes result (open_read (texts words.now) self.old) self.new }
+    {
+        if self.setup.version != 2 {
+            return Err(FaultKind::Unknown);
+        }
+        if !self.lines.is_empty() {
+            return Err(FaultKind::NotFirst);
+        }
+        if words.len() != 2 {
+            return Err(FaultKind::Words);
+        }
+        self.add(name(words[0])?, value(words[1])?)
+    }
+
+    /// Adds an opening pair, if there is a slot and the name is new.
+    #[tactic(auto, using(crate::proofs::Good::good_with_pair))]
+    fn add(&mut self, name: Name, value: Value) -> Result<(), FaultKind>
+        requires { self.old.setup.version ≡ 2 }
+        ensures { Takes result (pair_read name value self.old) self.new }
+    {
+        if self.setup.opening.len() >= usize::from(self.setup.slots) {
+            return Err(FaultKind::BadSetup);
+        }
+        match self.setup.opening.add(name, value) {
+            Ok(()) => Ok(()),
+            Err(_) => Err(FaultKind::BadSetup),
+        }
+    }
+
+    /// A line of any other kind.
+    #[tactic(auto, unfolding(crate::specs::Reading::other_read))]
+    fn other(&mut self, name: LineWord, words: &[&[u8]]) -> Result<(), FaultKind>
+        ensures { Takes result (other_read name (texts words.now) self.old) self.new }
+    {
+        let _types: Option<(Command, Value)> = None;
+        self.keep(statements::line(self.setup.version, name, words)?)
+    }
+
+    /// Keeps a line, if there are not 4,000.
+    #[tactic(auto, using(crate::proofs::Good::all_with_line))]
+    fn keep(&mut self, line: Line) -> Result<(), FaultKind>
+        requires { is_line_of self.old.setup.version line ≡ true }
+        ensures { Takes result (kept_read line self.old) self.new }
+    {
+        let _types: Option<(Command, Value)> = None;
+        keep_line(&mut self.lines, line)
+    }
+}
