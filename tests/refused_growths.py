@@ -6,6 +6,7 @@ printed a front of what the file prints with ample memory; any other run must pr
 growth that no run meets. Each round builds the program without proving it, which takes about 20 seconds.
 """
 
+import os
 import pathlib
 import re
 import subprocess
@@ -18,10 +19,18 @@ def run(folder, growth):
     """Output and status of each file, with the given growth refused (0: none)."""
     refused = ["--fail-alloc", str(growth)] if growth else []
     command = ["rt", "try", *refused, "--cases", str(folder)]
-    told = subprocess.run(command, cwd=TOP / "crates" / "bakerystore", stdout=subprocess.PIPE, stderr=subprocess.STDOUT, text=True)
-    blocks = re.findall(r"^== (.*)\n((?s:.*?))^case=\S+ run=(\w+) status=(\d+)", told.stdout, re.M)
-    if not blocks:
-        sys.exit(f"no case ran:\n{told.stdout}")
+    # unbuffered, so that what the program wrote stands before the line on its case
+    told = subprocess.run(
+        command,
+        cwd=TOP / "crates" / "bakerystore",
+        env={**os.environ, "PYTHONUNBUFFERED": "1"},
+        stdout=subprocess.PIPE,
+        stderr=subprocess.STDOUT,
+        text=True,
+    )
+    blocks = re.findall(r"^== (.*)\n((?:(?!==|case=).*\n)*)case=\1 run=(\w+) status=(\d+)", told.stdout, re.M)
+    if len(blocks) != sum(path.is_file() for path in folder.iterdir()):
+        sys.exit(f"not every file ran:\n{told.stdout}")
     wanted = lambda text: "".join(line for line in text.splitlines(True) if not line.startswith("allocations:"))
     return {name: (wanted(text), ended, int(status)) for name, text, ended, status in blocks}
 

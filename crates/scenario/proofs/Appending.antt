@@ -1,4 +1,4 @@
--- Bytes that are taken in pieces.
+-- Bytes that are written or read in pieces.
 use Rattle.std.proofs.Common.{ℕ, ◌+◌, ◌≤◌, ◌<◌, List, [], ◌∷◌, ◌++◌, arith, Option, Some, None, length, take, drop, ap, sym, ◌∙◌, append_assoc, take-add}
 use Rattle.std.proofs.lemmas.List.{take_all, length-append}
 use Rattle.std.specs.Io.KnownBytes.{Appends, Consumes, Keeps}

@@ -62,10 +62,8 @@ fn read_line<T: FromLines>(
     if number > MOST_LINES || line.len() > MOST_BYTES {
         return Err(FaultKind::TooLong);
     }
-    match words(alloc, line) {
-        Ok(words) => read_words(alloc, words.as_slice(), read),
-        Err(_) => Err(FaultKind::Memory),
-    }
+    let words = words(alloc, line)?;
+    read_words(alloc, words.as_slice(), read)
 }
 
 fn read_words<T: FromLines>(

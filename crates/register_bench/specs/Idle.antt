@@ -1,0 +1,8 @@
+-- A reader has no read open.
+use Rattle.std.specs.Prelude.{◌≡◌, ℕ, List, false}
+use Rattle.safe_bit.specs.Cell.{Cell}
+use Rattle.reader_copies.specs.Row.{cell_at, HasCell}
+
+-- none of its copies is being read
+pub record IsIdle (row : List (List Cell)) (reader : ℕ) : Type 0 where
+  pub idle : (bit : ℕ) → HasCell row bit reader → (cell_at row bit reader).reading ≡ false

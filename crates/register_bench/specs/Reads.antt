@@ -1,0 +1,17 @@
+-- A read that nobody disturbs.
+use Rattle.std.specs.Prelude.{◌≡◌, ℕ, ◌<◌, List, Bool, length}
+use Rattle.safe_bit.specs.Cell.{Cell}
+use Rattle.reader_copies.specs.Row.{IsRow}
+use Rattle.reader_copies.specs.Written.{IsWritten}
+use Rattle.safe_number.specs.Runs.{NumberRead}
+use Rattle.safe_number.specs.Written.{IsReading, IsUndisturbed}
+
+-- it has come so far and goes on, and what was written when it began still is
+pub record ReadsAlong (start row : List (List Cell)) (reader width : ℕ) (r : NumberRead) : Type 0 where
+  pub shape : IsRow row width
+  pub readers : length row ≡ length start
+  pub reading : IsReading row reader r
+  pub width_is : r.width ≡ width
+  pub going : length r.bits < width
+  pub written : (v : ℕ → Bool) → IsWritten start v → IsWritten row v
+  pub undisturbed : (v : ℕ → Bool) → IsWritten start v → IsUndisturbed row v reader r

@@ -1,0 +1,70 @@
+-- The accesses of a whole number, in their order: bits ascending; of a write of a bit the copies ascending, of each copy begin and end; of a read of a bit begin and end of the reader's own copy.
+use Rattle.std.specs.Prelude.{ℕ, zero, suc, ◌+◌, ◌-◌, Bool, List, [], ◌∷◌, ◌++◌, map, length, if◌then◌else◌}
+use Rattle.std.specs.List.{range_with_len}
+use Rattle.safe_bit.specs.declared.Move.TheVariants.{BeginRead, EndRead}
+use Rattle.reader_copies.specs.declared.Made.{Made}
+use Rattle.reader_copies.specs.Runs.{bit_writes, rest_of_write}
+use Rattle.safe_number.specs.declared.access.Access.{Access}
+use Rattle.safe_number.specs.declared.access.Field.{Field}
+use Rattle.safe_number.specs.Bytes.{bit_in}
+use Rattle.safe_number.specs.Runs.{NumberWrite, NumberRead, bit_write, next_of_write, number_write_after, next_of_read, number_read_after}
+
+-- an access to bit k
+abbrev pub at_bit : ℕ → Made → ℕ × Made
+at_bit k made = (k, made)
+
+-- an access to a bit of a register, as an access to that register
+abbrev pub access_of : ℕ → Field → ℕ × Made → Access
+access_of owner field a = record { owner = owner; field = field; bit = a.0; reader = a.1.reader; how = a.1.how }
+
+-- the accesses of a write of these bits, from bit k on, to n copies of each
+abbrev pub writes_from : ℕ → ℕ → List Bool → List (ℕ × Made)
+writes_from n k [] = []
+writes_from n k (b ∷ bits) = map (at_bit k) (bit_writes n b) ++ writes_from n (k + 1) bits
+
+-- the accesses of a write of a number with these bits, to n copies of each
+abbrev pub number_writes : ℕ → List Bool → List (ℕ × Made)
+number_writes n bits = writes_from n 0 bits
+
+-- the accesses of a reader's read that gives these bits, from bit k on
+abbrev pub reads_from : ℕ → ℕ → List Bool → List (ℕ × Made)
+reads_from reader k [] = []
+reads_from reader k (b ∷ bits) =
+    at_bit k (record { reader = reader; how = BeginRead }) ∷ at_bit k (record { reader = reader; how = EndRead b }) ∷ reads_from reader (k + 1) bits
+
+-- the accesses of a reader's read of a number that gives these bits
+abbrev pub number_reads : ℕ → List Bool → List (ℕ × Made)
+number_reads reader bits = reads_from reader 0 bits
+
+-- the accesses that are left of a write with so many bits to go
+abbrev pub rest_of_bits : ℕ → List ℕ → NumberWrite → ℕ → List (ℕ × Made)
+rest_of_bits n value w zero = []
+rest_of_bits n value w (suc m) = map (at_bit w.bit) (rest_of_write n (bit_write value w)) ++ writes_from n (w.bit + 1) (map (bit_in value) (range_with_len (w.bit + 1) m))
+
+-- the accesses that are left of a write
+abbrev pub rest_of_number_write : ℕ → List ℕ → NumberWrite → List (ℕ × Made)
+rest_of_number_write n value w = rest_of_bits n value w (w.width - w.bit)
+
+-- the next k accesses that a write tells
+abbrev pub told_by_write : ℕ → ℕ → List ℕ → NumberWrite → List (ℕ × Made)
+told_by_write zero n value w = []
+told_by_write (suc k) n value w = next_of_write value w ∷ told_by_write k n value (number_write_after n value w)
+
+-- the write after them
+abbrev pub write_after_steps : ℕ → ℕ → List ℕ → NumberWrite → NumberWrite
+write_after_steps zero n value w = w
+write_after_steps (suc k) n value w = write_after_steps k n value (number_write_after n value w)
+
+-- the accesses that a read has made
+abbrev pub made_by_read : ℕ → NumberRead → List (ℕ × Made)
+made_by_read reader r = number_reads reader r.bits ++ (if r.begun then at_bit (length r.bits) (record { reader = reader; how = BeginRead }) ∷ [] else [])
+
+-- the next accesses that a read tells, one for each value that is handed in
+abbrev pub told_by_read : ℕ → NumberRead → List Bool → List (ℕ × Made)
+told_by_read reader r [] = []
+told_by_read reader r (v ∷ values) = next_of_read reader r v ∷ told_by_read reader (number_read_after r v) values
+
+-- the read after them
+abbrev pub read_after_steps : NumberRead → List Bool → NumberRead
+read_after_steps r [] = r
+read_after_steps r (v ∷ values) = read_after_steps (number_read_after r v) values

@@ -1,0 +1,37 @@
+use reader_copies::Torn;
+use safe_bit::Move;
+
+/// A register of a process: those of the lock, and those of the store and its two versions.
+#[derive(Clone, Copy, Debug, PartialEq, Eq)]
+pub enum Field {
+    Choosing,
+    Ticket,
+    Commit,
+    Stamp0,
+    Stamp1,
+    Image0,
+    Image1,
+}
+
+/// One access to one copy of one bit.
+#[derive(Clone, Copy, Debug, PartialEq, Eq)]
+pub struct Access {
+    /// The process whose register it is.
+    pub owner: u8,
+    pub field: Field,
+    /// The bit of the register, counted from 0, the least significant.
+    pub bit: u16,
+    /// The process whose copy it is.
+    pub reader: u8,
+    pub how: Move,
+}
+
+/// A bit whose write was cut before it had ended on every copy.
+#[derive(Clone, Copy, Debug)]
+pub struct TornBit {
+    pub field: Field,
+    /// The bit of the register, counted from 0, the least significant.
+    pub bit: u16,
+    /// What is left to settle of it.
+    pub torn: Torn,
+}

@@ -1,0 +1,23 @@
+//! Numbers of several bits, each bit with one writer and several readers.
+#![tactic(auto)]
+
+mod access;
+mod bytes;
+mod fault;
+mod laws;
+mod reading;
+mod register;
+#[cfg(test)]
+mod tests;
+mod writing;
+
+pub use access::{Access, Field, TornBit};
+pub use bytes::{bits_of, number_of};
+pub use fault::NumberFault;
+pub use laws::{
+    accesses_go_in_order, cut_writes_are_settled, numbers_are_their_bits, presets_give_the_number,
+    reads_take_turns, undisturbed_reads_give_the_number, writes_give_the_number,
+};
+pub use reading::ReadRun;
+pub use register::Register;
+pub use writing::WriteRun;

@@ -1,0 +1,158 @@
+ghost use Rattle.std.specs.Prelude.{◌≡◌, ℕ, ◌<◌, ◌≤◌, ◌*◌, ◌==◌, ◌↔◌, false, length, IfOk, IsErrOf, slice_index_or, []};
+ghost use Rattle.safe_bit.specs.Cell.{read_answer};
+ghost use Rattle.reader_copies.specs.Row.{cell_at, row_after, new_row, without_reads, HasCell, CanMake, IsClosed};
+ghost use Rattle.reader_copies.specs.Runs.{next_write, next_read, next_settle, settle_after, settled_at, progress_of};
+ghost use Rattle.safe_number.specs.Bytes.{IsBadWidth};
+ghost use Rattle.safe_number.specs.Runs.{bit_write, number_write_after, bit_read, number_read_after, preset_number};
+ghost use Rattle.safe_number.specs.Written.{loaded};
+
+use crate::bytes;
+use crate::fault::NumberFault;
+use crate::reading::ReadRun;
+use crate::writing::WriteRun;
+use reader_copies::{CopiedRow, MAX_WIDTH, Made, Progress, Torn};
+use std::alloc::{AllocError, Global};
+use std::marker::Model;
+
+/// A number of 1 to 1728 bits with one writer and 1 to 16 readers, each bit a safe copy for each reader
+/// (Lamport 1986).
+///
+/// Bits and readers are counted from 0. A read that no write overlaps gives the number, any other some
+/// number of that width.
+#[derive(Drop)]
+pub struct Register {
+    row: CopiedRow,
+    width: u16,
+}
+
+impl Model for Register {
+    ghost use Rattle.std.specs.Prelude.{List};
+    ghost use Rattle.safe_bit.specs.Cell.{Cell};
+    ghost use Rattle.reader_copies.specs.Row.{IsRow};
+
+    ghost Value = { List (List Cell) };
+
+    ghost view = { λ r. r.row };
+
+    ghost invariant = { λ r. IsRow r.row r.width };
+}
+
+impl Register {
+    /// A register of `width` bits that open at 0, for readers 0 to `readers - 1`. A width of 0 or above
+    /// [`MAX_WIDTH`] is `Width`; the only other fault is want of memory.
+    pub fn new(alloc: Global, width: u16, readers: u8) -> Result<Register, NumberFault>
+        requires { 1 ≤ readers × readers ≤ 16 }
+        ensures width { IsErrOf result NumberFault.Width ↔ IsBadWidth width }
+        ensures register { IfOk result (λ register. register ≡ new_row width readers) }
+    {
+        if width == 0 || width > MAX_WIDTH {
+            return Err(NumberFault::Width);
+        }
+        Ok(Register {
+            row: CopiedRow::new(alloc, width, readers)?,
+            width,
+        })
+    }
+
+    /// Makes one access to a bit, in its turn. Whatever cursor told the access, this is what it does to memory.
+    #[inline]
+    pub fn apply(&mut self, bit: u16, made: Made)
+        requires { CanMake self.old bit made }
+        ensures { self.new ≡ row_after self.old bit made }
+    {
+        self.row.apply(bit, made);
+    }
+
+    /// What the end of a reader's open read of a bit gives: `flick` if a write of the reader's copy was
+    /// open at some time during the read, and else the copy's value.
+    #[inline]
+    pub fn answer(&self, bit: u16, reader: u8, flick: bool) -> bool
+        requires { HasCell self.now bit reader }
+        ensures { result ≡ read_answer (cell_at self.now bit reader) flick }
+    {
+        self.row.answer(bit, reader, flick)
+    }
+
+    /// Makes the next access of a write of `value` by the writer, and answers its bit: 2 for each bit and
+    /// reader in all.
+    #[inline]
+    pub fn write_step(&mut self, run: &mut WriteRun, value: &[u8]) -> (u16, Made, Progress)
+        requires going { run.old.bit < run.old.width × (bit_write value.now run.old).made < 2 * length self.old }
+        requires value { run.old.width ≤ 8 * length value.now }
+        requires can { CanMake self.old run.old.bit (next_write (bit_write value.now run.old)) }
+        ensures bit { result.0 ≡ run.old.bit }
+        ensures made { result.1 ≡ next_write (bit_write value.now run.old) }
+        ensures register { self.new ≡ row_after self.old result.0 result.1 }
+        ensures run { run.new ≡ number_write_after (length self.old) value.now run.old }
+        ensures progress { result.2 ≡ progress_of (run.new.bit == run.new.width) }
+    {
+        let readers = self.row.readers();
+        let (bit, made) = run.next(value);
+        self.apply(bit, made);
+        (bit, made, run.advance(readers, value))
+    }
+
+    /// Makes the next access of a read by its reader, and answers its bit: 2 for each bit in all. The end
+    /// of a bit's read gives `flick` if a write of the reader's copy was open at some time during it.
+    #[inline]
+    pub fn read_step(&mut self, reader: u8, run: &mut ReadRun, flick: bool) -> (u16, Made, Progress)
+        requires going { length run.old.bits < run.old.width }
+        requires there { HasCell self.old (length run.old.bits) reader }
+        requires turn { (cell_at self.old (length run.old.bits) reader).reading ≡ run.old.begun }
+        ensures bit { result.0 ≡ length run.old.bits }
+        ensures made { result.1 ≡ next_read reader (bit_read run.old) (loaded self.old reader run.old flick) }
+        ensures register { self.new ≡ row_after self.old result.0 result.1 }
+        ensures run { run.new ≡ number_read_after run.old (loaded self.old reader run.old flick) }
+        ensures progress { result.2 ≡ progress_of (length run.new.bits == run.new.width) }
+    {
+        let value = self.answer(run.bit(), reader, flick);
+        let (bit, made) = run.next(reader, value);
+        self.apply(bit, made);
+        (bit, made, run.advance(value))
+    }
+
+    /// Makes the next access that settles the torn bit of a cut write, in the writer's stead, and answers
+    /// the bit: all copies at the `value` of the first such step.
+    #[inline]
+    pub fn settle_step(&mut self, bit: u16, torn: &mut Torn, value: bool) -> (u16, Made, Progress)
+        requires going { torn.old.reader < length self.old }
+        requires can { CanMake self.old bit (next_settle torn.old (settled_at torn.old value)) }
+        ensures bit { result.0 ≡ bit }
+        ensures made { result.1 ≡ next_settle torn.old (settled_at torn.old value) }
+        ensures register { self.new ≡ row_after self.old result.0 result.1 }
+        ensures torn { torn.new ≡ settle_after torn.old (settled_at torn.old value) }
+        ensures progress { result.2 ≡ progress_of (torn.new.reader == length self.old) }
+    {
+        let (made, progress) = self.row.settle_step(bit, torn, value);
+        (bit, made, progress)
+    }
+
+    /// Drops the open read of a reader: it ends without a value. It clears the words of one plane and does
+    /// not go over the bits.
+    pub fn drop_read(&mut self, reader: u8)
+        requires { reader < length self.old }
+        ensures { self.new ≡ without_reads self.old reader }
+    {
+        self.row.drop_reads(reader);
+    }
+
+    /// Bit `k`, as reader 0 has it, while no write of its copy is open.
+    pub fn bit(&self, k: u16) -> bool
+        requires there { HasCell self.now k 0 }
+        requires closed { (cell_at self.now k 0).writing ≡ false }
+        ensures { result ≡ (cell_at self.now k 0).value }
+    {
+        self.row.value(k, 0)
+    }
+
+    /// Sets all copies of all bits to those of `value`, while no access is open.
+    pub fn preset(&mut self, value: &[u8])
+        requires value { length (slice_index_or self.old 0 []) ≤ 8 * length value.now }
+        requires closed { (bit reader : ℕ) → HasCell self.old bit reader → IsClosed (cell_at self.old bit reader) }
+        ensures { self.new ≡ preset_number self.old value.now }
+    {
+        for k in 0..self.width {
+            self.row.preset(k, bytes::bit(value, k as usize));
+        }
+    }
+}
