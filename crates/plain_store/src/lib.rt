@@ -3,19 +3,23 @@
 #![tactic(auto)]
 
 mod commands;
+mod image;
 mod names;
 mod openings;
 mod outcomes;
 mod padding;
 mod plain;
+mod rules;
 mod setups;
 mod shown;
+mod slots;
 mod stores;
 #[cfg(test)]
 mod tests;
 mod texts;
 
 pub use commands::{Answer, Caller, Command, Reply, Value};
+pub use image::{BadImage, Image};
 pub use names::{BadName, Name};
 pub use openings::{OpenFault, Opening};
 pub use plain::PlainStore;
