@@ -1,5 +1,5 @@
 #!/usr/bin/env bash
-# Times the proved program on two files. Needs `rt run bakerystore` to have been run, and `perf`.
+# Times the proved program on two files. Needs `rt run` to have been run in crates/bakerystore, and `perf`.
 set -eu
 cd "$(dirname "$0")/.."
 program=$PWD/crates/bakerystore/out/bakerystore

@@ -6,7 +6,6 @@ printed a front of what the file prints with ample memory; any other run must pr
 growth that no run meets. Each round builds the program without proving it, which takes about 20 seconds.
 """
 
-import os
 import pathlib
 import re
 import subprocess
@@ -16,30 +15,24 @@ TOP = pathlib.Path(__file__).resolve().parent.parent
 
 
 def run(folder, growth):
-    """Output and status of each file, with the given growth refused (0: none)."""
+    """Output, fault lines and status of each file, with the given growth refused (0: none)."""
     refused = ["--fail-alloc", str(growth)] if growth else []
     command = ["rt", "try", *refused, "--cases", str(folder)]
-    # unbuffered, so that what the program wrote stands before the line on its case
-    told = subprocess.run(
-        command,
-        cwd=TOP / "crates" / "bakerystore",
-        env={**os.environ, "PYTHONUNBUFFERED": "1"},
-        stdout=subprocess.PIPE,
-        stderr=subprocess.STDOUT,
-        text=True,
-    )
-    blocks = re.findall(r"^== (.*)\n((?:(?!==|case=).*\n)*)case=\1 run=(\w+) status=(\d+)", told.stdout, re.M)
-    if len(blocks) != sum(path.is_file() for path in folder.iterdir()):
-        sys.exit(f"not every file ran:\n{told.stdout}")
-    wanted = lambda text: "".join(line for line in text.splitlines(True) if not line.startswith("allocations:"))
-    return {name: (wanted(text), ended, int(status)) for name, text, ended, status in blocks}
+    told = subprocess.run(command, cwd=TOP / "crates" / "bakerystore", capture_output=True, text=True)
+    # standard output has the files' outputs, each behind its name; standard error their fault lines, each before its end
+    printed = dict(re.findall(r"^== (.*)\n((?:(?!== ).*\n)*)", told.stdout, re.M))
+    ends = re.findall(r"((?:(?!case=).*\n)*)case=(\S+) run=(\w+) status=(\d+).*\n", told.stderr)
+    if len(ends) != len(printed) or len(ends) != sum(path.is_file() for path in folder.iterdir()):
+        sys.exit(f"not every file ran:\n{told.stdout}{told.stderr}")
+    faults = lambda text: "".join(line for line in text.splitlines(True) if not line.startswith("allocations:"))
+    return {name: (printed[name], faults(text), ended, int(status)) for text, name, ended, status in ends}
 
 
-def lost(text, whole):
-    """Whether the text is a front of the whole one, and then says that memory ran out."""
-    *printed, fault = text.splitlines(True) or [""]
-    front = whole.startswith("".join(printed))
-    return front and re.fullmatch(r"out of memory\n?|line \d+: memory\n?", fault) is not None
+def is_good(ran, whole):
+    """Whether a run ended as the whole one, or told want of memory after a front of what that one printed."""
+    printed, fault, ended, status = ran
+    lost = status == 4 and re.fullmatch(r"out of memory\n|line \d+: memory\n", fault) and whole[0].startswith(printed)
+    return ended == "ended" and (ran == whole or bool(lost))
 
 
 def main():
@@ -47,15 +40,14 @@ def main():
     whole = run(folder, 0)
     passed = failed = 0
     for growth in range(1, 1000):
-        rounds = run(folder, growth)
-        met = {name for name, (_, _, status) in rounds.items() if status == 4}
-        for name, (text, ended, status) in rounds.items():
-            good = ended == "ended" and (lost(text, whole[name][0]) if name in met else (text, ended, status) == whole[name])
+        runs = run(folder, growth)
+        for name, ran in runs.items():
+            good = is_good(ran, whole[name])
             passed += good
             failed += not good
             if not good:
-                print(f"growth {growth} of {name}: status {status}\n{text}")
-        if not met:
+                print(f"growth {growth} of {name}: {ran}")
+        if runs == whole:
             break
     print(f"{growth - 1} growths refused in turn\n{passed} passed, {failed} failed")
     sys.exit(failed != 0)

@@ -3,7 +3,7 @@
 
 Each folder of examples/worked/ has a `scenario`, and for each command that can run it, as `plain`, what the command
 writes to standard output; beside it `plain.err` (no such file: nothing) and `plain.status` (no such file: 0). The
-program is the one that `rt run bakerystore` leaves.
+program is the one that `rt run` leaves in crates/bakerystore.
 """
 
 import pathlib

@@ -1,5 +1,5 @@
 -- Lists from a place on, and a run after one more line.
-use Rattle.std.proofs.Common.{◌≡◌, ℕ, zero, suc, ◌+◌, ◌<◌, ◌≤◌, Bool, true, false, nat_lt, if◌then◌else◌, List, [], ◌∷◌, ◌++◌, Some, IsSome, length, drop, get_or, ap, sym, ◌∙◌, arith, add-one, refl, slice_get, append_assoc, flat_map, codes}
+use Rattle.std.proofs.Common.{◌≡◌, ℕ, zero, suc, ◌+◌, ◌<◌, ◌≤◌, Bool, true, false, nat_lt, if◌then◌else◌, List, [], ◌∷◌, ◌++◌, Some, length, drop, get_or, ap, sym, ◌∙◌, arith, add-one, refl, slice_get, append_assoc, flat_map, codes}
 use Rattle.std.proofs.Common.{drop-cons}
 use Rattle.std.proofs.lemmas.List.{length-set}
 use Rattle.std.specs.Fmt.{decimal}
@@ -16,12 +16,6 @@ pub drop_at : {X : Type 0} (xs : List X) (k : ℕ) (x : X) → slice_get xs k �
 drop_at [] k x at = cc
 drop_at (y ∷ ys) zero x at = let same : y ≡ x = cc in ap (λ z. z ∷ ys) same
 drop_at (y ∷ ys) (suc k) x at = rw add-one (rw add-one at (drop_at ys k x at))
-
--- something is found at each place within
-pub some_within : {X : Type 0} (xs : List X) (k : ℕ) → k < length xs → IsSome (slice_get xs k)
-some_within [] k within = absurd (omega arith)
-some_within (y ∷ ys) zero within = refl
-some_within (y ∷ ys) (suc k) within = some_within ys k (omega arith)
 
 -- the text from a line on
 pub text_step : (setup : Setup) (run : Run) (lines : List Line) (k : ℕ) (here : Line) → k < length lines → here ≡ get_or lines k here → text_from setup run (drop k lines) ≡ line_text setup run here ++ text_from setup (run_after setup run here) (drop (k + 1) lines)

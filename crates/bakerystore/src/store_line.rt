@@ -8,7 +8,7 @@ use plain_store::{Name, Store, Value};
 use std::alloc::{AllocError, Global};
 
 /// The pairs of a store in order of first write, as `show a=c:5 b=t:x`.
-#[tactic(auto, using(crate::proofs::Lists::pairs_more, crate::proofs::Lists::some_within))]
+#[tactic(auto, using(crate::proofs::Lists::pairs_more, plain_store::proofs::OpeningPairs::some_within))]
 pub fn show_line<S: Store>(alloc: Global, store: &S) -> Result<String, AllocError>
     ensures { IfOk result (λ line. string_bytes line ≡ show_text (S.contents store.now).pairs) }
 {

@@ -1,25 +1,23 @@
 -- What a setup keeps that passes all tests.
-use Rattle.std.proofs.Common.{◌≡◌, ◌≤◌, Bool, true, false, List, [], ◌∷◌, nat_le, length, Ok, Err, refl, arith, if◌then◌else◌, ◌==◌}
+use Rattle.std.proofs.Common.{◌≡◌, ◌≤◌, Bool, true, false, List, [], ◌∷◌, nat_le, length, Ok, refl, arith, if◌then◌else◌, ◌==◌}
 use Rattle.std.proofs.lemmas.Bool.Decides.{nat_tests}
 use Rattle.std.specs.Int.{is_in_range}
+use Rattle.std.specs.List.{list_all}
 use Rattle.plain_store.specs.Setups.{checks, checked, first_fault, most_processes, most_bits, is_good_opening}
 use Rattle.plain_store.specs.declared.setups.BadSetup.{BadSetup}
 use Rattle.plain_store.specs.declared.setups.Setup.{Setup}
 
--- all tests hold
-AllPass : List (Bool × BadSetup) → Type 0
-AllPass [] = Unit {0}
-AllPass (check ∷ checks) = (check.0 ≡ true) × AllPass checks
+-- where there is no fault, all tests pass
+pub all_pass : (cs : List (Bool × BadSetup)) → first_fault cs ≡ Ok tt → list_all (λ c. c.0) cs ≡ true
+all_pass [] good = refl
+all_pass ((true, f) ∷ cs) good = all_pass cs good
+all_pass ((false, f) ∷ cs) good = absurd (cc)
 
--- where there is no fault, all tests hold
-all_pass : (checks : List (Bool × BadSetup)) → first_fault checks ≡ Ok tt → AllPass checks
-unfolding AllPass
-all_pass [] good = tt
-all_pass (check ∷ checks) good = by check.0 (all_pass checks) good
-  where
-    by : (b : Bool) → (first_fault checks ≡ Ok tt → AllPass checks) → (if b then first_fault checks else Err check.1) ≡ Ok tt → (b ≡ true) × AllPass checks
-    by true more good = (refl, more good)
-    by false more good = absurd (cc)
+-- and the other way round
+pub no_fault : (cs : List (Bool × BadSetup)) → list_all (λ c. c.0) cs ≡ true → first_fault cs ≡ Ok tt
+no_fault [] all = refl
+no_fault ((true, f) ∷ cs) all = no_fault cs all
+no_fault ((false, f) ∷ cs) all = absurd (cc)
 
 -- each field is in its range
 pub record IsGood (s : Setup) : Type 0 where
@@ -31,10 +29,16 @@ pub record IsGood (s : Setup) : Type 0 where
   pub opening : is_good_opening s.version s.slots s.opening ≡ true
 
 pub good-checked : (s : Setup) → checked s ≡ Ok tt → IsGood s
-unfolding AllPass
 good-checked s good =
-    let all = all_pass (checks s) good in
-    record { version = all.0; processes = all.1.0; ticket_bits = all.1.1.0; stamp_bits = all.1.1.1.0; slots = all.1.1.1.1.0; opening = all.1.1.1.1.1.0 }
+    let all : list_all (λ c. c.0) (checks s) ≡ true = all_pass (checks s) good in
+    record {
+      version = grind (arith, nat_tests);
+      processes = grind (arith, nat_tests);
+      ticket_bits = grind (arith, nat_tests);
+      stamp_bits = grind (arith, nat_tests);
+      slots = grind (arith, nat_tests);
+      opening = grind (arith, nat_tests);
+    }
 
 -- an opening has no more pairs than there are slots
 pub few-opening : (s : Setup) → checked s ≡ Ok tt → length s.opening ≤ s.slots

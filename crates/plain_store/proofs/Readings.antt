@@ -20,11 +20,11 @@ use Rattle.plain_store.specs.Store.{Contents, empty_store, value_at}
 use Rattle.plain_store.specs.declared.commands.Value.TheVariants.{Text}
 
 -- numbers of two bytes are small
-number_small : (row : List ℕ) → ((i : ℕ) → get_or row i 0 < 256) → is_number (number_in row) ≡ true
+number_small : (bytes : List ℕ) → ((i : ℕ) → get_or bytes i 0 < 256) → is_number (number_in bytes) ≡ true
 unfolding number_in
-number_small row small =
-    let high : get_or row 0 0 < 256 = small 0 in
-    let low : get_or row 1 0 < 256 = small 1 in
+number_small bytes small =
+    let high : get_or bytes 0 0 < 256 = small 0 in
+    let low : get_or bytes 1 0 < 256 = small 1 in
     grind (arith, nat_tests)
 
 drop_small : (bytes : List ℕ) (n i : ℕ) → ((j : ℕ) → get_or bytes j 0 < 256) → get_or (drop n bytes) i 0 < 256

@@ -1,0 +1,17 @@
+-- The cells of a record answer the safe rule.
+use Rattle.safe_bit.specs.Cell.{cell_of}
+use Rattle.safe_bit.proofs.Showing.{shows_moves, answer-shows}
+use Rattle.record.specs.Moves.{moves_of}
+use Rattle.record.specs.Records.{past_of}
+use Rattle.record.specs.Registers.{opening_bit}
+use Rattle.record.proofs.TurnRecords.{turns_all}
+use Rattle.record.proofs.Width.{is_good}
+use Rattle.record.proofs.laws.cells_answer_the_safe_rule.Goals as goal
+
+pub returns : goal.returns
+returns x = record {
+  turns = λ s h events a. turns_all s (is_good s h) events a;
+  cells = λ s h events a flick.
+      answer-shows (opening_bit s a) (moves_of a (past_of s events)) (cell_of (opening_bit s a) (moves_of a (past_of s events))) flick
+      (shows_moves (opening_bit s a) (moves_of a (past_of s events)) (turns_all s (is_good s h) events a));
+}

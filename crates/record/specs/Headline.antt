@@ -1,0 +1,191 @@
+-- The headline's statements, about the record of every list of events. They stand here to be proved: nothing claims them.
+use Rattle.std.specs.Prelude.{◌≡◌, ◌↔◌, ℕ, suc, ◌+◌, ◌<◌, ◌==◌, nat_lt, Bool, true, false, ◌&&◌, ◌||◌, List, [], ◌∷◌, ◌++◌, length, map, take, slice_get, Option, None, Some, Ok, cond, IsTrue, IsFalse, Contains}
+use Rattle.std.specs.List.{list_any}
+use Rattle.safe_bit.specs.declared.Move.{Move}
+use Rattle.safe_bit.specs.declared.Move.TheVariants.{EndRead}
+use Rattle.safe_bit.specs.SafeRule.{is_overlapped}
+use Rattle.safe_number.specs.declared.Access.{Access}
+use Rattle.safe_number.specs.declared.Field.{Field}
+use Rattle.safe_number.specs.declared.Field.TheVariants.{Choosing, Ticket, Image0, Image1}
+use Rattle.safe_number.specs.Bytes.{number_of_bits}
+use Rattle.plain_store.specs.declared.Answer.{Answer}
+use Rattle.plain_store.specs.declared.Answer.TheVariants as answer
+use Rattle.plain_store.specs.declared.Command.TheVariants.{Ask}
+use Rattle.plain_store.specs.declared.Reply.{Reply}
+use Rattle.plain_store.specs.declared.Reply.TheVariants.{Last}
+use Rattle.plain_store.specs.declared.Setup.{Setup}
+use Rattle.plain_store.specs.Image.{image_of}
+use Rattle.plain_store.specs.Reading.{IsImageOf}
+use Rattle.plain_store.specs.Setups.{callers_of, checked, opening_store}
+use Rattle.plain_store.specs.Store.{Contents, changes, reply_to, after}
+use Rattle.record.specs.declared.events.Event.{Event}
+use Rattle.record.specs.declared.history.Taken.{Taken}
+use Rattle.record.specs.declared.marks.Mark.TheVariants.{Answered}
+use Rattle.record.specs.Calls.{read_so_far, last_call}
+use Rattle.record.specs.Doorways.{is_ahead}
+use Rattle.record.specs.Entries.{Entry, Past, own, has, since, is_called, is_failed, is_waiting, is_entered}
+use Rattle.record.specs.Histories.{history, store_after}
+use Rattle.record.specs.Moves.{moves_of}
+use Rattle.record.specs.Newest.{newest_bytes, is_somebody_inside, cell_after}
+use Rattle.record.specs.Program.{max_of}
+use Rattle.record.specs.Records.{entry_of, past_of}
+use Rattle.record.specs.Registers.{others, width, image_bytes, bytes_of_bits}
+use Rattle.record.specs.Scripts.{Call, caller}
+use Rattle.record.specs.Spans.{has_ended, takings, takings_of_call, all_takings}
+use Rattle.record.specs.Stages.{inside}
+use Rattle.record.specs.Unit.{last_read}
+
+-- in every record, this holds of each past
+abbrev pub EachPast : (Setup → Past → Type 0) → Type 0
+EachPast P = (s : Setup) → checked s ≡ Ok tt → (events : List Event) → P s (past_of s events)
+
+-- in every record, this holds of each entry and the past that it is added to
+abbrev pub EachEntry : (Setup → Past → Entry → Type 0) → Type 0
+EachEntry P = (s : Setup) → checked s ≡ Ok tt → (events : List Event) (event : Event) (e : Entry) →
+    entry_of s (past_of s events) event ≡ Some e → P s (past_of s events) e
+
+-- No two processes are inside together.
+abbrev pub MutualExclusion : Type 0
+MutualExclusion = EachPast λ s past. (i j : ℕ) → IsTrue (inside i past) → IsTrue (inside j past) → i ≡ j
+
+-- Who gets inside is not before anybody that waits and whose doorway is before its own: no call overtakes.
+abbrev pub NoOvertaking : Type 0
+NoOvertaking = EachEntry λ s past e. IsTrue (has is_entered e) → (j : ℕ) → IsFalse (is_ahead past j e.process)
+
+-- the last call of the process of an entry that is added to a past
+abbrev pub call_of : Setup → Past → Entry → Call
+call_of s past e = last_call s e.process (own e.process past)
+
+-- What is taken has its place in the history, and the one-thread store's reply there, to the call's command, process and number.
+abbrev pub TakenInHistory : Type 0
+TakenInHistory = EachEntry λ s past e. (k : ℕ) (r : Reply) → Contains (takings e.marks) (k, r) →
+    (k ≡ length (history s past)) × (r ≡ reply_to (store_after s (history s past)) (call_of s past e).command (caller (call_of s past e)))
+
+-- a store answer: exactly one command was taken, with this reply; any other answer: none was taken
+abbrev pub IsAnswerTo : Answer → List (ℕ × Reply) → Type 0
+IsAnswerTo (answer.Reply r) taken = (k : ℕ) × (taken ≡ (k, r) ∷ [])
+IsAnswerTo _ taken = taken ≡ []
+
+-- A store answer is the reply with which its call took its one command; the other answers stand in no history.
+abbrev pub AnswersAreTaken : Type 0
+AnswersAreTaken = EachEntry λ s past e. (a : Answer) → Contains e.marks (Answered a) → IsAnswerTo a (all_takings (since is_called (own e.process (e ∷ past))))
+
+-- A call, cut or not, is taken at most once.
+abbrev pub TakenOnce : Type 0
+TakenOnce = EachPast λ s past. (later earlier : Past) (e : Entry) → past ≡ later ++ e ∷ earlier → IsTrue (has is_called e) → length (takings_of_call e.process later) < 2
+
+-- A call that was cut by a failure is never answered.
+abbrev pub CutCallsAreNotAnswered : Type 0
+CutCallsAreNotAnswered = EachEntry λ s past e. (a : Answer) → Contains e.marks (Answered a) → IsFalse (list_any (has is_failed) (since is_called (own e.process past)))
+
+-- Of two taken calls that do not overlap the earlier one has the lower place: the span of the one of x ends before that of y begins.
+abbrev pub KeepsOrder : Type 0
+KeepsOrder = EachPast λ s past. (newer between earlier : Past) (x y : Entry) → past ≡ newer ++ y ∷ between ++ x ∷ earlier →
+    IsTrue (has is_called x) → IsTrue (has is_called y) → IsTrue (has_ended x.process between) →
+    (k m : ℕ) (q r : Reply) → Contains (takings_of_call x.process (newer ++ y ∷ between)) (k, q) → Contains (takings_of_call y.process newer) (m, r) → k < m
+
+-- One history: the five together.
+pub record OneHistory : Type 0 where
+  pub taken : TakenInHistory
+  pub answers : AnswersAreTaken
+  pub once : TakenOnce
+  pub cut : CutCallsAreNotAnswered
+  pub order : KeepsOrder
+
+-- a register of a version
+abbrev pub is_version : Field → Bool
+is_version Choosing = false
+is_version Ticket = false
+is_version _ = true
+
+-- an image
+abbrev pub is_image : Field → Bool
+is_image Image0 = true
+is_image Image1 = true
+is_image _ = false
+
+-- a read ends
+abbrev pub ends_read : Move → Bool
+ends_read (EndRead v) = true
+ends_read _ = false
+
+-- No read of a commit bit, a stamp or an image is overlapped.
+abbrev pub VersionReadsAreUnoverlapped : Type 0
+VersionReadsAreUnoverlapped = EachEntry λ s past e. (a : Access) → e.access ≡ Some a → IsTrue (is_version a.field) → IsTrue (ends_read a.how) → IsFalse (is_overlapped (moves_of a past))
+
+-- The bytes that a process reads as an image are an image.
+abbrev pub ImagesAreRead : Type 0
+ImagesAreRead = EachEntry λ s past e. (a : Access) → e.access ≡ Some a → IsTrue (is_image a.field) → IsTrue (ends_read a.how) → a.bit + 1 ≡ width s a.field →
+    (store : Contents) × IsImageOf (callers_of s) (bytes_of_bits (image_bytes s) (last_read (read_so_far s (since is_called (own e.process (e ∷ past)))).finished)) store
+
+-- the tickets that a process has read in its doorway, one of each other process, ascending
+abbrev pub tickets_read : Setup → ℕ → Past → List ℕ
+tickets_read s p past = map number_of_bits (read_so_far s (since is_called (own p past))).finished
+
+-- the first of some processes whose ticket was read as the greatest one
+abbrev pub lowest_full : ℕ → List ℕ → List ℕ → Option ℕ
+lowest_full top (j ∷ js) (t ∷ ts) = cond (t == top) (Some j) (lowest_full top js ts)
+lowest_full top _ _ = None
+
+-- A doorway that ends with a ticket has read no greatest ticket.
+abbrev pub WaitersReadNoGreatestTicket : Type 0
+WaitersReadNoGreatestTicket = EachEntry λ s past e. IsTrue (has is_waiting e) → lowest_full (max_of s.ticket_bits) (others s e.process) (tickets_read s e.process past) ≡ None
+
+-- A doorway that ends with `TicketsFull` has read the greatest ticket, and it names the lowest process whose read gave it.
+abbrev pub TicketsFullNamesTheLowest : Type 0
+TicketsFullNamesTheLowest = EachEntry λ s past e. (j : ℕ) → Contains e.marks (Answered (answer.TicketsFull j)) →
+    lowest_full (max_of s.ticket_bits) (others s e.process) (tickets_read s e.process past) ≡ Some j
+
+-- p ends the read of an image
+abbrev pub ends_image_read : ℕ → Entry → Bool
+ends_image_read p e = (e.process == p) && elim e.access [ None ↦ false | Some a ↦ is_image a.field && ends_read a.how ]
+
+-- the entries before p last ended a read of an image
+abbrev pub before_image_read : ℕ → Past → Past
+before_image_read p [] = []
+before_image_read p (e ∷ past) = elim (ends_image_read p e) [ true ↦ past | false ↦ before_image_read p past ]
+
+-- how many of these commands change the store, taken one after the other
+abbrev pub count_changes : Contents → List Taken → ℕ
+count_changes store [] = 0
+count_changes store (t ∷ history) =
+    let next = after store t.command (record { process = t.process; number = t.number }) in
+    cond (changes store t.command) (suc (count_changes next history)) (count_changes next history)
+
+-- `StampsFull` is answered only to a command that would change the store after the history when it was read, and only where as many changes were taken as the greatest stamp.
+abbrev pub StampsFullAfterAllChanges : Type 0
+StampsFullAfterAllChanges = EachEntry λ s past e. Contains e.marks (Answered answer.StampsFull) →
+    let read = history s (before_image_read e.process past) in
+    (changes (store_after s read) (call_of s past e).command ≡ true) × (count_changes (opening_store s) read ≡ max_of s.stamp_bits)
+
+-- While nobody is inside, the registers hold the image of the one-thread store after the history, call numbers too.
+abbrev pub NewestIsTheHistorys : Type 0
+NewestIsTheHistorys = EachPast λ s past. IsFalse (is_somebody_inside s past) → newest_bytes s past ≡ image_of (store_after s (history s past))
+
+-- While nobody is inside, no write of a version is open.
+abbrev pub VersionsAreWholeOutside : Type 0
+VersionsAreWholeOutside = EachPast λ s past. IsFalse (is_somebody_inside s past) → (a : Access) → IsTrue (is_version a.field) → (cell_after s past a).writing ≡ false
+
+-- the number of p's latest change among these commands, taken one after the other; 0 if there is none
+abbrev pub latest_change : ℕ → Contents → List Taken → ℕ → ℕ
+latest_change p store [] last = last
+latest_change p store (t ∷ history) last =
+    latest_change p (after store t.command (record { process = t.process; number = t.number })) history (cond ((t.process == p) && changes store t.command) t.number last)
+
+-- `Ask` answers the number of the asker's latest change in the history before its place, or 0.
+abbrev pub AskAnswersTheLatestChange : Type 0
+AskAnswersTheLatestChange = EachPast λ s past. (k : ℕ) (t : Taken) → slice_get (history s past) k ≡ Some t → t.command ≡ Ask →
+    t.reply ≡ Last (latest_change t.process (opening_store s) (take k (history s past)) 0)
+
+-- among these commands, taken one after the other, there is a change by p whose number passes the test
+abbrev pub has_change : ℕ → (ℕ → Bool) → Contents → List Taken → Bool
+has_change p test store [] = false
+has_change p test store (t ∷ history) =
+    ((t.process == p) && test t.number && changes store t.command)
+    || has_change p test (after store t.command (record { process = t.process; number = t.number })) history
+
+-- In version 2, where `Ask` is answered and no change of its process that is later than its call number m stands before it, call m was taken as a change exactly if the answer is `Last(m)`.
+abbrev pub AskTellsOfCutCalls : Type 0
+AskTellsOfCutCalls = EachPast λ s past. s.version ≡ 2 → (k m : ℕ) (t : Taken) → slice_get (history s past) k ≡ Some t → t.command ≡ Ask → 0 < m → m < t.number →
+    IsFalse (has_change t.process (nat_lt m) (opening_store s) (take k (history s past))) →
+    IsTrue (has_change t.process (λ n. n == m) (opening_store s) (history s past)) ↔ (t.reply ≡ Last m)

@@ -1,0 +1,62 @@
+-- Writes in their turn: which copies a process or its memory unit has open for writing, by its place.
+use Rattle.std.specs.Prelude.{◌≡◌, ℕ, ◌%◌, ◌==◌, nat_le, Bool, true, false, ◌&&◌, cond, List, [], ◌∷◌}
+use Rattle.safe_bit.specs.Cell.{Cell, cell_after, MayWrite}
+use Rattle.safe_bit.specs.declared.Move.{Move}
+use Rattle.reader_copies.specs.Runs as copies
+use Rattle.safe_number.specs.declared.Access.{Access}
+use Rattle.safe_number.specs.declared.Field.{Field}
+use Rattle.safe_number.specs.declared.Field.TheVariants.{Choosing, Ticket}
+use Rattle.safe_number.specs.Accesses.{access_of}
+use Rattle.safe_number.specs.Runs.{NumberWrite}
+use Rattle.record.specs.Closings.{Closing, Withdraws, Settles, Frees, Lowers, Quit, Ended, no_ticket}
+use Rattle.record.specs.Moves.{field_number, same_bit}
+use Rattle.record.specs.Parts.{Part, written_at}
+use Rattle.record.specs.Places.{Run, Writing, Reading, Place, bit_written, next_written}
+use Rattle.record.specs.Scripts.{Call}
+
+-- a bit, as far as its writes go
+abbrev pub open_cell : Bool → Cell
+open_cell was = record { value = false; writing = was; reading = false; touched = false }
+
+-- where a write of a bit was open or not, this move on it is in its turn
+abbrev pub Turn : Bool → Move → Type 0
+Turn was move = MayWrite (open_cell was) move
+
+-- whether its write is open after a move, which is on it or not
+abbrev pub open_after : Bool → Bool → Move → Bool
+open_after was is_on move = cond is_on (cell_after (open_cell was) move).writing was
+
+-- an access in its turn leads from the copies that were open to those that are open then
+pub record Leads (was : Access → Bool) (x : Access) (then : Access → Bool) : Type 0 where
+  pub turn : (a : Access) → same_bit a x ≡ true → Turn (was a) x.how
+  pub after : (a : Access) → then a ≡ open_after (was a) (same_bit a x) x.how
+
+-- the copy that a write has open: where an odd number of its bit's accesses was made, that of the next one
+abbrev pub open_written : ℕ → Field → List Bool → NumberWrite → Access → Bool
+open_written p f bits w a = same_bit a (access_of p f (next_written bits w)) && ((bit_written bits w).made % 2 == 1)
+
+-- the copies of a bit that its settling has open: the one that it writes now, and the one that was open before, until it comes to it
+abbrev pub open_copy : copies.Settling → ℕ → Bool
+open_copy t r = cond ((r == t.reader) && t.begun) true (nat_le t.reader r && copies.is_open_at t.made r)
+
+-- the same of the bit of an access
+abbrev pub open_settled : ℕ → Field → ℕ → copies.Settling → Access → Bool
+open_settled p f bit t a = ((a.bit == bit) && (a.owner == p) && (field_number a.field == field_number f)) && open_copy t a.reader
+
+-- the copy that a number access has open for writing
+abbrev pub open_run : Call → Part → Run → Access → Bool
+open_run c part (Writing w) a = open_written c.process (written_at c part).0 (written_at c part).1 w a
+open_run c part (Reading bits begun) a = false
+
+-- the one that is open at a place
+abbrev pub open_place : Call → Place → Access → Bool
+open_place c at a = open_run c at.part at.run a
+
+-- those that a withdrawal or a memory unit has open
+abbrev pub open_closing : Call → Closing → Access → Bool
+open_closing c (Withdraws w) a = open_written c.process Ticket (no_ticket c) w a
+open_closing c (Settles field bit begun taken is t) a = open_settled c.process field bit t a
+open_closing c (Frees is w) a = open_written c.process Ticket (no_ticket c) w a
+open_closing c (Lowers w) a = open_written c.process Choosing (false ∷ []) w a
+open_closing c Quit a = false
+open_closing c Ended a = false

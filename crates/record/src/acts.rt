@@ -1,0 +1,22 @@
+use crate::marks::Mark;
+use safe_number::Access;
+use smallvec::SmallVec;
+use std::marker::Model;
+
+/// What one accepted event did: at most one access, and its marks, at most 3 in place. Contracts see the
+/// marks as their list.
+#[derive(Drop)]
+pub struct Act {
+    /// The access of a step.
+    pub access: Option<Access>,
+    /// The marks, in their order.
+    pub marks: SmallVec<Mark, 3>,
+}
+
+impl Model for Act {
+    ghost use Rattle.record.specs.Acts.{Act as Seen};
+
+    ghost Value = { Seen };
+
+    ghost view = { λ a. record { access = a.access; marks = a.marks.items } };
+}

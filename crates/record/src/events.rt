@@ -1,0 +1,19 @@
+use plain_store::Command;
+
+/// What may happen to a world. The first number is the process, from 0. It is accepted or refused as a
+/// whole: see `Refusal`.
+#[derive(Clone, Copy, Debug, PartialEq, Eq)]
+pub enum Event {
+    /// The process calls the store with a command.
+    Call(u8, Command),
+    /// One begin or one end of a read or a write of one single-reader bit, or its settling, by the process
+    /// or, once it has failed, by its memory unit. The `bool` is the flick: the bit for what the rules
+    /// leave open, an overlapped read's value or the value at which a torn bit is settled.
+    Step(u8, bool),
+    /// The process halts, at any time. Its memory unit takes over.
+    Fail(u8),
+    /// The process gives up waiting, and leaves with the answer `Withdrawn`.
+    Withdraw(u8),
+    /// A process that is down may call again.
+    Restart(u8),
+}

@@ -1,0 +1,65 @@
+//! What holds of every record of a list of events, and of the place machine beside the script. Each law is
+//! a function with nothing to do, whose contract is the law.
+ghost use Rattle.record.specs.Laws.{OwnEntry, OthersStay, AcceptedAdds, RefusedAddsNothing, SingleWriter, PlaceTellsNext, PlaceTellsMarks, RunsFromItsPlace, WithdrawalTellsNext, UnitTellsNext, ClosingTellsStage, WithdrawsFromItsPlace, UnitGoesOnFromItsPlace, UnoverlappedReadGivesTheBit, WriteOfBytesGoesByBits, BytesAreMadeByTheirBits, PlaceStartsClosed, PlaceGoesInTurn, WithdrawalGoesInTurn, UnitGoesInTurn, WritesComeInTurn, CellsAnswerTheSafeRule};
+
+/// An event adds to the entries of its own process alone. One that is not refused adds exactly one entry,
+/// and a refused one adds none.
+pub fn events_add_entries()
+    ensures own { OwnEntry }
+    ensures others { OthersStay }
+    ensures accepted { AcceptedAdds }
+    ensures refused { RefusedAddsNothing }
+{}
+
+/// Every single-reader bit has one writer: its owner, or the owner's memory unit.
+pub fn single_writer()
+    ensures { SingleWriter }
+{}
+
+/// For every call and every list of own accesses, the next access and the marks that the place machine
+/// tells are those of the script. In every record a process that runs its call goes on from its place.
+pub fn places_follow_scripts()
+    ensures next { PlaceTellsNext }
+    ensures marks { PlaceTellsMarks }
+    ensures every_record { RunsFromItsPlace }
+{}
+
+/// For every call that was withdrawn, and every one that was cut by a failure, the next access and the
+/// marks that the closing machine tells are those of the withdrawal's script and of the memory unit's, and
+/// they lead to its stages. In every record a process that withdrew, and the memory unit of one that
+/// failed, goes on from its place.
+pub fn closings_follow_scripts()
+    ensures withdrawal { WithdrawalTellsNext }
+    ensures unit { UnitTellsNext }
+    ensures stage { ClosingTellsStage }
+    ensures withdrawn_in_record { WithdrawsFromItsPlace }
+    ensures unit_in_record { UnitGoesOnFromItsPlace }
+{}
+
+/// A read of a register that no write of it overlaps gives the register's bits.
+pub fn unoverlapped_reads_give_the_bits()
+    ensures { UnoverlappedReadGivesTheBit }
+{}
+
+/// Registers are written and read as bytes, and the machines speak of bits: a write of bytes goes the way
+/// of a write of their bits, and the bytes that were read are those that their bits make.
+pub fn bytes_go_by_their_bits()
+    ensures write { WriteOfBytesGoesByBits }
+    ensures read { BytesAreMadeByTheirBits }
+{}
+
+/// The accesses that the machines tell come in their turn: a write of a copy begins where none is open on
+/// it, and ends or is settled where one is.
+pub fn machines_go_in_turn()
+    ensures start { PlaceStartsClosed }
+    ensures place { PlaceGoesInTurn }
+    ensures withdrawal { WithdrawalGoesInTurn }
+    ensures unit { UnitGoesInTurn }
+{}
+
+/// In every record the writes of each single-reader bit come in their turn. So the cell of the bit, which
+/// is a fold over its moves, answers as the safe rule does, which looks back.
+pub fn cells_answer_the_safe_rule()
+    ensures turns { WritesComeInTurn }
+    ensures cells { CellsAnswerTheSafeRule }
+{}

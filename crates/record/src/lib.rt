@@ -1,0 +1,26 @@
+//! What a run is: events, the entries that they add, and the laws of every record of a list of events. The
+//! lock is Lamport's bakery (1974) on safe single-reader bits (1986); the store and the failure rule are
+//! this project's own profile.
+#![tactic(auto)]
+
+mod acts;
+mod events;
+mod history;
+mod laws;
+mod marks;
+mod records;
+mod refusals;
+mod stages;
+
+pub use acts::Act;
+pub use events::Event;
+pub use history::Taken;
+pub use laws::{
+    bytes_go_by_their_bits, cells_answer_the_safe_rule, closings_follow_scripts,
+    events_add_entries, machines_go_in_turn, places_follow_scripts, single_writer,
+    unoverlapped_reads_give_the_bits,
+};
+pub use marks::Mark;
+pub use records::{Entry, Record};
+pub use refusals::Refusal;
+pub use stages::Stage;
