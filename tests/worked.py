@@ -1,9 +1,9 @@
 #!/usr/bin/env python3
 """Runs the proved program on every worked example and compares byte for byte.
 
-Each folder of examples/worked/ has a `scenario`, and for each command that can run it, as `plain`, what the command
-writes to standard output; beside it `plain.err` (no such file: nothing) and `plain.status` (no such file: 0). The
-program is the one that `rt run` leaves in crates/bakerystore.
+Each folder of examples/worked/ has a `scenario` or a `bits-file`, and for each command that can run it, as `plain`, what
+the command writes to standard output; beside it `plain.err` (no such file: nothing) and `plain.status` (no such file: 0).
+The program is the one that `rt run` leaves in crates/bakerystore.
 """
 
 import pathlib
@@ -12,7 +12,8 @@ import sys
 
 TOP = pathlib.Path(__file__).resolve().parent.parent
 PROGRAM = TOP / "crates" / "bakerystore" / "out" / "bakerystore"
-COMMANDS = ["plain"]
+# each command with the file that it runs
+COMMANDS = {"plain": "scenario", "bits": "bits-file"}
 
 
 def content(path, default):
@@ -31,11 +32,11 @@ def wanted(folder, command):
 def main():
     passed = failed = 0
     for folder in sorted((TOP / "examples" / "worked").iterdir()):
-        for command in COMMANDS:
+        for command, file in COMMANDS.items():
             want = wanted(folder, command)
             if want is None:
                 continue
-            ran = subprocess.run([PROGRAM, command, folder / "scenario"], capture_output=True)
+            ran = subprocess.run([PROGRAM, command, folder / file], capture_output=True)
             good = (ran.stdout, ran.stderr, ran.returncode) == want
             passed += good
             failed += not good

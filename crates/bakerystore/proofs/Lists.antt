@@ -1,6 +1,5 @@
 -- Lists from a place on, and a run after one more line.
-use Rattle.std.proofs.Common.{◌≡◌, ℕ, zero, suc, ◌+◌, ◌<◌, ◌≤◌, Bool, true, false, nat_lt, if◌then◌else◌, List, [], ◌∷◌, ◌++◌, Some, length, drop, get_or, ap, sym, ◌∙◌, arith, add-one, refl, slice_get, append_assoc, flat_map, codes}
-use Rattle.std.proofs.Common.{drop-cons}
+use Rattle.std.proofs.Common.{◌≡◌, ℕ, ◌+◌, ◌<◌, ◌≤◌, Bool, true, false, nat_lt, if◌then◌else◌, List, ◌++◌, Some, length, drop, get_or, ap, sym, ◌∙◌, arith, refl, slice_get, append_assoc, flat_map, codes}
 use Rattle.std.proofs.lemmas.List.{length-set}
 use Rattle.std.specs.Fmt.{decimal}
 use Rattle.plain_store.specs.Shown.{value_text}
@@ -9,18 +8,13 @@ use Rattle.plain_store.specs.Pairs.{Pair}
 use Rattle.plain_store.specs.declared.setups.Setup.{Setup}
 use Rattle.scenario.specs.declared.lines.Line.{Line}
 use Rattle.scenario.specs.declared.lines.Line.TheVariants as line
+use Rattle.scenario.proofs.Places.{drop_at, drop_in}
 use Rattle.bakerystore.specs.Plain.{Run, reply_line, pair_text, text_from, line_text, run_after, applied}
-
--- what is found at a place comes first from there on
-pub drop_at : {X : Type 0} (xs : List X) (k : ℕ) (x : X) → slice_get xs k ≡ Some x → drop k xs ≡ x ∷ drop (k + 1) xs
-drop_at [] k x at = cc
-drop_at (y ∷ ys) zero x at = let same : y ≡ x = cc in ap (λ z. z ∷ ys) same
-drop_at (y ∷ ys) (suc k) x at = rw add-one (rw add-one at (drop_at ys k x at))
 
 -- the text from a line on
 pub text_step : (setup : Setup) (run : Run) (lines : List Line) (k : ℕ) (here : Line) → k < length lines → here ≡ get_or lines k here → text_from setup run (drop k lines) ≡ line_text setup run here ++ text_from setup (run_after setup run here) (drop (k + 1) lines)
 text_step setup run lines k here within is =
-    ap (text_from setup run) (drop-cons lines k here within ∙ ap (λ l. l ∷ drop (suc k) lines) (sym is) ∙ ap (λ n. here ∷ drop n lines) (sym (add-one k)))
+    ap (text_from setup run) (drop_in lines k here within is)
 
 -- a text and what is printed from a line on, one line later
 pub text_more : (told : List ℕ) (setup : Setup) (run : Run) (lines : List Line) (k : ℕ) (here : Line) → k < length lines → here ≡ get_or lines k here → (told ++ line_text setup run here) ++ text_from setup (run_after setup run here) (drop (k + 1) lines) ≡ told ++ text_from setup run (drop k lines)

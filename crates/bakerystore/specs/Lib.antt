@@ -1,2 +1,4 @@
+pub mod BitCells
+pub mod Bits
 pub mod Plain
 pub mod Statuses

@@ -1,6 +1,7 @@
 //! Runs the files of a world of processes. Without words it is `plain -`.
 #![tactic(auto)]
 
+mod bits;
 mod plain;
 mod statuses;
 mod store_line;
@@ -8,6 +9,7 @@ mod store_line;
 mod tests;
 mod words;
 
+use bits::run_bits;
 use plain::run_plain;
 use scenario::{Fault, FromRead, IntoWrite};
 use statuses::fault_status;
@@ -21,7 +23,7 @@ use words::{Engine, Request, read_words};
 
 /// What is printed where the words ask for nothing that there is.
 const USAGE: &str =
-    "usage: bakerystore [plain FILE]  (FILE - is standard input; without words: plain -)";
+    "usage: bakerystore [plain|bits FILE]  (FILE - is standard input; without words: plain -)";
 
 /// The exit status where the words ask for nothing that there is.
 const USAGE_STATUS: u8 = 2;
@@ -81,6 +83,7 @@ fn run_on<T: Print + AllocGlobal, R: Read + Drop>(
     let mut output = IntoWrite::new(io::writer(rt));
     match engine {
         Engine::Plain => run_plain(rt.alloc(), &mut input, &mut output),
+        Engine::Bits => run_bits(rt.alloc(), &mut input, &mut output),
     }
 }
 

@@ -1,5 +1,6 @@
 ghost use Rattle.std.specs.Prelude.{◌≡◌, None};
 
+use crate::bits::run_bits;
 use crate::plain::run_plain;
 use crate::statuses::fault_status;
 use crate::words::{Engine, read_words};
@@ -280,11 +281,76 @@ fn reads_the_words(rt: HostRuntime) -> Result<(), Fail> {
         assert_eq!(rt; request.as_ref().map(|request| request.file.as_str()), file);
         assert!(rt; request.is_none_or(|request| request.engine == Engine::Plain));
     }
+    let bits = read_words(rt.alloc(), &["bakerystore", "bits", "-"])?;
+    assert!(rt; bits.is_some_and(|request| request.engine == Engine::Bits));
     let lost = Fault::Line(LineFault {
         line: 1,
         kind: FaultKind::Memory,
     });
     assert_eq!(rt; fault_status(&lost), 4);
     assert_eq!(rt; fault_status(&Fault::Memory), 4);
+    Ok(())
+}
+
+// The files of bits, with what they print.
+const BITS: [(&str, &str); 4] = [
+    ("bits 1\nwrite 1\nend\nread\nvalue 0\n", "1\n"),
+    ("bits 1\nend\n", "refused\n"),
+    ("bits 1\nread\nwrite 0\nend\nvalue 1\n", "1\n"),
+    (
+        "bits 1\nwrite 1\nread\nsettle 0\nvalue 1\nread\ndrop\nvalue 0\nread\nvalue 1\n",
+        "1\nrefused\n0\n",
+    ),
+];
+
+#[test]
+fn runs_files_of_bits(rt: HostRuntime) -> Result<(), Fail> {
+    for (file, prints) in BITS {
+        let mut output = blank_paper(rt.alloc());
+        output.most = 1;
+        assert_eq!(rt;
+            run_bits(rt.alloc(), &mut tape_of(file), &mut output),
+            Ok(())
+        );
+        assert_eq!(rt; output.written.as_slice(), prints.as_bytes(), "{file}");
+    }
+    let mut output = blank_paper(rt.alloc());
+    let fault = Fault::Line(LineFault {
+        line: 2,
+        kind: FaultKind::Number,
+    });
+    assert_eq!(rt;
+        run_bits(rt.alloc(), &mut tape_of("bits 1\nvalue 2\n"), &mut output),
+        Err(fault)
+    );
+    assert_eq!(rt; output.written.len(), 0);
+    Ok(())
+}
+
+#[test]
+fn tells_devices_that_fail_under_bits(rt: HostRuntime) -> Result<(), Fail> {
+    let (file, prints) = BITS[3];
+    for fails_at in 0..file.len() {
+        let mut input = tape_of(file);
+        input.fails_at = fails_at;
+        let mut output = blank_paper(rt.alloc());
+        assert_eq!(rt;
+            run_bits(rt.alloc(), &mut input, &mut output),
+            Err(Fault::Read)
+        );
+        assert_eq!(rt; output.written.len(), 0);
+    }
+    for fails_after in 0..prints.len() {
+        for takes_none in [false, true] {
+            let mut output = blank_paper(rt.alloc());
+            output.most = 1;
+            output.fails_after = fails_after;
+            output.takes_none = takes_none;
+            let ran = run_bits(rt.alloc(), &mut tape_of(file), &mut output);
+            assert_eq!(rt; ran, Err(Fault::Write));
+            assert_eq!(rt; output.written.len(), fails_after);
+            assert!(rt; prints.as_bytes().starts_with(output.written.as_slice()));
+        }
+    }
     Ok(())
 }

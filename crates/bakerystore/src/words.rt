@@ -8,6 +8,8 @@ use std::alloc::{AllocError, Global};
 pub enum Engine {
     /// The calls of a scenario on the one-thread store.
     Plain,
+    /// The calls of a bits file on one safe bit.
+    Bits,
 }
 
 impl Engine {
@@ -15,6 +17,7 @@ impl Engine {
     fn of(word: &str) -> Option<Engine> {
         match word {
             "plain" => Some(Engine::Plain),
+            "bits" => Some(Engine::Bits),
             _ => None,
         }
     }

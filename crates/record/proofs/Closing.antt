@@ -30,7 +30,7 @@ clearing_too c is = writing c Ticket (no_ticket c) (cond is (Left ∷ []) []) []
 abbrev pub left : Call → Closing → Bool → List Next
 left c (Withdraws w) v = single [] (Answered answer.Withdrawn ∷ []) (map (access_of c.process Ticket) (left_written c.setup.processes (no_ticket c) w))
 left c (Settles field bit begun taken is t) v =
-    single [] (settled_marks field begun taken v) (map (access_of c.process field) (map (at_bit bit) (copies.rest_of_settling c.setup.processes t v))) ++ singles (clearing_too c is)
+    single [] (settled_marks begun taken v) (map (access_of c.process field) (map (at_bit bit) (copies.rest_of_settling c.setup.processes t v))) ++ singles (clearing_too c is)
 left c (Frees is w) v = single (cond (is && is_unwritten w) (Left ∷ []) []) [] (map (access_of c.process Ticket) (left_written c.setup.processes (no_ticket c) w)) ++ singles (lowering c)
 left c (Lowers w) v = single [] (Down ∷ []) (map (access_of c.process Choosing) (left_written c.setup.processes (false ∷ []) w))
 left c Quit v = []

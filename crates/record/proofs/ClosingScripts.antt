@@ -1,6 +1,6 @@
 -- The closing machine goes through the scripts.
-use Rattle.std.proofs.Common.{◌≡◌, ℕ, zero, suc, ◌+◌, ◌-◌, ◌<◌, ◌&&◌, Bool, true, false, cond, List, [], ◌∷◌, ◌++◌, Option, Some, None, drop, length, map, refl, sym, ap, subst, ◌∙◌, arith, append-nil}
-use Rattle.std.specs.Prelude.{slice_get, fold, unwrap_or}
+use Rattle.std.proofs.Common.{◌≡◌, ℕ, zero, suc, ◌+◌, ◌-◌, ◌<◌, ◌&&◌, not, Bool, true, false, cond, List, [], ◌∷◌, ◌++◌, Option, Some, None, drop, length, map, refl, sym, ap, subst, ◌∙◌, arith, append-nil}
+use Rattle.std.specs.Prelude.{slice_get, fold}
 use Rattle.reader_copies.specs.declared.Made.{Made}
 use Rattle.reader_copies.specs.Runs as copies
 use Rattle.safe_number.specs.declared.Access.{Access}
@@ -14,12 +14,13 @@ use Rattle.record.specs.declared.marks.Mark.{Mark}
 use Rattle.record.specs.declared.marks.Mark.TheVariants.{Taken, Left, Answered, Settled, Down}
 use Rattle.record.specs.declared.stages.Stage.TheVariants as stage
 use Rattle.record.specs.Closings.{Closing, Withdraws, Settles, Frees, Lowers, Quit, Ended, no_ticket, is_last_written, is_unwritten, is_last_settled, settled_marks, withdrawing, freeing, settling_from, failing, closing_next, closing_after, closing_stage, closing_of}
-use Rattle.record.specs.Entries.{Past}
+use Rattle.record.specs.Calls.{read_so_far}
+use Rattle.record.specs.Entries.{Past, since, is_called}
 use Rattle.record.specs.Places.{next_written, write_moved}
-use Rattle.record.specs.Program.{withdrawn}
+use Rattle.record.specs.Program.{withdrawn, store_read, reply}
 use Rattle.record.specs.Scripts.{Call, Next, Script, nth, single, singles}
 use Rattle.record.specs.Stages.{inside, stage_after}
-use Rattle.record.specs.Unit.{first_flick, last_write, unfinished, unit_program, settle}
+use Rattle.record.specs.Unit.{first_flick, last_write, last_read, unfinished, unit_program, settle, is_commit, value_begun}
 use Rattle.record.proofs.Cursors.{drop-more, get-drop, Goes, left_written, left-new}
 use Rattle.record.proofs.Width.{IsGood}
 use Rattle.record.proofs.Closing.{Fit, Further, Settled-on, Steps, clearing_too, freeing-new, further, left, lowering, lowering-new, settle-step, settles-on, ticket_width, write-step}
@@ -147,7 +148,7 @@ frees-step c g is w v flick on = (
     fit true goes m = new-goes n (false ∷ []) 1 (omega (arith, g.processes_is)) (omega arith) refl
     fit false goes m = goes refl
 
-settles-step : (c : Call) → IsGood c.setup → (field : Field) (bit : ℕ) (begun : Bool) (taken : Reply) (is : Bool) (t : copies.Settling) (v flick : Bool) → t.reader < c.setup.processes → copies.settled_at t flick ≡ v →
+settles-step : (c : Call) → IsGood c.setup → (field : Field) (bit : ℕ) (begun : Bool) (taken : Option Reply) (is : Bool) (t : copies.Settling) (v flick : Bool) → t.reader < c.setup.processes → copies.settled_at t flick ≡ v →
     Steps c (Settles field bit begun taken is t) v flick
 settles-step c g field bit begun taken is t v flick within e = subst (λ u. Steps c (Settles field bit begun taken is t) u flick) e
     (next, refl, ap (λ l. l ++ singles (clearing_too c is)) (settle-step n t u f bit last within) ∙ ap (λ l. next ∷ l) (go (is_last_settled c t u) on.none), fit (is_last_settled c t u) on.inside)
@@ -162,7 +163,7 @@ settles-step c g field bit begun taken is t v flick within e = subst (λ u. Step
     f = access_of c.process field
 
     last : List Mark
-    last = settled_marks field begun taken u
+    last = settled_marks begun taken u
 
     to : copies.Settling
     to = copies.settle_after t u
@@ -315,6 +316,11 @@ withdrawal-stays c g = stays c g (λ v. withdrawn c) (withdrawing c) (withdrawal
 pub withdrawal-tells : (c : Call) → IsGood c.setup → (flicks : List Bool) (flick : Bool) → nth (length flicks) (withdrawn c) ≡ closing_next c (closing_of c (withdrawing c) flicks) flick
 withdrawal-tells c g = closing-tells c g (λ v. withdrawn c) (withdrawing c) (withdrawal-starts c g)
 
+-- the marks of a settling, of a commit bit or of another
+commit-marks : (b begun v : Bool) (r : Reply) → Settled v ∷ cond (b && cond v begun (not begun)) (Taken 0 r ∷ []) [] ≡ settled_marks begun (cond b (Some r) None) v
+commit-marks true begun v r = refl
+commit-marks false begun v r = refl
+
 -- the unit's
 pub unit-starts : (c : Call) → IsGood c.setup → (past : Past) → Starts c (unit_program c past) (failing c past)
 unit-starts c g past = starts (unfinished c.setup.processes (last_write past))
@@ -324,13 +330,17 @@ unit-starts c g past = starts (unfinished c.setup.processes (last_write past))
       all = λ v. freeing-new c (inside c.process past) v;
       fit = λ v. new-goes c.setup.processes (no_ticket c) c.setup.ticket_bits (omega (arith, g.processes_is)) (omega (arith, g.ticket_is)) (ticket_width c);
     }
-    starts (Some a) = record { all = λ v. ap (λ k. single [] (last a v) (map (access_of c.process a.field) (map (at_bit a.bit) (copies.settles_from (Rattle.record.specs.Unit.made_with a) 0 k v))) ++ singles (clearing_too c (inside c.process past))) (whole c.setup.processes); fit = λ v. (omega (arith, g.processes_is), refl) }
+    starts (Some a) = record {
+      all = λ v. ap (all-with a v (Rattle.record.specs.Unit.settling c past v a).last) (whole c.setup.processes)
+          ∙ ap (λ marks. all-with a v marks (c.setup.processes - 0)) (commit-marks (is_commit a.field) (value_begun past) v (reply c (store_read c (last_read (read_so_far c.setup (since is_called past)).finished))));
+      fit = λ v. (omega (arith, g.processes_is), refl);
+    }
       where
         whole : (n : ℕ) → n ≡ n - 0
         whole n = omega arith
 
-        last : Access → Bool → List Mark
-        last a v = (Rattle.record.specs.Unit.settling c past v a).last
+        all-with : Access → Bool → List Mark → ℕ → List Next
+        all-with a v last k = single [] last (map (access_of c.process a.field) (map (at_bit a.bit) (copies.settles_from (Rattle.record.specs.Unit.made_with a) 0 k v))) ++ singles (clearing_too c (inside c.process past))
 
 pub unit-stays : (c : Call) → IsGood c.setup → (past : Past) (flicks : List Bool) (flick : Bool) → Stays c (unit_program c past) (failing c past) flicks flick
 unit-stays c g past = stays c g (unit_program c past) (failing c past) (unit-starts c g past)
@@ -351,17 +361,18 @@ closing-stages c (Withdraws w) flick n h = ap (λ (o : Option Next). fold stage_
     go true = refl
     go false = refl
 closing-stages c (Settles field bit begun taken is t) flick n h = ap (λ (o : Option Next). fold stage_after stage.Settling (marks o)) (sym h)
-    ∙ go (is_last_settled c t (copies.settled_at t flick)) (Rattle.record.specs.Unit.is_commit field && cond (copies.settled_at t flick) begun (Rattle.std.specs.Prelude.not begun))
+    ∙ go taken (is_last_settled c t (copies.settled_at t flick)) (cond (copies.settled_at t flick) begun (not begun))
   where
     marks : Option Next → List Mark
     marks None = []
     marks (Some n) = n.marks
 
-    go : (b d : Bool) → fold stage_after stage.Settling (cond b (Settled (copies.settled_at t flick) ∷ cond d (Taken 0 taken ∷ []) []) [])
+    go : (taken : Option Reply) (b d : Bool) → fold stage_after stage.Settling (cond b (Settled (copies.settled_at t flick) ∷ elim taken as (λ _. List Mark) [ None ↦ [] | Some r ↦ cond d (Taken 0 r ∷ []) [] ]) [])
         ≡ closing_stage (cond b (freeing c is) (Settles field bit begun taken is (copies.settle_after t (copies.settled_at t flick))))
-    go true true = refl
-    go true false = refl
-    go false d = refl
+    go None true d = refl
+    go (Some r) true true = refl
+    go (Some r) true false = refl
+    go taken false d = refl
 closing-stages c (Frees is w) flick n h = ap (λ (o : Option Next). fold stage_after stage.Settling (marks o)) (sym h) ∙ go (is && is_unwritten w) (is_last_written c (no_ticket c) w)
   where
     marks : Option Next → List Mark

@@ -220,7 +220,7 @@ flick-free c (Withdraws x) h w flick = refl
 flick-free c (Settles field bit begun taken is t) h w flick =
     ap (λ v. Some (let n : Next = record {
       access = Rattle.safe_number.specs.Accesses.access_of c.process field (bit, copies.next_settle t v);
-      marks = cond (is_last_settled c t v) (Rattle.record.specs.Closings.settled_marks field begun taken v) [];
+      marks = cond (is_last_settled c t v) (Rattle.record.specs.Closings.settled_marks begun taken v) [];
     } in n)) (ap (λ o. unwrap_or o w) h.1 ∙ sym (ap (λ o. unwrap_or o flick) h.1))
 flick-free c (Frees is x) h w flick = refl
 flick-free c (Lowers x) h w flick = refl

@@ -1,26 +1,29 @@
-mod Accepted
-mod Bytes
-mod Closing
-mod ClosingScripts
-mod ClosingStanding
-mod Cursors
-mod Follow
-mod Local
-mod Marking
-mod OpenSteps
-mod OpenRecords
-mod Opens
-mod Place
-mod PlaceTurns
-mod Singles
-mod Staging
-mod Standing
-mod Ties
-mod Total
-mod TurnRecords
-mod Turns
-mod Whole
-mod Width
-mod WorkedRuns
-mod World
-mod Writer
+pub mod Accepted
+pub mod Bytes
+pub mod Closing
+pub mod ClosingScripts
+pub mod ClosingStanding
+pub mod Cursors
+pub mod CutRecords
+pub mod Follow
+pub mod Knows
+pub mod Left
+pub mod Local
+pub mod Marking
+pub mod OpenSteps
+pub mod OpenRecords
+pub mod Opens
+pub mod Place
+pub mod PlaceTurns
+pub mod Singles
+pub mod Staging
+pub mod Standing
+pub mod Ties
+pub mod Total
+pub mod TurnRecords
+pub mod Turns
+pub mod Whole
+pub mod Width
+pub mod WorkedRuns
+pub mod World
+pub mod Writer

@@ -23,7 +23,7 @@ use Rattle.record.proofs.Accepted.{before-plain, no_failed}
 use Rattle.record.proofs.ClosingScripts.{closing-stages, withdrawal-stays, unit-stays}
 use Rattle.record.proofs.ClosingStanding.{withdrawn_stands, unit_stands, told-again, flick-free, chosen-after, IsChosen, is_unit, keeps-kind, failing-kind}
 use Rattle.record.proofs.Local.{start-plain, since-plain, call-plain, option_map-some}
-use Rattle.record.proofs.OpenSteps.{Opens, closed, leaves, settles, Out, IsLate, leaving_at, failing_at, turn-of, then-of, closing-plain, closing-same, closing-torn, withdraws-writes, late-writes}
+use Rattle.record.proofs.OpenSteps.{Opens, closed, leaves, settles, Out, IsLate, CutsLate, torn_late, leaving_at, failing_at, turn-of, then-of, closing-plain, closing-same, closing-torn, withdrawal-begun, withdraws-writes, late-writes}
 use Rattle.record.proofs.Opens.{opened, Torn}
 use Rattle.record.proofs.PlaceTurns.{withdrawal-leads, unit-leads}
 use Rattle.record.proofs.Staging.{stage-placed, no_start-placed}
@@ -39,8 +39,8 @@ pub withdrawn-out : (s : Setup) → IsGood s → (events : List Event) (p : ℕ)
     → let past : Past = past_of s events in
     let mine : Past = own p past in
     last_start mine ≡ Some Withdrew → stage p past ≡ stages.Leaving → ((a : Access) → opened mine a ≡ open_closing (last_call s p mine) (leaving_at s p mine) a) →
-    stepped s past p flick ≡ Some e → Out s p mine e (fold stage_after (stage p past) e.marks)
-withdrawn-out s g events p flick e b st w h = record { turns = turn-of mine e n.access (open_closing c at) (open_closing c to) access w lead; opens = finish to refl (keeps-kind c (withdrawing c) (value ∷ fs)) }
+    CutsLate (last_call s p mine) mine (leaving_at s p mine) → stepped s past p flick ≡ Some e → Out s p mine e (fold stage_after (stage p past) e.marks)
+withdrawn-out s g events p flick e b st w t h = record { turns = turn-of mine e n.access (open_closing c at) (open_closing c to) access w lead; opens = finish to refl (keeps-kind c (withdrawing c) (value ∷ fs)) }
   where
     past : Past
     past = past_of s events
@@ -93,16 +93,20 @@ withdrawn-out s g events p flick e b st w h = record { turns = turn-of mine e n.
     then : (a : Access) → opened (e ∷ mine) a ≡ open_closing c to a
     then = then-of mine e n.access (open_closing c at) (open_closing c to) access w lead
 
-    torn : Torn s.processes p (e ∷ mine)
+    torn : Torn s.processes p (e ∷ mine) (torn_late to)
     torn = closing-torn c mine e at _ value n (withdrawal-stays c g fs value).fit told access w (withdraws-writes c at value n (keeps-kind c (withdrawing c) fs) told)
+
+    cuts : CutsLate (last_call s p (e ∷ mine)) (e ∷ mine) (leaving_at s p (e ∷ mine))
+    cuts = subst (λ d. CutsLate d (e ∷ mine) (leaving_at s p (e ∷ mine))) (sym call)
+        (subst (CutsLate c (e ∷ mine)) (sym place) (record { torn = torn; begun = withdrawal-begun c mine e at value n (keeps-kind c (withdrawing c) fs) told access w t }))
 
     at_stage : fold stage_after (stage p past) e.marks ≡ closing_stage to
     at_stage = ap (λ (e : Entry). fold stage_after (stage p past) e.marks) (sym made.2) ∙ stage-placed (length (history s past)) (stage p past) n.marks
         ∙ ap (λ u. fold stage_after u n.marks) (st ∙ sym stands.0) ∙ closing-stages c at value n told
 
     finish : (x : Closing) → to ≡ x → is_unit to ≡ false → Opens s p (e ∷ mine) (fold stage_after (stage p past) e.marks)
-    finish (Withdraws q) i k = leaves (start-plain e mine plain ∙ b) (at_stage ∙ ap closing_stage i) (λ a. then a ∙ sym (λ j. open_closing (call j) (place j) a)) torn
-    finish Quit i k = closed (inl (at_stage ∙ ap closing_stage i)) (λ a. then a ∙ ap (λ x. open_closing c x a) i) torn
+    finish (Withdraws q) i k = leaves (start-plain e mine plain ∙ b) (at_stage ∙ ap closing_stage i) (λ a. then a ∙ sym (λ j. open_closing (call j) (place j) a)) cuts
+    finish Quit i k = closed (inl (at_stage ∙ ap closing_stage i)) (λ a. then a ∙ ap (λ x. open_closing c x a) i) (subst (λ x. Torn s.processes p (e ∷ mine) (torn_late x)) i torn)
     finish (Settles field bit begun taken is t) i k = absurd (true≢false (sym (ap is_unit i) ∙ k))
     finish (Frees is q) i k = absurd (true≢false (sym (ap is_unit i) ∙ k))
     finish (Lowers q) i k = absurd (true≢false (sym (ap is_unit i) ∙ k))
@@ -176,7 +180,7 @@ unit-out s g events p flick e b st w r h = record { turns = turn-of mine e n.acc
     then : (a : Access) → opened (e ∷ mine) a ≡ open_closing c to a
     then = then-of mine e n.access (open_closing c at) (open_closing c to) access w lead
 
-    torn : IsLate to → Torn s.processes p (e ∷ mine)
+    torn : IsLate to → Torn s.processes p (e ∷ mine) (torn_late to)
     torn l = closing-torn c mine e at _ value n (unit-stays c g cut fs value).fit told access w (late-writes c at value value n told l)
 
     at_stage : fold stage_after (stage p past) e.marks ≡ closing_stage to
@@ -185,12 +189,12 @@ unit-out s g events p flick e b st w r h = record { turns = turn-of mine e n.acc
 
     on : closing_stage to ≡ stages.Settling → Opens s p (e ∷ mine) (fold stage_after (stage p past) e.marks)
     on k = settles (start-plain e mine plain ∙ b) (at_stage ∙ k) (λ a. then a ∙ sym (λ j. open_closing (call j) (place j) a))
-        (λ x u. r x (ap last_write (sym (before-plain e mine plain)) ∙ u)) (λ l. torn (subst IsLate place l))
+        (λ x u. r x (ap last_write (sym (before-plain e mine plain)) ∙ u)) (λ l. subst (λ x. Torn s.processes p (e ∷ mine) (torn_late x)) (sym place) (torn (subst IsLate place l)))
 
     finish : (x : Closing) → to ≡ x → is_unit to ≡ true → Opens s p (e ∷ mine) (fold stage_after (stage p past) e.marks)
     finish (Settles field bit begun taken is t) i k = on (ap closing_stage i)
     finish (Frees is q) i k = on (ap closing_stage i)
     finish (Lowers q) i k = on (ap closing_stage i)
-    finish Ended i k = closed (inr (at_stage ∙ ap closing_stage i)) (λ a. then a ∙ ap (λ x. open_closing c x a) i) (torn (subst IsLate (sym i) tt))
+    finish Ended i k = closed (inr (at_stage ∙ ap closing_stage i)) (λ a. then a ∙ ap (λ x. open_closing c x a) i) (subst (λ x. Torn s.processes p (e ∷ mine) (torn_late x)) i (torn (subst IsLate (sym i) tt)))
     finish (Withdraws q) i k = absurd (true≢false (sym k ∙ ap is_unit i))
     finish Quit i k = absurd (true≢false (sym k ∙ ap is_unit i))

@@ -6,7 +6,10 @@ use Rattle.safe_bit.specs.SafeRule.{read_value}
 use Rattle.safe_bit.specs.declared.Move.TheVariants.{BeginWrite, EndWrite, Settle}
 use Rattle.reader_copies.specs.Runs as copies
 use Rattle.safe_number.specs.declared.Access.{Access}
+use Rattle.safe_number.specs.declared.Field.{Field}
 use Rattle.safe_number.specs.declared.Field.TheVariants.{Choosing, Ticket}
+use Rattle.safe_number.specs.declared.TornBit.{TornBit}
+use Rattle.safe_number.specs.Runs.{NumberWrite}
 use Rattle.plain_store.specs.declared.Command.{Command}
 use Rattle.plain_store.specs.declared.Setup.{Setup}
 use Rattle.plain_store.specs.declared.Answer.TheVariants as answer
@@ -15,25 +18,28 @@ use Rattle.record.specs.declared.marks.Mark.{Mark}
 use Rattle.record.specs.declared.marks.Mark.TheVariants.{Called, Failed, Withdrew, Answered, Settled, Taken, Left, Down}
 use Rattle.record.specs.declared.stages.Stage.{Stage}
 use Rattle.record.specs.declared.stages.Stage.TheVariants as stages
-use Rattle.record.specs.Calls.{last_call}
+use Rattle.record.specs.Calls.{ReadSoFar, last_call, read_so_far, with_access}
 use Rattle.record.specs.Closings.{Closing, Withdraws, Settles, Frees, Lowers, Quit, Ended, withdrawing, failing, freeing, no_ticket, is_last_written, is_last_settled, is_unwritten, closing_next, closing_after, closing_of}
-use Rattle.record.specs.Entries.{Entry, Past, own, has, since, before, starts, is_failed}
+use Rattle.record.specs.Cuts.{torn_in, torn_at}
+use Rattle.record.specs.Entries.{Entry, Past, own, has, since, before, starts, is_called, is_failed}
 use Rattle.record.specs.Histories.{history}
 use Rattle.record.specs.Moves.{same_bit, moves_of, ended, ended_with}
 use Rattle.record.specs.Parts.{Part, Raises, Asks, TakesTicket, Lowers as LowersChoosing, Refuses, Waits, AsksCommit, AsksStamp, AsksImage, WritesImage, WritesStamp, WritesCommit, Clears, Over, is_over, stage_of, part_after}
 use Rattle.record.specs.Places.{Place, accesses_of, place_of, place_after, access_at, value_of, entry_at, marks_of, is_running, is_last, enter, bits_with, run_after, write_moved, next_written}
 use Rattle.record.specs.Records.{last_start, past_of, stepped}
 use Rattle.record.specs.Registers.{opening_bit}
-use Rattle.record.specs.Scripts.{Call, Next}
+use Rattle.record.specs.Scripts.{Call, Next, Numbers}
 use Rattle.record.specs.Stages.{stage, stage_after}
 use Rattle.record.specs.Turns.{Turn, Leads, open_after, open_place, open_closing}
-use Rattle.record.specs.Unit.{last_write, value_written, is_commit}
+use Rattle.record.specs.Unit.{last_write, value_written}
 use Rattle.record.proofs.Closing.{Fit}
 use Rattle.record.proofs.ClosingStanding.{is_unit}
 use Rattle.record.proofs.Follow.{Spot, moved_on}
-use Rattle.record.proofs.Local.{Running, start-plain, since-plain, call-plain, running_steps, over-idle, stage-moved}
+use Rattle.record.proofs.Knows.{Knows, knows-place}
+use Rattle.record.proofs.Left.{left-written, left-new, left-done, value_at, value_closing}
+use Rattle.record.proofs.Local.{Running, start-plain, since-plain, since_called-plain, call-plain, running_steps, over-idle, stage-moved}
 use Rattle.record.proofs.Marking.{spot_marks}
-use Rattle.record.proofs.Opens.{opened, opened-entry, Torn, torn-write, torn-place, write-kind}
+use Rattle.record.proofs.Opens.{opened, opened-entry, Torn, IsBegun, torn-write, torn-place, begun-write, begun-place, write-kind}
 use Rattle.record.proofs.PlaceTurns.{enter-closed, place-leads, same-write, access_in}
 use Rattle.record.proofs.Staging.{stage-placed}
 use Rattle.record.proofs.Standing.{at_place, running_next}
@@ -56,13 +62,32 @@ IsLate (Lowers w) = Unit {0}
 IsLate Ended = Unit {0}
 IsLate _ = ⊥
 
+-- the torn bit of a withdrawal's write, or of a unit's
+abbrev pub torn_late : Closing → Option TornBit
+torn_late (Withdraws w) = torn_in Ticket w
+torn_late (Frees is w) = torn_in Ticket w
+torn_late (Lowers w) = torn_in Choosing w
+torn_late _ = None
+
+-- what a failure would find of a process at a place, with these numbers read
+pub record Cuts (c : Call) (mine : Past) (at : Place) (finished : Numbers) : Type 0 where
+  pub torn : Torn c.setup.processes c.process mine (torn_at c at)
+  pub begun : IsBegun mine (torn_at c at) (value_at c at)
+  pub knows : Knows c at.part finished
+
+-- and of one that withdrew
+pub record CutsLate (c : Call) (mine : Past) (at : Closing) : Type 0 where
+  pub torn : Torn c.setup.processes c.process mine (torn_late at)
+  pub begun : IsBegun mine (torn_late at) (value_closing c at)
+
 -- what a process has open is what its machine has open
 pub data Opens (s : Setup) (p : ℕ) (mine : Past) (st : Stage) : Type 0 where
-  closed : ((st ≡ stages.Idle) ⊎ (st ≡ stages.Down)) → ((a : Access) → opened mine a ≡ false) → Torn s.processes p mine → Opens s p mine st
-  runs_at : (command : Command) → last_start mine ≡ Some (Called command) → is_running st ≡ true → ((a : Access) → opened mine a ≡ open_place (last_call s p mine) (place_at s p mine) a) → Torn s.processes p mine → Opens s p mine st
-  leaves : last_start mine ≡ Some Withdrew → st ≡ stages.Leaving → ((a : Access) → opened mine a ≡ open_closing (last_call s p mine) (leaving_at s p mine) a) → Torn s.processes p mine → Opens s p mine st
+  closed : ((st ≡ stages.Idle) ⊎ (st ≡ stages.Down)) → ((a : Access) → opened mine a ≡ false) → Torn s.processes p mine None → Opens s p mine st
+  runs_at : (command : Command) → last_start mine ≡ Some (Called command) → is_running st ≡ true → ((a : Access) → opened mine a ≡ open_place (last_call s p mine) (place_at s p mine) a) →
+      Cuts (last_call s p mine) mine (place_at s p mine) (read_so_far s (since is_called mine)).finished → Opens s p mine st
+  leaves : last_start mine ≡ Some Withdrew → st ≡ stages.Leaving → ((a : Access) → opened mine a ≡ open_closing (last_call s p mine) (leaving_at s p mine) a) → CutsLate (last_call s p mine) mine (leaving_at s p mine) → Opens s p mine st
   settles : last_start mine ≡ Some Failed → st ≡ stages.Settling → ((a : Access) → opened mine a ≡ open_closing (last_call s p mine) (failing_at s p mine) a) →
-      ((b : Access) → last_write (before is_failed mine) ≡ Some b → b.reader < s.processes) → (IsLate (failing_at s p mine) → Torn s.processes p mine) → Opens s p mine st
+      ((b : Access) → last_write (before is_failed mine) ≡ Some b → b.reader < s.processes) → (IsLate (failing_at s p mine) → Torn s.processes p mine (torn_late (failing_at s p mine))) → Opens s p mine st
 
 -- an entry of the process comes in its turn, and what is open then is known again
 pub record Out (s : Setup) (p : ℕ) (mine : Past) (e : Entry) (st : Stage) : Type 0 where
@@ -78,6 +103,14 @@ turn-of mine e y was then h w lead a x k same =
 
 pub then-of : (mine : Past) (e : Entry) (y : Access) (was then : Access → Bool) → e.access ≡ Some y → ((a : Access) → opened mine a ≡ was a) → Leads was y then → (a : Access) → opened (e ∷ mine) a ≡ then a
 then-of mine e y was then h w lead a = opened-entry a y e mine h ∙ ap (λ b. open_after b (same_bit a y) y.how) (w a) ∙ sym (lead.after a)
+
+over-left : (c : Call) (at : Place) (v : Bool) → is_over at.part ≡ false → is_over (place_after c at v).part ≡ true → torn_at c (place_after c at v) ≡ None
+over-left c at v o h = go (is_last c at.part at.run) h
+  where
+    go : (b : Bool) → is_over (cond b (enter c (part_after c at.part (bits_with at.run v))) (record { part = at.part; run = run_after c at.part at.run v })).part ≡ true →
+        torn_at c (cond b (enter c (part_after c at.part (bits_with at.run v))) (record { part = at.part; run = run_after c at.part at.run v })) ≡ None
+    go true h = left-new c (part_after c at.part (bits_with at.run v))
+    go false h = absurd (true≢false (sym h ∙ o))
 
 over-closed : (c : Call) (at : Place) (v : Bool) → is_over at.part ≡ false → is_over (place_after c at v).part ≡ true → (a : Access) → open_place c (place_after c at v) a ≡ false
 over-closed c at v o h a = go (is_last c at.part at.run) h
@@ -108,8 +141,8 @@ running-part Over f o = cc
 pub running-out : (s : Setup) → IsGood s → (events : List Event) (p : ℕ) (flick : Bool) (e : Entry) (command : Command)
     → let past : Past = past_of s events in
     let mine : Past = own p past in
-    last_start mine ≡ Some (Called command) → is_running (stage p past) ≡ true → ((a : Access) → opened mine a ≡ open_place (last_call s p mine) (place_at s p mine) a) → Torn s.processes p mine →
-    stepped s past p flick ≡ Some e → Out s p mine e (fold stage_after (stage p past) e.marks)
+    last_start mine ≡ Some (Called command) → is_running (stage p past) ≡ true → ((a : Access) → opened mine a ≡ open_place (last_call s p mine) (place_at s p mine) a) →
+    Cuts (last_call s p mine) mine (place_at s p mine) (read_so_far s (since is_called mine)).finished → stepped s past p flick ≡ Some e → Out s p mine e (fold stage_after (stage p past) e.marks)
 running-out s g events p flick e command b run w t h = record { turns = turn-of mine e y (open_place c at) (open_place c to) access w lead; opens = go (is_over spot.part) refl }
   where
     past : Past
@@ -166,8 +199,26 @@ running-out s g events p flick e command b run w t h = record { turns = turn-of 
     place : place_at s p (e ∷ mine) ≡ to
     place = ap (λ d. place_of d (accesses_of (since starts (e ∷ mine)))) call ∙ ap (place_of c) accesses
 
-    torn : Torn s.processes p (e ∷ mine)
-    torn = torn-place c mine e at.part at.run r.at.made r.at.bits v o r.tied.run access w t
+    torn : Torn s.processes p (e ∷ mine) (torn_at c to)
+    torn = torn-place c mine e at.part at.run r.at.made r.at.bits v (value_of y.how) o r.tied.run access w t.torn
+
+    before-it : ReadSoFar
+    before-it = read_so_far s (since is_called mine)
+
+    reads-on : read_so_far s (since is_called (e ∷ mine)) ≡ with_access s (Some y) before-it
+    reads-on = ap (read_so_far s) (since_called-plain e mine plain) ∙ ap (λ o. with_access s o before-it) access
+
+    cuts : Cuts c (e ∷ mine) to (with_access s (Some y) before-it).finished
+    cuts = record {
+      torn = torn;
+      begun = begun-place c mine e at.part at.run r.at.made r.at.bits v (value_of y.how) o r.tied.run access w t.torn t.begun;
+      knows = knows-place c at.part at.run r.at.made r.at.bits v before-it o r.tied.run (ap (λ l. (read_so_far s l).bits) r.same ∙ r.stands.bits) t.knows;
+    }
+
+    cuts-on : Cuts (last_call s p (e ∷ mine)) (e ∷ mine) (place_at s p (e ∷ mine)) (read_so_far s (since is_called (e ∷ mine))).finished
+    cuts-on = subst (λ d. Cuts d (e ∷ mine) (place_at s p (e ∷ mine)) (read_so_far s (since is_called (e ∷ mine))).finished) (sym call)
+        (subst (λ x. Cuts c (e ∷ mine) x (read_so_far s (since is_called (e ∷ mine))).finished) (sym place)
+        (subst (λ (q : ReadSoFar). Cuts c (e ∷ mine) to q.finished) (sym reads-on) cuts))
 
     spot : Spot
     spot = moved_on c r.at y
@@ -185,8 +236,9 @@ running-out s g events p flick e command b run w t h = record { turns = turn-of 
         ∙ ap (λ u. fold stage_after u (spot_marks c r.at y)) r.stage ∙ stage-moved c r.at y
 
     go : (d : Bool) → is_over spot.part ≡ d → Opens s p (e ∷ mine) (fold stage_after (stage p past) e.marks)
-    go true q = closed (inl (st ∙ over-idle spot.part (spot.made == 0) q)) (λ a. then a ∙ over-closed c at (value_of y.how) o (ap is_over (sym tied.part) ∙ q) a) torn
-    go false q = runs_at command (start-plain e mine plain ∙ b) (ap is_running st ∙ running-part spot.part (spot.made == 0) q) (λ a. then a ∙ sym (λ i. open_place (call i) (place i) a)) torn
+    go true q = closed (inl (st ∙ over-idle spot.part (spot.made == 0) q)) (λ a. then a ∙ over-closed c at (value_of y.how) o (ap is_over (sym tied.part) ∙ q) a)
+        (subst (Torn s.processes p (e ∷ mine)) (over-left c at (value_of y.how) o (ap is_over (sym tied.part) ∙ q)) torn)
+    go false q = runs_at command (start-plain e mine plain ∙ b) (ap is_running st ∙ running-part spot.part (spot.made == 0) q) (λ a. then a ∙ sym (λ i. open_place (call i) (place i) a)) cuts-on
 
 -- no mark of a closing begins a program
 pub closing-plain : (c : Call) (at : Closing) (flick : Bool) (n : Next) → closing_next c at flick ≡ Some n → list_any starts n.marks ≡ false
@@ -200,15 +252,17 @@ closing-plain c at flick n h = ap (λ o. list_any starts (marks o)) (sym h) ∙ 
     one true m h = ap (λ d. Rattle.std.specs.Prelude.◌||◌ d false) h
     one false m h = refl
 
-    two : (b d : Bool) (v : Bool) (r : Rattle.plain_store.specs.declared.Reply.Reply) → list_any starts (cond b (Settled v ∷ cond d (Taken 0 r ∷ []) []) []) ≡ false
-    two true true v r = refl
-    two true false v r = refl
-    two false d v r = refl
+    two : (b d : Bool) (v : Bool) (taken : Option Rattle.plain_store.specs.declared.Reply.Reply) →
+        list_any starts (cond b (Settled v ∷ elim taken as (λ _. List Mark) [ None ↦ [] | Some r ↦ cond d (Taken 0 r ∷ []) [] ]) []) ≡ false
+    two true d v None = refl
+    two true true v (Some r) = refl
+    two true false v (Some r) = refl
+    two false d v taken = refl
 
     go : (at : Closing) → list_any starts (marks (closing_next c at flick)) ≡ false
     go (Withdraws w) = one (is_last_written c (no_ticket c) w) (Answered answer.Withdrawn) refl
     go (Settles field bit begun taken is t) =
-        two (is_last_settled c t (copies.settled_at t flick)) (is_commit field && cond (copies.settled_at t flick) begun (not begun)) (copies.settled_at t flick) taken
+        two (is_last_settled c t (copies.settled_at t flick)) (cond (copies.settled_at t flick) begun (not begun)) (copies.settled_at t flick) taken
     go (Frees is w) = one (is && is_unwritten w) Left refl
     go (Lowers w) = one (is_last_written c (false ∷ []) w) Down refl
     go Quit = refl
@@ -238,17 +292,46 @@ IsWriting (Frees is w) = Unit {0}
 IsWriting (Lowers w) = Unit {0}
 IsWriting _ = ⊥
 
+-- the torn bit after an access of a write is that of what comes then
+late-after : (c : Call) (f : Field) (bits : List Bool) (w : NumberWrite) (next now : Closing) → w.bit < w.width → torn_late next ≡ None → torn_late now ≡ torn_in f (write_moved c.setup.processes bits w) →
+    torn_in f (write_moved c.setup.processes bits w) ≡ torn_late (cond (is_last_written c bits w) next now)
+late-after c f bits w next now inside none same = go (is_last_written c bits w) refl
+  where
+    go : (b : Bool) → is_last_written c bits w ≡ b → torn_in f (write_moved c.setup.processes bits w) ≡ torn_late (cond b next now)
+    go true l = left-done c.setup.processes f bits w inside l ∙ sym none
+    go false l = sym same
+
+-- after an access of a withdrawal, the value that is being written to a torn bit is its write's
+pub withdrawal-begun : (c : Call) (mine : Past) (e : Entry) (at : Closing) (flick : Bool) (n : Next) → is_unit at ≡ false → closing_next c at flick ≡ Some n → e.access ≡ Some n.access →
+    ((a : Access) → opened mine a ≡ open_closing c at a) → CutsLate c mine at → IsBegun (e ∷ mine) (torn_late (closing_after c at flick)) (value_closing c (closing_after c at flick))
+withdrawal-begun c mine e (Withdraws w) flick n u h k same t = go (is_last_written c (no_ticket c) w)
+  where
+    to : NumberWrite
+    to = write_moved c.setup.processes (no_ticket c) w
+
+    go : (b : Bool) → IsBegun (e ∷ mine) (torn_late (cond b Quit (Withdraws to))) (value_closing c (cond b Quit (Withdraws to)))
+    go true now l = cc
+    go false now l = begun-write c.setup.processes c.process mine e Ticket (no_ticket c) w (k ∙ ap (λ o. Some (access_in o)) (sym h)) same t.torn t.begun now l
+withdrawal-begun c mine e (Settles field bit begun taken i s) flick n u h k same t = cc
+withdrawal-begun c mine e (Frees i w) flick n u h k same t = cc
+withdrawal-begun c mine e (Lowers w) flick n u h k same t = cc
+withdrawal-begun c mine e Quit flick n u h k same t = cc
+withdrawal-begun c mine e Ended flick n u h k same t = cc
+
 pub closing-torn : (c : Call) (mine : Past) (e : Entry) (at : Closing) (v flick : Bool) (n : Next) → Fit c at v flick → closing_next c at flick ≡ Some n → e.access ≡ Some n.access →
-    ((a : Access) → opened mine a ≡ open_closing c at a) → IsWriting at → Torn c.setup.processes c.process (e ∷ mine)
+    ((a : Access) → opened mine a ≡ open_closing c at a) → IsWriting at → Torn c.setup.processes c.process (e ∷ mine) (torn_late (closing_after c at flick))
 closing-torn c mine e (Withdraws w) v flick n fit h k same is =
     let going : (Rattle.record.specs.Places.bit_written (no_ticket c) w).made < 2 * c.setup.processes = fit.going in
-    torn-write c.setup.processes c.process mine e _ (open_closing c (Withdraws w)) (k ∙ ap (λ o. Some (access_in o)) (sym h)) refl (omega arith) same (write-kind c.process Ticket (no_ticket c) w)
+    torn-write c.setup.processes c.process mine e _ (open_closing c (Withdraws w)) _
+    (left-written c.setup.processes c.process Ticket (no_ticket c) w ∙ late-after c Ticket (no_ticket c) w Quit (Withdraws (write_moved c.setup.processes (no_ticket c) w)) fit.inside refl refl) (k ∙ ap (λ o. Some (access_in o)) (sym h)) refl (omega arith) same (write-kind c.process Ticket (no_ticket c) w)
 closing-torn c mine e (Frees i w) v flick n fit h k same is =
     let going : (Rattle.record.specs.Places.bit_written (no_ticket c) w).made < 2 * c.setup.processes = fit.going in
-    torn-write c.setup.processes c.process mine e _ (open_closing c (Frees i w)) (k ∙ ap (λ o. Some (access_in o)) (sym h)) refl (omega arith) same (write-kind c.process Ticket (no_ticket c) w)
+    torn-write c.setup.processes c.process mine e _ (open_closing c (Frees i w)) _
+    (left-written c.setup.processes c.process Ticket (no_ticket c) w ∙ late-after c Ticket (no_ticket c) w (Lowers (Rattle.safe_number.specs.Runs.new_write 1)) (Frees i (write_moved c.setup.processes (no_ticket c) w)) fit.inside refl refl) (k ∙ ap (λ o. Some (access_in o)) (sym h)) refl (omega arith) same (write-kind c.process Ticket (no_ticket c) w)
 closing-torn c mine e (Lowers w) v flick n fit h k same is =
     let going : (Rattle.record.specs.Places.bit_written (false ∷ []) w).made < 2 * c.setup.processes = fit.going in
-    torn-write c.setup.processes c.process mine e _ (open_closing c (Lowers w)) (k ∙ ap (λ o. Some (access_in o)) (sym h)) refl (omega arith) same (write-kind c.process Choosing (false ∷ []) w)
+    torn-write c.setup.processes c.process mine e _ (open_closing c (Lowers w)) _
+    (left-written c.setup.processes c.process Choosing (false ∷ []) w ∙ late-after c Choosing (false ∷ []) w Ended (Lowers (write_moved c.setup.processes (false ∷ []) w)) fit.inside refl refl) (k ∙ ap (λ o. Some (access_in o)) (sym h)) refl (omega arith) same (write-kind c.process Choosing (false ∷ []) w)
 closing-torn c mine e (Settles field bit begun taken i t) v flick n fit h k same is = absurd is
 closing-torn c mine e Quit v flick n fit h k same is = absurd is
 closing-torn c mine e Ended v flick n fit h k same is = absurd is

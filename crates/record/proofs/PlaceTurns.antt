@@ -166,7 +166,7 @@ closing-writes c p f bits w next now on shut same = record { turn = lead.turn; a
     go a true l = shut a ∙ sym (done-closed c.setup.processes p f bits w a on l)
     go a false l = same a
 
-closing-settles : (c : Call) (field : Field) (bit : ℕ) (begun : Bool) (taken : Reply) (is : Bool) (t : copies.Settling) (u : Bool) → t.reader < c.setup.processes → t.made < 2 * c.setup.processes →
+closing-settles : (c : Call) (field : Field) (bit : ℕ) (begun : Bool) (taken : Option Reply) (is : Bool) (t : copies.Settling) (u : Bool) → t.reader < c.setup.processes → t.made < 2 * c.setup.processes →
     Leads (open_settled c.process field bit t) (access_of c.process field (bit, copies.next_settle t u)) (open_closing c (cond (is_last_settled c t u) (freeing c is) (Settles field bit begun taken is (copies.settle_after t u))))
 closing-settles c field bit begun taken is t u within reach = record { turn = lead.turn; after = λ a. go a (is_last_settled c t u) refl ∙ lead.after a }
   where

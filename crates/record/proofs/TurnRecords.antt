@@ -6,6 +6,7 @@ use Rattle.safe_bit.specs.SafeRule.{is_write_open}
 use Rattle.safe_bit.specs.declared.Move.{Move}
 use Rattle.safe_bit.specs.declared.Move.TheVariants.{BeginWrite, EndWrite, BeginRead, EndRead, Settle}
 use Rattle.safe_number.specs.declared.Access.{Access}
+use Rattle.safe_number.specs.declared.TornBit.{TornBit}
 use Rattle.plain_store.specs.declared.Setup.{Setup}
 use Rattle.record.specs.declared.events.Event.{Event}
 use Rattle.record.specs.declared.events.Event.TheVariants.{Call as Calls, Step, Fail, Withdraw, Restart}
@@ -15,6 +16,7 @@ use Rattle.record.specs.declared.stages.Stage.{Stage}
 use Rattle.record.specs.declared.stages.Stage.TheVariants.{Idle, Doorway, Waiting, Inside, Leaving, Settling, Down}
 use Rattle.record.specs.Calls.{last_call}
 use Rattle.record.specs.Closings.{settling_from}
+use Rattle.record.specs.Cuts.{torn_at, torn_run}
 use Rattle.record.specs.Entries.{Entry, Past, own}
 use Rattle.record.specs.Moves.{field_number, same_bit, moves_of}
 use Rattle.record.specs.Parts.{Part, Raises, Asks, TakesTicket, Lowers, Refuses, Waits, AsksCommit, AsksStamp, AsksImage, WritesImage, WritesStamp, WritesCommit, Clears, Over, is_over, is_read, stage_of}
@@ -60,6 +62,11 @@ waiting-closed c part run made bits f o h (over q) a = absurd (true≢false (sym
 waiting-closed c part run made bits f o h (writes r e t) a = absurd (waiting-part part f r h)
 waiting-closed c part run made bits f o h (reads r t) a = refl
 
+waiting-left : (c : Call) (part : Part) (run : Run) (made : ℕ) (bits : List Bool) (f : Bool) → is_over part ≡ false → stage_of part f ≡ Waiting → Tie c part run made bits → torn_run c part run ≡ None
+waiting-left c part run made bits f o h (over q) = absurd (true≢false (sym q ∙ o))
+waiting-left c part run made bits f o h (writes r e t) = absurd (waiting-part part f r h)
+waiting-left c part run made bits f o h (reads r t) = refl
+
 -- what the last write has left open is where the unit begins
 torn-settling : (c : Call) (mine : Past) (torn : Option Access) (a : Access) → open_torn c.process torn a ≡ open_closing c (settling_from c mine torn) a
 torn-settling c mine None a = sym (new-closed c.process Rattle.safe_number.specs.declared.Field.TheVariants.Ticket (Rattle.record.specs.Closings.no_ticket c) c.setup.ticket_bits a)
@@ -70,15 +77,15 @@ not_late c mine None l = l
 not_late c mine (Some b) l = l
 
 -- a unit begins
-failed-opens : (s : Setup) (p : ℕ) (mine : Past) → Torn s.processes p mine → Opens s p (record { process = p; access = None; marks = Failed ∷ [] } ∷ mine) Settling
-failed-opens s p mine t = settles refl refl (λ a. t.opens a ∙ torn-settling c mine (unfinished s.processes (last_write mine)) a) t.reader (λ l. absurd (not_late c mine (unfinished s.processes (last_write mine)) l))
+failed-opens : (s : Setup) (p : ℕ) (mine : Past) (torn : Option TornBit) → Torn s.processes p mine torn → Opens s p (record { process = p; access = None; marks = Failed ∷ [] } ∷ mine) Settling
+failed-opens s p mine torn t = settles refl refl (λ a. t.opens a ∙ torn-settling c mine (unfinished s.processes (last_write mine)) a) t.reader (λ l. absurd (not_late c mine (unfinished s.processes (last_write mine)) l))
   where
     c : Call
     c = last_call s p (record { process = p; access = None; marks = Failed ∷ [] } ∷ mine)
 
 -- nothing is open, and a mark is added
-kept : (p : ℕ) (n : ℕ) (mine : Past) (m : Mark) → Torn n p mine → Torn n p (record { process = p; access = None; marks = m ∷ [] } ∷ mine)
-kept p n mine m t = record { opens = t.opens; reader = t.reader }
+kept : (p : ℕ) (n : ℕ) (mine : Past) (m : Mark) (torn : Option TornBit) → Torn n p mine torn → Torn n p (record { process = p; access = None; marks = m ∷ [] } ∷ mine) torn
+kept p n mine m torn t = record { opens = t.opens; reader = t.reader; left = t.left }
 
 no_turn : (mine : Past) (p : ℕ) (m : Mark) (a x : Access) → (let e : Entry = record { process = p; access = None; marks = m ∷ [] } in e).access ≡ Some x → same_bit a x ≡ true → Turn (opened mine a) x.how
 no_turn mine p m a x h same = let f : None ≡ Some x = h in cc
@@ -118,25 +125,25 @@ added-out : (s : Setup) → IsGood s → (events : List Event) (event : Event) (
 added-out s g events (Step p flick) e h (closed (inl i) w t) a = let f : refused_at (Step p flick) Idle ≡ None = ap (refused_at (Step p flick)) (sym i) ∙ h in cc
 added-out s g events (Step p flick) e h (closed (inr i) w t) a = let f : refused_at (Step p flick) Down ≡ None = ap (refused_at (Step p flick)) (sym i) ∙ h in cc
 added-out s g events (Step p flick) e h (runs_at command b r w t) a = running-out s g events p flick e command b r w t a
-added-out s g events (Step p flick) e h (leaves b st w t) a = withdrawn-out s g events p flick e b st w a
+added-out s g events (Step p flick) e h (leaves b st w t) a = withdrawn-out s g events p flick e b st w t a
 added-out s g events (Step p flick) e h (settles b st w r t) a = unit-out s g events p flick e b st w r a
 added-out s g events (Calls p c) e h (closed (inl i) w t) a =
     let past : Past = past_of s events in
     let d : record { process = p; access = None; marks = Called c ∷ [] } ≡ e = cc in
     subst (λ (e : Entry). Out s p (own p past) e (fold stage_after (stage p past) e.marks)) d (record {
       turns = no_turn (own p past) p (Called c);
-      opens = runs_at c refl refl (λ a. w a ∙ sym (enter-closed (last_call s p (record { process = p; access = None; marks = Called c ∷ [] } ∷ own p past)) Raises a)) (kept p s.processes (own p past) (Called c) t);
+      opens = runs_at c refl refl (λ a. w a ∙ sym (enter-closed (last_call s p (record { process = p; access = None; marks = Called c ∷ [] } ∷ own p past)) Raises a)) (record { torn = kept p s.processes (own p past) (Called c) None t; begun = λ t h. cc; knows = tt });
     })
 added-out s g events (Calls p c) e h (closed (inr i) w t) a = let f : refused_at (Calls p c) Down ≡ None = ap (refused_at (Calls p c)) (sym i) ∙ h in cc
 added-out s g events (Calls p c) e h (runs_at command b r w t) a = absurd (busy p c (stage p (past_of s events)) r h)
 added-out s g events (Calls p c) e h (leaves b st w t) a = let f : refused_at (Calls p c) Leaving ≡ None = ap (refused_at (Calls p c)) (sym st) ∙ h in cc
 added-out s g events (Calls p c) e h (settles b st w r t) a = let f : refused_at (Calls p c) Settling ≡ None = ap (refused_at (Calls p c)) (sym st) ∙ h in cc
 added-out s g events (Fail p) e h (closed i w t) a = let d : record { process = p; access = None; marks = Failed ∷ [] } ≡ e = cc in
-    subst (λ (e : Entry). Out s p (own p (past_of s events)) e (fold stage_after (stage p (past_of s events)) e.marks)) d (record { turns = no_turn (own p (past_of s events)) p Failed; opens = failed-opens s p (own p (past_of s events)) t })
+    subst (λ (e : Entry). Out s p (own p (past_of s events)) e (fold stage_after (stage p (past_of s events)) e.marks)) d (record { turns = no_turn (own p (past_of s events)) p Failed; opens = failed-opens s p (own p (past_of s events)) None t })
 added-out s g events (Fail p) e h (runs_at command b r w t) a = let d : record { process = p; access = None; marks = Failed ∷ [] } ≡ e = cc in
-    subst (λ (e : Entry). Out s p (own p (past_of s events)) e (fold stage_after (stage p (past_of s events)) e.marks)) d (record { turns = no_turn (own p (past_of s events)) p Failed; opens = failed-opens s p (own p (past_of s events)) t })
+    subst (λ (e : Entry). Out s p (own p (past_of s events)) e (fold stage_after (stage p (past_of s events)) e.marks)) d (record { turns = no_turn (own p (past_of s events)) p Failed; opens = failed-opens s p (own p (past_of s events)) _ t.torn })
 added-out s g events (Fail p) e h (leaves b st w t) a = let d : record { process = p; access = None; marks = Failed ∷ [] } ≡ e = cc in
-    subst (λ (e : Entry). Out s p (own p (past_of s events)) e (fold stage_after (stage p (past_of s events)) e.marks)) d (record { turns = no_turn (own p (past_of s events)) p Failed; opens = failed-opens s p (own p (past_of s events)) t })
+    subst (λ (e : Entry). Out s p (own p (past_of s events)) e (fold stage_after (stage p (past_of s events)) e.marks)) d (record { turns = no_turn (own p (past_of s events)) p Failed; opens = failed-opens s p (own p (past_of s events)) _ t.torn })
 added-out s g events (Fail p) e h (settles b st w r t) a = let f : refused_at (Fail p) Settling ≡ None = ap (refused_at (Fail p)) (sym st) ∙ h in cc
 added-out s g events (Withdraw p) e h (closed (inl i) w t) a = let f : refused_at (Withdraw p) Idle ≡ None = ap (refused_at (Withdraw p)) (sym i) ∙ h in cc
 added-out s g events (Withdraw p) e h (closed (inr i) w t) a = let f : refused_at (Withdraw p) Down ≡ None = ap (refused_at (Withdraw p)) (sym i) ∙ h in cc
@@ -148,15 +155,16 @@ added-out s g events (Withdraw p) e h (runs_at command b r w t) a =
     let at = at_place s g events p command b r in
     let waits : stage_of (place_at s p (own p past)).part (at.at.made == 0) ≡ Waiting = ap (λ part. stage_of part (at.at.made == 0)) (sym at.tied.part) ∙ sym at.stage ∙ is-waiting p (stage p past) h in
     let none : (a : Access) → opened (own p past) a ≡ false = λ a. w a ∙ waiting-closed c (place_at s p (own p past)).part (place_at s p (own p past)).run at.at.made at.at.bits (at.at.made == 0) (ap is_over (sym at.tied.part) ∙ at.not_over) waits at.tied.run a in
+    let left : torn_at c (place_at s p (own p past)) ≡ None = waiting-left c (place_at s p (own p past)).part (place_at s p (own p past)).run at.at.made at.at.bits (at.at.made == 0) (ap is_over (sym at.tied.part) ∙ at.not_over) waits at.tied.run in
     let d : record { process = p; access = None; marks = Withdrew ∷ [] } ≡ e = cc in
     subst (λ (e : Entry). Out s p (own p past) e (fold stage_after (stage p past) e.marks)) d (record {
       turns = no_turn (own p past) p Withdrew;
-      opens = leaves refl refl (λ a. none a ∙ sym (new-closed p Rattle.safe_number.specs.declared.Field.TheVariants.Ticket (Rattle.record.specs.Closings.no_ticket c) s.ticket_bits a)) (kept p s.processes (own p past) Withdrew t);
+      opens = leaves refl refl (λ a. none a ∙ sym (new-closed p Rattle.safe_number.specs.declared.Field.TheVariants.Ticket (Rattle.record.specs.Closings.no_ticket c) s.ticket_bits a)) (record { torn = kept p s.processes (own p past) Withdrew None (subst (Torn s.processes p (own p past)) left t.torn); begun = λ t h. cc });
     })
 added-out s g events (Restart p) e h (closed (inl i) w t) a = let f : refused_at (Restart p) Idle ≡ None = ap (refused_at (Restart p)) (sym i) ∙ h in cc
 added-out s g events (Restart p) e h (closed (inr i) w t) a = let d : record { process = p; access = None; marks = Restarted ∷ [] } ≡ e = cc in
     subst (λ (e : Entry). Out s p (own p (past_of s events)) e (fold stage_after (stage p (past_of s events)) e.marks)) d
-    (record { turns = no_turn (own p (past_of s events)) p Restarted; opens = closed (inl refl) w (kept p s.processes (own p (past_of s events)) Restarted t) })
+    (record { turns = no_turn (own p (past_of s events)) p Restarted; opens = closed (inl refl) w (kept p s.processes (own p (past_of s events)) Restarted None t) })
 added-out s g events (Restart p) e h (runs_at command b r w t) a = absurd (not_down p (stage p (past_of s events)) r h)
 added-out s g events (Restart p) e h (leaves b st w t) a = let f : refused_at (Restart p) Leaving ≡ None = ap (refused_at (Restart p)) (sym st) ∙ h in cc
 added-out s g events (Restart p) e h (settles b st w r t) a = let f : refused_at (Restart p) Settling ≡ None = ap (refused_at (Restart p)) (sym st) ∙ h in cc
@@ -183,7 +191,7 @@ opens_more s g events event p ih (Some e) h = at (e.process == p) refl
 
 -- in every record
 pub opens_all : (s : Setup) → IsGood s → (events : List Event) (p : ℕ) → Opens s p (own p (past_of s events)) (stage p (past_of s events))
-opens_all s g [] p = closed (inl refl) (λ a. refl) (record { opens = λ a. refl; reader = λ b u. cc })
+opens_all s g [] p = closed (inl refl) (λ a. refl) (record { opens = λ a. refl; reader = λ b u. cc; left = refl })
 opens_all s g (event ∷ events) p = opens_more s g events event p (opens_all s g events) (entry_of s (past_of s events) event) refl
 
 owner-of : (b r o f : Bool) → (b && r && o && f) ≡ true → o ≡ true

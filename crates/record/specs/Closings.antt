@@ -28,7 +28,7 @@ use Rattle.record.specs.Unit.{last_write, last_read, value_begun, unfinished, ma
 -- what is being done, and how far it has come
 pub data Closing : Type 0 where
   Withdraws : NumberWrite → Closing  -- the process writes `Ticket` 0, and answers `Withdrawn`
-  Settles : (field : Field) (bit : ℕ) (begun : Bool) (taken : Reply) (inside : Bool) → copies.Settling → Closing  -- the unit settles a bit. begun was being written; a commit bit that is settled at it takes the command with this reply
+  Settles : (field : Field) (bit : ℕ) (begun : Bool) (taken : Option Reply) (inside : Bool) → copies.Settling → Closing  -- the unit settles a bit. begun was being written; a commit bit that is settled at it takes the command, with this reply
   Frees : (inside : Bool) → NumberWrite → Closing  -- the unit writes `Ticket` 0
   Lowers : NumberWrite → Closing  -- the unit writes `Choosing` 0
   Quit : Closing  -- the process has answered
@@ -51,8 +51,8 @@ abbrev pub is_last_settled : Call → copies.Settling → Bool → Bool
 is_last_settled c t v = (copies.settle_after t v).reader == c.setup.processes
 
 -- the marks on the last access of a settling at v
-abbrev pub settled_marks : Field → Bool → Reply → Bool → List Mark
-settled_marks field begun taken v = Settled v ∷ cond (is_commit field && (if v then begun else not begun)) (Taken 0 taken ∷ []) []
+abbrev pub settled_marks : Bool → Option Reply → Bool → List Mark
+settled_marks begun taken v = Settled v ∷ elim taken [ None ↦ [] | Some r ↦ cond (if v then begun else not begun) (Taken 0 r ∷ []) [] ]
 
 -- the withdrawal, of which nothing is made
 abbrev pub withdrawing : Call → Closing
@@ -62,11 +62,15 @@ withdrawing c = Withdraws (new_write c.setup.ticket_bits)
 abbrev pub freeing : Call → Bool → Closing
 freeing c inside = Frees inside (new_write c.setup.ticket_bits)
 
+-- the reply with which the settling of a bit may take the command, where this was read last: a commit bit's alone
+abbrev pub reply_with : Call → Field → List Bool → Option Reply
+reply_with c field value = cond (is_commit field) (Some (reply c (store_read c value))) None
+
 -- the settling of the bit of a write's last access
 abbrev pub settling_from : Call → Past → Option Access → Closing
 settling_from c past None = freeing c (inside c.process past)
 settling_from c past (Some a) =
-    Settles a.field a.bit (value_begun past) (reply c (store_read c (last_read (read_so_far c.setup (since is_called past)).finished))) (inside c.process past)
+    Settles a.field a.bit (value_begun past) (reply_with c a.field (last_read (read_so_far c.setup (since is_called past)).finished)) (inside c.process past)
     (record { made = made_with a; reader = 0; begun = false; value = None })
 
 -- the unit, of whose work nothing is made; past has the process's own entries up to its failure
@@ -79,7 +83,7 @@ closing_next c (Withdraws w) flick = Some (record { access = access_of c.process
 closing_next c (Settles field bit begun taken is t) flick =
     Some (record {
       access = access_of c.process field (bit, copies.next_settle t (copies.settled_at t flick));
-      marks = cond (is_last_settled c t (copies.settled_at t flick)) (settled_marks field begun taken (copies.settled_at t flick)) [];
+      marks = cond (is_last_settled c t (copies.settled_at t flick)) (settled_marks begun taken (copies.settled_at t flick)) [];
     })
 closing_next c (Frees is w) flick = Some (record { access = access_of c.process Ticket (next_written (no_ticket c) w); marks = cond (is && is_unwritten w) (Left ∷ []) [] })
 closing_next c (Lowers w) flick = Some (record { access = access_of c.process Choosing (next_written (false ∷ []) w); marks = cond (is_last_written c (false ∷ []) w) (Down ∷ []) [] })

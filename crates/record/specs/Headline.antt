@@ -1,4 +1,4 @@
--- The headline's statements, about the record of every list of events. They stand here to be proved: nothing claims them.
+-- The headline's statements, about the record of every list of events. They stand here to be proved, by the crates of laws above: nothing here claims them.
 use Rattle.std.specs.Prelude.{◌≡◌, ◌↔◌, ℕ, suc, ◌+◌, ◌<◌, ◌==◌, nat_lt, Bool, true, false, ◌&&◌, ◌||◌, List, [], ◌∷◌, ◌++◌, length, map, take, slice_get, Option, None, Some, Ok, cond, IsTrue, IsFalse, Contains}
 use Rattle.std.specs.List.{list_any}
 use Rattle.safe_bit.specs.declared.Move.{Move}

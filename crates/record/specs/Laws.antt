@@ -3,28 +3,32 @@ use Rattle.std.specs.Prelude.{◌≡◌, ◌≢◌, ℕ, ◌*◌, ◌<◌, Bool,
 use Rattle.safe_bit.specs.SafeRule.{is_write_open, last_written, read_value}
 use Rattle.safe_number.specs.declared.Access.{Access}
 use Rattle.safe_number.specs.declared.Field.{Field}
+use Rattle.safe_number.specs.declared.Field.TheVariants.{Commit}
+use Rattle.safe_number.specs.declared.TornBit.{TornBit}
 use Rattle.reader_copies.specs.Written.{IsWrite}
 use Rattle.plain_store.specs.declared.Command.{Command}
 use Rattle.plain_store.specs.declared.Setup.{Setup}
 use Rattle.plain_store.specs.Setups.{checked}
 use Rattle.record.specs.declared.events.Event.{Event}
 use Rattle.record.specs.declared.marks.Mark.TheVariants.{Called, Failed, Withdrew}
-use Rattle.record.specs.declared.stages.Stage.TheVariants.{Leaving, Settling}
+use Rattle.record.specs.declared.stages.Stage.TheVariants.{Idle, Leaving, Settling}
 use Rattle.record.specs.Entries.{Entry, Past, own, since, before, starts, is_failed}
 use Rattle.record.specs.Moves.{ended, ended_with, moves_of, AllReads, begins_read}
 use Rattle.safe_bit.specs.Cell.{AreWritesInTurn, read_answer}
 use Rattle.record.specs.Newest.{copy, cell_after}
 use Rattle.record.specs.Parts.{is_over}
 use Rattle.record.specs.Calls.{last_call}
-use Rattle.record.specs.Places.{place_after, access_at, next_written, write_moved, IsFollowed, accesses_of, reads_of, scripted, place_of, next_access, marks_of, stage_at, value_of, entry_at, is_running}
-use Rattle.record.specs.Closings.{Closing, withdrawing, failing, closing_next, closing_after, closing_stage, closing_of, closing_entry}
+use Rattle.record.specs.Cuts.{Change, IsTornOf, pending_at, torn_at, torn_closing}
+use Rattle.record.specs.Failures.{begun_at, cut_at, cut_closing}
+use Rattle.record.specs.Places.{Place, place_after, access_at, next_written, write_moved, IsFollowed, accesses_of, reads_of, scripted, place_of, next_access, marks_of, stage_at, value_of, entry_at, is_running}
+use Rattle.record.specs.Closings.{Closing, withdrawing, failing, freeing, closing_next, closing_after, closing_stage, closing_of, closing_entry}
 use Rattle.record.specs.Program.{local_program, withdrawn}
 use Rattle.record.specs.Records.{past_of, entry_of, process_of, refused, last_start, stepped}
 use Rattle.record.specs.Registers.{opening_bit, bytes_of_bits}
 use Rattle.safe_number.specs.Bytes.{AreBytes, IsBytesOf, bits_in}
 use Rattle.safe_number.specs.Runs.{NumberWrite, next_of_write, number_write_after}
 use Rattle.record.specs.Scripts.{Call, Next, nth, marks_at}
-use Rattle.record.specs.Stages.{stage, stage_after}
+use Rattle.record.specs.Stages.{stage, stage_after, inside}
 use Rattle.record.specs.Turns.{Leads, open_place, open_closing}
 use Rattle.record.specs.Unit.{last_write, unit_program, first_flick, value_written}
 
@@ -105,6 +109,49 @@ UnitGoesOnFromItsPlace = (s : Setup) → checked s ≡ Ok tt → (events : List 
 -- and its marks lead to its stages
 abbrev pub ClosingTellsStage : Type 0
 ClosingTellsStage = (c : Call) (at : Closing) (flick : Bool) (n : Next) → closing_next c at flick ≡ Some n → fold stage_after (closing_stage at) n.marks ≡ closing_stage (closing_after c at flick)
+
+-- in every record, where a process fails that runs its call, its memory unit starts from what its place tells
+abbrev pub CallIsCutAtItsPlace : Type 0
+CallIsCutAtItsPlace = (s : Setup) → checked s ≡ Ok tt → (events : List Event) (p : ℕ) (command : Command) →
+    let past : Past = past_of s events in
+    let c : Call = last_call s p (own p past) in
+    last_start (own p past) ≡ Some (Called command) → is_running (stage p past) ≡ true →
+    failing c (own p past) ≡ cut_at c (place_of c (accesses_of (since starts (own p past)))) (inside p past)
+
+-- so it does where one fails that withdrew
+abbrev pub WithdrawalIsCutAtItsPlace : Type 0
+WithdrawalIsCutAtItsPlace = (s : Setup) → checked s ≡ Ok tt → (events : List Event) (p : ℕ) →
+    let past : Past = past_of s events in
+    let c : Call = last_call s p (own p past) in
+    last_start (own p past) ≡ Some Withdrew → stage p past ≡ Leaving →
+    failing c (own p past) ≡ cut_closing c (closing_of c (withdrawing c) (map value_written (since starts (own p past)))) (inside p past)
+
+-- and where one fails that is idle, nothing is unfinished
+abbrev pub RestIsNotCut : Type 0
+RestIsNotCut = (s : Setup) → checked s ≡ Ok tt → (events : List Event) (p : ℕ) →
+    let past : Past = past_of s events in
+    let c : Call = last_call s p (own p past) in
+    stage p past ≡ Idle → failing c (own p past) ≡ freeing c (inside p past)
+
+-- the torn bit of a call is one that there is
+abbrev pub TornBitOfCallIsThere : Type 0
+TornBitOfCallIsThere = (s : Setup) → checked s ≡ Ok tt → (events : List Event) (p : ℕ) (command : Command) (t : TornBit) →
+    let past : Past = past_of s events in
+    let c : Call = last_call s p (own p past) in
+    last_start (own p past) ≡ Some (Called command) → is_running (stage p past) ≡ true → torn_at c (place_of c (accesses_of (since starts (own p past)))) ≡ Some t → IsTornOf s t
+
+-- a torn commit bit is that of the pending change, and its new value was being written to it
+abbrev pub TornCommitIsPending : Type 0
+TornCommitIsPending = (s : Setup) → checked s ≡ Ok tt → (events : List Event) (p : ℕ) (command : Command) (t : TornBit) →
+    let past : Past = past_of s events in
+    let c : Call = last_call s p (own p past) in
+    let at : Place = place_of c (accesses_of (since starts (own p past))) in
+    last_start (own p past) ≡ Some (Called command) → is_running (stage p past) ≡ true → torn_at c at ≡ Some t → t.field ≡ Commit →
+    (change : Change) × (pending_at c at.part ≡ Some change) × (begun_at c at ≡ change.2)
+
+-- the torn bit of a withdrawal is there too
+abbrev pub TornBitOfWithdrawalIsThere : Type 0
+TornBitOfWithdrawalIsThere = (c : Call) → checked c.setup ≡ Ok tt → (flicks : List Bool) (t : TornBit) → torn_closing (closing_of c (withdrawing c) flicks) ≡ Some t → IsTornOf c.setup t
 
 -- a reader's copy of a register has these bits, and no write of it is open
 abbrev pub HasBits : Setup → Past → ℕ → Field → ℕ → List Bool → Type 0

@@ -1,8 +1,10 @@
 pub mod Acts
 pub mod Calls
 pub mod Closings
+pub mod Cuts
 pub mod Doorways
 pub mod Entries
+pub mod Failures
 pub mod Headline
 pub mod Histories
 pub mod Induction

@@ -1,6 +1,6 @@
 //! What holds of every record of a list of events, and of the place machine beside the script. Each law is
 //! a function with nothing to do, whose contract is the law.
-ghost use Rattle.record.specs.Laws.{OwnEntry, OthersStay, AcceptedAdds, RefusedAddsNothing, SingleWriter, PlaceTellsNext, PlaceTellsMarks, RunsFromItsPlace, WithdrawalTellsNext, UnitTellsNext, ClosingTellsStage, WithdrawsFromItsPlace, UnitGoesOnFromItsPlace, UnoverlappedReadGivesTheBit, WriteOfBytesGoesByBits, BytesAreMadeByTheirBits, PlaceStartsClosed, PlaceGoesInTurn, WithdrawalGoesInTurn, UnitGoesInTurn, WritesComeInTurn, CellsAnswerTheSafeRule};
+ghost use Rattle.record.specs.Laws.{OwnEntry, OthersStay, AcceptedAdds, RefusedAddsNothing, SingleWriter, PlaceTellsNext, PlaceTellsMarks, RunsFromItsPlace, WithdrawalTellsNext, UnitTellsNext, ClosingTellsStage, WithdrawsFromItsPlace, UnitGoesOnFromItsPlace, CallIsCutAtItsPlace, WithdrawalIsCutAtItsPlace, RestIsNotCut, TornBitOfCallIsThere, TornCommitIsPending, TornBitOfWithdrawalIsThere, UnoverlappedReadGivesTheBit, WriteOfBytesGoesByBits, BytesAreMadeByTheirBits, PlaceStartsClosed, PlaceGoesInTurn, WithdrawalGoesInTurn, UnitGoesInTurn, WritesComeInTurn, CellsAnswerTheSafeRule};
 
 /// An event adds to the entries of its own process alone. One that is not refused adds exactly one entry,
 /// and a refused one adds none.
@@ -34,6 +34,19 @@ pub fn closings_follow_scripts()
     ensures stage { ClosingTellsStage }
     ensures withdrawn_in_record { WithdrawsFromItsPlace }
     ensures unit_in_record { UnitGoesOnFromItsPlace }
+{}
+
+/// In every record a failure finds its process at the place of its call or of its withdrawal: the memory
+/// unit that it starts, by the failure rule's look back over the process's own entries, is the one that
+/// settles the torn bit of that place, which is one that there is; a commit bit is that of the change that
+/// is pending. Where the process is idle there is nothing to settle.
+pub fn failures_cut_at_the_place()
+    ensures call { CallIsCutAtItsPlace }
+    ensures withdrawal { WithdrawalIsCutAtItsPlace }
+    ensures rest { RestIsNotCut }
+    ensures call_bit { TornBitOfCallIsThere }
+    ensures commit_bit { TornCommitIsPending }
+    ensures withdrawal_bit { TornBitOfWithdrawalIsThere }
 {}
 
 /// A read of a register that no write of it overlaps gives the register's bits.

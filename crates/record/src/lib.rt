@@ -17,8 +17,8 @@ pub use events::Event;
 pub use history::Taken;
 pub use laws::{
     bytes_go_by_their_bits, cells_answer_the_safe_rule, closings_follow_scripts,
-    events_add_entries, machines_go_in_turn, places_follow_scripts, single_writer,
-    unoverlapped_reads_give_the_bits,
+    events_add_entries, failures_cut_at_the_place, machines_go_in_turn, places_follow_scripts,
+    single_writer, unoverlapped_reads_give_the_bits,
 };
 pub use marks::Mark;
 pub use records::{Entry, Record};

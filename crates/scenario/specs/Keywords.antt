@@ -11,9 +11,9 @@ use Rattle.scenario.specs.declared.keywords.Verb.TheVariants as verb
 use Rattle.scenario.specs.declared.lines.Target.{Target}
 use Rattle.scenario.specs.declared.lines.Target.TheVariants as target
 
--- the first word of a line
-abbrev pub opener_of : List ℕ → Option Opener
-opener_of name = lookup (bytes_eq name) (
+-- the first words of lines, and what they mean
+abbrev pub openers : List (List ℕ × Opener)
+openers =
     (codes "bakery", Bakery)
     ∷ (codes "processes", Heading Processes)
     ∷ (codes "tickets", Heading Tickets)
@@ -29,23 +29,32 @@ opener_of name = lookup (bytes_eq name) (
     ∷ (codes "flick", Line word.Flick)
     ∷ (codes "wander", Line word.Wander)
     ∷ (codes "show", Line word.Show)
-    ∷ [])
+    ∷ []
 
--- the third word of `call`
-abbrev pub verb_of : List ℕ → Option Verb
-verb_of word = lookup (bytes_eq word) (
+abbrev pub opener_of : List ℕ → Option Opener
+opener_of name = lookup (bytes_eq name) openers
+
+-- the third words of `call`, and what they mean
+abbrev pub verbs : List (List ℕ × Verb)
+verbs =
     (codes "read", verb.Read)
     ∷ (codes "write", verb.Write)
     ∷ (codes "add", verb.Add)
     ∷ (codes "cas", verb.Cas)
     ∷ (codes "ask", verb.Ask)
-    ∷ [])
+    ∷ []
 
--- the third word of `go`
-abbrev pub target_of : List ℕ → Option Target
-target_of word = lookup (bytes_eq word) (
+abbrev pub verb_of : List ℕ → Option Verb
+verb_of word = lookup (bytes_eq word) verbs
+
+-- the third words of `go`, and what they mean
+abbrev pub targets : List (List ℕ × Target)
+targets =
     (codes "wait", target.Wait)
     ∷ (codes "inside", target.Inside)
     ∷ (codes "idle", target.Idle)
     ∷ (codes "down", target.Down)
-    ∷ [])
+    ∷ []
+
+abbrev pub target_of : List ℕ → Option Target
+target_of word = lookup (bytes_eq word) targets

@@ -1,3 +1,4 @@
+pub mod BitFiles
 pub mod Checks
 pub mod Cuts
 pub mod Engines
@@ -5,9 +6,12 @@ pub mod Files
 pub mod Keywords
 pub mod Numbers
 pub mod Operands
+pub mod Printing
 pub mod Reading
 pub mod Reads
+pub mod Scripts
 pub mod Setting
+pub mod Spelling
 pub mod Statements
 pub mod Streams
 pub mod Words

@@ -8,7 +8,8 @@ use std::alloc::{AllocError, Global};
 use std::io::{self, Read, Write};
 use std::test::Fail;
 
-fn fault_of(alloc: Global, text: &[u8]) -> Option<(u32, FaultKind)> {
+/// The fault of a scenario file, if it has one.
+pub fn fault_of(alloc: Global, text: &[u8]) -> Option<(u32, FaultKind)> {
     match read_scenario(alloc, text) {
         Ok(_) => None,
         Err(fault) => Some((fault.line, fault.kind)),

@@ -1,0 +1,131 @@
+-- What each process is doing, as its entries tell: it rests, it lies down, it is at a place of its call, or at a place of a closing.
+use Rattle.std.specs.Prelude.{◌≡◌, ℕ, ◌==◌, Bool, true, false, cond, ◌&&◌, List, [], ◌∷◌, Option, None, Some}
+use Rattle.reader_copies.specs.Runs as copies
+use Rattle.safe_number.specs.declared.Access.{Access}
+use Rattle.safe_number.specs.declared.Field.TheVariants.{Ticket}
+use Rattle.safe_number.specs.Runs.{NumberWrite}
+use Rattle.plain_store.specs.declared.Command.{Command}
+use Rattle.plain_store.specs.declared.Reply.{Reply}
+use Rattle.plain_store.specs.declared.Setup.{Setup}
+use Rattle.record.specs.declared.marks.Mark.{Mark}
+use Rattle.record.specs.declared.marks.Mark.TheVariants.{Called, Failed, Withdrew}
+use Rattle.record.specs.declared.stages.Stage.{Stage}
+use Rattle.record.specs.declared.stages.Stage.TheVariants as stage
+use Rattle.record.specs.Calls.{last_call, last_command, call_number}
+use Rattle.record.specs.Closings.{Closing, Withdraws, Settles, Frees, Lowers, Quit, Ended, is_unwritten, freeing, withdrawing, failing, closing_next, closing_after, closing_stage}
+use Rattle.record.specs.Entries.{Entry, Past, own}
+use Rattle.record.specs.Moves.{valued}
+use Rattle.record.specs.Parts.{Part, Raises, Asks, TakesTicket, Waits, AsksCommit, AsksStamp, AsksImage, WritesImage, WritesStamp, WritesCommit, Clears, Over, Refuses, is_read, is_over, written_at}
+use Rattle.record.specs.Parts as part
+use Rattle.record.specs.Places.{Place, Run, is_fresh, enter, access_at, place_after, stage_at, value_of}
+use Rattle.record.specs.Program.{Wait}
+use Rattle.record.specs.Records.{start_in}
+use Rattle.record.specs.Scripts.{Call, Next}
+use Rattle.record.specs.Unit.{is_commit, value_written}
+
+-- a call of p
+abbrev pub call : Setup → ℕ → Command → ℕ → Call
+call s p command number = record { setup = s; process = p; command = command; number = number }
+
+-- what a process is doing
+pub data Doing : Type 0 where
+  Rests : Doing
+  Lies : Doing  -- it is down
+  Runs : (command : Command) (number : ℕ) → Place → Doing
+  Closes : (command : Command) (number : ℕ) → Closing → Doing
+
+-- a place of a call; a call that is over is at rest
+abbrev pub runs : Command → ℕ → Place → Doing
+runs command number at = cond (is_over at.part) Rests (Runs command number at)
+
+-- a place of a closing, until it has come to its end
+abbrev pub closes : Command → ℕ → Closing → Doing
+closes command number (Withdraws w) = Closes command number (Withdraws w)
+closes command number (Settles f bit begun taken is t) = Closes command number (Settles f bit begun taken is t)
+closes command number (Frees is w) = Closes command number (Frees is w)
+closes command number (Lowers w) = Closes command number (Lowers w)
+closes command number Quit = Rests
+closes command number Ended = Lies
+
+-- what it goes on with after an access; an entry without one that begins nothing is a restart
+abbrev pub goes_on : Setup → ℕ → Entry → Option Access → Doing → Doing
+goes_on s p e None d = Rests
+goes_on s p e (Some a) Rests = Rests
+goes_on s p e (Some a) Lies = Lies
+goes_on s p e (Some a) (Runs command number at) = runs command number (place_after (call s p command number) at (value_of a.how))
+goes_on s p e (Some a) (Closes command number at) = closes command number (closing_after (call s p command number) at (value_written e))
+
+-- what p goes on with after an entry of its own; mine has its own entries before
+abbrev pub does_after : Setup → ℕ → Past → Entry → Option Mark → Doing → Doing
+does_after s p mine e (Some (Called command)) d = Runs command (call_number s (e ∷ mine)) (enter (call s p command (call_number s (e ∷ mine))) Raises)
+does_after s p mine e (Some Withdrew) d = Closes (last_command mine) (call_number s mine) (withdrawing (last_call s p mine))
+does_after s p mine e (Some Failed) d = Closes (last_command mine) (call_number s mine) (failing (last_call s p mine) mine)
+does_after s p mine e _ d = goes_on s p e e.access d
+
+-- what p is doing
+abbrev pub doing : Setup → ℕ → Past → Doing
+doing s p [] = Rests
+doing s p (e ∷ past) = cond (e.process == p) (does_after s p (own p past) e (start_in e.marks) (doing s p past)) (doing s p past)
+
+-- p is inside at a part; fresh: nothing of it was made
+abbrev pub is_inside_at : Part → Bool → Bool
+is_inside_at Raises fresh = false
+is_inside_at (Asks j js ts) fresh = false
+is_inside_at (TakesTicket t) fresh = false
+is_inside_at (part.Lowers t) fresh = false
+is_inside_at (Refuses f) fresh = false
+is_inside_at (Waits t w ws) fresh = false
+is_inside_at (AsksCommit k ks vs) fresh = true
+is_inside_at (AsksStamp k ks vs b) fresh = true
+is_inside_at (AsksImage vs) fresh = true
+is_inside_at (WritesImage vs st) fresh = true
+is_inside_at (WritesStamp vs st) fresh = true
+is_inside_at (WritesCommit vs st) fresh = true
+is_inside_at (Clears a) fresh = fresh
+is_inside_at Over fresh = false
+
+-- p is inside, in a closing
+abbrev pub is_inside_closing : Closing → Bool
+is_inside_closing (Withdraws w) = false
+is_inside_closing (Settles f bit begun taken is t) = is
+is_inside_closing (Frees is w) = is && is_unwritten w
+is_inside_closing (Lowers w) = false
+is_inside_closing Quit = false
+is_inside_closing Ended = false
+
+-- p is inside
+abbrev pub is_inside : Doing → Bool
+is_inside Rests = false
+is_inside Lies = false
+is_inside (Runs command number at) = is_inside_at at.part (is_fresh at.run)
+is_inside (Closes command number at) = is_inside_closing at
+
+-- the stage of p
+abbrev pub stage_of : Doing → Stage
+stage_of Rests = stage.Idle
+stage_of Lies = stage.Down
+stage_of (Runs command number at) = stage_at at
+stage_of (Closes command number at) = closing_stage at
+
+-- what the memory unit of p begins with where p fails: with the bit that is unfinished, or with the ticket
+pub data IsCut (s : Setup) (p : ℕ) (c : Call) (cl : Closing) : Doing → Type 0 where
+  at_rest : cl ≡ freeing c false → IsCut s p c cl Rests
+  between : (command : Command) (number : ℕ) (at : Place) → cl ≡ freeing c (is_inside_at at.part (is_fresh at.run)) → IsCut s p c cl (Runs command number at)
+  within : (command : Command) (number : ℕ) (at : Place) (bit : ℕ) (begun : Bool) (taken : Reply) (t : copies.Settling) →
+      cl ≡ Settles (written_at (call s p command number) at.part).0 bit begun (cond (is_commit (written_at (call s p command number) at.part).0) (Some taken) None) (is_inside_at at.part (is_fresh at.run)) t →
+      is_read at.part ≡ false → is_fresh at.run ≡ false → IsCut s p c cl (Runs command number at)
+  leaving : (command : Command) (number : ℕ) (w : NumberWrite) → cl ≡ freeing c false → IsCut s p c cl (Closes command number (Withdraws w))
+  clearing : (command : Command) (number : ℕ) (w : NumberWrite) (bit : ℕ) (begun : Bool) (t : copies.Settling) →
+      cl ≡ Settles Ticket bit begun None false t → is_unwritten w ≡ false → IsCut s p c cl (Closes command number (Withdraws w))
+
+-- what one accepted event is for its process p, which was doing d and does d' then; e is its entry
+pub data Step (s : Setup) (past : Past) (p : ℕ) (e : Entry) (d d' : Doing) : Type 0 where
+  calls : (command : Command) (number : ℕ) → d ≡ Rests → e.access ≡ None → d' ≡ Runs command number (enter (call s p command number) Raises) → Step s past p e d d'
+  withdraws : (command : Command) (number t : ℕ) (w : Wait) (ws : List Wait) (run : Run) → d ≡ Runs command number (record { part = Waits t w ws; run = run }) → e.access ≡ None →
+      d' ≡ Closes command number (withdrawing (call s p command number)) → Step s past p e d d'
+  fails : (command : Command) (number : ℕ) (cl : Closing) → IsCut s p (call s p command number) cl d → e.access ≡ None → d' ≡ Closes command number cl → Step s past p e d d'
+  restarts : d ≡ Lies → e.access ≡ None → d' ≡ Rests → Step s past p e d d'
+  steps : (command : Command) (number : ℕ) (at : Place) (a : Access) (flick : Bool) → d ≡ Runs command number at → is_over at.part ≡ false → e.access ≡ Some a →
+      a ≡ valued s past flick (access_at (call s p command number) at.part at.run) → d' ≡ runs command number (place_after (call s p command number) at (value_of a.how)) → Step s past p e d d'
+  closes_on : (command : Command) (number : ℕ) (at : Closing) (flick : Bool) (n : Next) → d ≡ Closes command number at → closing_next (call s p command number) at flick ≡ Some n →
+      e.access ≡ Some (valued s past flick n.access) → d' ≡ closes command number (closing_after (call s p command number) at flick) → Step s past p e d d'

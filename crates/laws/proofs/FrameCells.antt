@@ -1,0 +1,179 @@
+-- What an entry does to the cells, and what the end of a read gives.
+use Rattle.std.proofs.Common.{◌≡◌, ◌≢◌, ℕ, ◌==◌, ◌&&◌, Bool, true, false, cond, List, [], ◌∷◌, ◌++◌, Some, None, refl, sym, ap, subst, ◌∙◌, eqb-true, eq-eqb}
+use Rattle.safe_bit.specs.Cell.{Cell, cell_of, read_answer}
+use Rattle.safe_bit.specs.Cell as bit
+use Rattle.safe_bit.specs.declared.Move.{Move}
+use Rattle.safe_bit.specs.declared.Move.TheVariants.{BeginWrite, EndWrite, BeginRead, EndRead, Settle}
+use Rattle.safe_bit.proofs.Showing.{answer-shows, shows_moves}
+use Rattle.safe_number.specs.declared.Access.{Access}
+use Rattle.safe_number.specs.declared.Field.{Field}
+use Rattle.safe_number.specs.declared.Field.TheVariants.{Choosing, Ticket, Commit, Stamp0, Stamp1, Image0, Image1}
+use Rattle.plain_store.specs.declared.Setup.{Setup}
+use Rattle.record.specs.declared.events.Event.{Event}
+use Rattle.record.specs.Entries.{Entry, Past}
+use Rattle.record.specs.Moves.{field_number, same_bit, moves_of, ended, ended_with, valued}
+use Rattle.record.specs.Newest.{copy, cell_after}
+use Rattle.record.specs.Places.{value_of}
+use Rattle.record.specs.Records.{past_of}
+use Rattle.record.specs.Registers.{opening_bit}
+use Rattle.record.proofs.Singles.{is_write}
+use Rattle.record.proofs.TurnRecords.{turns_all}
+use Rattle.record.proofs.Width.{IsGood}
+
+-- the cells of o as the past has made them: of each field each bit, and of it each reader's copy
+abbrev pub cells : Setup → Past → ℕ → Field → ℕ → ℕ → Cell
+cells s past o f k r = cell_after s past (copy o f r k)
+
+-- the cell of the bit of an access is that of its copy
+pub cells-at : (s : Setup) (past : Past) (x : Access) → cell_after s past x ≡ cells s past x.owner x.field x.bit x.reader
+cells-at s past x = refl
+
+-- an entry with an access changes the cell of its bit, and no other
+pub cells-entry : (s : Setup) (past : Past) (e : Entry) (x : Access) (o : ℕ) (f : Field) (k r : ℕ) → e.access ≡ Some x →
+    cells s (e ∷ past) o f k r ≡ cond (same_bit (copy o f r k) x) (bit.cell_after (cells s past o f k r) x.how) (cells s past o f k r)
+cells-entry s past e x o f k r h =
+    ap (λ y. cell_of (opening_bit s a) (elim y as (λ _. List Move) [ None ↦ [] | Some b ↦ cond (same_bit a b) (b.how ∷ []) [] ] ++ moves_of a past)) h ∙ go (same_bit a x)
+  where
+    a : Access
+    a = copy o f r k
+
+    go : (b : Bool) → cell_of (opening_bit s a) (cond b (x.how ∷ []) [] ++ moves_of a past) ≡ cond b (bit.cell_after (cells s past o f k r) x.how) (cells s past o f k r)
+    go true = refl
+    go false = refl
+
+-- an entry without one changes none
+pub cells-kept : (s : Setup) (past : Past) (e : Entry) (o : ℕ) (f : Field) (k r : ℕ) → e.access ≡ None → cells s (e ∷ past) o f k r ≡ cells s past o f k r
+cells-kept s past e o f k r h = ap (λ y. cell_of (opening_bit s a) (elim y as (λ _. List Move) [ None ↦ [] | Some b ↦ cond (same_bit a b) (b.how ∷ []) [] ] ++ moves_of a past)) h
+  where
+    a : Access
+    a = copy o f r k
+
+-- a field is told by its number
+abbrev pub field_of : ℕ → Field
+field_of n = cond (n == 0) Choosing (cond (n == 1) Ticket (cond (n == 2) Commit (cond (n == 3) Stamp0 (cond (n == 4) Stamp1 (cond (n == 5) Image0 Image1)))))
+
+field_told : (f : Field) → field_of (field_number f) ≡ f
+field_told Choosing = refl
+field_told Ticket = refl
+field_told Commit = refl
+field_told Stamp0 = refl
+field_told Stamp1 = refl
+field_told Image0 = refl
+field_told Image1 = refl
+
+pub field-same : (f g : Field) → (field_number f == field_number g) ≡ true → f ≡ g
+field-same f g h = sym (field_told f) ∙ ap field_of (eqb-true (field_number f) (field_number g) h) ∙ field_told g
+
+-- the access is on this very copy
+pub record OnCopy (x : Access) (o : ℕ) (f : Field) (k r : ℕ) : Type 0 where
+  pub owner : o ≡ x.owner
+  pub field : f ≡ x.field
+  pub bit : k ≡ x.bit
+  pub reader : r ≡ x.reader
+
+not_true : (b : Bool) → (b ≡ true → ⊥) → b ≡ false
+not_true true h = absurd (h refl)
+not_true false h = refl
+
+all_four : (k r o f : Bool) → (k && r && o && f) ≡ true → (k ≡ true) × (r ≡ true) × (o ≡ true) × (f ≡ true)
+all_four true true true true h = (refl, refl, refl, refl)
+all_four true true true false h = cc
+all_four true true false f h = cc
+all_four true false o f h = cc
+all_four false r o f h = cc
+
+pub on-copy : (x : Access) (o : ℕ) (f : Field) (k r : ℕ) → same_bit (copy o f r k) x ≡ true → OnCopy x o f k r
+on-copy x o f k r h =
+    let four = all_four (k == x.bit) (r == x.reader) (o == x.owner) (field_number f == field_number x.field) h in
+    record { owner = eqb-true o x.owner four.2; field = field-same f x.field four.3; bit = eqb-true k x.bit four.0; reader = eqb-true r x.reader four.1 }
+
+pub off-owner : (x : Access) (o : ℕ) (f : Field) (k r : ℕ) → o ≢ x.owner → same_bit (copy o f r k) x ≡ false
+off-owner x o f k r h = not_true (same_bit (copy o f r k) x) (λ i. h (on-copy x o f k r i).owner)
+
+pub off-field : (x : Access) (o : ℕ) (f : Field) (k r : ℕ) → f ≢ x.field → same_bit (copy o f r k) x ≡ false
+off-field x o f k r h = not_true (same_bit (copy o f r k) x) (λ i. h (on-copy x o f k r i).field)
+
+pub off-bit : (x : Access) (o : ℕ) (f : Field) (k r : ℕ) → k ≢ x.bit → same_bit (copy o f r k) x ≡ false
+off-bit x o f k r h = not_true (same_bit (copy o f r k) x) (λ i. h (on-copy x o f k r i).bit)
+
+pub off-reader : (x : Access) (o : ℕ) (f : Field) (k r : ℕ) → r ≢ x.reader → same_bit (copy o f r k) x ≡ false
+off-reader x o f k r h = not_true (same_bit (copy o f r k) x) (λ i. h (on-copy x o f k r i).reader)
+
+-- an access is on its own copy
+pub itself : (x : Access) → same_bit (copy x.owner x.field x.reader x.bit) x ≡ true
+itself x = λ i. one x.bit i && one x.reader i && one x.owner i && one (field_number x.field) i
+  where
+    one : (k : ℕ) → (k == k) ≡ true
+    one k = eq-eqb k k refl
+
+-- What holds of the new cell on the copy of the access, and of the old ones on all other copies, holds of all cells after the entry.
+pub cells-put : (s : Setup) (past : Past) (e : Entry) (x : Access) (o : ℕ) (P : Field → ℕ → ℕ → Cell → Type 0) → e.access ≡ Some x →
+    (o ≡ x.owner → P x.field x.bit x.reader (bit.cell_after (cells s past o x.field x.bit x.reader) x.how)) →
+    ((f : Field) (k r : ℕ) → same_bit (copy o f r k) x ≡ false → P f k r (cells s past o f k r)) →
+    (f : Field) (k r : ℕ) → P f k r (cells s (e ∷ past) o f k r)
+cells-put s past e x o P h here there f k r = subst (P f k r) (sym (cells-entry s past e x o f k r h)) (go (same_bit (copy o f r k) x) refl)
+  where
+    go : (b : Bool) → same_bit (copy o f r k) x ≡ b → P f k r (cond b (bit.cell_after (cells s past o f k r) x.how) (cells s past o f k r))
+    go false i = there f k r i
+    go true i =
+        let on : OnCopy x o f k r = on-copy x o f k r i in
+        subst (λ r. P f k r (bit.cell_after (cells s past o f k r) x.how)) (sym on.reader)
+        (subst (λ k. P f k x.reader (bit.cell_after (cells s past o f k x.reader) x.how)) (sym on.bit)
+        (subst (λ f. P f x.bit x.reader (bit.cell_after (cells s past o f x.bit x.reader) x.how)) (sym on.field) (here on.owner)))
+
+-- an access of p writes bits of p, and reads its own copies
+pub record ByProcess (p : ℕ) (x : Access) : Type 0 where
+  pub writes : is_write x.how ≡ true → x.owner ≡ p
+  pub reads : is_write x.how ≡ false → x.reader ≡ p
+
+-- an entry with such an access, or with none
+pub data EntryBy (p : ℕ) (e : Entry) : Type 0 where
+  marks_only : e.access ≡ None → EntryBy p e
+  makes : (x : Access) → e.access ≡ Some x → ByProcess p x → EntryBy p e
+
+-- the bits of others keep their value, and whether a write of them is open
+pub record KeptBits (now before : Cell) : Type 0 where
+  pub value : now.value ≡ before.value
+  pub writing : now.writing ≡ before.writing
+
+kept_read : (c : Cell) (m : Move) → is_write m ≡ false → KeptBits (bit.cell_after c m) c
+kept_read c (BeginWrite v) h = cc
+kept_read c EndWrite h = cc
+kept_read c (Settle v) h = cc
+kept_read c BeginRead h = record { value = refl; writing = refl }
+kept_read c (EndRead v) h = record { value = refl; writing = refl }
+
+pub cells-others : (s : Setup) (past : Past) (e : Entry) (p o : ℕ) (f : Field) (k r : ℕ) → EntryBy p e → o ≢ p → KeptBits (cells s (e ∷ past) o f k r) (cells s past o f k r)
+cells-others s past e p o f k r (marks_only h) n = subst (λ c. KeptBits c (cells s past o f k r)) (sym (cells-kept s past e o f k r h)) (record { value = refl; writing = refl })
+cells-others s past e p o f k r (makes x h by) n = subst (λ c. KeptBits c (cells s past o f k r)) (sym (cells-entry s past e x o f k r h)) (go (same_bit (copy o f r k) x) refl)
+  where
+    go : (b : Bool) → same_bit (copy o f r k) x ≡ b → KeptBits (cond b (bit.cell_after (cells s past o f k r) x.how) (cells s past o f k r)) (cells s past o f k r)
+    go false i = record { value = refl; writing = refl }
+    go true i = read (is_write x.how) refl
+      where
+        read : (w : Bool) → is_write x.how ≡ w → KeptBits (bit.cell_after (cells s past o f k r) x.how) (cells s past o f k r)
+        read true j = absurd (n ((on-copy x o f k r i).owner ∙ by.writes j))
+        read false j = kept_read (cells s past o f k r) x.how j
+
+-- cells of another owner and another reader do not change
+pub cells-apart : (s : Setup) (past : Past) (e : Entry) (p o : ℕ) (f : Field) (k r : ℕ) → EntryBy p e → o ≢ p → r ≢ p → cells s (e ∷ past) o f k r ≡ cells s past o f k r
+cells-apart s past e p o f k r (marks_only h) n m = cells-kept s past e o f k r h
+cells-apart s past e p o f k r (makes x h by) n m = cells-entry s past e x o f k r h ∙ go (same_bit (copy o f r k) x) refl
+  where
+    go : (b : Bool) → same_bit (copy o f r k) x ≡ b → cond b (bit.cell_after (cells s past o f k r) x.how) (cells s past o f k r) ≡ cells s past o f k r
+    go false i = refl
+    go true i = absurd (either (is_write x.how) refl)
+      where
+        either : (w : Bool) → is_write x.how ≡ w → ⊥
+        either true j = n ((on-copy x o f k r i).owner ∙ by.writes j)
+        either false j = m ((on-copy x o f k r i).reader ∙ by.reads j)
+
+-- The end of a read gives what its cell answers: its value if no write touched the read, and the flick otherwise.
+pub answer-is : (s : Setup) → IsGood s → (events : List Event) (x : Access) (flick : Bool) →
+    valued s (past_of s events) flick x ≡ ended_with (read_answer (cells s (past_of s events) x.owner x.field x.bit x.reader) flick) x
+answer-is s g events x flick = ap (λ v. ended_with v x) (sym (answer-shows (opening_bit s x) (moves_of x (past_of s events)) (cell_after s (past_of s events) x) flick
+    (shows_moves (opening_bit s x) (moves_of x (past_of s events)) (turns_all s g events x))))
+
+pub answer-read : (s : Setup) → IsGood s → (events : List Event) (x : Access) (u flick : Bool) → x.how ≡ EndRead u →
+    value_of (valued s (past_of s events) flick x).how ≡ read_answer (cells s (past_of s events) x.owner x.field x.bit x.reader) flick
+answer-read s g events x u flick h = ap (λ (y : Access). value_of y.how) (answer-is s g events x flick) ∙ ap (λ m. value_of (ended (read_answer (cells s (past_of s events) x.owner x.field x.bit x.reader) flick) m)) h

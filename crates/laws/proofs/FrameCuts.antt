@@ -1,0 +1,275 @@
+-- What the writes of a process have left unfinished, by what it is doing: so what its memory unit begins with where it fails.
+use Rattle.std.proofs.Common.{◌≡◌, ◌≢◌, ℕ, ◌+◌, ◌*◌, ◌/◌, ◌%◌, ◌<◌, ◌==◌, ◌&&◌, Bool, true, false, cond, not, List, [], ◌∷◌, Option, Some, None, length, refl, sym, ap, subst, ◌∙◌, arith, true≢false, inl, inr, eqb-true, eq-eqb, ne_eqb}
+use Rattle.std.proofs.lemmas.Bool.{cases_eq, eqb-false}
+use Rattle.std.specs.Prelude.{is_none}
+use Rattle.safe_bit.specs.declared.Move.{Move}
+use Rattle.safe_bit.specs.declared.Move.TheVariants.{BeginWrite, EndWrite, BeginRead, EndRead, Settle}
+use Rattle.reader_copies.specs.Runs as copies
+use Rattle.safe_number.specs.declared.Access.{Access}
+use Rattle.safe_number.specs.declared.Field.{Field}
+use Rattle.safe_number.specs.declared.Field.TheVariants.{Choosing, Ticket}
+use Rattle.safe_number.specs.Accesses.{access_of}
+use Rattle.safe_number.specs.Runs.{NumberWrite, new_write, write_on}
+use Rattle.plain_store.specs.declared.Command.{Command}
+use Rattle.plain_store.specs.declared.Setup.{Setup}
+use Rattle.record.specs.Closings.{Closing, Withdraws, Settles, Frees, Lowers, Quit, Ended, no_ticket, is_last_written, is_last_settled, freeing, settling_from, closing_next, closing_after}
+use Rattle.record.specs.Entries.{Entry, Past}
+use Rattle.record.specs.Parts.{Part, is_read, is_over, written_at, part_after}
+use Rattle.record.specs.Places.{Place, Run, Writing, Reading, bit_written, next_written, write_moved, enter, new_run, is_last, bits_with, run_after, place_after, access_at}
+use Rattle.record.specs.Registers.{width}
+use Rattle.record.specs.Scripts.{Call, Next}
+use Rattle.record.specs.Stages.{inside}
+use Rattle.record.specs.Unit.{last_write, unfinished, is_begin}
+use Rattle.record.proofs.Closing.{ticket_width, further}
+use Rattle.record.proofs.Cursors.{Goes}
+use Rattle.record.proofs.PlaceTurns.{access_in}
+use Rattle.record.proofs.Singles.{is_write}
+use Rattle.record.proofs.Ties.{written-width}
+use Rattle.record.proofs.Width.{IsGood, width-pos}
+use Rattle.laws.proofs.Doings.{Doing, Rests, Lies, Runs, Closes, call, runs, closes}
+
+-- The last write, after an entry.
+
+pub last-kept : (e : Entry) (mine : Past) → e.access ≡ None → last_write (e ∷ mine) ≡ last_write mine
+last-kept e mine h = ap (λ o. elim o as (λ _. Option Access) [
+  | None ↦ last_write mine
+  | Some a ↦ elim a.how as (λ _. Option Access) [ BeginWrite v ↦ Some a | EndWrite ↦ Some a | Settle v ↦ Some a | BeginRead ↦ last_write mine | EndRead v ↦ last_write mine ]
+]) h
+
+pub last-made : (e : Entry) (mine : Past) (x : Access) → e.access ≡ Some x → last_write (e ∷ mine) ≡ cond (is_write x.how) (Some x) (last_write mine)
+last-made e mine x h =
+    ap (λ o. elim o as (λ _. Option Access) [
+      | None ↦ last_write mine
+      | Some a ↦ elim a.how as (λ _. Option Access) [ BeginWrite v ↦ Some a | EndWrite ↦ Some a | Settle v ↦ Some a | BeginRead ↦ last_write mine | EndRead v ↦ last_write mine ]
+    ]) h
+    ∙ go x.how
+  where
+    go : (m : Move) → elim m as (λ _. Option Access) [ BeginWrite v ↦ Some x | EndWrite ↦ Some x | Settle v ↦ Some x | BeginRead ↦ last_write mine | EndRead v ↦ last_write mine ] ≡ cond (is_write m) (Some x) (last_write mine)
+    go (BeginWrite v) = refl
+    go EndWrite = refl
+    go (Settle v) = refl
+    go BeginRead = refl
+    go (EndRead v) = refl
+
+-- Of a write.
+
+-- the access that a process has left unfinished
+abbrev pub left : Setup → Past → Option Access
+left s mine = unfinished s.processes (last_write mine)
+
+-- a write of a field has left nothing unfinished, or its present bit
+pub data LeftBy (torn : Option Access) (f : Field) (w : NumberWrite) : Type 0 where
+  nothing : torn ≡ None → LeftBy torn f w
+  one_bit : (a : Access) → torn ≡ Some a → a.field ≡ f → is_none w.run ≡ false → LeftBy torn f w
+
+pub new-goes : (n : ℕ) (bits : List Bool) (w : ℕ) → 0 < n → 0 < w → w ≡ length bits → Goes n bits (new_write w)
+new-goes n bits w some wide same = record { width = same; inside = wide; going = omega (arith, some) }
+
+-- a write that goes on, and has made an access of its present bit once it has begun it
+pub record WriteOn (n : ℕ) (bits : List Bool) (w : NumberWrite) : Type 0 where
+  pub goes : Goes n bits w
+  pub begun : (r : copies.Writing) → w.run ≡ Some r → 0 < r.made
+
+pub new-on : (n : ℕ) (bits : List Bool) (w : ℕ) → 0 < n → 0 < w → w ≡ length bits → WriteOn n bits (new_write w)
+new-on n bits w some wide same = record { goes = new-goes n bits w some wide same; begun = λ r h. cc }
+
+-- an access of a write finishes its bit if it is the last one on it
+ends-bit : (n m : ℕ) (v : Bool) → (not (is_begin (cond (m % 2 == 0) (BeginWrite v) EndWrite)) && (m / 2 + 1 == n)) ≡ (m + 1 == 2 * n)
+ends-bit n m v = go (m % 2 == 0) refl
+  where
+    go : (b : Bool) → (m % 2 == 0) ≡ b → (not (is_begin (cond b (BeginWrite v) EndWrite)) && (m / 2 + 1 == n)) ≡ (m + 1 == 2 * n)
+    go true h = let even : m % 2 ≡ 0 = eqb-true (m % 2) 0 h in sym (ne_eqb (m + 1) (2 * n) (λ u. omega (arith, u, even)))
+    go false h =
+        let odd : m % 2 ≢ 0 = eqb-false (m % 2) 0 h in
+        elim (cases_eq (m / 2 + 1) n) [
+          | inl e ↦ eq-eqb (m / 2 + 1) n e ∙ sym (eq-eqb (m + 1) (2 * n) (omega (arith, e, odd)))
+          | inr d ↦ ne_eqb (m / 2 + 1) n d ∙ sym (ne_eqb (m + 1) (2 * n) (λ u. d (omega (arith, u, odd))))
+        ]
+
+-- the access of a write
+abbrev written : ℕ → Field → List Bool → NumberWrite → Access
+written p f bits w = access_of p f (next_written bits w)
+
+written-writes : (p : ℕ) (f : Field) (bits : List Bool) (w : NumberWrite) → is_write (written p f bits w).how ≡ true
+written-writes p f bits w = go ((bit_written bits w).made % 2 == 0)
+  where
+    go : (b : Bool) → is_write (cond b (BeginWrite (bit_written bits w).value) EndWrite) ≡ true
+    go true = refl
+    go false = refl
+
+-- what it leaves unfinished, by whether it is the last one on its bit
+left-written : (n p : ℕ) (f : Field) (bits : List Bool) (w : NumberWrite) → unfinished n (Some (written p f bits w)) ≡ cond ((bit_written bits w).made + 1 == 2 * n) None (Some (written p f bits w))
+left-written n p f bits w = ap (λ b. cond b None (Some (written p f bits w))) (ends-bit n (bit_written bits w).made (bit_written bits w).value)
+
+-- the write after an access, by whether it was the last one on its bit
+abbrev on_with : List Bool → NumberWrite → Bool → NumberWrite
+on_with bits w b = write_on w (let r : copies.Writing = record { value = (bit_written bits w).value; made = (bit_written bits w).made + 1; ended = b } in r)
+
+moved-begun : (n : ℕ) (bits : List Bool) (w : NumberWrite) (r : copies.Writing) → (write_moved n bits w).run ≡ Some r → 0 < r.made
+moved-begun n bits w r = go ((bit_written bits w).made + 1 == 2 * n)
+  where
+    run : Bool → copies.Writing
+    run b = record { value = (bit_written bits w).value; made = (bit_written bits w).made + 1; ended = b }
+
+    go : (b : Bool) → (on_with bits w b).run ≡ Some r → 0 < r.made
+    go true h = cc
+    go false h =
+        let one : 0 < (bit_written bits w).made + 1 = omega arith in
+        subst (λ (q : copies.Writing). 0 < q.made) (same h) one
+      where
+        same : Some (run false) ≡ Some r → run false ≡ r
+        same h = cc
+
+pub moved-on : (n : ℕ) (bits : List Bool) (w : NumberWrite) → 0 < n → WriteOn n bits w → ((write_moved n bits w).bit == w.width) ≡ false → WriteOn n bits (write_moved n bits w)
+moved-on n bits w some on last = record { goes = (further n bits w some on.goes).goes last; begun = moved-begun n bits w }
+
+pub left-moved : (n p : ℕ) (f : Field) (bits : List Bool) (w : NumberWrite) (torn : Option Access) → torn ≡ unfinished n (Some (written p f bits w)) → LeftBy torn f (write_moved n bits w)
+left-moved n p f bits w torn h = go ((bit_written bits w).made + 1 == 2 * n) (h ∙ left-written n p f bits w)
+  where
+    go : (b : Bool) → torn ≡ cond b None (Some (written p f bits w)) → LeftBy torn f (on_with bits w b)
+    go true k = nothing k
+    go false k = one_bit (written p f bits w) k refl refl
+
+pub left-done : (n p : ℕ) (f : Field) (bits : List Bool) (w : NumberWrite) (torn : Option Access) → torn ≡ unfinished n (Some (written p f bits w)) → w.bit < w.width →
+    ((write_moved n bits w).bit == w.width) ≡ true → torn ≡ None
+left-done n p f bits w torn h inside = go ((bit_written bits w).made + 1 == 2 * n) (h ∙ left-written n p f bits w)
+  where
+    go : (b : Bool) → torn ≡ cond b None (Some (written p f bits w)) → ((on_with bits w b).bit == w.width) ≡ true → torn ≡ None
+    go true k l = k
+    go false k l = let all : w.bit ≡ w.width = eqb-true w.bit w.width l in absurd (omega (arith, inside, all))
+
+-- Of what is done.
+
+abbrev pub LeftRun : Call → Option Access → Part → Run → Type 0
+LeftRun c torn x (Writing w) = (is_read x ≡ false) × WriteOn c.setup.processes (written_at c x).1 w × LeftBy torn (written_at c x).0 w
+LeftRun c torn x (Reading bits begun) = (is_read x ≡ true) × (torn ≡ None)
+
+abbrev pub LeftClosing : Call → Option Access → Closing → Type 0
+LeftClosing c torn (Withdraws w) = WriteOn c.setup.processes (no_ticket c) w × LeftBy torn Ticket w
+LeftClosing c torn (Settles f bit begun taken is t) = Unit {0}
+LeftClosing c torn (Frees is w) = WriteOn c.setup.processes (no_ticket c) w
+LeftClosing c torn (Lowers w) = WriteOn c.setup.processes (false ∷ []) w
+LeftClosing c torn Quit = Unit {0}
+LeftClosing c torn Ended = Unit {0}
+
+-- what is left unfinished while this is done
+abbrev pub LeftIn : Setup → ℕ → Option Access → Doing → Type 0
+LeftIn s p torn Rests = torn ≡ None
+LeftIn s p torn Lies = torn ≡ None
+LeftIn s p torn (Runs command number at) = LeftRun (call s p command number) torn at.part at.run
+LeftIn s p torn (Closes command number at) = LeftClosing (call s p command number) torn at
+
+pub enter-left : (c : Call) → IsGood c.setup → (torn : Option Access) (x : Part) → is_over x ≡ false → torn ≡ None → LeftRun c torn x (new_run c x)
+enter-left c g torn x o h = go (is_read x) refl
+  where
+    go : (b : Bool) → is_read x ≡ b → LeftRun c torn x (cond b (Reading [] false) (Writing (new_write (width c.setup (written_at c x).0))))
+    go true r = (r, h)
+    go false r = (r, new-on c.setup.processes (written_at c x).1 (width c.setup (written_at c x).0) (omega (arith, g.processes_is)) (width-pos c.setup g (written_at c x).0) (written-width c x r o), nothing h)
+
+pub new-ticket : (c : Call) → IsGood c.setup → WriteOn c.setup.processes (no_ticket c) (new_write c.setup.ticket_bits)
+new-ticket c g = new-on c.setup.processes (no_ticket c) c.setup.ticket_bits (omega (arith, g.processes_is)) (omega (arith, g.ticket_is)) (ticket_width c)
+
+pub unit-left : (c : Call) → IsGood c.setup → (mine : Past) (torn now : Option Access) → LeftClosing c now (settling_from c mine torn)
+unit-left c g mine None now = new-ticket c g
+unit-left c g mine (Some a) now = tt
+
+-- at a place to which the process has come
+place-left : (s : Setup) (p : ℕ) (torn : Option Access) (command : Command) (number : ℕ) (to : Place) → (is_over to.part ≡ true → torn ≡ None) → (is_over to.part ≡ false → LeftRun (call s p command number) torn to.part to.run) →
+    LeftIn s p torn (runs command number to)
+place-left s p torn command number to over on = go (is_over to.part) refl
+  where
+    go : (b : Bool) → is_over to.part ≡ b → LeftIn s p torn (cond b Rests (Runs command number to))
+    go true o = over o
+    go false o = on o
+
+-- after an access at a place
+pub step-left : (s : Setup) → IsGood s → (p : ℕ) (was torn : Option Access) (command : Command) (number : ℕ) (x : Part) (run : Run) (v : Bool)
+    → let c : Call = call s p command number in
+    is_over x ≡ false → LeftRun c was x run → (is_write (access_at c x run).how ≡ true → torn ≡ unfinished s.processes (Some (access_at c x run))) → (is_write (access_at c x run).how ≡ false → torn ≡ was) →
+    LeftIn s p torn (runs command number (place_after c (record { part = x; run = run }) v))
+step-left s g p was torn command number x (Writing w) v o l writes reads = go (is_last c x (Writing w)) refl
+  where
+    c : Call
+    c = call s p command number
+
+    f : Field
+    f = (written_at c x).0
+
+    bits : List Bool
+    bits = (written_at c x).1
+
+    now : torn ≡ unfinished s.processes (Some (written p f bits w))
+    now = writes (written-writes p f bits w)
+
+    go : (b : Bool) → is_last c x (Writing w) ≡ b → LeftIn s p torn (runs command number (cond b (enter c (part_after c x [])) (record { part = x; run = Writing (write_moved s.processes bits w) })))
+    go true last =
+        let none : torn ≡ None = left-done s.processes p f bits w torn now l.1.goes.inside last in
+        place-left s p torn command number (enter c (part_after c x [])) (λ _. none) (λ o. enter-left c g torn (part_after c x []) o none)
+    go false last = place-left s p torn command number (record { part = x; run = Writing (write_moved s.processes bits w) }) (λ q. absurd (true≢false (sym q ∙ o)))
+        (λ _. (l.0, moved-on s.processes bits w (omega (arith, g.processes_is)) l.1 last, left-moved s.processes p f bits w torn now))
+step-left s g p was torn command number x (Reading bits begun) v o l writes reads = go (is_last c x (Reading bits begun))
+  where
+    c : Call
+    c = call s p command number
+
+    read : (b : Bool) → is_write (cond b (EndRead false) BeginRead) ≡ false
+    read true = refl
+    read false = refl
+
+    none : torn ≡ None
+    none = reads (read begun) ∙ l.1
+
+    go : (b : Bool) → LeftIn s p torn (runs command number (cond b (enter c (part_after c x (bits_with (Reading bits begun) v))) (record { part = x; run = run_after c x (Reading bits begun) v })))
+    go true = place-left s p torn command number (enter c (part_after c x (bits_with (Reading bits begun) v))) (λ _. none) (λ o. enter-left c g torn (part_after c x (bits_with (Reading bits begun) v)) o none)
+    go false = place-left s p torn command number (record { part = x; run = run_after c x (Reading bits begun) v }) (λ q. absurd (true≢false (sym q ∙ o))) (λ _. (l.0, none))
+
+-- after an access of a closing
+pub closing-left : (s : Setup) → IsGood s → (p : ℕ) (was torn : Option Access) (command : Command) (number : ℕ) (at : Closing) (flick : Bool) (n : Next)
+    → let c : Call = call s p command number in
+    LeftClosing c was at → closing_next c at flick ≡ Some n → (is_write n.access.how ≡ true → torn ≡ unfinished s.processes (Some n.access)) → LeftIn s p torn (closes command number (closing_after c at flick))
+closing-left s g p was torn command number (Withdraws w) flick n l h writes = go (is_last_written c (no_ticket c) w) refl
+  where
+    c : Call
+    c = call s p command number
+
+    is : n.access ≡ written p Ticket (no_ticket c) w
+    is = ap access_in (sym h)
+
+    now : torn ≡ unfinished s.processes (Some (written p Ticket (no_ticket c) w))
+    now = writes (ap (λ (a : Access). is_write a.how) is ∙ written-writes p Ticket (no_ticket c) w) ∙ ap (λ a. unfinished s.processes (Some a)) is
+
+    go : (b : Bool) → is_last_written c (no_ticket c) w ≡ b → LeftIn s p torn (closes command number (cond b Quit (Withdraws (write_moved s.processes (no_ticket c) w))))
+    go true last = left-done s.processes p Ticket (no_ticket c) w torn now l.0.goes.inside last
+    go false last = (moved-on s.processes (no_ticket c) w (omega (arith, g.processes_is)) l.0 last, left-moved s.processes p Ticket (no_ticket c) w torn now)
+closing-left s g p was torn command number (Settles f bit begun taken is t) flick n l h writes = go (is_last_settled c t (copies.settled_at t flick))
+  where
+    c : Call
+    c = call s p command number
+
+    go : (b : Bool) → LeftIn s p torn (closes command number (cond b (freeing c is) (Settles f bit begun taken is (copies.settle_after t (copies.settled_at t flick)))))
+    go true = new-ticket c g
+    go false = tt
+closing-left s g p was torn command number (Frees is w) flick n l h writes = go (is_last_written c (no_ticket c) w) refl
+  where
+    c : Call
+    c = call s p command number
+
+    go : (b : Bool) → is_last_written c (no_ticket c) w ≡ b → LeftIn s p torn (closes command number (cond b (Lowers (new_write 1)) (Frees is (write_moved s.processes (no_ticket c) w))))
+    go true last = new-on s.processes (false ∷ []) 1 (omega (arith, g.processes_is)) (omega arith) refl
+    go false last = moved-on s.processes (no_ticket c) w (omega (arith, g.processes_is)) l last
+closing-left s g p was torn command number (Lowers w) flick n l h writes = go (is_last_written c (false ∷ []) w) refl
+  where
+    c : Call
+    c = call s p command number
+
+    is : n.access ≡ written p Choosing (false ∷ []) w
+    is = ap access_in (sym h)
+
+    now : torn ≡ unfinished s.processes (Some (written p Choosing (false ∷ []) w))
+    now = writes (ap (λ (a : Access). is_write a.how) is ∙ written-writes p Choosing (false ∷ []) w) ∙ ap (λ a. unfinished s.processes (Some a)) is
+
+    go : (b : Bool) → is_last_written c (false ∷ []) w ≡ b → LeftIn s p torn (closes command number (cond b Ended (Lowers (write_moved s.processes (false ∷ []) w))))
+    go true last = left-done s.processes p Choosing (false ∷ []) w torn now l.goes.inside last
+    go false last = moved-on s.processes (false ∷ []) w (omega (arith, g.processes_is)) l last
+closing-left s g p was torn command number Quit flick n l h writes = cc
+closing-left s g p was torn command number Ended flick n l h writes = cc

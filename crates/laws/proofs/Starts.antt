@@ -1,0 +1,86 @@
+-- Calls, withdrawals, failures and restarts: entries with no access. Nothing that p shows changes; it goes on elsewhere.
+use Rattle.std.proofs.Common.{◌≡◌, ℕ, ◌&&◌, Bool, true, false, refl, sym, ap, subst, ◌∙◌}
+use Rattle.std.proofs.lemmas.Bool.{false_from_ne_true}
+use Rattle.std.specs.Prelude.{not}
+use Rattle.plain_store.specs.declared.Command.{Command}
+use Rattle.plain_store.specs.declared.Setup.{Setup}
+use Rattle.record.specs.Closings.{Closing, withdrawing}
+use Rattle.record.specs.Entries.{Past}
+use Rattle.record.specs.Parts.{Part, Raises, Asks, TakesTicket, Lowers, Refuses, Waits, AsksCommit, AsksStamp, AsksImage, WritesImage, WritesStamp, WritesCommit, Clears, Over, is_read, written_at}
+use Rattle.record.specs.Places.{enter, is_fresh}
+use Rattle.record.specs.Program.{image_field, stamp_field, version_of}
+use Rattle.record.specs.Scripts.{Call}
+use Rattle.record.proofs.Width.{IsGood}
+use Rattle.laws.proofs.Doings.{Doing, Rests, Runs, Closes, call, is_inside, is_inside_at, is_inside_closing, IsCut, at_rest, between, within, leaving, clearing}
+use Rattle.laws.proofs.Notes.{Notes, turned}
+use Rattle.laws.proofs.Invariant.{Wires, Touches, StandsAt, StandsSettling, StandsClosing, Stands, Moves, next_time}
+use Rattle.laws.proofs.Owner.{not_so}
+use Rattle.laws.proofs.Ready.{Ready, ready_turned, moves_to, rests, starts}
+
+-- a place of a closing reads nothing
+pub closing_moves : (s : Setup) (past : Past) (p : ℕ) (command : Command) (number : ℕ) (at : Closing) (n : Notes) (m : Wires) (t : ℕ → ℕ → Touches) → Ready s past p (is_inside_closing at) n m t → StandsClosing n.holds at →
+    Moves s past p (Closes command number at) n m t
+closing_moves s past p command number at n m t r stands = moves_to s past p (Closes command number at) n m t r stands (λ o below ne. tt)
+
+-- a call, of a process at rest
+pub call_moves : (s : Setup) → IsGood s → (past : Past) (p : ℕ) (command : Command) (number : ℕ) (n : Notes) (m : Wires) (t : ℕ → ℕ → Touches) → Ready s past p false n m t → n.holds ≡ false →
+    Moves s past p (Runs command number (enter (call s p command number) Raises)) (turned (next_time past) n) m t
+call_moves s g past p command number n m t r free = starts s g past p command number Raises (turned (next_time past) n) m t refl (ready_turned s past p false n m t r) free
+
+-- a withdrawal, of a process that waits: nothing of the clearing is made
+pub withdrawal_moves : (s : Setup) (past : Past) (p : ℕ) (command : Command) (number : ℕ) (n : Notes) (m : Wires) (t : ℕ → ℕ → Touches) → Ready s past p false n m t →
+    Moves s past p (Closes command number (withdrawing (call s p command number))) (turned (next_time past) n) m t
+withdrawal_moves s past p command number n m t r = closing_moves s past p command number (withdrawing (call s p command number)) (turned (next_time past) n) m t (ready_turned s past p false n m t r) (λ e. refl)
+
+-- a restart, of a process that is down
+pub restart_moves : (s : Setup) (past : Past) (p : ℕ) (n : Notes) (m : Wires) (t : ℕ → ℕ → Touches) → Ready s past p false n m t → n.holds ≡ false → Moves s past p Rests (turned (next_time past) n) m t
+restart_moves s past p n m t r free = rests s past p (turned (next_time past) n) m t (ready_turned s past p false n m t r) free
+
+-- Failures.
+
+image_settles : (b holds : Bool) → StandsSettling (image_field b) holds
+image_settles true holds = tt
+image_settles false holds = tt
+
+stamp_settles : (b holds : Bool) → StandsSettling (stamp_field b) holds
+stamp_settles true holds = tt
+stamp_settles false holds = tt
+
+-- a ticket whose write has begun is not held
+part_settles : (s : Setup) (p : ℕ) (c : Call) (n : Notes) (part : Part) → is_read part ≡ false → StandsAt s p n part false → StandsSettling (written_at c part).0 n.holds
+part_settles s p c n Raises w st = tt
+part_settles s p c n (TakesTicket t) w st = st.0.free
+part_settles s p c n (Lowers t) w st = tt
+part_settles s p c n (Refuses f) w st = tt
+part_settles s p c n (WritesImage vs store) w st = image_settles (not (version_of vs c.process)) n.holds
+part_settles s p c n (WritesStamp vs store) w st = stamp_settles (not (version_of vs c.process)) n.holds
+part_settles s p c n (WritesCommit vs store) w st = tt
+part_settles s p c n (Clears a) w st = st refl
+part_settles s p c n Over w st = absurd st
+part_settles s p c n (Asks j js ts) w st = cc
+part_settles s p c n (Waits t0 a ws) w st = cc
+part_settles s p c n (AsksCommit k ks vs) w st = cc
+part_settles s p c n (AsksStamp k ks vs b) w st = cc
+part_settles s p c n (AsksImage vs) w st = cc
+
+and_true : (b : Bool) → (b && true) ≡ b
+and_true true = refl
+and_true false = refl
+
+-- the unit begins where p was: inside if p was, and with a ticket that is untouched, or not held
+pub cut_stands : (s : Setup) (p : ℕ) (c : Call) (cl : Closing) (d : Doing) (n : Notes) (m : Wires) → IsCut s p c cl d → Stands s p n m d → (is_inside_closing cl ≡ is_inside d) × StandsClosing n.holds cl
+cut_stands s p c cl _ n m (at_rest e) st = (ap is_inside_closing e, subst (StandsClosing n.holds) (sym e) (λ h. refl))
+cut_stands s p c cl _ n m (between command number at e) st =
+    (ap is_inside_closing e ∙ and_true (is_inside_at at.part (is_fresh at.run)), subst (StandsClosing n.holds) (sym e) (λ h. refl))
+cut_stands s p c cl _ n m (within command number at bit begun taken t e w fresh) st =
+    (ap is_inside_closing e, subst (StandsClosing n.holds) (sym e) (part_settles s p (call s p command number) n at.part w (subst (StandsAt s p n at.part) fresh st.1)))
+cut_stands s p c cl _ n m (leaving command number w e) st = (ap is_inside_closing e, subst (StandsClosing n.holds) (sym e) (λ h. refl))
+cut_stands s p c cl _ n m (clearing command number w bit begun t e made) st =
+    (ap is_inside_closing e, subst (StandsClosing n.holds) (sym e) (false_from_ne_true n.holds (λ h. not_so made (st h))))
+
+-- a failure, wherever it cuts
+pub failure_moves : (s : Setup) (past : Past) (p : ℕ) (command : Command) (number : ℕ) (cl : Closing) (d : Doing) (n : Notes) (m : Wires) (t : ℕ → ℕ → Touches) → IsCut s p (call s p command number) cl d → Ready s past p (is_inside d) n m t →
+    Stands s p n m d → Moves s past p (Closes command number cl) (turned (next_time past) n) m t
+failure_moves s past p command number cl d n m t cut r st =
+    let to = cut_stands s p (call s p command number) cl d n m cut st in
+    closing_moves s past p command number cl (turned (next_time past) n) m t (ready_turned s past p (is_inside_closing cl) n m t (subst (λ b. Ready s past p b n m t) (sym to.0) r)) to.1

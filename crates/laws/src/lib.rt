@@ -1,0 +1,10 @@
+//! The laws of the lock, of every record of a list of events, whatever the flicks: Lamport's bakery (1974)
+//! on safe single-reader bits (1986), with processes that fail and memory units that clear up after them
+//! (this project's own profile). Each law is a function with nothing to do, whose contract is the law.
+#![tactic(auto)]
+
+mod lock;
+
+pub use lock::{
+    ahead, alone_inside, full_answers, mutual_exclusion, no_overtaking, own_entries, safe_rule,
+};

@@ -1,0 +1,89 @@
+-- How a file is spelled: its lines have the words that are printed for what it says.
+use Rattle.std.specs.Prelude.{◌≡◌, ◌≤◌, ℕ, Bool, true, false, not, nat_le, ◌&&◌, List, [], ◌∷◌, ◌++◌, length, codes, filter, map}
+use Rattle.std.specs.List.{list_all}
+use Rattle.std.specs.Str.{bytes_eq}
+use Rattle.plain_store.specs.declared.setups.Setup.{Setup}
+use Rattle.scenario.specs.Printing.{version_words, heading_word, heading_words, line_words, open_words}
+use Rattle.scenario.specs.Reading.{Script}
+use Rattle.scenario.specs.Scripts.{IsScenario}
+use Rattle.scenario.specs.Setting.{default_setup, with_heading}
+use Rattle.scenario.specs.Words.{lines, words_of, begins_with}
+use Rattle.scenario.specs.declared.bit_files.BitLine.{BitLine}
+use Rattle.scenario.specs.declared.bit_files.BitLine.TheVariants as bit
+use Rattle.scenario.specs.declared.keywords.Heading.{Heading}
+use Rattle.scenario.specs.declared.keywords.LineWord.{LineWord}
+use Rattle.scenario.specs.declared.keywords.LineWord.TheVariants.{Call, Step, Go, Fail, Withdraw, Restart, Flick, Wander, Show}
+
+-- the first word of a line
+abbrev pub line_word : LineWord → List ℕ
+line_word Call = codes "call"
+line_word Step = codes "step"
+line_word Go = codes "go"
+line_word Fail = codes "fail"
+line_word Withdraw = codes "withdraw"
+line_word Restart = codes "restart"
+line_word Flick = codes "flick"
+line_word Wander = codes "wander"
+line_word Show = codes "show"
+
+-- whether a line is not skipped: it has a word, and the first begins with no #
+abbrev pub is_said : List (List ℕ) → Bool
+is_said [] = false
+is_said (first ∷ words) = not (begins_with 35 first)
+
+-- the words of the lines of a text that are not skipped
+abbrev pub said_words : List ℕ → List (List (List ℕ))
+said_words text = filter is_said (map words_of (lines text))
+
+-- a line that is not too long
+abbrev pub is_short : List ℕ → Bool
+is_short line = nat_le (length line) 128
+
+-- a text of 4,096 lines at most, none of them too long; skipped lines too
+pub record IsWithinLimits (text : List ℕ) : Type 0 where
+  pub few : length (lines text) ≤ 4096
+  pub short : list_all is_short (lines text) ≡ true
+
+-- whether two headings have the same first word
+abbrev pub same_heading : Heading → Heading → Bool
+same_heading h k = bytes_eq (heading_word h) (heading_word k)
+
+-- no heading stands twice
+abbrev pub headings_differ : List (Heading × ℕ) → Bool
+headings_differ [] = true
+headings_differ (heading ∷ headings) = list_all (λ other. not (same_heading heading.0 other.0)) headings && headings_differ headings
+
+-- a setup with the numbers of headings
+abbrev pub with_headings : List (Heading × ℕ) → Setup → Setup
+with_headings [] setup = setup
+with_headings (heading ∷ headings) setup = with_headings headings (with_heading heading.0 heading.1 setup)
+
+-- A text says a scenario: within the limits, the lines that are not skipped have the words that are printed for it. Its
+-- headings stand in any order, each at most once, and those that are left out have their defaults.
+pub record Says (text : List ℕ) (s : Script) : Type 0 where
+  pub limits : IsWithinLimits text
+  pub headings : List (Heading × ℕ)
+  pub once : headings_differ headings ≡ true
+  pub words : said_words text ≡ version_words s.setup.version ∷ (map heading_words headings ++ (map open_words s.setup.opening ++ map line_words s.lines))
+  pub setup : s.setup ≡ record (with_headings headings (default_setup s.setup.version)) { opening = s.setup.opening }
+  pub scenario : IsScenario s
+
+-- the word of a bit
+abbrev pub bit_word : Bool → List ℕ
+bit_word false = codes "0"
+bit_word true = codes "1"
+
+-- the words of a line of a bits file
+abbrev pub bit_line_words : BitLine → List (List ℕ)
+bit_line_words (bit.Write v) = codes "write" ∷ bit_word v ∷ []
+bit_line_words bit.End = codes "end" ∷ []
+bit_line_words (bit.Settle v) = codes "settle" ∷ bit_word v ∷ []
+bit_line_words bit.Read = codes "read" ∷ []
+bit_line_words (bit.Value v) = codes "value" ∷ bit_word v ∷ []
+bit_line_words bit.Drop = codes "drop" ∷ []
+
+-- A text says the lines of a bits file: within the limits, the lines that are not skipped have their words.
+pub record SaysBits (text : List ℕ) (said : List BitLine) : Type 0 where
+  pub limits : IsWithinLimits text
+  pub words : said_words text ≡ (codes "bits" ∷ codes "1" ∷ []) ∷ map bit_line_words said
+  pub few : length said ≤ 4000

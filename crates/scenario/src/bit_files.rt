@@ -1,0 +1,158 @@
+//! Bits files: the calls that are made on one safe bit.
+ghost use Rattle.std.specs.Prelude.{◌≡◌};
+ghost use Rattle.scenario.specs.BitFiles.{bit_word_of, bit_at, one_bit_of, lone_word_of, bit_line_of, first_bits_read, bits_of, GivesBits};
+ghost use Rattle.scenario.specs.Files.{one_more};
+ghost use Rattle.scenario.specs.Reads.{Makes, Takes};
+ghost use Rattle.scenario.specs.Words.{texts};
+
+use crate::faults::{FaultKind, LineFault};
+use crate::files::{FromLines, keep_line, read_file};
+use std::alloc::Global;
+use std::marker::Model;
+
+/// A line of a bits file behind the first: a call on a bit, which opens at 0.
+#[derive(Clone, Copy, Debug, PartialEq, Eq)]
+pub enum BitLine {
+    /// A write of this value begins.
+    Write(bool),
+    /// The open write ends.
+    End,
+    /// The open write, which its writer has left, ends at this value.
+    Settle(bool),
+    /// A read begins.
+    Read,
+    /// The open read ends: it gives this value where a write overlapped it.
+    Value(bool),
+    /// The open read ends without a value.
+    Drop,
+}
+
+/// What the bytes of a bits file say, or the first fault of the first line that has one. A fault of kind
+/// `Memory` may name any line.
+pub fn read_bits(alloc: Global, text: &[u8]) -> Result<Vec<BitLine>, LineFault>
+    ensures { GivesBits result (bits_of text.now) }
+{
+    Ok(read_file::<BitsReader>(alloc, text)?.lines)
+}
+
+/// The first word of a line.
+#[derive(Clone, Copy, Debug, PartialEq, Eq)]
+enum BitWord {
+    Bits,
+    Write,
+    End,
+    Settle,
+    Read,
+    Value,
+    Drop,
+}
+
+impl BitWord {
+    fn of(word: &[u8]) -> Option<BitWord>
+        ensures { result ≡ bit_word_of word.now }
+    {
+        match word {
+            b"bits" => Some(BitWord::Bits),
+            b"write" => Some(BitWord::Write),
+            b"end" => Some(BitWord::End),
+            b"settle" => Some(BitWord::Settle),
+            b"read" => Some(BitWord::Read),
+            b"value" => Some(BitWord::Value),
+            b"drop" => Some(BitWord::Drop),
+            _ => None,
+        }
+    }
+}
+
+/// The lines behind the first that have been read so far.
+#[derive(Drop)]
+struct BitsReader {
+    lines: Vec<BitLine>,
+}
+
+impl Model for BitsReader {
+    ghost use Rattle.std.specs.Prelude.{List};
+    ghost use Rattle.scenario.specs.declared.bit_files.BitLine.{BitLine};
+
+    ghost Value = { List BitLine };
+
+    ghost view = { λ r. r.lines.items };
+}
+
+impl FromLines for BitsReader {
+    ghost use Rattle.scenario.specs.BitFiles.{bits_grammar};
+
+    ghost grammar = { bits_grammar };
+
+    fn first(alloc: Global, word: &[u8], words: &[&[u8]]) -> Result<BitsReader, FaultKind> {
+        BitsReader::new(alloc, word, words)
+    }
+
+    fn later(&mut self, word: &[u8], words: &[&[u8]]) -> Result<(), FaultKind> {
+        match BitWord::of(word) {
+            None => Err(FaultKind::Unknown),
+            Some(name) => keep_line(&mut self.lines, bit_line(name, words)?),
+        }
+    }
+}
+
+impl BitsReader {
+    /// The first line: `bits 1`.
+    fn new(alloc: Global, word: &[u8], words: &[&[u8]]) -> Result<BitsReader, FaultKind>
+        ensures { Makes result (first_bits_read word.now (texts words.now)) }
+    {
+        if word == b"bits".as_slice() && words.len() == 1 && words[0] == b"1".as_slice() {
+            Ok(BitsReader {
+                lines: Vec::new(alloc),
+            })
+        } else {
+            Err(FaultKind::NotFirst)
+        }
+    }
+}
+
+/// What a later line says, by its first word and the words behind it.
+fn bit_line(name: BitWord, words: &[&[u8]]) -> Result<BitLine, FaultKind>
+    ensures { result ≡ bit_line_of name (texts words.now) }
+{
+    match name {
+        BitWord::Bits => Err(FaultKind::NotFirst),
+        BitWord::Write => Ok(BitLine::Write(one_bit(words)?)),
+        BitWord::Settle => Ok(BitLine::Settle(one_bit(words)?)),
+        BitWord::Value => Ok(BitLine::Value(one_bit(words)?)),
+        BitWord::End => alone(BitLine::End, words),
+        BitWord::Read => alone(BitLine::Read, words),
+        BitWord::Drop => alone(BitLine::Drop, words),
+    }
+}
+
+/// A line that is its first word alone.
+fn alone(line: BitLine, words: &[&[u8]]) -> Result<BitLine, FaultKind>
+    ensures { result ≡ lone_word_of line (texts words.now) }
+{
+    if words.is_empty() {
+        Ok(line)
+    } else {
+        Err(FaultKind::Words)
+    }
+}
+
+/// The one operand of a line.
+fn one_bit(words: &[&[u8]]) -> Result<bool, FaultKind>
+    ensures { result ≡ one_bit_of (texts words.now) }
+{
+    if words.len() != 1 {
+        return Err(FaultKind::Words);
+    }
+    bit(words[0])
+}
+
+fn bit(word: &[u8]) -> Result<bool, FaultKind>
+    ensures { result ≡ bit_at word.now }
+{
+    match word {
+        b"0" => Ok(false),
+        b"1" => Ok(true),
+        _ => Err(FaultKind::Number),
+    }
+}

@@ -1,0 +1,141 @@
+//! How scenarios are printed.
+ghost use Rattle.std.specs.Prelude.{◌≡◌, ◌++◌, ◌∷◌, codes, flat_map, map, true, IfOk, OnOk, Ok};
+ghost use Rattle.std.specs.String.{string_bytes};
+ghost use Rattle.scenario.specs.Printing.{command_words, target_word, flick_words, line_words, open_words, setup_words, spaced, printed_line, scenario_text};
+ghost use Rattle.scenario.specs.Reading.{scenario_of};
+ghost use Rattle.scenario.specs.Reads.{script};
+ghost use Rattle.scenario.specs.Scripts.{is_line};
+ghost use Rattle.std.specs.List.{list_all};
+ghost use Rattle.plain_store.specs.Slots.{is_pair};
+ghost use Rattle.plain_store.specs.Store.{names_differ};
+
+use crate::lines::{Flick, Line, Target};
+use crate::scenarios::Scenario;
+use crate::sound::{sound_line, sound_pair};
+use plain_store::{Command, Name, Opening, Setup, Value};
+use std::alloc::{AllocError, Global};
+use std::fmt;
+
+/// Writes a scenario as a file: the version, the four headings, the opening pairs in the order added, and the
+/// lines, with single spaces and a 0x0A behind each line.
+pub fn print_scenario(alloc: Global, scenario: &Scenario) -> Result<Vec<u8>, AllocError>
+    ensures text { IfOk result (λ bytes. bytes.items ≡ scenario_text (script scenario.now)) }
+    ensures read_again { IfOk result (λ bytes. scenario_of bytes.items ≡ Ok (script scenario.now)) }
+{
+    let mut text = setup_lines(alloc, &scenario.setup)?;
+    print_opening(alloc, &scenario.setup.opening, &mut text)?;
+    print_lines(alloc, scenario.lines.as_slice(), &mut text)?;
+    Ok(text.into_bytes())
+}
+
+/// The first line, and the four headings.
+#[tactic(auto, using(crate::proofs::Printed::setup_lines_are))]
+fn setup_lines(alloc: Global, setup: &Setup) -> Result<String, AllocError>
+    ensures { IfOk result (λ text. string_bytes text ≡ flat_map printed_line (setup_words setup.now)) }
+{
+    let Setup {
+        version,
+        processes,
+        ticket_bits,
+        stamp_bits,
+        slots,
+        ..
+    } = *setup;
+    format!(in alloc;
+        "bakery {version}\nprocesses {processes}\ntickets {ticket_bits}\nstamps {stamp_bits}\nslots {slots}\n"
+    )
+}
+
+/// Writes a line for each opening pair.
+#[tactic(auto, using(crate::proofs::Printed::opening_more, crate::proofs::Places::next_at, crate::proofs::Places::all_at_end))]
+fn print_opening(alloc: Global, opening: &Opening, text: &mut String) -> Result<(), AllocError>
+    ensures differ { names_differ opening.now ≡ true }
+    ensures sound { OnOk result (list_all is_pair opening.now ≡ true) }
+    ensures text { OnOk result (string_bytes text.new ≡ string_bytes text.old ++ flat_map printed_line (map open_words opening.now)) }
+{
+    for place in 0..opening.len() {
+        let (name, value) = opening.entry(place).unwrap();
+        sound_pair(&name, &value);
+        let line = open_line(alloc, &name, &value)?;
+        text.push_str(line.as_str())?;
+    }
+    Ok(())
+}
+
+#[tactic(auto, using(crate::proofs::Printed::open_line_is))]
+fn open_line(alloc: Global, name: &Name, value: &Value) -> Result<String, AllocError>
+    ensures { IfOk result (λ line. string_bytes line ≡ printed_line (open_words (name.now, value.now))) }
+{
+    format!(in alloc; "open {name} {value}\n")
+}
+
+/// Writes a line for each line behind the headings and opening pairs.
+#[tactic(auto, using(crate::proofs::Printed::lines_more, crate::proofs::Places::next_in, crate::proofs::Places::all_at_end))]
+fn print_lines(alloc: Global, lines: &[Line], text: &mut String) -> Result<(), AllocError>
+    ensures sound { OnOk result (list_all is_line lines.now ≡ true) }
+    ensures text { OnOk result (string_bytes text.new ≡ string_bytes text.old ++ flat_map printed_line (map line_words lines.now)) }
+{
+    for line in lines {
+        sound_line(line);
+        let printed = line_text(alloc, line)?;
+        text.push_str(printed.as_str())?;
+    }
+    Ok(())
+}
+
+fn line_text(alloc: Global, line: &Line) -> Result<String, AllocError>
+    ensures { IfOk result (λ text. string_bytes text ≡ printed_line (line_words line.now)) }
+{
+    format!(in alloc; "{line}\n")
+}
+
+impl fmt::Display for Target {
+    ghost use Rattle.std.specs.Prelude.{Some};
+
+    ghost output = { λ target. Some (target_word target) };
+
+    fn fmt<W: fmt::Write>(&self, f: &mut fmt::Formatter<W>) -> fmt::Result {
+        f.write_str(match self {
+            Target::Wait => "wait",
+            Target::Inside => "inside",
+            Target::Idle => "idle",
+            Target::Down => "down",
+        })
+    }
+}
+
+impl fmt::Display for Flick {
+    ghost use Rattle.std.specs.Prelude.{Some};
+
+    ghost output = { λ flick. Some (spaced (flick_words flick)) };
+
+    fn fmt<W: fmt::Write>(&self, f: &mut fmt::Formatter<W>) -> fmt::Result {
+        match self {
+            Flick::Zero => write!(f, "0"),
+            Flick::One => write!(f, "1"),
+            Flick::Pcg(seed) => write!(f, "pcg {seed}"),
+        }
+    }
+}
+
+impl fmt::Display for Line {
+    ghost use Rattle.std.specs.Prelude.{Some};
+
+    ghost output = { λ line. Some (spaced (line_words line)) };
+
+    #[tactic(auto, using(crate::proofs::Printed::call_is, crate::proofs::Printed::flick_is))]
+    fn fmt<W: fmt::Write>(&self, f: &mut fmt::Formatter<W>) -> fmt::Result {
+        let _types: Option<(Command, Value)> = None;
+        match self {
+            Line::Call(process, command) => write!(f, "call {process} {command}"),
+            Line::Step(process, steps) => write!(f, "step {process} {steps}"),
+            Line::Go(process, target) => write!(f, "go {process} {target}"),
+            Line::Fail(process) => write!(f, "fail {process}"),
+            Line::Withdraw(process) => write!(f, "withdraw {process}"),
+            Line::Restart(process) => write!(f, "restart {process}"),
+            Line::Flick(flick) => write!(f, "flick {flick}"),
+            Line::Wander(turns) => write!(f, "wander {turns}"),
+            Line::Show => write!(f, "show"),
+        }
+    }
+}
