@@ -22,7 +22,8 @@ use Rattle.record.specs.Unit.{is_commit}
 use Rattle.record.proofs.Singles.{is_write, is_write-true}
 use Rattle.record.proofs.Width.{IsGood}
 use Rattle.safe_number.specs.Runs.{new_write}
-use Rattle.laws.proofs.Doings.{Doing, Rests, Lies, Runs, Closes, IsCut, at_rest, between, within, leaving, clearing, Step, calls, withdraws, fails, restarts, steps, closes_on, call, runs, closes, doing, is_inside, is_inside_at}
+use Rattle.laws.specs.Doings.{Doing, Rests, Lies, Runs, Closes, call, runs, closes, doing}
+use Rattle.laws.proofs.Doings.{IsCut, at_rest, between, within, leaving, clearing, Step, calls, withdraws, fails, restarts, steps, closes_on, is_inside, is_inside_at}
 use Rattle.laws.proofs.Notes.{Notes, notes}
 use Rattle.laws.proofs.Invariant.{Stands, StandsAt, IsWait, wires}
 use Rattle.laws.proofs.Frame.{doing-other}
@@ -44,7 +45,7 @@ ClosesInside (Runs command number at) = Unit {0}
 ClosesInside (Closes command number at) = SettlesInside at
 
 -- who writes a version is inside
-version-written : (c : Call) (part : Part) (fresh : Bool) → is_version (written_at c part).0 ≡ true → is_inside_at part fresh ≡ true
+pub version-written : (c : Call) (part : Part) (fresh : Bool) → is_version (written_at c part).0 ≡ true → is_inside_at part fresh ≡ true
 version-written c (WritesImage vs st) fresh h = refl
 version-written c (WritesStamp vs st) fresh h = refl
 version-written c (WritesCommit vs st) fresh h = refl
@@ -149,7 +150,7 @@ version-read s p c n (WritesCommit vs x) fresh st h = absurd (true≢false (sym 
 version-read s p c n (Clears a) fresh st h = absurd (true≢false (sym h))
 version-read s p c n Over fresh st h = absurd (true≢false (sym h))
 
-version-at : (s : Setup) (p : ℕ) (c : Call) (n : Notes) (part : Part) (run : Run) → StandsAt s p n part (is_fresh run) → is_version (access_at c part run).field ≡ true → is_inside_at part (is_fresh run) ≡ true
+pub version-at : (s : Setup) (p : ℕ) (c : Call) (n : Notes) (part : Part) (run : Run) → StandsAt s p n part (is_fresh run) → is_version (access_at c part run).field ≡ true → is_inside_at part (is_fresh run) ≡ true
 version-at s p c n part (Writing w) st h = version-written c part (is_fresh (Writing w)) h
 version-at s p c n part (Reading bits begun) st h = version-read s p c n part (is_fresh (Reading bits begun)) st h
 

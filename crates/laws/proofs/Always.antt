@@ -12,7 +12,8 @@ use Rattle.record.specs.Parts.{is_read, is_over}
 use Rattle.record.specs.Places.{Place, access_at, place_after, value_of}
 use Rattle.record.specs.Records.{entry_of, past_of}
 use Rattle.record.proofs.Width.{IsGood}
-use Rattle.laws.proofs.Doings.{Doing, Runs, call, runs, doing, Step, calls, withdraws, fails, restarts, steps, closes_on}
+use Rattle.laws.specs.Doings.{Doing, Runs, call, runs, doing}
+use Rattle.laws.proofs.Doings.{Step, calls, withdraws, fails, restarts, steps, closes_on}
 use Rattle.laws.proofs.Invariant.{Inv}
 use Rattle.laws.proofs.Frame.{doing-other, notes-other}
 use Rattle.laws.proofs.FrameCells.{EntryBy}

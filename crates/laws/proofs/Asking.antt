@@ -12,7 +12,7 @@ use Rattle.record.specs.Parts.{Asks, to_b}
 use Rattle.record.specs.Places.{enter}
 use Rattle.record.proofs.Width.{IsGood}
 use Rattle.laws.proofs.Bits.{number_small}
-use Rattle.laws.proofs.Doings.{call, runs}
+use Rattle.laws.specs.Doings.{call, runs}
 use Rattle.laws.proofs.Invariant.{Asked, InAsking, Moves, Touches, next_time, wires}
 use Rattle.laws.proofs.Next.{to_b_moves}
 use Rattle.laws.proofs.Notes.{Notes, noted, notes, set}

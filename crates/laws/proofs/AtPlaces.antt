@@ -25,7 +25,7 @@ use Rattle.record.specs.Registers.{width}
 use Rattle.record.specs.Scripts.{Call, Next}
 use Rattle.record.proofs.Width.{IsGood}
 use Rattle.record.proofs.Staging.{no_start-marks, no_start-placed}
-use Rattle.laws.proofs.Doings.{Doing, Rests, Lies, Runs, Closes, call, runs, closes, doing}
+use Rattle.laws.specs.Doings.{Doing, Rests, Lies, Runs, Closes, call, runs, closes, doing}
 use Rattle.laws.proofs.Frame.{Happens, a_call, a_withdrawal, a_failure, a_restart, a_step, a_closing, doing-other}
 use Rattle.laws.proofs.FrameEvents.{accepted}
 

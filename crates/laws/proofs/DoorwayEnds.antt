@@ -19,7 +19,7 @@ use Rattle.record.specs.Registers.{others}
 use Rattle.record.specs.Scripts.{Call, Numbers}
 use Rattle.record.proofs.Width.{IsGood}
 use Rattle.laws.specs.LockLaws.{ends_doorway}
-use Rattle.laws.proofs.Doings.{call, doing}
+use Rattle.laws.specs.Doings.{call, doing}
 use Rattle.laws.proofs.Frame.{Happens, a_call, a_withdrawal, a_failure, a_restart, a_step, a_closing}
 use Rattle.laws.proofs.FrameEvents.{accepted}
 use Rattle.laws.proofs.AtPlaces.{AtPlace, Stepping, IsOfLock, any-placed, any-stepping, any-closing}

@@ -30,7 +30,7 @@ use Rattle.record.proofs.Staging.{stage-placed, no_start}
 use Rattle.record.proofs.Standing.{at_place, running_next}
 use Rattle.record.proofs.Ties.{Tied, tied-on, tied-marks, end-with}
 use Rattle.record.proofs.Width.{IsGood}
-use Rattle.laws.proofs.Doings.{Doing, Rests, Lies, Runs, Closes, call, runs, closes, goes_on, does_after, doing}
+use Rattle.laws.specs.Doings.{Doing, Rests, Lies, Runs, Closes, call, runs, closes, goes_on, does_after, doing}
 use Rattle.laws.proofs.Notes.{notes, notes_after}
 
 -- an entry of another process changes nothing of what q does, has noted, or has entered

@@ -26,7 +26,7 @@ use Rattle.record.proofs.Local.{start-plain, since-plain, call-plain, command-pl
 use Rattle.record.proofs.OpenSteps.{leaving_at, failing_at, closing-plain, closing-same}
 use Rattle.record.proofs.Staging.{stage-placed, no_start-placed, no_start}
 use Rattle.record.proofs.Width.{IsGood}
-use Rattle.laws.proofs.Doings.{Closes, call, closes, goes_on, does_after, doing}
+use Rattle.laws.specs.Doings.{Closes, call, closes, goes_on, does_after, doing}
 use Rattle.laws.proofs.Frame.{Does, at_rest, lying, leaving, settling, a_closing, Goes, then_doing}
 
 -- an entry with an access of a closing

@@ -26,7 +26,7 @@ use Rattle.record.proofs.PlaceTurns.{access_in}
 use Rattle.record.proofs.Singles.{is_write}
 use Rattle.record.proofs.Ties.{written-width}
 use Rattle.record.proofs.Width.{IsGood, width-pos}
-use Rattle.laws.proofs.Doings.{Doing, Rests, Lies, Runs, Closes, call, runs, closes}
+use Rattle.laws.specs.Doings.{Doing, Rests, Lies, Runs, Closes, call, runs, closes}
 
 -- The last write, after an entry.
 
@@ -87,10 +87,10 @@ ends-bit n m v = go (m % 2 == 0) refl
         ]
 
 -- the access of a write
-abbrev written : ℕ → Field → List Bool → NumberWrite → Access
+abbrev pub written : ℕ → Field → List Bool → NumberWrite → Access
 written p f bits w = access_of p f (next_written bits w)
 
-written-writes : (p : ℕ) (f : Field) (bits : List Bool) (w : NumberWrite) → is_write (written p f bits w).how ≡ true
+pub written-writes : (p : ℕ) (f : Field) (bits : List Bool) (w : NumberWrite) → is_write (written p f bits w).how ≡ true
 written-writes p f bits w = go ((bit_written bits w).made % 2 == 0)
   where
     go : (b : Bool) → is_write (cond b (BeginWrite (bit_written bits w).value) EndWrite) ≡ true

@@ -23,7 +23,7 @@ use Rattle.record.proofs.OpenSteps.{place_at, leaving_at}
 use Rattle.record.proofs.Standing.{running_stands}
 use Rattle.record.proofs.Width.{IsGood}
 use Rattle.record.proofs.World.{entry-accepted, entry_view, view, refused-idle}
-use Rattle.laws.proofs.Doings.{Doing, Rests, Lies, Runs, Closes, doing}
+use Rattle.laws.specs.Doings.{Doing, Rests, Lies, Runs, Closes, doing}
 use Rattle.laws.proofs.Frame.{Does, at_rest, lying, running, leaving, settling, may_fail, Happens, a_call, a_withdrawal, a_failure, a_restart, Goes, then_doing, running-goes, doing-goes}
 use Rattle.laws.proofs.FrameClosings.{leaving-goes, settling-goes}
 

@@ -29,7 +29,7 @@ use Rattle.record.specs.Scripts.{Call, Numbers}
 use Rattle.record.proofs.Local.{since_called-plain}
 use Rattle.record.proofs.Width.{IsGood}
 use Rattle.safe_number.specs.Runs.{new_write}
-use Rattle.laws.proofs.Doings.{call, doing}
+use Rattle.laws.specs.Doings.{call, doing}
 use Rattle.laws.proofs.Frame.{own-other, own-own}
 use Rattle.laws.proofs.AtPlaces.{AtPlace, Stepping, place-induction, plain-stepping}
 use Rattle.laws.proofs.Tickets.{AllUpTo, up_to-push, none_full, lowest_is}

@@ -20,6 +20,11 @@ pub mod FrameMarks
 pub mod FrameSteps
 pub mod FrameWires
 pub mod FullAnswers
+pub mod HeldCells
+pub mod HeldOwners
+pub mod HeldReads
+pub mod HeldThere
+pub mod HeldTurns
 pub mod Invariant
 pub mod Moving
 pub mod Next

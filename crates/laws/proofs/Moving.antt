@@ -3,7 +3,7 @@ use Rattle.std.proofs.Common.{◌≡◌, ◌≢◌, ℕ, suc, ◌<◌, ◌∷◌
 use Rattle.std.proofs.lemmas.Bool.{cases_eq}
 use Rattle.plain_store.specs.declared.Setup.{Setup}
 use Rattle.record.specs.Entries.{Entry, Past}
-use Rattle.laws.proofs.Doings.{Doing, doing}
+use Rattle.laws.specs.Doings.{Doing, doing}
 use Rattle.laws.proofs.Notes.{Notes, notes}
 use Rattle.laws.proofs.Invariant.{Wires, wires, Touches, touches, IsPast, Own, Pair, Inv, Moves, next_time}
 

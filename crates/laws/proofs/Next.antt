@@ -17,7 +17,7 @@ use Rattle.record.specs.Program.{Version, first_full, greatest, max_of, newest_s
 use Rattle.record.specs.Registers.{others, processes}
 use Rattle.record.specs.Scripts.{Call}
 use Rattle.record.proofs.Width.{IsGood}
-use Rattle.laws.proofs.Doings.{call, runs}
+use Rattle.laws.specs.Doings.{call, runs}
 use Rattle.laws.proofs.Notes.{Notes}
 use Rattle.laws.proofs.Invariant.{Wires, Touches, Passed, IsInDoorway, Asked, waits, AllPassed, Moves}
 use Rattle.laws.proofs.Others.{each_other}

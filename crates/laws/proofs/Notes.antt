@@ -12,7 +12,7 @@ use Rattle.record.specs.Parts.{Part, Raises, Asks, TakesTicket, Lowers, Refuses,
 use Rattle.record.specs.Places.{is_fresh, is_last, bits_with, value_of}
 use Rattle.record.specs.Program.{lets_by}
 use Rattle.record.specs.Scripts.{Call}
-use Rattle.laws.proofs.Doings.{Doing, Rests, Lies, Runs, Closes, call, doing}
+use Rattle.laws.specs.Doings.{Doing, Rests, Lies, Runs, Closes, call, doing}
 
 pub record Notes : Type 0 where
   pub announced : Bool  -- its choosing is whole at 1 on all copies, since announced_at

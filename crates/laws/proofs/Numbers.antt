@@ -16,7 +16,7 @@ use Rattle.record.specs.Registers.{opening_bit}
 use Rattle.record.specs.Scripts.{Call}
 use Rattle.record.proofs.Staging.{no_called}
 use Rattle.record.proofs.Width.{IsGood}
-use Rattle.laws.proofs.Doings.{call, doing}
+use Rattle.laws.specs.Doings.{call, doing}
 use Rattle.laws.proofs.Notes.{Notes, notes, notes_after, noted, began_by, ended_by}
 use Rattle.laws.proofs.Frame.{notes-other, notes-goes}
 use Rattle.laws.proofs.DoorwayParts.{has_begun, has_finished, is_lowering, begun-next, finished-next, began-kept, ended-kept, to-begin, to-end, finished-begun, of_waiting, waiting-last, opens-doorway}

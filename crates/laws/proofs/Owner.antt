@@ -6,7 +6,7 @@ use Rattle.plain_store.specs.declared.Setup.{Setup}
 use Rattle.record.specs.Parts.{Part, Asks, Waits}
 use Rattle.record.specs.Places.{Run, Reading}
 use Rattle.record.specs.Program.{Wait}
-use Rattle.laws.proofs.Doings.{Doing, Rests, Lies, Runs, Closes}
+use Rattle.laws.specs.Doings.{Doing, Rests, Lies, Runs, Closes}
 use Rattle.laws.proofs.Notes.{Notes}
 use Rattle.laws.proofs.Invariant.{Touches, bit, ticket_of, CleanTicket, CleanChoosing, CleanWait, CleanRun, Clean, Pair}
 

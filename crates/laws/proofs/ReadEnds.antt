@@ -11,7 +11,7 @@ use Rattle.record.specs.Parts.{Part, Asks, Waits, part_after, read_at}
 use Rattle.record.specs.Places.{Reading, enter}
 use Rattle.record.specs.Program.{Wait}
 use Rattle.record.specs.Registers.{width}
-use Rattle.laws.proofs.Doings.{call, runs}
+use Rattle.laws.specs.Doings.{call, runs}
 use Rattle.laws.proofs.Invariant.{CleanTicket, Inv, Moves, Touches, next_time, touches, wires}
 use Rattle.laws.proofs.Notes.{noted, notes}
 use Rattle.laws.proofs.Reading.{AtRead, ReadAccess, own_there, pair_there, reads, reads_on, ticket_bit}

@@ -15,7 +15,7 @@ use Rattle.record.specs.Places.{Run, Writing, Reading, access_at, bits_with, ent
 use Rattle.record.specs.Program.{Version, Wait, is_below, is_one, store_read}
 use Rattle.record.proofs.Width.{IsGood}
 use Rattle.laws.proofs.Asking.{asks_last}
-use Rattle.laws.proofs.Doings.{Runs, call, doing, runs}
+use Rattle.laws.specs.Doings.{Runs, call, doing, runs}
 use Rattle.laws.proofs.Frame.{notes-goes}
 use Rattle.laws.proofs.FrameWires.{touches-begun, touches-readers, wires-read}
 use Rattle.laws.proofs.Invariant.{InWaiting, Inv, Moves, Stands, Touches, next_time, touches, wires}
@@ -159,7 +159,7 @@ abbrev pub AnswersTruly : Setup → Past → Type 0
 AnswersTruly s past = (x : Access) (u flick : Bool) → x.how ≡ EndRead u → touches s past x.owner x.reader x.field x.bit ≡ false → value_of (valued s past flick x).how ≡ (wires s past x.owner x.field x.bit x.reader).value
 
 -- what the access of an entry does
-entry_reads : (s : Setup) (past : Past) (p : ℕ) (e : Entry) (command : Command) (number : ℕ) (part : Part) (bits : List Bool) (begun flick : Bool) → AnswersTruly s past →
+pub entry_reads : (s : Setup) (past : Past) (p : ℕ) (e : Entry) (command : Command) (number : ℕ) (part : Part) (bits : List Bool) (begun flick : Bool) → AnswersTruly s past →
     e.access ≡ Some (valued s past flick (access_at (call s p command number) part (Reading bits begun))) →
     ReadAccess s past p (read_at (call s p command number) part).0 (read_at (call s p command number) part).1 (length bits) begun (value_of (valued s past flick (access_at (call s p command number) part (Reading bits begun))).how) (touches s (e ∷ past))
 entry_reads s past p e command number part bits false flick truly access = record {

@@ -11,7 +11,8 @@ use Rattle.record.specs.Places.{enter, is_fresh}
 use Rattle.record.specs.Program.{image_field, stamp_field, version_of}
 use Rattle.record.specs.Scripts.{Call}
 use Rattle.record.proofs.Width.{IsGood}
-use Rattle.laws.proofs.Doings.{Doing, Rests, Runs, Closes, call, is_inside, is_inside_at, is_inside_closing, IsCut, at_rest, between, within, leaving, clearing}
+use Rattle.laws.specs.Doings.{Doing, Rests, Runs, Closes, call}
+use Rattle.laws.proofs.Doings.{is_inside, is_inside_at, is_inside_closing, IsCut, at_rest, between, within, leaving, clearing}
 use Rattle.laws.proofs.Notes.{Notes, turned}
 use Rattle.laws.proofs.Invariant.{Wires, Touches, StandsAt, StandsSettling, StandsClosing, Stands, Moves, next_time}
 use Rattle.laws.proofs.Owner.{not_so}

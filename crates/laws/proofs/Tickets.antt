@@ -14,7 +14,7 @@ up_to-push top [] t h l = (l, tt)
 up_to-push top (x ∷ ts) t h l = (h.0, up_to-push top ts t h.1 l)
 
 -- the greatest of them is not below any, where one begins with a
-above : (a : ℕ) (ts : List ℕ) → a ≤ fold max a ts
+pub above : (a : ℕ) (ts : List ℕ) → a ≤ fold max a ts
 above a [] = omega arith
 above a (t ∷ ts) = let l = above (max a t) ts in grind (arith, l)
 
@@ -41,7 +41,7 @@ none_full top a (j ∷ js) (t ∷ ts) h l ne =
         absurd (eqb-false (fold max (max a t) ts) top ne (omega (arith, low, high, up)))
     go false e rest = rest
 
-still-below : (top a t f : ℕ) → max a t ≤ f → f ≡ top → a < top → t ≢ top → max a t < top
+pub still-below : (top a t f : ℕ) → max a t ≤ f → f ≡ top → a < top → t ≢ top → max a t < top
 still-below top a t f up e l ne = grind (arith, up, e, l, ne)
 
 -- where it is, the process at its first place is the lowest one whose ticket was the top

@@ -13,7 +13,7 @@ use Rattle.record.specs.Places.{enter}
 use Rattle.record.specs.Program.{Wait, is_below}
 use Rattle.record.specs.Registers.{others}
 use Rattle.record.proofs.Width.{IsGood}
-use Rattle.laws.proofs.Doings.{call, runs}
+use Rattle.laws.specs.Doings.{call, runs}
 use Rattle.laws.proofs.Invariant.{AllPassed, Beyond, InWaiting, Moves, Passed, Touches, next_time, waits, wires}
 use Rattle.laws.proofs.Next.{to_d_moves}
 use Rattle.laws.proofs.Notes.{Notes, notes, set, turned}

@@ -1,1 +1,3 @@
+pub mod Doings
+pub mod Held
 pub mod LockLaws

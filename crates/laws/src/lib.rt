@@ -4,7 +4,9 @@
 #![tactic(auto)]
 
 mod lock;
+mod registers;
 
 pub use lock::{
     ahead, alone_inside, full_answers, mutual_exclusion, no_overtaking, own_entries, safe_rule,
 };
+pub use registers::registers_serve_every_access;

@@ -24,6 +24,7 @@ use Rattle.record.specs.declared.marks.Mark.TheVariants.{Answered}
 use Rattle.record.specs.Calls.{read_so_far, last_call}
 use Rattle.record.specs.Doorways.{is_ahead}
 use Rattle.record.specs.Entries.{Entry, Past, own, has, since, is_called, is_failed, is_waiting, is_entered}
+use Rattle.record.specs.Given.{EachEntryGiven, EachPastGiven}
 use Rattle.record.specs.Histories.{history, store_after}
 use Rattle.record.specs.Moves.{moves_of}
 use Rattle.record.specs.Newest.{newest_bytes, is_somebody_inside, cell_after}
@@ -58,7 +59,7 @@ call_of s past e = last_call s e.process (own e.process past)
 
 -- What is taken has its place in the history, and the one-thread store's reply there, to the call's command, process and number.
 abbrev pub TakenInHistory : Type 0
-TakenInHistory = EachEntry λ s past e. (k : ℕ) (r : Reply) → Contains (takings e.marks) (k, r) →
+TakenInHistory = EachEntryGiven λ s past e. (k : ℕ) (r : Reply) → Contains (takings e.marks) (k, r) →
     (k ≡ length (history s past)) × (r ≡ reply_to (store_after s (history s past)) (call_of s past e).command (caller (call_of s past e)))
 
 -- a store answer: exactly one command was taken, with this reply; any other answer: none was taken
@@ -92,6 +93,12 @@ pub record OneHistory : Type 0 where
   pub cut : CutCallsAreNotAnswered
   pub order : KeepsOrder
 
+-- The headline, of every record: the processes go inside one at a time and in the order of their doorways, and their replies are those of one thread that takes the commands of one history.
+pub record Headline : Type 0 where
+  pub mutual_exclusion : MutualExclusion  -- no two are inside together, a failed one among them until its unit lets go
+  pub no_overtaking : NoOvertaking  -- nobody gets inside past one that waits and had finished its doorway before the other began its own
+  pub one_history : OneHistory  -- each reply is the one-thread store's at its command's place, and places keep the order of calls that do not overlap
+
 -- a register of a version
 abbrev pub is_version : Field → Bool
 is_version Choosing = false
@@ -115,7 +122,7 @@ VersionReadsAreUnoverlapped = EachEntry λ s past e. (a : Access) → e.access �
 
 -- The bytes that a process reads as an image are an image.
 abbrev pub ImagesAreRead : Type 0
-ImagesAreRead = EachEntry λ s past e. (a : Access) → e.access ≡ Some a → IsTrue (is_image a.field) → IsTrue (ends_read a.how) → a.bit + 1 ≡ width s a.field →
+ImagesAreRead = EachEntryGiven λ s past e. (a : Access) → e.access ≡ Some a → IsTrue (is_image a.field) → IsTrue (ends_read a.how) → a.bit + 1 ≡ width s a.field →
     (store : Contents) × IsImageOf (callers_of s) (bytes_of_bits (image_bytes s) (last_read (read_so_far s (since is_called (own e.process (e ∷ past)))).finished)) store
 
 -- the tickets that a process has read in its doorway, one of each other process, ascending
@@ -154,13 +161,13 @@ count_changes store (t ∷ history) =
 
 -- `StampsFull` is answered only to a command that would change the store after the history when it was read, and only where as many changes were taken as the greatest stamp.
 abbrev pub StampsFullAfterAllChanges : Type 0
-StampsFullAfterAllChanges = EachEntry λ s past e. Contains e.marks (Answered answer.StampsFull) →
+StampsFullAfterAllChanges = EachEntryGiven λ s past e. Contains e.marks (Answered answer.StampsFull) →
     let read = history s (before_image_read e.process past) in
     (changes (store_after s read) (call_of s past e).command ≡ true) × (count_changes (opening_store s) read ≡ max_of s.stamp_bits)
 
 -- While nobody is inside, the registers hold the image of the one-thread store after the history, call numbers too.
 abbrev pub NewestIsTheHistorys : Type 0
-NewestIsTheHistorys = EachPast λ s past. IsFalse (is_somebody_inside s past) → newest_bytes s past ≡ image_of (store_after s (history s past))
+NewestIsTheHistorys = EachPastGiven λ s past. IsFalse (is_somebody_inside s past) → newest_bytes s past ≡ image_of (store_after s (history s past))
 
 -- While nobody is inside, no write of a version is open.
 abbrev pub VersionsAreWholeOutside : Type 0
@@ -174,7 +181,7 @@ latest_change p store (t ∷ history) last =
 
 -- `Ask` answers the number of the asker's latest change in the history before its place, or 0.
 abbrev pub AskAnswersTheLatestChange : Type 0
-AskAnswersTheLatestChange = EachPast λ s past. (k : ℕ) (t : Taken) → slice_get (history s past) k ≡ Some t → t.command ≡ Ask →
+AskAnswersTheLatestChange = EachPastGiven λ s past. (k : ℕ) (t : Taken) → slice_get (history s past) k ≡ Some t → t.command ≡ Ask →
     t.reply ≡ Last (latest_change t.process (opening_store s) (take k (history s past)) 0)
 
 -- among these commands, taken one after the other, there is a change by p whose number passes the test
@@ -186,6 +193,6 @@ has_change p test store (t ∷ history) =
 
 -- In version 2, where `Ask` is answered and no change of its process that is later than its call number m stands before it, call m was taken as a change exactly if the answer is `Last(m)`.
 abbrev pub AskTellsOfCutCalls : Type 0
-AskTellsOfCutCalls = EachPast λ s past. s.version ≡ 2 → (k m : ℕ) (t : Taken) → slice_get (history s past) k ≡ Some t → t.command ≡ Ask → 0 < m → m < t.number →
+AskTellsOfCutCalls = EachPastGiven λ s past. s.version ≡ 2 → (k m : ℕ) (t : Taken) → slice_get (history s past) k ≡ Some t → t.command ≡ Ask → 0 < m → m < t.number →
     IsFalse (has_change t.process (nat_lt m) (opening_store s) (take k (history s past))) →
     IsTrue (has_change t.process (λ n. n == m) (opening_store s) (history s past)) ↔ (t.reply ≡ Last m)

@@ -5,6 +5,7 @@ pub mod Cuts
 pub mod Doorways
 pub mod Entries
 pub mod Failures
+pub mod Given
 pub mod Headline
 pub mod Histories
 pub mod Induction

@@ -1,13 +1,14 @@
 use plain_store::{Answer, Command, Reply};
 
-/// What an entry marks, beside its access.
-#[derive(Clone, Copy, Debug, PartialEq, Eq)]
+/// What an entry marks, beside its access. The default stands in the unused places of an act's list alone.
+#[derive(Clone, Copy, Debug, Default, PartialEq, Eq)]
 pub enum Mark {
     /// A call began, with this command.
     Called(Command),
     /// The doorway is finished: the process waits, with this ticket.
     Waiting(u32),
     /// The process is inside the critical section from now on.
+    #[default]
     Entered,
     /// The command was taken: its place in the history, which is how many commands were taken before it,
     /// and the store's reply.

@@ -1,0 +1,10 @@
+pub mod Accesses
+pub mod Cells
+pub mod Going
+pub mod Greatest
+pub mod Known
+pub mod NumberRuns
+pub mod Others
+pub mod Passage
+pub mod Reached
+pub mod Telling

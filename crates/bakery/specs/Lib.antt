@@ -1,0 +1,5 @@
+pub mod Doors
+pub mod Leavings
+pub mod Lending
+pub mod Locks
+pub mod Standings

@@ -1,0 +1,74 @@
+-- The locks of all processes: their registers, and what one access makes of them.
+use Rattle.std.specs.Prelude.{ℕ, Bool, List, [], replicate, slice_index_or, slice_set}
+use Rattle.safe_bit.specs.Cell.{Cell, read_answer}
+use Rattle.reader_copies.specs.declared.Made.{Made}
+use Rattle.reader_copies.specs.Row.{cell_at, row_after, without_reads, new_row, CanMake}
+use Rattle.safe_number.specs.declared.Access.{Access}
+use Rattle.safe_number.specs.declared.Field.{Field}
+use Rattle.safe_number.specs.declared.Field.TheVariants.{Choosing, Ticket}
+use Rattle.plain_store.specs.declared.Setup.{Setup}
+use Rattle.record.specs.Moves.{ended_with}
+use Rattle.record.specs.Registers.{width}
+
+-- the two registers of one process's lock, each with its copies, reader by reader
+pub record LockRows : Type 0 where
+  pub choosing : List (List Cell)
+  pub ticket : List (List Cell)
+
+-- the lock of a process that there is not
+abbrev pub no_lock : LockRows
+no_lock = record { choosing = []; ticket = [] }
+
+-- a new lock: both registers are 0
+abbrev pub new_lock : Setup → LockRows
+new_lock s = record { choosing = new_row (width s Choosing) s.processes; ticket = new_row (width s Ticket) s.processes }
+
+-- the new locks of all processes
+abbrev pub new_locks : Setup → List LockRows
+new_locks s = replicate s.processes (new_lock s)
+
+-- the register of a field; a lock has two
+abbrev pub row_in : LockRows → Field → List (List Cell)
+row_in l Choosing = l.choosing
+row_in l Ticket = l.ticket
+row_in l _ = []
+
+-- the lock with that register changed, and the other one as it was
+abbrev pub with_row : LockRows → Field → List (List Cell) → LockRows
+with_row l Choosing row = record { choosing = row; ticket = l.ticket }
+with_row l Ticket row = record { choosing = l.choosing; ticket = row }
+with_row l _ row = l
+
+-- what an access makes of its bit
+abbrev pub made_by : Access → Made
+made_by a = record { reader = a.reader; how = a.how }
+
+-- an access to a register of the lock may be made: it is there, and in its turn
+abbrev pub CanAccess : LockRows → Access → Type 0
+CanAccess l a = CanMake (row_in l a.field) a.bit (made_by a)
+
+-- the lock after one access: one copy of one bit has gone on by it, and all else is as it was
+abbrev pub lock_after : LockRows → Access → LockRows
+lock_after l a = with_row l a.field (row_after (row_in l a.field) a.bit (made_by a))
+
+-- the lock of a process
+abbrev pub lock_of : List LockRows → ℕ → LockRows
+lock_of locks p = slice_index_or locks p no_lock
+
+-- the locks after one access: only its owner's has changed
+abbrev pub locks_after : List LockRows → Access → List LockRows
+locks_after locks a = slice_set locks a.owner (lock_after (lock_of locks a.owner) a)
+
+-- what the end of a read of the bit of an access gives
+abbrev pub answer_to : List LockRows → Access → Bool → Bool
+answer_to locks a flick = read_answer (cell_at (row_in (lock_of locks a.owner) a.field) a.bit a.reader) flick
+
+-- the access, a read's end with what it gives
+abbrev pub answered : List LockRows → Bool → Access → Access
+answered locks flick a = ended_with (answer_to locks a flick) a
+
+-- the locks with each open read of a process's register by a reader dropped
+abbrev pub locks_without_reads : List LockRows → ℕ → Field → ℕ → List LockRows
+locks_without_reads locks p field reader =
+    let lock = lock_of locks p in
+    slice_set locks p (with_row lock field (without_reads (row_in lock field) reader))

@@ -1,0 +1,194 @@
+ghost use Rattle.std.specs.Prelude.{◌≡◌, ◌<◌, List, [], ◌∷◌, true, false, Ok, IfOk, IfSome};
+ghost use Rattle.safe_number.specs.declared.Access.{Access};
+ghost use Rattle.plain_store.specs.Setups.{checked};
+ghost use Rattle.record.specs.Cuts.{torn_at, IsTornOf};
+ghost use Rattle.record.specs.Moves.{ended_with};
+ghost use Rattle.record.specs.Places.{place_of, place_after, stage_at, marks_of, value_of};
+ghost use Rattle.record.specs.Scripts.{Call};
+ghost use Rattle.bakery.specs.Doors.{door_at, new_door, IsDoorAfter, next_after, is_going, is_waiting, next_of, torn_of, IsNamed, progress_at, marks_told, MayDrop, dropped, goes_on, tells_wait};
+ghost use Rattle.bakery.specs.Locks.{lock_of, CanAccess, answered, locks_after};
+
+use crate::access::access;
+use crate::lock::Locks;
+use crate::progress::DoorProgress;
+use crate::runs::{self, Runs};
+use crate::standing::Standing;
+use plain_store::Setup;
+use safe_number::{Access, TornBit, bits_of};
+use std::alloc::{AllocError, Global};
+use std::marker::Model;
+
+/// The doorway and the waiting of one process (Lamport 1974): it announces that it is choosing, reads the
+/// others' tickets, takes one more than the greatest, and waits for each other process, first until that one
+/// is not choosing, then until its ticket is 0 or comes after its own.
+///
+/// It is a cursor over the accesses of a call: [`next`](Door::next) tells the next one and
+/// [`advance`](Door::advance) goes on by what it gave, whatever memory serves it;
+/// [`step`](Door::step) makes it on the lock's registers. It keeps the greatest ticket read so far, not the list.
+#[derive(Drop)]
+pub struct Door {
+    setup: Setup,
+    process: u8,
+    standing: Standing,
+    runs: Runs,
+}
+
+impl Model for Door {
+    ghost use Rattle.bakery.specs.Doors.{DoorState, KeepsDoor, run_shown};
+
+    ghost Value = { DoorState };
+
+    ghost view = { λ d. record { setup = d.setup; process = d.process; standing = d.standing; run = run_shown d.standing d.runs.write d.runs.read } };
+
+    ghost invariant = { λ d. KeepsDoor d.setup d.process d.standing d.runs.write d.runs.read };
+}
+
+impl Door {
+    /// A door of process `process`, with room for what it reads. It is not started. The only fault is want of
+    /// memory.
+    pub fn new(alloc: Global, process: u8, setup: &Setup) -> Result<Door, AllocError>
+        requires setup { checked setup.now ≡ Ok tt }
+        requires process { process < setup.now.processes }
+        ensures { IfOk result (λ door. door ≡ new_door setup.now process) }
+    {
+        Ok(Door {
+            setup: *setup,
+            process,
+            standing: Standing::Away,
+            runs: Runs::new(alloc, u16::from(setup.ticket_bits))?,
+        })
+    }
+
+    /// Begins the doorway of a call of this process: nothing of it is made.
+    pub fn start(&mut self)
+        ensures door { (c : Call) → self.old.setup ≡ c.setup → self.old.process ≡ c.process → IsDoorAfter self.new c [] }
+        ensures going { is_going self.new ≡ true }
+    {
+        self.standing = Standing::Raises;
+        self.runs.begin(1);
+    }
+
+    /// The next access; `value` is what it gives if it ends a read.
+    #[inline]
+    pub fn next(&self, value: bool) -> Access
+        requires { is_going self.now ≡ true }
+        ensures access { result ≡ next_of self.now value }
+        ensures program { (c : Call) (accesses : List Access) → IsDoorAfter self.now c accesses → result ≡ ended_with value (next_after c accesses) }
+        ensures named { IsNamed self.now.setup result }
+    {
+        match self.standing.read() {
+            Some((owner, field)) => access(owner, field, self.runs.read.next(self.process, value)),
+            None => {
+                let (field, number) = self.standing.written();
+                let next = runs::next(&self.runs.write, &bits_of(number.into()));
+                access(self.process, field, next)
+            }
+        }
+    }
+
+    /// Goes on by that access, and tells what it leads to. The end of a read gives `value`; at any other
+    /// access `value` is not looked at.
+    #[inline]
+    pub fn advance(&mut self, value: bool) -> DoorProgress
+        requires { is_going self.old ≡ true }
+        ensures door { (c : Call) (accesses : List Access) → IsDoorAfter self.old c accesses → self.new ≡ door_at c (place_after c (place_of c accesses) value) }
+        ensures progress { (c : Call) (accesses : List Access) → IsDoorAfter self.old c accesses → result ≡ progress_at c (place_of c accesses) value }
+        ensures marks { (c : Call) (accesses : List Access) → IsDoorAfter self.old c accesses → marks_of c (place_of c accesses) value ≡ marks_told (stage_at (place_of c accesses)) result }
+        ensures going { is_going self.new ≡ goes_on result }
+        ensures waiting { is_waiting self.new ≡ tells_wait result }
+    {
+        let before = self.standing;
+        let ended = self.runs.go_on(&self.setup, self.process, before, value);
+        let Some(number) = ended else {
+            return before.told(before);
+        };
+        self.standing = before.after(&self.setup, self.process, number);
+        self.runs.begin(self.standing.bits(&self.setup));
+        before.told(self.standing)
+    }
+
+    /// Makes the next access on the lock's registers, and tells what it leads to. The end of a bit's read
+    /// gives `flick` if a write of this process's copy was open at some time during it, and else the copy's
+    /// value. The access has to be in its turn there.
+    #[inline]
+    pub fn step(&mut self, locks: &mut Locks, flick: bool) -> (Access, DoorProgress)
+        requires going { is_going self.old ≡ true }
+        requires turn { let next = answered locks.old flick (next_of self.old false) in CanAccess (lock_of locks.old next.owner) next }
+        ensures access { (c : Call) (accesses : List Access) → IsDoorAfter self.old c accesses → result.0 ≡ answered locks.old flick (next_after c accesses) }
+        ensures locks { locks.new ≡ locks_after locks.old result.0 }
+        ensures door { (c : Call) (accesses : List Access) → IsDoorAfter self.old c accesses → IsDoorAfter self.new c (result.0 ∷ accesses) }
+        ensures progress { (c : Call) (accesses : List Access) → IsDoorAfter self.old c accesses → result.1 ≡ progress_at c (place_of c accesses) (value_of result.0.how) }
+        ensures marks { (c : Call) (accesses : List Access) → IsDoorAfter self.old c accesses → marks_of c (place_of c accesses) (value_of result.0.how) ≡ marks_told (stage_at (place_of c accesses)) result.1 }
+        ensures going { is_going self.new ≡ goes_on result.1 }
+        ensures waiting { is_waiting self.new ≡ tells_wait result.1 }
+    {
+        let asked = self.next(false);
+        let value = locks.answer(asked, flick);
+        let access = self.next(value);
+        locks.apply(access);
+        (access, self.advance(value))
+    }
+
+    /// Gives up waiting: the open read is dropped, and the door is as a new one. The ticket still stands;
+    /// a [`Leaving`](crate::Leaving) clears it.
+    pub fn withdraw(&mut self, locks: &mut Locks)
+        requires waiting { is_waiting self.old ≡ true }
+        requires there { MayDrop self.old locks.old }
+        ensures locks { locks.new ≡ dropped self.old locks.old }
+        ensures door { self.new ≡ new_door self.old.setup self.old.process }
+    {
+        self.stop(locks);
+    }
+
+    /// Halts at the next access: an open read is dropped, and the door is as a new one. An open write stays
+    /// open. It tells the bit whose write has begun and has not ended on every copy, if there is one.
+    pub fn fail(&mut self, locks: &mut Locks) -> Option<TornBit>
+        requires going { is_going self.old ≡ true }
+        requires there { MayDrop self.old locks.old }
+        ensures torn { (c : Call) (accesses : List Access) → IsDoorAfter self.old c accesses → result ≡ torn_at c (place_of c accesses) }
+        ensures known { IfSome result (IsTornOf self.old.setup) }
+        ensures locks { locks.new ≡ dropped self.old locks.old }
+        ensures door { self.new ≡ new_door self.old.setup self.old.process }
+    {
+        let torn = self.torn();
+        self.stop(locks);
+        torn
+    }
+
+    /// Drops the open read, and is as new.
+    fn stop(&mut self, locks: &mut Locks)
+        requires { MayDrop self.old locks.old }
+        ensures locks { locks.new ≡ dropped self.old locks.old }
+        ensures door { self.new ≡ new_door self.old.setup self.old.process }
+    {
+        self.drop_read(locks);
+        self.standing = Standing::Away;
+        self.runs.begin(1);
+    }
+
+    /// Drops the open read.
+    fn drop_read(&self, locks: &mut Locks)
+        requires { MayDrop self.now locks.old }
+        ensures { locks.new ≡ dropped self.now locks.old }
+    {
+        if let Some((owner, field)) = self.standing.read() {
+            locks.drop_read(owner, field, self.process);
+        }
+    }
+
+    /// The bit that is torn if the process halts now.
+    fn torn(&self) -> Option<TornBit>
+        ensures torn { result ≡ torn_of self.now }
+        ensures known { IfSome result (IsTornOf self.now.setup) }
+    {
+        if let Some(_) = self.standing.read() {
+            return None;
+        }
+        let (bit, torn) = self.runs.write.torn()?;
+        Some(TornBit {
+            field: self.standing.written().0,
+            bit,
+            torn,
+        })
+    }
+}

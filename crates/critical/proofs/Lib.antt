@@ -1,0 +1,10 @@
+pub mod Advances
+pub mod Answering
+pub mod Committed
+pub mod Ends
+pub mod Holdings
+pub mod NewestSteps
+pub mod Opening
+pub mod Places
+pub mod Widths
+pub mod Writings

@@ -1,0 +1,100 @@
+-- What the fields of a section keep.
+use Rattle.std.specs.Prelude.{◌≡◌, ℕ, ◌+◌, ◌*◌, ◌^◌, ◌<◌, false, [], length, Ok}
+use Rattle.safe_number.specs.declared.Field.{Field}
+use Rattle.safe_number.specs.declared.Field.TheVariants as field
+use Rattle.safe_number.specs.Runs.{NumberRead, NumberWrite, new_write}
+use Rattle.plain_store.specs.Setups.{checked, callers_of}
+use Rattle.plain_store.specs.declared.Setup.{Setup}
+use Rattle.record.specs.Places.{Run, Reading, Writing}
+use Rattle.record.specs.Program.{stamp_field, image_field}
+use Rattle.record.specs.Registers.{width, image_bytes}
+use Rattle.record.specs.Scripts.{Call}
+use Rattle.critical.specs.declared.change.Change.{Change}
+use Rattle.critical.specs.declared.newest.Newest.{Newest}
+use Rattle.critical.specs.declared.standing.Asked.{Asked}
+use Rattle.critical.specs.declared.standing.Asked.TheVariants as asked
+use Rattle.critical.specs.declared.standing.Called.{Called}
+use Rattle.critical.specs.declared.standing.Standing.{Standing}
+use Rattle.critical.specs.declared.standing.Standing.TheVariants.{Reads, Writes, Done}
+use Rattle.critical.specs.declared.standing.Versions.{Versions}
+use Rattle.critical.specs.Changes.{change_field, made_so_far}
+use Rattle.critical.specs.Sections.{Section}
+use Rattle.critical.specs.Standings.{shown}
+
+-- the call of a section
+abbrev pub call_of : Called → Call
+call_of c = record { setup = c.setup; process = c.process; command = c.command; number = c.number }
+
+-- whose register is read, and which
+abbrev pub register_asked : Asked → Versions → ℕ × Field
+register_asked (asked.Commit k) versions = (k, field.Commit)
+register_asked (asked.Stamp k commit) versions = (k, stamp_field commit)
+register_asked asked.Image versions = (versions.newest.process, image_field versions.newest.commit)
+
+-- the number access, as a read or as a write
+abbrev pub run_of : Standing → NumberRead → NumberWrite → Run
+run_of (Reads part versions) r w = Reading r.bits r.begun
+run_of (Writes part change) r w = Writing w
+run_of Done r w = Reading [] false
+
+-- what contracts see of the fields
+abbrev pub section_of : Called → Standing → NumberRead → NumberWrite → Section
+section_of c standing r w = record { call = call_of c; standing = shown c.setup.processes standing; run = run_of standing r w }
+
+-- a call of a process of a good setup
+pub record IsCall (c : Called) : Type 0 where
+  pub good : checked c.setup ≡ Ok tt
+  pub process : c.process < c.setup.processes
+
+-- the newest of versions of a setup
+pub record IsNewest (s : Setup) (newest : Newest) : Type 0 where
+  pub process : newest.process < s.processes
+  pub stamp : newest.stamp < 2 ^ s.stamp_bits
+
+-- what is read is a process's
+abbrev pub IsAsked : Setup → Asked → Type 0
+IsAsked s (asked.Commit k) = k < s.processes
+IsAsked s (asked.Stamp k commit) = k < s.processes
+IsAsked s asked.Image = Unit {0}
+
+-- a change of a store of a setup, whose stamp fits
+pub record IsChange (s : Setup) (change : Change) : Type 0 where
+  pub slots : change.store.slots ≡ s.slots
+  pub numbers : length change.store.numbers ≡ callers_of s
+  pub stamp : change.changes + 1 < 2 ^ s.stamp_bits
+
+-- what is kept is of a setup
+abbrev pub IsStanding : Setup → Standing → Type 0
+IsStanding s (Reads part versions) = IsAsked s part × IsNewest s versions.newest
+IsStanding s (Writes part change) = IsChange s change
+IsStanding s Done = Unit {0}
+
+-- a read of a register is not done
+pub record IsReadOf (s : Setup) (field : Field) (r : NumberRead) : Type 0 where
+  pub wide : r.width ≡ width s field
+  pub going : length r.bits < r.width
+
+-- a write of a register is not done
+pub record IsWriteOf (s : Setup) (field : Field) (w : NumberWrite) : Type 0 where
+  pub wide : w.width ≡ width s field
+  pub going : w.bit < w.width
+  pub copies : made_so_far w < 2 * s.processes
+
+-- the number access is that of what is kept, and is not done
+abbrev pub IsRunOf : Setup → Standing → NumberRead → NumberWrite → Type 0
+IsRunOf s (Reads part versions) r w = IsReadOf s (register_asked part versions).1 r
+IsRunOf s (Writes part change) r w = IsWriteOf s (change_field part change) w
+IsRunOf s Done r w = Unit {0}
+
+-- what the fields of a section keep
+pub record IsKept (c : Called) (kept : Standing) (r : NumberRead) (w : NumberWrite) : Type 0 where
+  pub call : IsCall c
+  pub standing : IsStanding c.setup kept
+  pub run : IsRunOf c.setup kept r w
+  pub room : r.room ≡ 8 * image_bytes c.setup
+
+-- the number access of what is kept, of which nothing is made
+abbrev pub fresh_run : Setup → Standing → Run
+fresh_run s (Reads part versions) = Reading [] false
+fresh_run s (Writes part change) = Writing (new_write (width s (change_field part change)))
+fresh_run s Done = Reading [] false

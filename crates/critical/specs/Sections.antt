@@ -1,0 +1,104 @@
+-- A section, the places of its process that it shows, and what it tells.
+use Rattle.std.specs.Prelude.{◌≡◌, ℕ, ◌<◌, Bool, true, false, cond, List, [], ◌∷◌}
+use Rattle.safe_number.specs.declared.Access.{Access}
+use Rattle.plain_store.specs.declared.Answer.TheVariants as answer
+use Rattle.plain_store.specs.declared.Command.{Command}
+use Rattle.plain_store.specs.declared.Command.TheVariants.{Ask}
+use Rattle.plain_store.specs.declared.Setup.{Setup}
+use Rattle.record.specs.declared.marks.Mark.{Mark}
+use Rattle.record.specs.declared.marks.Mark.TheVariants as mark
+use Rattle.record.specs.Parts.{Part, AsksImage, WritesImage, WritesStamp, WritesCommit, Clears, read_at, to_e}
+use Rattle.record.specs.Places.{Place, Run, Reading, Writing, enter, place_after, access_at}
+use Rattle.record.specs.Program.{newest_stamp}
+use Rattle.record.specs.Registers.{processes, width}
+use Rattle.record.specs.Scripts.{Call}
+use Rattle.critical.specs.declared.progress.SectionProgress.{SectionProgress}
+use Rattle.critical.specs.declared.progress.SectionProgress.TheVariants as progress
+use Rattle.critical.specs.Registers.{DataRow, is_data, answered, MayMake, without_reads_at}
+use Rattle.critical.specs.Standings.{Standing, Done, standing_at}
+
+-- the call, what is kept of its place, and how far the number access has come
+pub record Section : Type 0 where
+  pub call : Call
+  pub standing : Standing
+  pub run : Run
+
+-- an access is left to be made
+abbrev pub goes : Standing → Bool
+goes Done = false
+goes _ = true
+
+abbrev pub is_going : Section → Bool
+is_going section = goes section.standing
+
+-- the section at a place of its call: outside parts E to G it does nothing
+abbrev pub section_at : Call → Place → Section
+section_at c at = record { call = c; standing = standing_at c at.part; run = cond (goes (standing_at c at.part)) at.run (Reading [] false) }
+
+-- where a call comes inside: at the first commit bit
+abbrev pub inside_place : Call → Place
+inside_place c = enter c (to_e (processes c.setup) [])
+
+-- the section of a process before its first call
+abbrev pub new_section : Setup → ℕ → Section
+new_section s p = record { call = record { setup = s; process = p; command = Ask; number = 0 }; standing = Done; run = Reading [] false }
+
+-- the call with which a section starts
+abbrev pub started : Section → Command → ℕ → Call
+started section command number = record { setup = section.call.setup; process = section.call.process; command = command; number = number }
+
+-- the section once nothing is left to be done
+abbrev pub ended : Section → Section
+ended section = record { call = section.call; standing = Done; run = Reading [] false }
+
+-- the greatest stamp that was read, where the call may be taken with the last access of a part
+abbrev pub changes_at : Part → ℕ
+changes_at (AsksImage versions) = newest_stamp versions
+changes_at (WritesCommit versions store) = newest_stamp versions
+changes_at _ = 0
+
+-- what is told when this part comes next
+abbrev pub told : ℕ → Part → SectionProgress
+told changes (WritesImage versions store) = progress.Writing
+told changes (WritesStamp versions store) = progress.Writing
+told changes (WritesCommit versions store) = progress.Writing
+told changes (Clears (answer.Reply reply)) = progress.Taken reply changes
+told changes (Clears _) = progress.NoStamp
+told changes _ = progress.Reading
+
+-- what is told with the next access of a place, whose value is v
+abbrev pub progress_at : Call → Place → Bool → SectionProgress
+progress_at c at v = told (changes_at at.part) (place_after c at v).part
+
+-- an access is left after this was told
+abbrev pub goes_on : SectionProgress → Bool
+goes_on progress.Reading = true
+goes_on progress.Writing = true
+goes_on _ = false
+
+-- the marks of an access with which this is told; the place in the history is left open here, as 0
+abbrev pub marks_told : SectionProgress → List Mark
+marks_told (progress.Taken reply changes) = mark.Taken 0 reply ∷ []
+marks_told _ = []
+
+-- an access of a process to the registers of a setup
+pub record IsInRange (s : Setup) (a : Access) : Type 0 where
+  pub owner : a.owner < s.processes
+  pub field : is_data a.field ≡ true
+  pub bit : a.bit < width s a.field
+  pub reader : a.reader < s.processes
+
+-- a place that the section shows, whose next access may be made on the registers
+pub record MayStep (section : Section) (row : DataRow) (flick : Bool) : Type 0 where
+  pub call : Call
+  pub place : Place
+  pub is_shown : section ≡ section_at call place
+  pub may : MayMake row (answered row flick (access_at call place.part place.run))
+
+-- the registers once a process has failed in a number access: the open read of the register that it reads is dropped
+abbrev pub after_fail_in : Call → Part → Run → DataRow → DataRow
+after_fail_in c part (Writing w) row = row
+after_fail_in c part (Reading bits begun) row = without_reads_at row (read_at c part).0 (read_at c part).1 c.process
+
+abbrev pub after_fail : Call → Place → DataRow → DataRow
+after_fail c at row = after_fail_in c at.part at.run row

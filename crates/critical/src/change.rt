@@ -1,0 +1,109 @@
+ghost use Rattle.std.specs.Prelude.{◌≡◌, ◌<◌, ◌==◌, ◌*◌, ◌≤◌};
+ghost use Rattle.reader_copies.specs.Runs.{progress_of};
+ghost use Rattle.record.specs.Places.{next_written, write_moved};
+ghost use Rattle.record.specs.Program.{stamp_field, image_field, max_of};
+ghost use Rattle.critical.specs.Changes.{change_field, change_bits, number_written, made_so_far, FitsWidth};
+
+use plain_store::{Image, Reply};
+use reader_copies::{Made, Progress};
+use record::bytes_go_by_their_bits;
+use safe_number::{Field, WriteRun, bits_of};
+
+/// Which register of a change is written: part G writes them in this order.
+#[derive(Clone, Copy, Debug)]
+pub(crate) enum Written {
+    Image,
+    Stamp,
+    Commit,
+}
+
+/// A change of the store, while it is written over the version that its process has not committed.
+#[derive(Clone, Copy, Debug)]
+pub(crate) struct Change {
+    /// The store after the command.
+    pub store: Image,
+    pub reply: Reply,
+    /// The greatest stamp that was read; the change gets the one after it.
+    pub changes: u32,
+    /// The commit bit's new value, which chooses the version that is written.
+    pub commit: bool,
+}
+
+impl Change {
+    /// The register that is written.
+    #[inline]
+    pub fn field(&self, part: Written) -> Field
+        ensures { result ≡ change_field part self.now }
+    {
+        match part {
+            Written::Commit => Field::Commit,
+            Written::Stamp => stamp_field(self.commit),
+            Written::Image => image_field(self.commit),
+        }
+    }
+
+    /// The next access of the write of a part.
+    #[inline]
+    pub fn next(&self, part: Written, run: &WriteRun) -> (u16, Made)
+        requires width { FitsWidth part self.now run.now.width }
+        requires going { run.now.bit < run.now.width }
+        ensures { result ≡ next_written (change_bits part self.now run.now.width) run.now }
+    {
+        bytes_go_by_their_bits();
+        match part {
+            Written::Image => run.next(self.store.bytes()),
+            Written::Stamp | Written::Commit => run.next(&bits_of(self.number(part))),
+        }
+    }
+
+    /// Goes on by that access.
+    #[inline]
+    pub fn advance(&self, part: Written, run: &mut WriteRun, readers: u8) -> Progress
+        requires width { FitsWidth part self.now run.old.width }
+        requires going { run.old.bit < run.old.width × made_so_far run.old < 2 * readers }
+        requires readers { readers ≤ 16 }
+        ensures run { run.new ≡ write_moved readers (change_bits part self.now run.old.width) run.old }
+        ensures progress { result ≡ progress_of (run.new.bit == run.new.width) }
+    {
+        bytes_go_by_their_bits();
+        match part {
+            Written::Image => run.advance(readers, self.store.bytes()),
+            Written::Stamp | Written::Commit => run.advance(readers, &bits_of(self.number(part))),
+        }
+    }
+
+    /// The number of a part that is no image.
+    #[inline]
+    fn number(&self, part: Written) -> u64
+        ensures { result ≡ number_written part self.now }
+    {
+        match part {
+            Written::Stamp => u64::from(self.changes) + 1,
+            Written::Image | Written::Commit => u64::from(self.commit),
+        }
+    }
+}
+
+/// The stamp that a commit bit chooses.
+#[inline]
+pub(crate) fn stamp_field(commit: bool) -> Field
+    ensures { result ≡ stamp_field commit }
+{
+    if commit { Field::Stamp1 } else { Field::Stamp0 }
+}
+
+/// The image that a commit bit chooses.
+#[inline]
+pub(crate) fn image_field(commit: bool) -> Field
+    ensures { result ≡ image_field commit }
+{
+    if commit { Field::Image1 } else { Field::Image0 }
+}
+
+/// The greatest stamp of so many bits.
+pub(crate) fn last_stamp(stamp_bits: u8) -> u32
+    requires { stamp_bits ≤ 32 }
+    ensures { result ≡ max_of stamp_bits }
+{
+    ((1u64 << stamp_bits) - 1) as u32
+}

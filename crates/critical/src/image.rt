@@ -1,0 +1,65 @@
+//! The image of a setup: its size, and the store that bytes stand for.
+ghost use Rattle.std.specs.Prelude.{◌≡◌, ◌*◌, ◌≤◌, length, List, Bool, Ok};
+ghost use Rattle.safe_number.specs.Bytes.{IsBytesOf};
+ghost use Rattle.plain_store.specs.Reading.{store_in};
+ghost use Rattle.plain_store.specs.Setups.{checked, callers_of};
+ghost use Rattle.record.specs.Registers.{image_bytes, bytes_of_bits, width};
+
+use plain_store::{Image, Setup};
+use record::bytes_go_by_their_bits;
+use safe_number::Field;
+
+/// The bytes of the longest image: 8 slots, and 16 callers.
+pub(crate) const MOST_IMAGE_BYTES: usize = 216;
+
+/// The bytes of an image: 23 a slot, and 2 a caller.
+pub(crate) fn image_bytes(setup: &Setup) -> u16
+    requires { checked setup.now ≡ Ok tt }
+    ensures bytes { result ≡ image_bytes setup.now }
+    ensures most { result ≤ 216 }
+    ensures some { 23 ≤ result }
+{
+    23 * u16::from(setup.slots) + 2 * u16::from(setup.callers())
+}
+
+/// The bits of a register.
+pub(crate) fn width(setup: &Setup, field: Field) -> u16
+    requires { checked setup.now ≡ Ok tt }
+    ensures bits { result ≡ width setup.now field }
+    ensures some { 1 ≤ result }
+    ensures most { result ≤ 1728 }
+{
+    match field {
+        Field::Choosing | Field::Commit => 1,
+        Field::Ticket => u16::from(setup.ticket_bits),
+        Field::Stamp0 | Field::Stamp1 => u16::from(setup.stamp_bits),
+        Field::Image0 | Field::Image1 => 8 * image_bytes(setup),
+    }
+}
+
+/// The store whose image the bytes are. The empty store stands in place of bytes that are none.
+pub(crate) fn image_in(setup: &Setup, bytes: &[u8]) -> Image
+    requires good { checked setup.now ≡ Ok tt }
+    requires length { length bytes.now ≡ image_bytes setup.now }
+    ensures store { result ≡ store_in setup.now.slots (callers_of setup.now) bytes.now }
+    ensures slots { result.slots ≡ setup.now.slots }
+    ensures numbers { length result.numbers ≡ callers_of setup.now }
+{
+    let callers = setup.callers();
+    match Image::read(bytes, callers) {
+        Ok(image) => image,
+        Err(_) => Image::empty(setup.slots, callers),
+    }
+}
+
+/// The same of bytes that were read bit by bit.
+pub(crate) fn image_read(setup: &Setup, bytes: &[u8]) -> Image
+    requires good { checked setup.now ≡ Ok tt }
+    requires length { length bytes.now ≡ image_bytes setup.now }
+    ensures store { (bits : List Bool) → length bits ≡ 8 * image_bytes setup.now → IsBytesOf bits bytes.now → result ≡ store_in setup.now.slots (callers_of setup.now) (bytes_of_bits (image_bytes setup.now) bits) }
+    ensures slots { result.slots ≡ setup.now.slots }
+    ensures numbers { length result.numbers ≡ callers_of setup.now }
+{
+    bytes_go_by_their_bits();
+    image_in(setup, bytes)
+}

@@ -1,0 +1,3 @@
+mod Clearing
+mod Registers
+pub mod Steps

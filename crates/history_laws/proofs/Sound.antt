@@ -1,0 +1,20 @@
+-- What is sound: a store that has an image, and what a process was given to call.
+use Rattle.std.specs.Prelude.{◌≡◌, ◌^◌, ◌<◌, true, length}
+use Rattle.plain_store.specs.declared.Setup.{Setup}
+use Rattle.plain_store.specs.Image.{IsStore}
+use Rattle.plain_store.specs.Setups.{callers_of}
+use Rattle.plain_store.specs.Store.{Contents}
+use Rattle.record.specs.Given.{is_command}
+use Rattle.laws.specs.Doings.{Doing, Runs, Closes}
+
+-- a store of this setup that has an image
+pub record IsStoreOf (s : Setup) (st : Contents) : Type 0 where
+  pub store : IsStore st
+  pub slots : st.slots ≡ s.slots
+  pub callers : length st.numbers ≡ callers_of s
+
+-- what a process calls is a command, and its number has 16 bits
+abbrev pub IsGivenTo : Doing → Type 0
+IsGivenTo (Runs command number at) = (is_command command ≡ true) × (number < 2 ^ 16)
+IsGivenTo (Closes command number at) = (is_command command ≡ true) × (number < 2 ^ 16)
+IsGivenTo _ = Unit {0}

@@ -1,0 +1,95 @@
+-- What each entry tells, and what is known of each process by the entries of its present call.
+use Rattle.std.proofs.Common.{◌≡◌, ◌≢◌, ℕ, ◌||◌, Bool, true, false, List, [], ◌∷◌, Some, length, refl, sym, ap, subst, arith}
+use Rattle.std.specs.List.{list_any}
+use Rattle.plain_store.specs.declared.Reply.{Reply}
+use Rattle.plain_store.specs.declared.Setup.{Setup}
+use Rattle.record.specs.declared.events.Event.{Event}
+use Rattle.record.specs.declared.marks.Mark.{Mark}
+use Rattle.record.specs.declared.marks.Mark.TheVariants.{Withdrew, Restarted}
+use Rattle.record.specs.Entries.{Entry, Past, own, has, since, is_called, is_failed}
+use Rattle.record.specs.Histories.{history}
+use Rattle.record.specs.Places.{value_of}
+use Rattle.record.specs.Records.{entry_of, past_of}
+use Rattle.record.specs.Spans.{ends_span, all_takings}
+use Rattle.record.proofs.Width.{IsGood}
+use Rattle.laws.proofs.AtPlaces.{own-induction}
+use Rattle.laws.specs.Doings.{Doing, Rests, Lies, call, doing}
+use Rattle.laws.proofs.Doings.{Step}
+use Rattle.laws.proofs.Frame.{Happens, a_call, a_withdrawal, a_failure, a_restart, a_step, a_closing, doing-other, own-other, own-own}
+use Rattle.laws.proofs.FrameEvents.{accepted}
+use Rattle.laws.proofs.FrameSteps.{step_of}
+use Rattle.history_laws.proofs.ClosingMarks.{closing-tells, failure-tells}
+use Rattle.history_laws.proofs.PartMarks.{step-tells}
+use Rattle.history_laws.proofs.Took.{TookBy, Told, Tells, Says, begins, goes, silent-tells}
+
+tells-of : (taken : List (ℕ × Reply)) (d d' x x' : Doing) (ms ns : List Mark) → d ≡ x → d' ≡ x' → ms ≡ ns → Tells taken x x' ns → Tells taken d d' ms
+tells-of taken d d' x x' ms ns i k m t = subst (Tells taken d d') (sym m) (subst (λ y. Tells taken y d' ns) (sym i) (subst (λ y. Tells taken x y ns) (sym k) t))
+
+-- by what an accepted event is for its process
+happens-says : (s : Setup) (past : Past) (p : ℕ) (e : Entry) (d d' : Doing) (taken : List (ℕ × Reply)) → Happens s past p e d d' → Step s past p e d d' → TookBy d taken → Says taken d d' e.marks
+happens-says s past p e d d' taken (a_call command number i a m k) step h = begins command m (subst (λ x. TookBy x []) (sym k) refl)
+happens-says s past p e d d' taken (a_withdrawal command number t w ws run i a m k) step h = goes (tells-of taken d d' _ _ e.marks (Withdrew ∷ []) i k m
+    (silent-tells taken _ _ (Withdrew ∷ []) (record { taken = refl; called = refl; failed = refl; ended = refl }) (subst (λ x. TookBy x taken) i h) (λ x. refl) (λ x. refl)))
+happens-says s past p e d d' taken (a_failure command number may a m k) step h =
+    goes (subst (Tells taken d d') (sym m) (failure-tells s past p e d d' command number (call s p command number) (own p past) taken step a k h))
+happens-says s past p e d d' taken (a_restart i a m k) step h = goes (tells-of taken d d' Lies Rests e.marks (Restarted ∷ []) i k m
+    (silent-tells taken Lies Rests (Restarted ∷ []) (record { taken = refl; called = refl; failed = refl; ended = refl }) (subst (λ x. TookBy x taken) i h) (λ x. cc) (λ x. cc)))
+happens-says s past p e d d' taken (a_step command number at a flick i o is made m k) step h = goes (tells-of taken d d' _ _ e.marks _ i k m
+    (step-tells (call s p command number) command number at (value_of a.how) (length (history s past)) taken o (subst (λ x. TookBy x taken) i h)))
+happens-says s past p e d d' taken (a_closing command number at flick n i next is v m k) step h = goes (tells-of taken d d' _ _ e.marks _ i k m
+    (closing-tells (call s p command number) command number (length (history s past)) at flick n taken next (subst (λ x. TookBy x taken) i h)))
+
+-- What is known goes on with an entry.
+
+either : (a b : Bool) → a ≡ false → b ≡ false → (a || b) ≡ false
+either a b h k = λ i. h i || k i
+
+pub since-called : (e : Entry) (mine : Past) → has is_called e ≡ true → since is_called (e ∷ mine) ≡ []
+since-called e mine h = ap (λ b. elim b as (λ _. Past) [ true ↦ [] | false ↦ e ∷ since is_called mine ]) h
+
+pub since-uncalled : (e : Entry) (mine : Past) → has is_called e ≡ false → since is_called (e ∷ mine) ≡ e ∷ since is_called mine
+since-uncalled e mine h = ap (λ b. elim b as (λ _. Past) [ true ↦ [] | false ↦ e ∷ since is_called mine ]) h
+
+goes-on : (d d' : Doing) (mine : Past) (e : Entry) → Told d (since is_called mine) → Says (all_takings (since is_called mine)) d d' e.marks → Told d' (since is_called (e ∷ mine))
+goes-on d d' mine e t (begins command m h) = subst (Told d') (sym (since-called e mine (ap (list_any is_called) m))) (record { took = h; uncut = λ x. refl; unended = λ x. refl })
+goes-on d d' mine e t (goes x) = subst (Told d') (sym (since-uncalled e mine x.uncalled)) (record {
+  took = x.took;
+  uncut = λ m. either (has is_failed e) (list_any (has is_failed) (since is_called mine)) (x.uncut m).0 (t.uncut (x.uncut m).1);
+  unended = λ m. either (has ends_span e) (list_any (has ends_span) (since is_called mine)) (x.unended m).0 (t.unended (x.unended m).1);
+})
+
+-- what is known of a process of a past
+abbrev pub ToldOf : Setup → Past → ℕ → Type 0
+ToldOf s past p = Told (doing s p past) (since is_called (own p past))
+
+-- what an entry tells that is added to a past
+abbrev pub SaysAfter : Setup → Past → Entry → Type 0
+SaysAfter s past e = Says (all_takings (since is_called (own e.process past))) (doing s e.process past) (doing s e.process (e ∷ past)) e.marks
+
+says-from : (s : Setup) → IsGood s → (events : List Event) (event : Event) (e : Entry) → entry_of s (past_of s events) event ≡ Some e → ToldOf s (past_of s events) e.process → SaysAfter s (past_of s events) e
+says-from s g events event e is t =
+    let past : Past = past_of s events in
+    happens-says s past e.process e (doing s e.process past) (doing s e.process (e ∷ past)) (all_takings (since is_called (own e.process past)))
+    (accepted s g events event e is).happens (step_of s g events event e is).2 t.took
+
+-- What is known of every process of every record.
+pub told : (s : Setup) → IsGood s → (events : List Event) (p : ℕ) → ToldOf s (past_of s events) p
+told s g = own-induction s (ToldOf s) none others on
+  where
+    none : (p : ℕ) → ToldOf s [] p
+    none p = record { took = omega arith; uncut = λ x. cc; unended = λ x. cc }
+
+    others : (past : Past) (e : Entry) (p : ℕ) → e.process ≢ p → ToldOf s past p → ToldOf s (e ∷ past) p
+    others past e p apart h =
+        subst (λ (m : Past). Told (doing s p (e ∷ past)) (since is_called m)) (sym (own-other p e past apart))
+        (subst (λ (d : Doing). Told d (since is_called (own p past))) (sym (doing-other s p e past apart)) h)
+
+    on : (events : List Event) (event : Event) (e : Entry) → entry_of s (past_of s events) event ≡ Some e → ToldOf s (past_of s events) e.process → ToldOf s (e ∷ past_of s events) e.process
+    on events event e is h =
+        let past : Past = past_of s events in
+        subst (λ (m : Past). Told (doing s e.process (e ∷ past)) (since is_called m)) (sym (own-own e.process e past refl))
+        (goes-on (doing s e.process past) (doing s e.process (e ∷ past)) (own e.process past) e h (says-from s g events event e is h))
+
+-- What every entry tells.
+pub says : (s : Setup) → IsGood s → (events : List Event) (event : Event) (e : Entry) → entry_of s (past_of s events) event ≡ Some e → SaysAfter s (past_of s events) e
+says s g events event e is = says-from s g events event e is (told s g events e.process)

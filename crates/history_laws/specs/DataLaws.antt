@@ -1,0 +1,39 @@
+-- Laws of the data beside those that record's headline states, of the record of every list of events.
+use Rattle.std.specs.Prelude.{◌≡◌, ℕ, ◌+◌, ◌<◌, ◌≤◌, ◌∷◌, take, slice_get, Some, IsTrue, IsFalse}
+use Rattle.safe_number.specs.declared.Access.{Access}
+use Rattle.plain_store.specs.Reading.{IsImageOf}
+use Rattle.plain_store.specs.Setups.{callers_of, opening_store}
+use Rattle.plain_store.specs.Store.{reply_to}
+use Rattle.record.specs.declared.history.Taken.{Taken}
+use Rattle.record.specs.Calls.{read_so_far}
+use Rattle.record.specs.Entries.{own, since, is_called}
+use Rattle.record.specs.Given.{EachEntryGiven, EachPastGiven}
+use Rattle.record.specs.Headline.{count_changes, ends_read, is_image}
+use Rattle.record.specs.Histories.{history, store_after}
+use Rattle.record.specs.Newest.{is_somebody_inside, versions_held}
+use Rattle.record.specs.Program.{max_of, newest_stamp}
+use Rattle.record.specs.Registers.{bytes_of_bits, image_bytes, width}
+use Rattle.record.specs.Unit.{last_read}
+
+-- The image that a process reads inside is that of the store after the history so far.
+abbrev pub ImagesAreOfTheStore : Type 0
+ImagesAreOfTheStore = EachEntryGiven λ s past e. (a : Access) → e.access ≡ Some a → IsTrue (is_image a.field) → IsTrue (ends_read a.how) → a.bit + 1 ≡ width s a.field →
+    IsImageOf (callers_of s) (bytes_of_bits (image_bytes s) (last_read (read_so_far s (since is_called (own e.process (e ∷ past)))).finished)) (store_after s (history s past))
+
+-- Each command of the history has the one-thread store's reply after those before it.
+abbrev pub RepliesAreThoseOfTheirPlaces : Type 0
+RepliesAreThoseOfTheirPlaces = EachPastGiven λ s past. (k : ℕ) (t : Taken) → slice_get (history s past) k ≡ Some t →
+    t.reply ≡ reply_to (store_after s (take k (history s past))) t.command (record { process = t.process; number = t.number })
+
+-- There are never more changes than the greatest stamp.
+abbrev pub ChangesFitTheStamps : Type 0
+ChangesFitTheStamps = EachPastGiven λ s past. count_changes (opening_store s) (history s past) ≤ max_of s.stamp_bits
+
+-- While nobody is inside, the greatest committed stamp is the number of changes.
+abbrev pub NewestStampCountsTheChanges : Type 0
+NewestStampCountsTheChanges = EachPastGiven λ s past. IsFalse (is_somebody_inside s past) → newest_stamp (versions_held s past) ≡ count_changes (opening_store s) (history s past)
+
+-- In version 2 the numbers of a process's commands ascend in the history.
+abbrev pub NumbersAscend : Type 0
+NumbersAscend = EachPastGiven λ s past. s.version ≡ 2 → (j k : ℕ) (t u : Taken) → j < k → slice_get (history s past) j ≡ Some t → slice_get (history s past) k ≡ Some u →
+    t.process ≡ u.process → t.number < u.number

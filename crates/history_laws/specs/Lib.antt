@@ -1,0 +1,2 @@
+pub mod DataLaws
+pub mod HistoryLaws

@@ -1,0 +1,53 @@
+//! The laws of the data: what the registers of the store's versions give, and so what the replies are. Each
+//! is of every setup that the check passes, of every list of events, refused ones among them, and of every
+//! flick. Where a law speaks of a store, the names, values and counts of the events are what their types
+//! allow.
+ghost use Rattle.record.specs.Headline.{AskAnswersTheLatestChange, AskTellsOfCutCalls, Headline, ImagesAreRead, NewestIsTheHistorys, OneHistory, StampsFullAfterAllChanges, VersionReadsAreUnoverlapped, VersionsAreWholeOutside};
+ghost use Rattle.history_laws.specs.DataLaws.{ChangesFitTheStamps, ImagesAreOfTheStore, NewestStampCountsTheChanges, NumbersAscend, RepliesAreThoseOfTheirPlaces};
+
+/// No read of a commit bit, of a stamp or of an image is overlapped by a write, and the bytes that a process
+/// reads as an image inside are an image: that of the one-thread store after the history so far.
+pub fn versions_are_read_whole()
+    ensures unoverlapped { VersionReadsAreUnoverlapped }
+    ensures images { ImagesAreRead }
+    ensures store { ImagesAreOfTheStore }
+{}
+
+/// One history: each command that is taken has the one-thread store's reply at its place in it; a store
+/// answer is the reply with which its call took its one command; a call takes at most one, and is not
+/// answered if it was cut; and places keep the order of calls that do not overlap. (Herlihy and Wing 1990.)
+pub fn one_history()
+    ensures history { OneHistory }
+    ensures replies { RepliesAreThoseOfTheirPlaces }
+{}
+
+/// `StampsFull` is answered only to a command that would change the store after the history when it was
+/// read, and only where as many changes were taken as the greatest stamp. More there never are.
+pub fn stamps_are_full_after_all_changes()
+    ensures answered { StampsFullAfterAllChanges }
+    ensures fit { ChangesFitTheStamps }
+{}
+
+/// While nobody is inside, no write of a version is open, and the committed image with the greatest stamp, of
+/// the lowest process on a tie, is the image of the one-thread store after the history, call numbers too. That
+/// stamp is the number of changes.
+pub fn newest_is_the_historys()
+    ensures image { NewestIsTheHistorys }
+    ensures stamp { NewestStampCountsTheChanges }
+    ensures whole { VersionsAreWholeOutside }
+{}
+
+/// `Ask` answers the number of the asker's latest call that changed the store before its place, or 0. So a
+/// process that was restarted learns whether its cut call was taken. (This project's own failure rule.)
+pub fn ask_tells_of_changes()
+    ensures latest { AskAnswersTheLatestChange }
+    ensures cut_calls { AskTellsOfCutCalls }
+    ensures numbers { NumbersAscend }
+{}
+
+/// The headline: of every record, whatever overlapped reads return, no two processes are inside the critical
+/// section together; nobody overtakes a process whose doorway finished first; every store answer is the
+/// one-thread store's at its place in one history that keeps the order of calls that do not overlap.
+pub fn headline()
+    ensures { Headline }
+{}

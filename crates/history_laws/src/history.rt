@@ -1,0 +1,35 @@
+//! The laws of one history that hold whatever the registers give. Each is of every setup that the check
+//! passes, of every list of events, refused ones among them, and of every flick.
+ghost use Rattle.record.specs.Headline.{AnswersAreTaken, CutCallsAreNotAnswered, KeepsOrder, TakenOnce};
+ghost use Rattle.history_laws.specs.HistoryLaws.{HistoryGrowsByTheTaken, TakenAtItsPlace};
+
+/// The mark of a command that is taken tells its place in the history, which is the number of commands taken
+/// before. The history grows by the commands so marked, each with its call's process and number, and by
+/// nothing else.
+pub fn taken_at_its_place()
+    ensures place { TakenAtItsPlace }
+    ensures grows { HistoryGrowsByTheTaken }
+{}
+
+/// A call that is answered with a reply of the store has taken exactly one command, with that reply. A call
+/// that is answered otherwise has taken none.
+pub fn answers_are_taken()
+    ensures { AnswersAreTaken }
+{}
+
+/// A call takes at most one command, also one that is cut by a failure and whose command its memory unit
+/// takes.
+pub fn taken_once()
+    ensures { TakenOnce }
+{}
+
+/// A call that is cut by a failure of its process is never answered. (This project's own failure rule.)
+pub fn cut_calls_are_not_answered()
+    ensures { CutCallsAreNotAnswered }
+{}
+
+/// Of two calls that took a command and do not overlap the earlier one has the lower place. The span of a
+/// call ends with its answer; that of a cut call where its process is down. (Herlihy and Wing 1990.)
+pub fn keeps_order()
+    ensures { KeepsOrder }
+{}

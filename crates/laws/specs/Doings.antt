@@ -1,0 +1,59 @@
+-- What each process is doing, as its entries tell: it rests, it lies down, it is at a place of its call, or at a place of a closing.
+use Rattle.std.specs.Prelude.{ℕ, ◌==◌, cond, [], ◌∷◌, Option, None, Some}
+use Rattle.safe_number.specs.declared.Access.{Access}
+use Rattle.plain_store.specs.declared.Command.{Command}
+use Rattle.plain_store.specs.declared.Setup.{Setup}
+use Rattle.record.specs.declared.marks.Mark.{Mark}
+use Rattle.record.specs.declared.marks.Mark.TheVariants.{Called, Failed, Withdrew}
+use Rattle.record.specs.Calls.{last_call, last_command, call_number}
+use Rattle.record.specs.Closings.{Closing, Withdraws, Settles, Frees, Lowers, Quit, Ended, withdrawing, failing, closing_after}
+use Rattle.record.specs.Entries.{Entry, Past, own}
+use Rattle.record.specs.Parts.{Raises, is_over}
+use Rattle.record.specs.Places.{Place, enter, place_after, value_of}
+use Rattle.record.specs.Records.{start_in}
+use Rattle.record.specs.Scripts.{Call}
+use Rattle.record.specs.Unit.{value_written}
+
+-- a call of p
+abbrev pub call : Setup → ℕ → Command → ℕ → Call
+call s p command number = record { setup = s; process = p; command = command; number = number }
+
+-- what a process is doing
+pub data Doing : Type 0 where
+  Rests : Doing
+  Lies : Doing  -- it is down
+  Runs : (command : Command) (number : ℕ) → Place → Doing
+  Closes : (command : Command) (number : ℕ) → Closing → Doing
+
+-- a place of a call; a call that is over is at rest
+abbrev pub runs : Command → ℕ → Place → Doing
+runs command number at = cond (is_over at.part) Rests (Runs command number at)
+
+-- a place of a closing, until it has come to its end
+abbrev pub closes : Command → ℕ → Closing → Doing
+closes command number (Withdraws w) = Closes command number (Withdraws w)
+closes command number (Settles f bit begun taken is t) = Closes command number (Settles f bit begun taken is t)
+closes command number (Frees is w) = Closes command number (Frees is w)
+closes command number (Lowers w) = Closes command number (Lowers w)
+closes command number Quit = Rests
+closes command number Ended = Lies
+
+-- what it goes on with after an access; an entry without one that begins nothing is a restart
+abbrev pub goes_on : Setup → ℕ → Entry → Option Access → Doing → Doing
+goes_on s p e None d = Rests
+goes_on s p e (Some a) Rests = Rests
+goes_on s p e (Some a) Lies = Lies
+goes_on s p e (Some a) (Runs command number at) = runs command number (place_after (call s p command number) at (value_of a.how))
+goes_on s p e (Some a) (Closes command number at) = closes command number (closing_after (call s p command number) at (value_written e))
+
+-- what p goes on with after an entry of its own; mine has its own entries before
+abbrev pub does_after : Setup → ℕ → Past → Entry → Option Mark → Doing → Doing
+does_after s p mine e (Some (Called command)) d = Runs command (call_number s (e ∷ mine)) (enter (call s p command (call_number s (e ∷ mine))) Raises)
+does_after s p mine e (Some Withdrew) d = Closes (last_command mine) (call_number s mine) (withdrawing (last_call s p mine))
+does_after s p mine e (Some Failed) d = Closes (last_command mine) (call_number s mine) (failing (last_call s p mine) mine)
+does_after s p mine e _ d = goes_on s p e e.access d
+
+-- what p is doing
+abbrev pub doing : Setup → ℕ → Past → Doing
+doing s p [] = Rests
+doing s p (e ∷ past) = cond (e.process == p) (does_after s p (own p past) e (start_in e.marks) (doing s p past)) (doing s p past)

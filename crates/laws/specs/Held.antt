@@ -1,0 +1,65 @@
+-- What the registers hold after a past: the cell of each single-reader bit, where a process that fails or withdraws drops the read that it has open. And that each access may be made on them.
+use Rattle.std.specs.Prelude.{◌≡◌, ◌<◌, ◌==◌, Bool, true, false, ◌&&◌, ◌||◌, List, [], ◌∷◌, flat_map, cond, None, Some}
+use Rattle.safe_bit.specs.Cell.{Cell, BitCall, Makes, Drops, cell_of_calls, read_answer, MayMove}
+use Rattle.safe_bit.specs.SafeRule.{read_value}
+use Rattle.safe_number.specs.declared.Access.{Access}
+use Rattle.plain_store.specs.declared.Command.{Command}
+use Rattle.plain_store.specs.declared.Setup.{Setup}
+use Rattle.record.specs.declared.marks.Mark.{Mark}
+use Rattle.record.specs.declared.marks.Mark.TheVariants.{Called, Withdrew}
+use Rattle.record.specs.Calls.{last_call}
+use Rattle.record.specs.Entries.{Entry, Past, own, has, is_failed, since, starts}
+use Rattle.record.specs.Headline.{EachPast, EachEntry}
+use Rattle.record.specs.Moves.{moves_of, same_bit}
+use Rattle.record.specs.Parts.{is_read, read_at}
+use Rattle.record.specs.Places.{Place, place_of, accesses_of, is_running}
+use Rattle.record.specs.Records.{last_start}
+use Rattle.record.specs.Registers.{opening_bit, width}
+use Rattle.record.specs.Scripts.{Call}
+use Rattle.record.specs.Stages.{stage}
+
+-- the process gives up waiting
+abbrev pub is_withdrawn : Mark → Bool
+is_withdrawn Withdrew = true
+is_withdrawn _ = false
+
+-- with this entry a process drops the read that it has open
+abbrev pub drops : Entry → Bool
+drops e = has is_failed e || has is_withdrawn e
+
+-- what an entry does with the bit of an access: the access that it makes on it; or, where the bit's reader fails or withdraws, the drop of its open read
+abbrev pub calls_on : Access → Entry → List BitCall
+calls_on a e = elim e.access [
+  | Some b ↦ cond (same_bit a b) (Makes b.how ∷ []) []
+  | None ↦ cond (drops e && (e.process == a.reader)) (Drops ∷ []) []
+]
+
+-- the cell that the registers hold of the bit of an access
+abbrev pub cell_held : Setup → Past → Access → Cell
+cell_held s past a = cell_of_calls (opening_bit s a) (flat_map (calls_on a) past)
+
+-- an access names an owner, a reader and a bit that there are
+pub record IsThere (s : Setup) (a : Access) : Type 0 where
+  pub owner : a.owner < s.processes
+  pub reader : a.reader < s.processes
+  pub bit : a.bit < width s a.field
+
+-- Every access is of a register that there is.
+abbrev pub AccessesAreThere : Type 0
+AccessesAreThere = EachEntry λ s past e. (a : Access) → e.access ≡ Some a → IsThere s a
+
+-- It comes in its turn on what the registers hold: it may be made on them.
+abbrev pub AccessesComeInTurn : Type 0
+AccessesComeInTurn = EachEntry λ s past e. (a : Access) → e.access ≡ Some a → MayMove (cell_held s past a) a.how
+
+-- What the registers hold answers a read as the safe rule does.
+abbrev pub RegistersAnswerTheSafeRule : Type 0
+RegistersAnswerTheSafeRule = EachPast λ s past. (a : Access) (flick : Bool) → read_answer (cell_held s past a) flick ≡ read_value (opening_bit s a) (moves_of a past) flick
+
+-- A read that is open is of the register that its process reads at its place.
+abbrev pub OpenReadsAreOfThePlace : Type 0
+OpenReadsAreOfThePlace = EachPast λ s past. (a : Access) → (cell_held s past a).reading ≡ true →
+    let c : Call = last_call s a.reader (own a.reader past) in
+    let here : Place = place_of c (accesses_of (since starts (own a.reader past))) in
+    (command : Command) × (last_start (own a.reader past) ≡ Some (Called command)) × (is_running (stage a.reader past) ≡ true)
+    × (is_read here.part ≡ true) × (read_at c here.part ≡ (a.owner, a.field))

@@ -1,0 +1,42 @@
+-- What the laws of the data take for granted: names, values and counts are what their types allow.
+use Rattle.std.specs.Prelude.{◌≡◌, Bool, true, ◌&&◌, List, ◌∷◌, Ok, Some}
+use Rattle.std.specs.List.{list_all}
+use Rattle.plain_store.specs.declared.Command.{Command}
+use Rattle.plain_store.specs.declared.Command.TheVariants.{Read, Write, Add, Cas, Ask}
+use Rattle.plain_store.specs.declared.Setup.{Setup}
+use Rattle.plain_store.specs.Image.{are_pairs}
+use Rattle.plain_store.specs.Names.{is_name}
+use Rattle.plain_store.specs.Outcomes.{fits_i64}
+use Rattle.plain_store.specs.Setups.{checked}
+use Rattle.plain_store.specs.Slots.{is_value}
+use Rattle.record.specs.declared.events.Event.{Event}
+use Rattle.record.specs.declared.events.Event.TheVariants as event
+use Rattle.record.specs.Entries.{Entry, Past}
+use Rattle.record.specs.Records.{entry_of, past_of}
+
+-- the operands are names, values and counts
+abbrev pub is_command : Command → Bool
+is_command (Read name) = is_name name
+is_command (Write name value) = is_name name && is_value value
+is_command (Add name by) = is_name name && fits_i64 by
+is_command (Cas name expected value) = is_name name && (is_value expected && is_value value)
+is_command Ask = true
+
+-- what it calls is a command
+abbrev pub is_event : Event → Bool
+is_event (event.Call p command) = is_command command
+is_event _ = true
+
+-- the opening pairs are pairs with different names, and the events' commands are commands: a setup and events whose values are of their types
+pub record AreGiven (s : Setup) (events : List Event) : Type 0 where
+  pub opening : are_pairs s.opening ≡ true
+  pub commands : list_all is_event events ≡ true
+
+-- in every record of such events, this holds of each past
+abbrev pub EachPastGiven : (Setup → Past → Type 0) → Type 0
+EachPastGiven P = (s : Setup) → checked s ≡ Ok tt → (events : List Event) → AreGiven s events → P s (past_of s events)
+
+-- and this of each entry and the past that it is added to
+abbrev pub EachEntryGiven : (Setup → Past → Entry → Type 0) → Type 0
+EachEntryGiven P = (s : Setup) → checked s ≡ Ok tt → (events : List Event) (event : Event) (e : Entry) → AreGiven s (event ∷ events) →
+    entry_of s (past_of s events) event ≡ Some e → P s (past_of s events) e

@@ -1,0 +1,97 @@
+//! Flicks and picks: what an overlapped read gives, and which process makes the next step.
+ghost use Rattle.std.specs.Prelude.{◌≡◌, ◌≤◌};
+ghost use Rattle.world.specs.Flicks.{constant_flicks, pcg_flicks, after_set, flick_of, after_flick, pick_of, after_pick};
+
+use rand_core::SeedableRng;
+use rand_core::utils::NextWord;
+use rand_pcg::Lcg64Xsh32;
+use std::marker::Model;
+
+/// Where later flicks come from.
+#[derive(Clone, Copy, Debug, PartialEq, Eq)]
+pub enum Flick {
+    /// Each is 0.
+    Zero,
+    /// Each is 1.
+    One,
+    /// Each is the lowest bit of a word of the generator, made anew from this seed.
+    Pcg(u64),
+}
+
+/// What the next flick is.
+#[derive(Clone, Copy, Debug)]
+enum Mode {
+    /// This bit.
+    Constant(bool),
+    /// The lowest bit of the generator's next word.
+    Generator,
+}
+
+/// One generator of words, and a mode. A flick is a constant bit or from a word, by the mode; a pick is from a
+/// word in each mode.
+#[derive(Debug, Drop)]
+pub struct Flicks {
+    mode: Mode,
+    generator: Lcg64Xsh32,
+}
+
+impl Model for Flicks {
+    ghost use Rattle.world.specs.Flicks.{FlickState};
+
+    ghost Value = { FlickState };
+
+    ghost view = { λ f. record { mode = f.mode; generator = f.generator } };
+}
+
+impl Flicks {
+    /// Flicks that are all `bit`, with the generator of seed 0 for the picks.
+    pub fn constant(bit: bool) -> Self
+        ensures { result ≡ constant_flicks bit }
+    {
+        Flicks {
+            mode: Mode::Constant(bit),
+            generator: Lcg64Xsh32::seed_from_u64(0),
+        }
+    }
+
+    /// Flicks and picks from the words of the generator of `seed`.
+    pub fn pcg(seed: u64) -> Self
+        ensures { result ≡ pcg_flicks seed }
+    {
+        Flicks {
+            mode: Mode::Generator,
+            generator: Lcg64Xsh32::seed_from_u64(seed),
+        }
+    }
+
+    /// Sets where later flicks come from. A constant leaves the generator; a seed makes it anew.
+    pub fn set(&mut self, flick: Flick)
+        ensures { self.new ≡ after_set flick self.old }
+    {
+        match flick {
+            Flick::Zero => self.mode = Mode::Constant(false),
+            Flick::One => self.mode = Mode::Constant(true),
+            Flick::Pcg(seed) => *self = Flicks::pcg(seed),
+        }
+    }
+
+    /// The flick of one step. It takes a word unless the flicks are constant.
+    pub fn flick(&mut self) -> bool
+        ensures flick { result ≡ flick_of self.old }
+        ensures after { self.new ≡ after_flick self.old }
+    {
+        match self.mode {
+            Mode::Constant(bit) => bit,
+            Mode::Generator => self.generator.next_word() % 2 == 1,
+        }
+    }
+
+    /// An index below `k`: the next word modulo `k`. It takes the word, whatever the mode.
+    pub fn pick(&mut self, k: usize) -> usize
+        requires { 1 ≤ k }
+        ensures index { result ≡ pick_of k self.old }
+        ensures after { self.new ≡ after_pick self.old }
+    {
+        self.generator.next_word() as usize % k
+    }
+}
