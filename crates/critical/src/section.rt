@@ -1,7 +1,7 @@
-ghost use Rattle.std.specs.Prelude.{◌≡◌, ◌<◌, ◌≤◌, ◌*◌, true, length, IfOk, Ok};
+ghost use Rattle.std.specs.Prelude.{◌≡◌, ◌<◌, ◌≤◌, ◌*◌, true, length, IfOk, IfSome, Ok};
 ghost use Rattle.safe_number.specs.Runs.{new_write};
 ghost use Rattle.plain_store.specs.Setups.{checked};
-ghost use Rattle.record.specs.Cuts.{pending_at, torn_at, torn_in};
+ghost use Rattle.record.specs.Cuts.{IsTornOf, pending_at, torn_at, torn_in};
 ghost use Rattle.record.specs.Moves.{ended_with};
 ghost use Rattle.record.specs.Places.{Place, place_after, access_at, marks_of, value_of};
 ghost use Rattle.record.specs.Registers.{image_bytes};
@@ -216,6 +216,7 @@ impl Section {
     pub fn fail(&mut self, row: &mut DataRow) -> Option<TornBit>
         requires { FitsSetup self.old.call.setup row.old }
         ensures torn { (c : Call) (at : Place) → self.old ≡ section_at c at → is_going self.old ≡ true → result ≡ torn_at c at }
+        ensures known { IfSome result (IsTornOf self.old.call.setup) }
         ensures registers { (c : Call) (at : Place) → self.old ≡ section_at c at → is_going self.old ≡ true → row.new ≡ after_fail c at row.old }
         ensures section { self.new ≡ ended self.old }
     {
@@ -234,6 +235,8 @@ impl Section {
 }
 
 /// Begins the number access of a standing.
+// Not inlined: few accesses begin one.
+#[inline(never)]
 fn begin(standing: &Standing, setup: &Setup, reading: &mut ReadRun, writing: &mut WriteRun)
     requires good { checked setup.now ≡ Ok tt }
     requires room { reading.old.room ≡ 8 * image_bytes setup.now }

@@ -84,6 +84,8 @@ pub(crate) fn register_asked(part: &Asked, versions: &Versions) -> (u8, Field)
 }
 
 /// What comes after a read that is done, whose last bit is `value`.
+// Few accesses end one, and inlined its temporaries would be cleared at each access.
+#[inline(never)]
 pub(crate) fn after_read(
     call: &Called,
     part: &Asked,
@@ -237,6 +239,8 @@ fn applied(call: &Called, read: Image) -> (Image, Reply)
 
 /// What comes after a write: the image is followed by the stamp, and the stamp by the commit bit, with which
 /// the command is taken.
+// Not inlined, as `after_read`.
+#[inline(never)]
 pub(crate) fn after_write(part: Written, change: &Change) -> (Standing, SectionProgress)
     ensures standing { (c : Call) (at : Part) (bits : List Bool) (n : ℕ) → standing_at c at ≡ Writes part change.now → shown n result.0 ≡ standing_at c (part_after c at bits) }
     ensures progress { (c : Call) (at : Part) (bits : List Bool) → standing_at c at ≡ Writes part change.now → result.1 ≡ told (changes_at at) (part_after c at bits) }

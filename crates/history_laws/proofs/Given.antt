@@ -4,6 +4,7 @@ use Rattle.std.proofs.lemmas.Bool.{and_parts, eqb-false}
 use Rattle.std.proofs.lemmas.Bool.Decides.{nat_tests}
 use Rattle.std.specs.Prelude.{nat_lt, nat_le}
 use Rattle.std.specs.List.{list_all, list_any}
+use Rattle.plain_store.specs.Commands.{is_command}
 use Rattle.plain_store.specs.declared.Setup.{Setup}
 use Rattle.record.specs.declared.events.Event.{Event}
 use Rattle.record.specs.declared.events.Event.TheVariants as event
@@ -13,7 +14,7 @@ use Rattle.record.specs.declared.refusals.Refusal.{Refusal}
 use Rattle.record.specs.declared.refusals.Refusal.TheVariants.{NoProcess, CallsFull}
 use Rattle.record.specs.Calls.{calls_in, call_number, last_command}
 use Rattle.record.specs.Entries.{Entry, Past, own, has, since, starts}
-use Rattle.record.specs.Given.{AreGiven, is_command, is_event}
+use Rattle.record.specs.Given.{AreGiven, is_event}
 use Rattle.record.specs.Histories.{history}
 use Rattle.record.specs.Places.{bits_with, is_fresh, is_last, marks_of, value_of}
 use Rattle.record.specs.Records.{added, calls_full, entry_made, entry_of, past_of, process_of, program, refused_at, stepped}

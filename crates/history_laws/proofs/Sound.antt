@@ -1,10 +1,10 @@
 -- What is sound: a store that has an image, and what a process was given to call.
 use Rattle.std.specs.Prelude.{◌≡◌, ◌^◌, ◌<◌, true, length}
+use Rattle.plain_store.specs.Commands.{is_command}
 use Rattle.plain_store.specs.declared.Setup.{Setup}
 use Rattle.plain_store.specs.Image.{IsStore}
 use Rattle.plain_store.specs.Setups.{callers_of}
 use Rattle.plain_store.specs.Store.{Contents}
-use Rattle.record.specs.Given.{is_command}
 use Rattle.laws.specs.Doings.{Doing, Runs, Closes}
 
 -- a store of this setup that has an image

@@ -9,7 +9,7 @@ use Rattle.plain_store.specs.declared.commands.Reply.TheVariants as reply
 use Rattle.plain_store.specs.declared.Setup.{Setup}
 use Rattle.plain_store.specs.declared.commands.Value.{Value}
 use Rattle.plain_store.specs.declared.commands.Value.TheVariants.{Count, Text}
-use Rattle.plain_store.specs.Commands.{name_of}
+use Rattle.plain_store.specs.Commands.{is_command, name_of}
 use Rattle.plain_store.specs.Image.{IsStore}
 use Rattle.plain_store.specs.Names.{is_name}
 use Rattle.plain_store.specs.Outcomes.{added, at_absent, at_present, fits_i64, is_new, outcome, replies, writes}
@@ -21,7 +21,6 @@ use Rattle.plain_store.specs.Values.{same_value}
 use Rattle.plain_store.proofs.Changes.{put-same, same_value-Decides}
 use Rattle.plain_store.proofs.Puts.{IsStore-with_number, IsStore-with_pair, written_room}
 use Rattle.history_laws.proofs.Sound.{IsStoreOf}
-use Rattle.record.specs.Given.{is_command}
 
 -- What a command writes.
 

@@ -143,7 +143,7 @@ part-there c g (WritesCommit vs st) value h = tt
 part-there c g (Clears a) value h = tt
 part-there c g Over value h = tt
 
-after-there : (c : Call) → IsGood c.setup → (at : Place) (v : Bool) → OwnersThere c.setup.processes at.part → OwnersThere c.setup.processes (place_after c at v).part
+pub after-there : (c : Call) → IsGood c.setup → (at : Place) (v : Bool) → OwnersThere c.setup.processes at.part → OwnersThere c.setup.processes (place_after c at v).part
 after-there c g at v h = go (is_last c at.part at.run)
   where
     to : Bool → Place

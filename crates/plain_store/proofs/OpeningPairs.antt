@@ -1,9 +1,12 @@
 -- Opening pairs: names that differ, written one after the other.
-use Rattle.std.proofs.Common.{◌≡◌, ℕ, zero, suc, ◌+◌, ◌<◌, ◌≤◌, Bool, true, false, ◌&&◌, cond, nat_lt, is_none, is_some, List, [], ◌∷◌, ◌++◌, length, take, set, slice_get, slice_set, replicate, Option, Some, None, IsSome, refl, ap, sym, ◌∙◌, arith, add-one, if◌then◌else◌}
+use Rattle.std.proofs.Common.{◌≡◌, ℕ, zero, suc, ◌+◌, ◌<◌, ◌≤◌, Bool, true, false, ◌&&◌, cond, nat_lt, is_none, is_some, List, [], ◌∷◌, ◌++◌, length, take, set, get_or, slice_get, slice_set, replicate, Option, Some, None, IsSome, refl, ap, sym, ◌∙◌, arith, add-one, if◌then◌else◌}
 use Rattle.std.proofs.lemmas.Bool.Decides.{nat_tests}
 use Rattle.std.proofs.lemmas.Slice.Eq.{bytes_eq-Decides}
+use Rattle.std.proofs.lemmas.Bool.{and_from}
 use Rattle.std.proofs.lemmas.List.{length-take}
-use Rattle.std.proofs.lemmas.Option.{slice_get_within}
+use Rattle.std.proofs.lemmas.List.Folds.{list_all_more}
+use Rattle.std.proofs.lemmas.Option.{slice_get_within, get_or_from_slice_get}
+use Rattle.std.specs.List.{list_all}
 use Rattle.std.specs.Str.{bytes_eq}
 use Rattle.plain_store.specs.Outcomes.{outcome, is_new}
 use Rattle.plain_store.specs.Pairs.{Pair}
@@ -22,6 +25,11 @@ pub take-next : {X : Type 0} (xs : List X) (k : ℕ) (x : X) → slice_get xs k 
 take-next [] k x at = cc
 take-next (y ∷ ys) zero x at = let same : y ≡ x = cc in ap (λ z. z ∷ []) same
 take-next (y ∷ ys) (suc k) x at = rw add-one (ap (λ more. y ∷ more) (rw add-one at (take-next ys k x at)))
+
+-- of all items before a place, and the next
+pub next_at : {X : Type 0} (p : X → Bool) (xs : List X) (k : ℕ) (x : X) → slice_get xs k ≡ Some x → list_all p (take k xs) ≡ true → p x ≡ true → list_all p (take (k + 1) xs) ≡ true
+next_at p xs k x at all this =
+    list_all_more p xs k x (slice_get_within xs k x at) ∙ and_from (list_all p (take k xs)) (p (get_or xs k x)) all (ap p (get_or_from_slice_get xs k x x at) ∙ this)
 
 -- names that differ one way differ the other way
 other_way : (a b : List ℕ) → bytes_eq a b ≡ false → bytes_eq b a ≡ false

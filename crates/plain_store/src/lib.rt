@@ -13,6 +13,7 @@ mod rules;
 mod setups;
 mod shown;
 mod slots;
+mod sound;
 mod stores;
 #[cfg(test)]
 mod tests;

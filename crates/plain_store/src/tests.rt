@@ -230,3 +230,32 @@ fn prints_commands_and_answers(rt: HostRuntime) -> Result<(), Fail> {
     }
     Ok(())
 }
+
+// What these calls are for stands in their contracts: run, they end, and all is as it was.
+#[test]
+fn leaves_sound_operands_as_they_are(rt: HostRuntime) -> Result<(), Fail> {
+    let a = name(b"abcdefgh")?;
+    let most = Value::Count(i64::MAX);
+    let long = text(b"xxxxxxxxxxxx")?;
+    let commands = [
+        Command::Read(a),
+        Command::Write(a, long),
+        Command::Add(a, i64::MIN),
+        Command::Cas(a, most, long),
+        Command::Ask,
+    ];
+    for command in commands {
+        let before = command;
+        command.operands_are_sound();
+        assert_eq!(rt; command, before);
+    }
+    let mut opening = Opening::empty();
+    opening.pairs_are_sound();
+    assert_eq!(rt; opening.len(), 0);
+    opening.add(a, most)?;
+    opening.add(name(b"_")?, long)?;
+    opening.pairs_are_sound();
+    assert_eq!(rt; opening.entry(0), Some((a, most)));
+    assert_eq!(rt; opening.len(), 2);
+    Ok(())
+}

@@ -1,26 +1,14 @@
 -- What the laws of the data take for granted: names, values and counts are what their types allow.
-use Rattle.std.specs.Prelude.{◌≡◌, Bool, true, ◌&&◌, List, ◌∷◌, Ok, Some}
+use Rattle.std.specs.Prelude.{◌≡◌, Bool, true, List, ◌∷◌, Ok, Some}
 use Rattle.std.specs.List.{list_all}
-use Rattle.plain_store.specs.declared.Command.{Command}
-use Rattle.plain_store.specs.declared.Command.TheVariants.{Read, Write, Add, Cas, Ask}
 use Rattle.plain_store.specs.declared.Setup.{Setup}
+use Rattle.plain_store.specs.Commands.{is_command}
 use Rattle.plain_store.specs.Image.{are_pairs}
-use Rattle.plain_store.specs.Names.{is_name}
-use Rattle.plain_store.specs.Outcomes.{fits_i64}
 use Rattle.plain_store.specs.Setups.{checked}
-use Rattle.plain_store.specs.Slots.{is_value}
 use Rattle.record.specs.declared.events.Event.{Event}
 use Rattle.record.specs.declared.events.Event.TheVariants as event
 use Rattle.record.specs.Entries.{Entry, Past}
 use Rattle.record.specs.Records.{entry_of, past_of}
-
--- the operands are names, values and counts
-abbrev pub is_command : Command → Bool
-is_command (Read name) = is_name name
-is_command (Write name value) = is_name name && is_value value
-is_command (Add name by) = is_name name && fits_i64 by
-is_command (Cas name expected value) = is_name name && (is_value expected && is_value value)
-is_command Ask = true
 
 -- what it calls is a command
 abbrev pub is_event : Event → Bool

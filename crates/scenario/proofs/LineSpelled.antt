@@ -5,6 +5,7 @@ use Rattle.std.proofs.lemmas.Bool.Decides.{nat_tests}
 use Rattle.std.proofs.lemmas.Slice.Eq.{bytes_eq-Decides}
 use Rattle.std.specs.Fmt.{decimal}
 use Rattle.std.specs.Str.{bytes_eq}
+use Rattle.plain_store.specs.Commands.{is_command}
 use Rattle.plain_store.specs.Shown.{value_text}
 use Rattle.plain_store.specs.declared.commands.Command.{Command}
 use Rattle.plain_store.specs.declared.commands.Command.TheVariants as command
@@ -12,7 +13,7 @@ use Rattle.scenario.specs.Checks.{◌>>=◌, known, counted, word}
 use Rattle.scenario.specs.Keywords.{target_of}
 use Rattle.scenario.specs.Operands.{number_at, integer_at, name_at, value_at}
 use Rattle.scenario.specs.Printing.{command_words, line_words}
-use Rattle.scenario.specs.Scripts.{is_command, is_line}
+use Rattle.scenario.specs.Scripts.{is_line}
 use Rattle.scenario.specs.Spelling.{line_word}
 use Rattle.scenario.specs.Statements.{operand_count, verb_at, command_of, call_of, step_of, go_of, process_of, flick_of, wander_of, show_of, line_of, verb_in, is_verb_of, is_line_of}
 use Rattle.scenario.specs.declared.faults.FaultKind.{FaultKind}

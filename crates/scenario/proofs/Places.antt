@@ -14,10 +14,6 @@ pub drop_in : {X : Type 0} (xs : List X) (k : ℕ) (x : X) → k < length xs →
 drop_in xs k x within is = drop_more xs k x within ∙ ap (λ y. y ∷ drop (k + 1) xs) (sym is)
 
 -- of all items before a place, and the next
-pub next_at : {X : Type 0} (p : X → Bool) (xs : List X) (k : ℕ) (x : X) → slice_get xs k ≡ Some x → list_all p (take k xs) ≡ true → p x ≡ true → list_all p (take (k + 1) xs) ≡ true
-next_at p xs k x at all this =
-    list_all_more p xs k x (slice_get_within xs k x at) ∙ and_from (list_all p (take k xs)) (p (get_or xs k x)) all (ap p (get_or_from_slice_get xs k x x at) ∙ this)
-
 pub next_in : {X : Type 0} (p : X → Bool) (xs : List X) (k : ℕ) (x : X) → k < length xs → x ≡ get_or xs k x → list_all p (take k xs) ≡ true → p x ≡ true → list_all p (take (k + 1) xs) ≡ true
 next_in p xs k x within is all this =
     list_all_more p xs k x within ∙ and_from (list_all p (take k xs)) (p (get_or xs k x)) all (ap p (sym is) ∙ this)

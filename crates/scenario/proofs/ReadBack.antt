@@ -6,6 +6,7 @@ use Rattle.std.proofs.lemmas.Fmt.{decimal_digit}
 use Rattle.std.specs.Fmt.{decimal, signed_decimal}
 use Rattle.std.specs.Int.{is_in_range}
 use Rattle.std.specs.Option.{ok_or}
+use Rattle.plain_store.specs.Commands.{is_command}
 use Rattle.plain_store.specs.Names.{is_name}
 use Rattle.plain_store.specs.Outcomes.{fits_i64}
 use Rattle.plain_store.specs.Pairs.{Pair}
@@ -20,7 +21,7 @@ use Rattle.scenario.specs.Keywords.{opener_of}
 use Rattle.scenario.specs.Operands.{number_at, integer_at, name_at, value_at}
 use Rattle.scenario.specs.Printing.{version_words, command_words, target_word, flick_words, heading_word, heading_words, line_words, open_words}
 use Rattle.scenario.specs.Reading.{Progress, scenario_grammar, version_of, first_read, heading_read, pair_read, open_read, kept_read, other_read, opened_read}
-use Rattle.scenario.specs.Scripts.{is_command, is_flick, is_line}
+use Rattle.scenario.specs.Scripts.{is_flick, is_line}
 use Rattle.scenario.specs.Setting.{none_given, default_setup, is_given, and_given, most_of, with_heading, may_open, with_pair}
 use Rattle.scenario.specs.Spelling.{line_word}
 use Rattle.scenario.specs.Statements.{operand_count, is_verb_of, verb_at, command_of, call_of, step_of, go_of, process_of, flick_of, wander_of, show_of, line_of, verb_in, is_line_of}

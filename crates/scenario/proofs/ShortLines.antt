@@ -7,6 +7,7 @@ use Rattle.std.specs.Fmt.{decimal, signed_decimal}
 use Rattle.std.specs.Int.{is_in_range}
 use Rattle.std.specs.List.{list_all}
 use Rattle.plain_store.proofs.GoodSetups.{IsGood}
+use Rattle.plain_store.specs.Commands.{is_command}
 use Rattle.plain_store.specs.Names.{is_name}
 use Rattle.plain_store.specs.Outcomes.{fits_i64}
 use Rattle.plain_store.specs.Pairs.{Pair}
@@ -17,7 +18,7 @@ use Rattle.plain_store.specs.declared.commands.Command.TheVariants as command
 use Rattle.plain_store.specs.declared.setups.Setup.{Setup}
 use Rattle.scenario.specs.Printing.{command_words, target_word, line_words, open_words, setup_words, script_words}
 use Rattle.scenario.specs.Reading.{Script}
-use Rattle.scenario.specs.Scripts.{IsScenario, is_command, is_line}
+use Rattle.scenario.specs.Scripts.{IsScenario, is_line}
 use Rattle.scenario.specs.Setting.{most_of}
 use Rattle.scenario.specs.Statements.{is_line_of}
 use Rattle.scenario.specs.Words.{begins_with}

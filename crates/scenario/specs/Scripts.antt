@@ -1,27 +1,16 @@
 -- Which scripts a scenario can be.
 use Rattle.std.specs.Prelude.{◌≡◌, ◌≤◌, ◌^◌, Bool, true, nat_lt, ◌&&◌, length, Ok}
 use Rattle.std.specs.List.{list_all}
-use Rattle.plain_store.specs.Names.{is_name}
-use Rattle.plain_store.specs.Outcomes.{fits_i64}
+use Rattle.plain_store.specs.Commands.{is_command}
 use Rattle.plain_store.specs.Setups.{checked}
-use Rattle.plain_store.specs.Slots.{is_pair, is_value}
+use Rattle.plain_store.specs.Slots.{is_pair}
 use Rattle.plain_store.specs.Store.{names_differ}
-use Rattle.plain_store.specs.declared.commands.Command.{Command}
-use Rattle.plain_store.specs.declared.commands.Command.TheVariants as command
 use Rattle.scenario.specs.Reading.{Script}
 use Rattle.scenario.specs.Statements.{is_line_of}
 use Rattle.scenario.specs.declared.lines.Flick.{Flick}
 use Rattle.scenario.specs.declared.lines.Flick.TheVariants as flick
 use Rattle.scenario.specs.declared.lines.Line.{Line}
 use Rattle.scenario.specs.declared.lines.Line.TheVariants as line
-
--- the operands are names, values and counts
-abbrev pub is_command : Command → Bool
-is_command (command.Read name) = is_name name
-is_command (command.Write name value) = is_name name && is_value value
-is_command (command.Add name by) = is_name name && fits_i64 by
-is_command (command.Cas name expected value) = is_name name && (is_value expected && is_value value)
-is_command command.Ask = true
 
 -- a seed has 64 bits
 abbrev pub is_flick : Flick → Bool

@@ -6,12 +6,10 @@ ghost use Rattle.scenario.specs.Reading.{scenario_of};
 ghost use Rattle.scenario.specs.Reads.{script};
 ghost use Rattle.scenario.specs.Scripts.{is_line};
 ghost use Rattle.std.specs.List.{list_all};
-ghost use Rattle.plain_store.specs.Slots.{is_pair};
-ghost use Rattle.plain_store.specs.Store.{names_differ};
 
 use crate::lines::{Flick, Line, Target};
 use crate::scenarios::Scenario;
-use crate::sound::{sound_line, sound_pair};
+use crate::sound::sound_line;
 use plain_store::{Command, Name, Opening, Setup, Value};
 use std::alloc::{AllocError, Global};
 use std::fmt;
@@ -22,6 +20,7 @@ pub fn print_scenario(alloc: Global, scenario: &Scenario) -> Result<Vec<u8>, All
     ensures text { IfOk result (λ bytes. bytes.items ≡ scenario_text (script scenario.now)) }
     ensures read_again { IfOk result (λ bytes. scenario_of bytes.items ≡ Ok (script scenario.now)) }
 {
+    scenario.setup.opening.pairs_are_sound();
     let mut text = setup_lines(alloc, &scenario.setup)?;
     print_opening(alloc, &scenario.setup.opening, &mut text)?;
     print_lines(alloc, scenario.lines.as_slice(), &mut text)?;
@@ -47,15 +46,12 @@ fn setup_lines(alloc: Global, setup: &Setup) -> Result<String, AllocError>
 }
 
 /// Writes a line for each opening pair.
-#[tactic(auto, using(crate::proofs::Printed::opening_more, crate::proofs::Places::next_at, crate::proofs::Places::all_at_end))]
+#[tactic(auto, using(crate::proofs::Printed::opening_more))]
 fn print_opening(alloc: Global, opening: &Opening, text: &mut String) -> Result<(), AllocError>
-    ensures differ { names_differ opening.now ≡ true }
-    ensures sound { OnOk result (list_all is_pair opening.now ≡ true) }
-    ensures text { OnOk result (string_bytes text.new ≡ string_bytes text.old ++ flat_map printed_line (map open_words opening.now)) }
+    ensures { OnOk result (string_bytes text.new ≡ string_bytes text.old ++ flat_map printed_line (map open_words opening.now)) }
 {
     for place in 0..opening.len() {
         let (name, value) = opening.entry(place).unwrap();
-        sound_pair(&name, &value);
         let line = open_line(alloc, &name, &value)?;
         text.push_str(line.as_str())?;
     }

@@ -1,12 +1,9 @@
-//! What the types of operands say of them. Each function has nothing to do but to name the parts.
+//! What the types of lines say of their operands. Each function has nothing to do but to name the parts.
 ghost use Rattle.std.specs.Prelude.{◌≡◌, ◌^◌, true, nat_lt};
-ghost use Rattle.plain_store.specs.Names.{is_name};
-ghost use Rattle.plain_store.specs.Outcomes.{fits_i64};
-ghost use Rattle.plain_store.specs.Slots.{is_pair, is_value};
-ghost use Rattle.scenario.specs.Scripts.{is_line, is_command, is_flick};
+ghost use Rattle.scenario.specs.Scripts.{is_line, is_flick};
 
 use crate::lines::{Flick, Line};
-use plain_store::{Command, Name, Value};
+use plain_store::{Command, Value};
 
 /// Its process has 8 bits, and its other operands are names, values and numbers.
 pub fn sound_line(line: &Line)
@@ -16,7 +13,7 @@ pub fn sound_line(line: &Line)
     match line {
         Line::Call(process, command) => {
             sound_process(*process);
-            sound_command(command);
+            command.operands_are_sound();
         }
         Line::Step(process, _) | Line::Go(process, _) => sound_process(*process),
         Line::Fail(process) | Line::Withdraw(process) | Line::Restart(process) => {
@@ -26,54 +23,6 @@ pub fn sound_line(line: &Line)
         Line::Wander(_) | Line::Show => {}
     }
 }
-
-/// It is a name and a value.
-pub fn sound_pair(name: &Name, value: &Value)
-    ensures { is_pair (name.now, value.now) ≡ true }
-{
-    sound_name(name);
-    sound_value(value);
-}
-
-fn sound_command(command: &Command)
-    ensures { is_command command.now ≡ true }
-{
-    match command {
-        Command::Read(name) => sound_name(name),
-        Command::Write(name, value) => sound_pair(name, value),
-        Command::Add(name, by) => {
-            sound_name(name);
-            sound_count(*by);
-        }
-        Command::Cas(name, expected, value) => {
-            sound_name(name);
-            sound_value(expected);
-            sound_value(value);
-        }
-        Command::Ask => {}
-    }
-}
-
-fn sound_name(name: &Name)
-    ensures { is_name name.now ≡ true }
-{
-    let _bytes = name.bytes();
-}
-
-fn sound_value(value: &Value)
-    ensures { is_value value.now ≡ true }
-{
-    match *value {
-        Value::Count(count) => sound_count(count),
-        Value::Text(text) => {
-            let _bytes = text.bytes();
-        }
-    }
-}
-
-fn sound_count(count: i64)
-    ensures { fits_i64 count ≡ true }
-{}
 
 fn sound_flick(flick: &Flick)
     ensures { is_flick flick.now ≡ true }

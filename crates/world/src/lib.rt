@@ -1,8 +1,19 @@
-//! What drives the processes of a replay: the flicks of its steps and the picks of its turns.
+//! N processes under events, and what drives them in a replay: the flicks of its steps and the picks of its
+//! turns.
 #![tactic(auto)]
 
 mod flicks;
+mod queue;
+#[cfg(test)]
+mod runs;
+mod seat;
 #[cfg(test)]
 mod tests;
+mod told;
+mod world;
 
 pub use flicks::{Flick, Flicks};
+pub use history_laws;
+pub use laws;
+pub use record::{Act, Event, Mark, Refusal, Stage, Taken};
+pub use world::World;

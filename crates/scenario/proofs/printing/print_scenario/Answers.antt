@@ -1,5 +1,9 @@
 use Rattle.std.proofs.Common.{◌≡◌, ap, ◌∙◌, arith}
 use Rattle.std.proofs.lemmas.Grind.{common_steps}
+use Rattle.std.proofs.lemmas.Bool.{and_parts}
+use Rattle.std.specs.List.{list_all}
+use Rattle.plain_store.specs.Slots.{is_pair}
+use Rattle.plain_store.specs.Store.{names_differ}
 use Rattle.scenario.specs.Printing.{scenario_text}
 use Rattle.scenario.specs.Reading.{scenario_of}
 use Rattle.scenario.specs.Reads.{script}
@@ -9,10 +13,11 @@ use Rattle.scenario.proofs.printing.print_scenario.Goals as goal
 pub returns-clause-read_again : goal.returns-clause-read_again
 returns-clause-read_again c =
     let text : c.into_bytes.result.items ≡ scenario_text (script c.args.scenario.now) = grind (arith, common_steps) in
+    let pairs = and_parts (list_all is_pair c.args.scenario.now.setup.opening) (names_differ c.args.scenario.now.setup.opening) c.pairs_are_sound.ensures in
     ap scenario_of text ∙ script_again (script c.args.scenario.now) (record {
       good = c.args.scenario.now.good;
-      pairs = c.in_ok-print_opening.ensures.sound;
-      differ = c.print_opening.ensures.differ;
+      pairs = pairs.0;
+      differ = pairs.1;
       few = c.args.scenario.now.few;
       lines = rw c.as_slice.ensures.value at c.in_ok-print_lines.ensures.sound;
       allowed = c.args.scenario.now.allowed;

@@ -1,0 +1,70 @@
+-- The registers as they open, that an entry which only marks leaves them, and that they are those of the setup.
+use Rattle.std.proofs.Common.{◌≡◌, ℕ, zero, suc, ◌+◌, ◌==◌, ◌&&◌, false, cond, [], ◌∷◌, None, Ok, length, map, replicate, refl, sym, ap, subst, ◌∙◌, arith}
+use Rattle.std.specs.List.{range_with_len}
+use Rattle.safe_bit.specs.Cell.{Cell, without_read}
+use Rattle.reader_copies.specs.Row.{IsRow}
+use Rattle.safe_number.specs.declared.Access.{Access}
+use Rattle.safe_number.specs.declared.Field.TheVariants.{Choosing, Ticket}
+use Rattle.plain_store.specs.Setups.{checked}
+use Rattle.plain_store.specs.declared.Setup.{Setup}
+use Rattle.record.specs.Entries.{Entry, Past}
+use Rattle.record.specs.Registers.{processes, width}
+use Rattle.record.proofs.Width.{is_good}
+use Rattle.bakery.specs.Locks.{new_lock, new_locks}
+use Rattle.critical.specs.Registers.{opening_cell, row_from}
+use Rattle.critical.proofs.Opening.{zero-register}
+use Rattle.laws.specs.Held.{cell_held, drops}
+use Rattle.laws.proofs.HeldCells.{held-marks}
+use Rattle.world.specs.Shows.{lock_from, locks_from}
+use Rattle.world.specs.Steps.{AreOf}
+use Rattle.world.proofs.RowsCells.{data-register, lock-register, locks_at, many-parts, readers-are, row_at, width-is}
+
+-- An entry that only marks.
+
+-- one that drops nothing leaves all cells
+cells-stay : (s : Setup) (past : Past) (e : Entry) → e.access ≡ None → drops e ≡ false → cell_held s (e ∷ past) ≡ cell_held s past
+cells-stay s past e none keeps = λ i a. stays a i
+  where
+    stays : (a : Access) → cell_held s (e ∷ past) a ≡ cell_held s past a
+    stays a = held-marks s past e a none ∙ ap (λ b. cond (b && (e.process == a.reader)) (without_read (cell_held s past a)) (cell_held s past a)) keeps
+
+pub locks-stay : (s : Setup) (past : Past) (e : Entry) → e.access ≡ None → drops e ≡ false → locks_at s (e ∷ past) ≡ locks_at s past
+locks-stay s past e none keeps = ap (λ cells. locks_from cells s) (cells-stay s past e none keeps)
+
+pub versions-stay : (s : Setup) (past : Past) (e : Entry) → e.access ≡ None → drops e ≡ false → row_at s (e ∷ past) ≡ row_at s past
+versions-stay s past e none keeps = ap (λ cells. row_from cells s) (cells-stay s past e none keeps)
+
+-- The registers of a setup.
+
+pub are_of : (s : Setup) → checked s ≡ Ok tt → (past : Past) → AreOf s (locks_at s past) (row_at s past)
+are_of s ok past = record {
+  locks = λ p f below d. ap length (lock-register cells s p f below d) ∙ readers-are cells s p f;
+  versions = record {
+    parts = many-parts cells s;
+    widths = λ p f below d. subst (λ register. IsRow register (width s f)) (sym (data-register cells s p f below d)) (record {
+      readers = omega (arith, (is_good s ok).processes_is, readers-are cells s p f);
+      widths = λ r inside. width-is cells s p f r (omega (arith, inside, readers-are cells s p f));
+    });
+    readers = λ p f below d. ap length (data-register cells s p f below d) ∙ readers-are cells s p f;
+  };
+}
+  where
+    cells : Access → Cell
+    cells = cell_held s past
+
+-- As they open.
+
+-- a constant over a range
+all-same : {X : Type 0} (x : X) (a n : ℕ) → replicate n x ≡ map (λ (k : ℕ). x) (range_with_len a n)
+all-same x a zero = refl
+all-same x a (suc n) = ap (λ xs. x ∷ xs) (all-same x (a + 1) n)
+
+lock-open : (s : Setup) (p : ℕ) → new_lock s ≡ lock_from (cell_held s []) s p
+lock-open s zero = λ i. record { choosing = zero-register s 0 Choosing i; ticket = zero-register s 0 Ticket i }
+lock-open s (suc p) = λ i. record { choosing = zero-register s (suc p) Choosing i; ticket = zero-register s (suc p) Ticket i }
+
+pub locks-open : (s : Setup) → new_locks s ≡ locks_at s []
+locks-open s = all-same (new_lock s) 0 s.processes ∙ (λ i. map (λ p. lock-open s p i) (processes s))
+
+pub versions-open : (s : Setup) → row_from (opening_cell s) s ≡ row_at s []
+versions-open s = refl

@@ -1,0 +1,187 @@
+-- The seats after an event, from those before it.
+use Rattle.std.proofs.Common.{◌≡◌, ◌≢◌, ℕ, suc, ◌<◌, ◌==◌, ◌&&◌, ◌||◌, Bool, true, false, cond, not, List, [], ◌∷◌, Option, Some, None, map, refl, sym, ap, subst, ◌∙◌, arith, true≢false}
+use Rattle.std.specs.Prelude.{is_some, slice_set, slice_index_or, Ok}
+use Rattle.std.proofs.lemmas.List.{get_or-set_same}
+use Rattle.std.proofs.lemmas.List.FromFn.{length-map-range_with_len, get_or-map-range_with_len}
+use Rattle.std.specs.List.{list_any}
+use Rattle.plain_store.specs.declared.Command.{Command}
+use Rattle.plain_store.specs.declared.Setup.{Setup}
+use Rattle.record.specs.declared.events.Event.{Event}
+use Rattle.record.specs.declared.marks.Mark.{Mark}
+use Rattle.record.specs.declared.marks.Mark.TheVariants.{Called}
+use Rattle.record.specs.Calls.{called_in, last_command, call_number, calls_in}
+use Rattle.record.specs.Doorways.{doorway_begin, is_ahead, is_waiting_stage}
+use Rattle.record.specs.Entries.{Entry, Past, own, has, is_called}
+use Rattle.record.specs.Records.{entry_of, past_of}
+use Rattle.record.specs.Registers.{processes}
+use Rattle.record.specs.Stages.{stage}
+use Rattle.plain_store.specs.Setups.{checked}
+use Rattle.record.proofs.Width.{IsGood, is_good}
+use Rattle.laws.specs.Doings.{doing}
+use Rattle.laws.proofs.Frame.{own-other, own-own, doing-other}
+use Rattle.laws.proofs.FrameEvents.{accepted}
+use Rattle.laws.proofs.Theorems.{not_ahead_of_itself}
+use Rattle.critical.proofs.Widths.{ranges}
+use Rattle.world.specs.Seats.{Kept, Seat, seat_of, kept_at, waiting_before}
+use Rattle.world.specs.Changes.{told, before_told}
+use Rattle.world.proofs.WorldLists.{map-changed}
+use Rattle.world.specs.Steps.{is_at_door}
+use Rattle.world.proofs.QueueAfter.{before-done, before-waits, before-kept}
+use Rattle.world.proofs.QueueBegun.{begun-after, begun-others}
+
+-- who waits before and after an entry
+abbrev pub waited : Past → ℕ → Bool
+waited past p = is_waiting_stage (stage p past)
+
+-- the seat of a process with these parts
+abbrev seat_with : Setup → ℕ → Kept → Command → ℕ → Bool → List Bool → Seat
+seat_with s p kept command number begun before = record { setup = s; process = p; kept = kept; command = command; number = number; begun = begun; before = before }
+
+-- what the seat of q is told of the others is what it then has, as its doorway stood
+abbrev pub IsTold : Past → ℕ → Entry → ℕ → Type 0
+IsTold past p e q = before_told p (waited past p) (waited (e ∷ past) p) (is_some (doorway_begin q past)) (waiting_before past q) ≡ waiting_before (e ∷ past) q
+
+-- another process keeps all else
+pub other-seat : (s : Setup) (past : Past) (p : ℕ) (e : Entry) (q : ℕ) → e.process ≢ q → IsTold past p e q → told p (waited past p) (waited (e ∷ past) p) (seat_of s past q) ≡ seat_of s (e ∷ past) q
+other-seat s past p e q ne before = λ i. seat_with s q
+    (kept_at s q (sym (doing-other s q e past ne) i))
+    (last_command (sym (own-other q e past ne) i))
+    (call_number s (sym (own-other q e past ne) i))
+    (is_some (sym (begun-others q e past ne) i))
+    (before i)
+
+-- an entry that is no call leaves the last call as it is
+not-called : (ms : List Mark) → list_any is_called ms ≡ false → called_in ms ≡ None
+not-called [] h = refl
+not-called (Called c ∷ ms) h = absurd (true≢false h)
+not-called (m ∷ ms) h = not-called ms h
+
+command-kept : (e : Entry) (mine : Past) → has is_called e ≡ false → last_command (e ∷ mine) ≡ last_command mine
+command-kept e mine h = ap (λ o. elim o as (λ _. Command) [ None ↦ last_command mine | Some c ↦ c ]) (not-called e.marks h)
+
+number-kept : (s : Setup) (e : Entry) (mine : Past) → has is_called e ≡ false → call_number s (e ∷ mine) ≡ call_number s mine
+number-kept s e mine h = ap (λ b. cond (s.version == 2) (elim b as (λ _. ℕ) [ true ↦ suc (calls_in mine) | false ↦ calls_in mine ]) 0) h
+
+-- Of an entry that an event adds.
+
+-- what each process then has before it, but for one that has just called
+pub is-told : (s : Setup) → IsGood s → (events : List Event) (what : Event) (e : Entry) → entry_of s (past_of s events) what ≡ Some e → (q : ℕ) → (has is_called e && (e.process == q)) ≡ false → IsTold (past_of s events) e.process e q
+is-told s g events what e h q other = go (waited past p) (waited (e ∷ past) p) refl refl
+  where
+    past : Past
+    past = past_of s events
+
+    p : ℕ
+    p = e.process
+
+    go : (was is : Bool) → waited past p ≡ was → waited (e ∷ past) p ≡ is → before_told p was is (is_some (doorway_begin q past)) (waiting_before past q) ≡ waiting_before (e ∷ past) q
+    go true true k m = sym (before-kept s g events what e h (m ∙ sym k) q other)
+    go false false k m = sym (before-kept s g events what e h (m ∙ sym k) q other)
+    go true false k m = sym (before-done s g events what e h k m q)
+    go false true k m = sym (before-waits s g events what e h k m q)
+
+or-false : (b : Bool) → (b || false) ≡ b
+or-false true = refl
+or-false false = refl
+
+-- an entry without an access that is no call leaves the doorway as it is
+pub begun-kept : (s : Setup) → IsGood s → (events : List Event) (what : Event) (e : Entry) → entry_of s (past_of s events) what ≡ Some e → e.access ≡ None → has is_called e ≡ false →
+    is_some (doorway_begin e.process (past_of s events)) ≡ is_some (doorway_begin e.process (e ∷ past_of s events))
+begun-kept s g events what e h none called =
+    let past : Past = past_of s events in
+    let was : Bool = is_some (doorway_begin e.process past) in
+    let door : Bool = is_at_door (kept_at s e.process (doing s e.process past)) in
+    sym (begun-after s g events what e h ∙ ap (λ b. cond b false (was || (is_some e.access && door))) called ∙ ap (λ a. was || (is_some a && door)) none ∙ or-false was)
+
+-- one with an access goes on with it
+pub begun-stepped : (s : Setup) → IsGood s → (events : List Event) (what : Event) (e : Entry) → entry_of s (past_of s events) what ≡ Some e → is_some e.access ≡ true → has is_called e ≡ false →
+    (is_some (doorway_begin e.process (past_of s events)) || is_at_door (kept_at s e.process (doing s e.process (past_of s events)))) ≡ is_some (doorway_begin e.process (e ∷ past_of s events))
+begun-stepped s g events what e h some called =
+    let past : Past = past_of s events in
+    let was : Bool = is_some (doorway_begin e.process past) in
+    let door : Bool = is_at_door (kept_at s e.process (doing s e.process past)) in
+    sym (begun-after s g events what e h ∙ ap (λ b. cond b false (was || (is_some e.access && door))) called ∙ ap (λ a. was || (a && door)) some)
+
+-- nobody goes on to wait before itself: its doorway had begun
+begun-before : (s : Setup) → IsGood s → checked s ≡ Ok tt → (events : List Event) (what : Event) (e : Entry) → entry_of s (past_of s events) what ≡ Some e → has is_called e ≡ false →
+    waited (past_of s events) e.process ≡ false → waited (e ∷ past_of s events) e.process ≡ true → is_some (doorway_begin e.process (past_of s events)) ≡ is_some (doorway_begin e.process (e ∷ past_of s events))
+begun-before s g good events what e h called was is = begun ∙ sym (begun-after s g events what e h ∙ ap (λ b. cond b false (began || (is_some e.access && door))) called ∙ ap (λ b. b || (is_some e.access && door)) begun)
+  where
+    past : Past
+    past = past_of s events
+
+    p : ℕ
+    p = e.process
+
+    began : Bool
+    began = is_some (doorway_begin p past)
+
+    door : Bool
+    door = is_at_door (kept_at s p (doing s p past))
+
+    small : p < 16
+    small = let few = (ranges s good).few_processes in let below : p < s.processes = (accepted s g events what e h).below in omega (arith, few, below)
+
+    after : past_of s (what ∷ events) ≡ e ∷ past
+    after = ap (λ o. elim o as (λ _. Past) [ None ↦ past | Some x ↦ x ∷ past ]) h
+
+    alone : is_ahead (e ∷ past) p p ≡ false
+    alone = subst (λ past. is_ahead past p p ≡ false) after (not_ahead_of_itself s g (what ∷ events) p)
+
+    there : slice_index_or (waiting_before (e ∷ past) p) p true ≡ is_ahead (e ∷ past) p p
+    there = get_or-map-range_with_len (λ j. is_ahead (e ∷ past) j p) 0 16 p p true small (omega arith)
+
+    set : slice_index_or (slice_set (waiting_before past p) p (not began)) p true ≡ not began
+    set = get_or-set_same (waiting_before past p) p (not began) true (omega (arith, small, length-map-range_with_len (λ j. is_ahead past j p) 0 16))
+
+    begun : began ≡ true
+    begun = from began (sym set ∙ sym (ap (λ l. slice_index_or l p true) (before-waits s g events what e h was is p)) ∙ there ∙ alone)
+      where
+        from : (b : Bool) → not b ≡ false → b ≡ true
+        from true k = refl
+        from false k = absurd (true≢false k)
+
+-- the seat of the process, where its cursor and its doorway went on and it is told where it stands
+pub own-seat : (s : Setup) → checked s ≡ Ok tt → (events : List Event) (what : Event) (e : Entry) → entry_of s (past_of s events) what ≡ Some e → has is_called e ≡ false →
+    (kept : Kept) (begun : Bool) → let past : Past = past_of s events in let p : ℕ = e.process in
+    kept ≡ kept_at s p (doing s p (e ∷ past)) → begun ≡ is_some (doorway_begin p (e ∷ past)) →
+    told p (waited past p) (waited (e ∷ past) p) (record (seat_of s past p) { kept = kept; begun = begun }) ≡ seat_of s (e ∷ past) p
+own-seat s good events what e h called kept begun is_kept is_begun = λ i. seat_with s p (is_kept i)
+    ((sym (command-kept e (own p past) called) ∙ ap last_command (sym (own-own p e past refl))) i)
+    ((sym (number-kept s e (own p past) called) ∙ ap (call_number s) (sym (own-own p e past refl))) i)
+    (is_begun i)
+    ((go (waited past p) (waited (e ∷ past) p) refl refl ∙ is-told s g events what e h p (ap (λ b. b && (p == p)) called)) i)
+  where
+    g : IsGood s
+    g = is_good s good
+
+    past : Past
+    past = past_of s events
+
+    p : ℕ
+    p = e.process
+
+    go : (was is : Bool) → waited past p ≡ was → waited (e ∷ past) p ≡ is → before_told p was is begun (waiting_before past p) ≡ before_told p was is (is_some (doorway_begin p past)) (waiting_before past p)
+    go true true k m = refl
+    go true false k m = refl
+    go false true k m = ap (λ b. slice_set (waiting_before past p) p (not b)) (is_begun ∙ sym (begun-before s g good events what e h called k m))
+    go false false k m = refl
+
+-- all seats, once that one is there
+pub all-seats : (s : Setup) → checked s ≡ Ok tt → (events : List Event) (what : Event) (e : Entry) → entry_of s (past_of s events) what ≡ Some e →
+    (seat : Seat) → let past : Past = past_of s events in let p : ℕ = e.process in
+    told p (waited past p) (waited (e ∷ past) p) seat ≡ seat_of s (e ∷ past) p →
+    map (told p (waited past p) (waited (e ∷ past) p)) (slice_set (map (seat_of s past) (processes s)) p seat) ≡ map (seat_of s (e ∷ past)) (processes s)
+all-seats s good events what e h seat own_is =
+    let g : IsGood s = is_good s good in
+    let past : Past = past_of s events in
+    let p : ℕ = e.process in
+    map-changed (seat_of s past) (seat_of s (e ∷ past)) (told p (waited past p) (waited (e ∷ past) p)) seat 0 s.processes p p ((accepted s g events what e h).below) (omega arith) own_is
+    (λ q ne. other-seat s past p e q (λ u. ne (sym u)) (is-told s g events what e h q (apart q (λ u. ne (sym u)))))
+  where
+    apart : (q : ℕ) → e.process ≢ q → (has is_called e && (e.process == q)) ≡ false
+    apart q ne = ap (λ b. has is_called e && b) (Rattle.std.proofs.Common.ne_eqb e.process q ne) ∙ false-and (has is_called e)
+      where
+        false-and : (b : Bool) → (b && false) ≡ false
+        false-and true = refl
+        false-and false = refl

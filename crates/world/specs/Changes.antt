@@ -1,0 +1,52 @@
+-- What an event changes of what a world keeps, beside the cursor of its process.
+use Rattle.std.specs.Prelude.{ℕ, ◌+◌, ◌==◌, [], ◌∷◌, ◌++◌, Bool, true, false, not, cond, List, map, Option, None, Some, is_some, slice_get, slice_set}
+use Rattle.std.specs.List.{range_with_len}
+use Rattle.plain_store.specs.declared.Command.{Command}
+use Rattle.plain_store.specs.declared.Reply.{Reply}
+use Rattle.plain_store.specs.declared.Setup.{Setup}
+use Rattle.record.specs.declared.history.Taken.{Taken}
+use Rattle.record.specs.Doorways.{is_waiting_stage}
+use Rattle.world.specs.Seats.{Kept, AtDoor, AtData, Settles, Seat, stage_kept}
+
+-- which processes are before a process, once p goes on to wait or not to wait; begun: the doorway of the process has begun
+abbrev pub before_told : (p : ℕ) (waited waits begun : Bool) → List Bool → List Bool
+before_told p true true begun before = before
+before_told p true false begun before = slice_set before p false
+before_told p false true begun before = slice_set before p (not begun)
+before_told p false false begun before = before
+
+-- a seat that is told of it
+abbrev pub told : (p : ℕ) (waited waits : Bool) → Seat → Seat
+told p waited waits seat = record seat { before = before_told p waited waits seat.begun seat.before }
+
+-- the call may still be taken
+abbrev pub is_pending : Kept → Bool
+is_pending (AtDoor door) = true
+is_pending (AtData section) = true
+is_pending (Settles inside taken value unit) = is_some taken
+is_pending _ = false
+
+abbrev pub pending : Seat → ℕ
+pending seat = cond (is_pending seat.kept) 1 0
+
+-- how many calls may still be taken
+abbrev pub pending_in : List Seat → ℕ
+pending_in [] = 0
+pending_in (seat ∷ seats) = pending seat + pending_in seats
+
+-- a process waits, by its seat
+abbrev pub waits_in : List Seat → ℕ → Bool
+waits_in seats j = elim (slice_get seats j) [ None ↦ false | Some seat ↦ is_waiting_stage (stage_kept seat.kept) ]
+
+-- which of 16 processes wait
+abbrev pub waiting_in : List Seat → List Bool
+waiting_in seats = map (waits_in seats) (range_with_len 0 16)
+
+-- the history with the command that is taken, if one is
+abbrev pub with_taken : List Taken → ℕ → Command → ℕ → Option Reply → List Taken
+with_taken taken p command number None = taken
+with_taken taken p command number (Some r) = taken ++ record { process = p; command = command; reply = r; number = number } ∷ []
+
+-- the number of the call that comes next, in version 2 one more; in version 1 always 0
+abbrev pub next_number : Setup → ℕ → ℕ
+next_number s number = cond (s.version == 2) (number + 1) 0

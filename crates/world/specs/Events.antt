@@ -1,0 +1,43 @@
+-- What an accepted event makes of a world, in every record that it shows.
+use Rattle.std.specs.Prelude.{◌≡◌, ◌⊎◌, ℕ, ◌+◌, ◌≤◌, true, cond, nat_lt, List, ◌∷◌, length, Option, None, Some}
+use Rattle.record.specs.declared.events.Event.{Event}
+use Rattle.record.specs.declared.refusals.Refusal.{Refusal}
+use Rattle.record.specs.declared.refusals.Refusal.TheVariants.{Memory}
+use Rattle.record.specs.Acts.{Act}
+use Rattle.record.specs.Entries.{Entry, Past}
+use Rattle.record.specs.Records.{entry_of, is_call, past_of, refused}
+use Rattle.plain_store.specs.declared.Setup.{Setup}
+use Rattle.record.specs.declared.stages.Stage.{Stage}
+use Rattle.record.specs.Stages.{stage}
+use Rattle.world.specs.Changes.{pending_in}
+use Rattle.world.specs.Shows.{Shows, WorldState}
+
+-- the entry of a process with this act
+abbrev pub entry_with : ℕ → Act → Entry
+entry_with p act = record { process = p; access = act.access; marks = act.marks }
+
+-- why an event is refused, in every record that a world shows
+abbrev pub IsRefused : WorldState → Event → Option Refusal → Type 0
+IsRefused w event refusal = (events : List Event) → Shows w events → refused w.setup (past_of w.setup events) event ≡ refusal
+
+-- the act is that of the entry that the event adds
+abbrev pub Adds : WorldState → Event → ℕ → Act → Type 0
+Adds w event p act = (events : List Event) → Shows w events → entry_of w.setup (past_of w.setup events) event ≡ Some (entry_with p act)
+
+-- the world then shows the event too
+abbrev pub GoesOn : WorldState → Event → WorldState → Type 0
+GoesOn old event new = (events : List Event) → Shows old events → Shows new (event ∷ events)
+
+-- an event is refused, or is a call for which there is no memory
+abbrev pub IsTurnedAway : WorldState → Event → Refusal → Type 0
+IsTurnedAway w event refusal = IsRefused w event (Some refusal) ⊎ ((is_call event ≡ true) × (refusal ≡ Memory) × IsRefused w event None)
+
+-- what a world keeps: there are events that it shows, and its history has room for each call that may still be taken
+pub record KeepsWorld (w : WorldState) (capacity : ℕ) : Type 0 where
+  pub events : List Event
+  pub shows : Shows w events
+  pub room : length w.history + pending_in w.seats ≤ capacity
+
+-- the stage of a process that there is
+abbrev pub stage_in : Setup → Past → ℕ → Option Stage
+stage_in s past p = cond (nat_lt p s.processes) (Some (stage p past)) None

@@ -1,0 +1,91 @@
+//! How long an event of a world takes: of a process that calls alone, and of a crowd whose steps are picked.
+#![tactic(auto)]
+
+mod drive;
+mod setups;
+
+use anyhow::Result;
+use drive::Driver;
+use plain_store::Setup;
+use setups::{counted, written};
+use std::env::{self, Env};
+use std::rt::Clock;
+use std::time::Instant;
+
+/// Prints what each run leaves, first those of two worked examples. The first word is how many calls a lone
+/// process makes, the second how many each process of a crowd makes; each is 1 if not said. The events and the
+/// nanoseconds of a run go to standard error.
+fn main(rt: HostRuntime) -> Result<()> {
+    let calls = word(&rt, 1)?;
+    let rounds = word(&rt, 2)?;
+    lone_write(&rt)?;
+    two_calls_under_a_seed(&rt)?;
+    for (processes, slots) in [(2, 1), (2, 8), (16, 1), (16, 8)] {
+        alone(&rt, processes, slots, calls)?;
+    }
+    for processes in [2, 8, 16] {
+        crowd(&rt, processes, rounds)?;
+    }
+    Ok(())
+}
+
+/// The number that this word says, 1 if there is none.
+fn word<T: Env + AllocGlobal>(rt: &T, at: usize) -> Result<u16> {
+    match env::args(rt)?.nth(at) {
+        Some(word) => Ok(word.parse()?),
+        None => Ok(1),
+    }
+}
+
+/// One write, by one process that is the only one.
+fn lone_write<T: Print + AllocGlobal>(rt: &T) -> Result<()> {
+    let mut driver = Driver::new(rt.alloc(), &Setup::one(1, 2, 2, 1), written()?)?;
+    driver.alone(1)?;
+    let (events, taken, value) = (driver.events(), driver.taken(), driver.value()?);
+    println!(rt; "lone write: {events} events, {taken} taken, a={value}")?;
+    Ok(())
+}
+
+/// A write and an add of two processes whose steps are picked.
+fn two_calls_under_a_seed<T: Print + AllocGlobal>(rt: &T) -> Result<()> {
+    let mut driver = Driver::new(rt.alloc(), &Setup::one(2, 4, 4, 1), written()?)?;
+    driver.crowd(1, 1)?;
+    let (events, taken, value) = (driver.events(), driver.taken(), driver.value()?);
+    println!(rt; "two calls under a seed: {events} events, {taken} taken, a={value}")?;
+    Ok(())
+}
+
+/// Calls of process 0 of so many.
+fn alone<T: Print + Eprint + Clock + AllocGlobal>(
+    rt: &T,
+    processes: u8,
+    slots: u8,
+    calls: u16,
+) -> Result<()> {
+    let (setup, adds) = counted(processes, slots)?;
+    let mut driver = Driver::new(rt.alloc(), &setup, adds)?;
+    let start = Instant::now(rt)?;
+    driver.alone(calls)?;
+    let passed = start.elapsed(rt)?;
+    let (events, taken, value) = (driver.events(), driver.taken(), driver.value()?);
+    println!(rt; "alone of {processes}, slots {slots}: {events} events, {taken} taken, a={value}")?;
+    eprintln!(rt; "alone {processes} {slots} {events} {}", passed.as_nanos())?;
+    Ok(())
+}
+
+/// Calls of all of so many processes.
+fn crowd<T: Print + Eprint + Clock + AllocGlobal>(
+    rt: &T,
+    processes: u8,
+    rounds: u16,
+) -> Result<()> {
+    let (setup, adds) = counted(processes, 1)?;
+    let mut driver = Driver::new(rt.alloc(), &setup, adds)?;
+    let start = Instant::now(rt)?;
+    driver.crowd(1, rounds)?;
+    let passed = start.elapsed(rt)?;
+    let (events, taken, value) = (driver.events(), driver.taken(), driver.value()?);
+    println!(rt; "crowd of {processes}: {taken} taken, a={value}")?;
+    eprintln!(rt; "crowd {processes} 1 {events} {}", passed.as_nanos())?;
+    Ok(())
+}
