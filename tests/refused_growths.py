@@ -1,5 +1,5 @@
 #!/usr/bin/env python3
-"""Refuses each growth in turn, of `plain` and of `bits` on every file of a folder (examples/, if none is given), and of
+"""Refuses each growth in turn, of `plain`, of `bits` and of `replay` on every file of a folder (examples/, if none is given), and of
 what the tests of the crate `scenario` read and print.
 
 A run whose growth was refused must end with status 4 and tell `out of memory`, or `memory` on a line, and must have
@@ -14,7 +14,7 @@ import subprocess
 import sys
 
 TOP = pathlib.Path(__file__).resolve().parent.parent
-ENGINES = ["plain", "bits"]
+ENGINES = ["plain", "bits", "replay"]
 TESTS = [
     "prints_headings_and_single_spaces",
     "prints_a_lone_write",

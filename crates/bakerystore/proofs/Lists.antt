@@ -1,15 +1,12 @@
 -- Lists from a place on, and a run after one more line.
-use Rattle.std.proofs.Common.{◌≡◌, ℕ, ◌+◌, ◌<◌, ◌≤◌, Bool, true, false, nat_lt, if◌then◌else◌, List, ◌++◌, Some, length, drop, get_or, ap, sym, ◌∙◌, arith, refl, slice_get, append_assoc, flat_map, codes}
+use Rattle.std.proofs.Common.{◌≡◌, ℕ, ◌+◌, ◌<◌, ◌≤◌, Bool, true, false, nat_lt, if◌then◌else◌, List, ◌++◌, length, drop, get_or, ap, sym, ◌∙◌, arith, refl, append_assoc, codes}
 use Rattle.std.proofs.lemmas.List.{length-set}
 use Rattle.std.specs.Fmt.{decimal}
-use Rattle.plain_store.specs.Shown.{value_text}
-use Rattle.plain_store.specs.declared.commands.Value.{Value}
-use Rattle.plain_store.specs.Pairs.{Pair}
 use Rattle.plain_store.specs.declared.setups.Setup.{Setup}
 use Rattle.scenario.specs.declared.lines.Line.{Line}
 use Rattle.scenario.specs.declared.lines.Line.TheVariants as line
-use Rattle.scenario.proofs.Places.{drop_at, drop_in}
-use Rattle.bakerystore.specs.Plain.{Run, reply_line, pair_text, text_from, line_text, run_after, applied}
+use Rattle.scenario.proofs.Places.{drop_in}
+use Rattle.bakerystore.specs.Plain.{Run, reply_line, text_from, line_text, run_after, applied}
 
 -- the text from a line on
 pub text_step : (setup : Setup) (run : Run) (lines : List Line) (k : ℕ) (here : Line) → k < length lines → here ≡ get_or lines k here → text_from setup run (drop k lines) ≡ line_text setup run here ++ text_from setup (run_after setup run here) (drop (k + 1) lines)
@@ -19,10 +16,6 @@ text_step setup run lines k here within is =
 -- a text and what is printed from a line on, one line later
 pub text_more : (told : List ℕ) (setup : Setup) (run : Run) (lines : List Line) (k : ℕ) (here : Line) → k < length lines → here ≡ get_or lines k here → (told ++ line_text setup run here) ++ text_from setup (run_after setup run here) (drop (k + 1) lines) ≡ told ++ text_from setup run (drop k lines)
 text_more told setup run lines k here within is = append_assoc told _ _ ∙ ap (λ more. told ++ more) (sym (text_step setup run lines k here within is))
-
--- a text and the pairs from a place on, one pair later
-pub pairs_more : (told : List ℕ) (pairs : List Pair) (k : ℕ) (p : Pair) → slice_get pairs k ≡ Some p → (told ++ pair_text p) ++ flat_map pair_text (drop (k + 1) pairs) ≡ told ++ flat_map pair_text (drop k pairs)
-pairs_more told pairs k p at = append_assoc told _ _ ∙ ap (λ ps. told ++ flat_map pair_text ps) (sym (drop_at pairs k p at))
 
 -- each process keeps its count
 pub counts_kept : (setup : Setup) (run : Run) (here : Line) → length (run_after setup run here).counts ≡ length run.counts
@@ -42,9 +35,6 @@ place_next setup run (line.Call p command) = by (nat_lt p setup.processes)
     by false = omega arith
 place_next setup run other = omega arith
 
--- a pair's text, as `format!` puts it together
-pub pair_text_is : (name : List ℕ) (value : Value) → codes " " ++ (name ++ (codes "=" ++ value_text value)) ≡ pair_text (name, value)
-pair_text_is name value = simp append_assoc
-
+-- the line of a reply, as `format!` puts it together
 pub reply_line_is : (place p : ℕ) (reply : List ℕ) → decimal place ++ (codes " " ++ (decimal p ++ (codes " " ++ (reply ++ codes "\n")))) ≡ reply_line place p reply
 reply_line_is place p reply = simp append_assoc

@@ -1,8 +1,7 @@
 -- What `plain` prints for a file.
-use Rattle.std.specs.Prelude.{ℕ, ◌+◌, ◌==◌, nat_lt, if◌then◌else◌, List, [], ◌∷◌, ◌++◌, codes, flat_map, replicate, slice_set, Result}
+use Rattle.std.specs.Prelude.{ℕ, ◌+◌, ◌==◌, nat_lt, if◌then◌else◌, List, [], ◌∷◌, ◌++◌, codes, replicate, slice_set, Result}
 use Rattle.std.specs.Fmt.{decimal}
-use Rattle.plain_store.specs.Pairs.{Pair}
-use Rattle.plain_store.specs.Shown.{value_text, reply_text}
+use Rattle.plain_store.specs.Shown.{reply_text}
 use Rattle.plain_store.specs.Setups.{opening_store}
 use Rattle.plain_store.specs.Store.{Contents, reply_to, after, number_of}
 use Rattle.plain_store.specs.declared.commands.Caller.{Caller}
@@ -13,6 +12,7 @@ use Rattle.scenario.specs.declared.faults.LineFault.{LineFault}
 use Rattle.scenario.specs.declared.lines.Line.{Line}
 use Rattle.scenario.specs.declared.lines.Line.TheVariants as line
 use Rattle.scenario.specs.Engines.{text_by}
+use Rattle.replayer.specs.Stores.{show_text}
 
 -- The store, how many calls were applied, and how many of each process.
 pub record Run : Type 0 where
@@ -23,15 +23,6 @@ pub record Run : Type 0 where
 -- who calls: in version 1 calls have no numbers
 abbrev pub caller_of : Setup → Run → ℕ → Caller
 caller_of setup run p = record { process = p; number = if setup.version == 1 then 0 else number_of run.counts p + 1 }
-
--- ` NAME=VALUE`
-abbrev pub pair_text : Pair → List ℕ
-pair_text pair = codes " " ++ pair.0 ++ codes "=" ++ value_text pair.1
-
--- the store on one line
-abbrev pub show_text : List Pair → List ℕ
-show_text [] = codes "show empty\n"
-show_text (pair ∷ pairs) = codes "show" ++ flat_map pair_text (pair ∷ pairs) ++ codes "\n"
 
 -- what is printed for a call that is applied, and for one of a process that is not there
 abbrev pub reply_line : ℕ → ℕ → List ℕ → List ℕ

@@ -4,13 +4,13 @@
 mod bits;
 mod plain;
 mod statuses;
-mod store_line;
 #[cfg(test)]
 mod tests;
 mod words;
 
 use bits::run_bits;
 use plain::run_plain;
+use replayer::replay;
 use scenario::{Fault, FromRead, IntoWrite};
 use statuses::fault_status;
 use std::alloc::AllocError;
@@ -23,7 +23,7 @@ use words::{Engine, Request, read_words};
 
 /// What is printed where the words ask for nothing that there is.
 const USAGE: &str =
-    "usage: bakerystore [plain|bits FILE]  (FILE - is standard input; without words: plain -)";
+    "usage: bakerystore [plain|bits|replay FILE]  (FILE - is standard input; without words: plain -)";
 
 /// The exit status where the words ask for nothing that there is.
 const USAGE_STATUS: u8 = 2;
@@ -84,6 +84,7 @@ fn run_on<T: Print + AllocGlobal, R: Read + Drop>(
     match engine {
         Engine::Plain => run_plain(rt.alloc(), &mut input, &mut output),
         Engine::Bits => run_bits(rt.alloc(), &mut input, &mut output),
+        Engine::Replay => replay(rt.alloc(), &mut input, &mut output).map(|_summary| ()),
     }
 }
 

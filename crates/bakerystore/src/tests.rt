@@ -283,6 +283,8 @@ fn reads_the_words(rt: HostRuntime) -> Result<(), Fail> {
     }
     let bits = read_words(rt.alloc(), &["bakerystore", "bits", "-"])?;
     assert!(rt; bits.is_some_and(|request| request.engine == Engine::Bits));
+    let replay = read_words(rt.alloc(), &["bakerystore", "replay", "a file"])?;
+    assert!(rt; replay.is_some_and(|request| request.engine == Engine::Replay));
     let lost = Fault::Line(LineFault {
         line: 1,
         kind: FaultKind::Memory,

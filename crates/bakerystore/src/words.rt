@@ -10,6 +10,8 @@ pub enum Engine {
     Plain,
     /// The calls of a bits file on one safe bit.
     Bits,
+    /// The run of a scenario, mark by mark.
+    Replay,
 }
 
 impl Engine {
@@ -18,6 +20,7 @@ impl Engine {
         match word {
             "plain" => Some(Engine::Plain),
             "bits" => Some(Engine::Bits),
+            "replay" => Some(Engine::Replay),
             _ => None,
         }
     }

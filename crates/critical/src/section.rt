@@ -138,20 +138,22 @@ impl Section {
             Standing::Reads { part, versions } => match self.reading.advance(value) {
                 Progress::Going => SectionProgress::Reading,
                 Progress::Done => {
-                    let (next, progress) = standing::after_read(
+                    let part = *part;
+                    let versions = *versions;
+                    let progress = standing::pass_read(
+                        &mut self.standing,
                         &self.call,
-                        part,
-                        versions,
+                        &part,
+                        &versions,
                         value,
                         &self.reading,
                     );
                     begin(
-                        &next,
+                        &self.standing,
                         &self.call.setup,
                         &mut self.reading,
                         &mut self.writing,
                     );
-                    self.standing = next;
                     progress
                 }
             },
@@ -160,14 +162,13 @@ impl Section {
                 match change.advance(*part, &mut self.writing, readers) {
                     Progress::Going => SectionProgress::Writing,
                     Progress::Done => {
-                        let (next, progress) = standing::after_write(*part, change);
+                        let progress = standing::pass_write(&mut self.standing);
                         begin(
-                            &next,
+                            &self.standing,
                             &self.call.setup,
                             &mut self.reading,
                             &mut self.writing,
                         );
-                        self.standing = next;
                         progress
                     }
                 }
@@ -235,7 +236,6 @@ impl Section {
 }
 
 /// Begins the number access of a standing.
-// Not inlined: few accesses begin one.
 #[inline(never)]
 fn begin(standing: &Standing, setup: &Setup, reading: &mut ReadRun, writing: &mut WriteRun)
     requires good { checked setup.now ≡ Ok tt }

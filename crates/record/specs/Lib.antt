@@ -18,6 +18,7 @@ pub mod Program
 pub mod Records
 pub mod Registers
 pub mod Scripts
+pub mod Shown
 pub mod Spans
 pub mod Stages
 pub mod Turns

@@ -10,6 +10,7 @@ mod laws;
 mod marks;
 mod records;
 mod refusals;
+mod shown;
 mod stages;
 
 pub use acts::Act;

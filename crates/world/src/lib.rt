@@ -4,9 +4,11 @@
 
 mod flicks;
 mod queue;
+mod refusals;
 #[cfg(test)]
 mod runs;
 mod seat;
+mod seats;
 #[cfg(test)]
 mod tests;
 mod told;
@@ -16,4 +18,5 @@ pub use flicks::{Flick, Flicks};
 pub use history_laws;
 pub use laws;
 pub use record::{Act, Event, Mark, Refusal, Stage, Taken};
+pub use told::{Stepped, Told};
 pub use world::World;

@@ -5,18 +5,19 @@ ghost use Rattle.record.specs.declared.Mark.TheVariants.{Left};
 ghost use Rattle.bakery.specs.Doors as doors;
 ghost use Rattle.critical.specs.Sections as sections;
 ghost use Rattle.world.specs.Keeping.{answer_told, marks_settled, stage_waiting};
-ghost use Rattle.world.specs.Telling.{marks_told};
+ghost use Rattle.world.specs.Telling.{act_of, marks_told};
 
 use bakery::DoorProgress;
 use critical::SectionProgress;
 use plain_store::{Answer, Reply};
-use record::Mark;
+use record::{Act, Mark};
+use safe_number::Access;
 use smallvec::SmallVec;
 use std::alloc::Global;
 
 /// What a step of a process, or of its memory unit, leads to.
 #[derive(Clone, Copy, Debug)]
-pub(crate) enum Told {
+pub enum Told {
     Nothing,
     /// The doorway is finished, with this ticket.
     Waits(u32),
@@ -60,6 +61,25 @@ impl Told {
                 two(alloc, Mark::Settled(value), Mark::Taken(place, reply))
             }
             Told::Lies => one(alloc, Mark::Down),
+        }
+    }
+}
+
+/// What a step has made: its access, and what that leads to.
+#[derive(Clone, Copy, Debug)]
+pub struct Stepped {
+    pub access: Access,
+    pub told: Told,
+}
+
+impl Stepped {
+    /// The same as an act, where a command that is taken gets this place in the history. It takes no memory.
+    pub fn act(&self, alloc: Global, place: u64) -> Act
+        ensures { result ≡ act_of place self.now }
+    {
+        Act {
+            access: Some(self.access),
+            marks: self.told.marks(alloc, place),
         }
     }
 }

@@ -16,10 +16,13 @@ ghost use Rattle.world.specs.Seats.{inside_kept, stage_kept};
 ghost use Rattle.std.specs.List.{list_any};
 ghost use Rattle.record.specs.Newest.{newest};
 ghost use Rattle.world.specs.Shows.{Shows};
+ghost use Rattle.world.specs.Telling.{act_of};
 
 use crate::queue::listed;
+use crate::refusals::{is_full, number_after, process_in, refusal_at};
 use crate::seat::Seat;
-use crate::told::one;
+use crate::seats::{is_occupied, is_queued, take, tell, waiting, waits};
+use crate::told::{Stepped, one};
 use bakery::Locks;
 use critical::DataRow;
 use plain_store::{Command, Image, Name, Reply, Setup, Text, Value};
@@ -98,11 +101,31 @@ impl World {
                 command.operands_are_sound();
                 self.call(process, command)
             }
-            Event::Step(process, flick) => self.step(process, flick),
+            Event::Step(process, flick) => {
+                let place = self.history.len() as u64;
+                Ok(self.make_step(process, flick).act(self.alloc, place))
+            }
             Event::Fail(process) => Ok(self.fail(process)),
             Event::Withdraw(process) => Ok(self.withdraw(process)),
             Event::Restart(process) => Ok(self.restart(process)),
         }
+    }
+
+    /// One step of a process, or of its memory unit, as `event` makes it, told in a few bytes: an act has room for
+    /// three marks, which few steps have. The place of a command that it takes is the length of the history before.
+    #[inline]
+    pub fn step(&mut self, process: u8, flick: bool) -> Result<Stepped, Refusal>
+        ensures accepted { IfOk result (λ stepped. Adds self.old (Step process flick) process (act_of (length self.old.history) stepped)) }
+        ensures shows { OnOk result (GoesOn self.old (Step process flick) self.new) }
+        ensures refused { IfErr result (λ refusal. IsRefused self.old (Step process flick) (Some refusal)) }
+        ensures unchanged { OnErr result (self.new ≡ self.old) }
+        ensures setup { OnOk result (self.new.setup ≡ self.old.setup) }
+        ensures through { (events : List Happening) → Shows self.old events → refused self.old.setup (past_of self.old.setup events) (Step process flick) ≡ None → IsOk result }
+    {
+        if let Some(refusal) = self.refusal(&Event::Step(process, flick)) {
+            return Err(refusal);
+        }
+        Ok(self.make_step(process, flick))
     }
 
     /// Where a process stands; none, if there is no such process.
@@ -194,26 +217,20 @@ impl World {
     }
 
     /// The next access of a process, or of its memory unit. A command that is taken goes into the history.
-    /// It answers what `event` does, so that the act is not moved once more, and never a refusal.
     #[inline]
-    fn step(&mut self, process: u8, flick: bool) -> Result<Act, Refusal>
+    fn make_step(&mut self, process: u8, flick: bool) -> Stepped
         requires { IsRefused self.old (Step process flick) None }
-        ensures accepted { IfOk result (λ act. Adds self.old (Step process flick) process act) }
-        ensures never { IfErr result (λ refusal. ⊥) }
+        ensures accepted { Adds self.old (Step process flick) process (act_of (length self.old.history) result) }
         ensures shows { GoesOn self.old (Step process flick) self.new }
         ensures setup { self.new.setup ≡ self.old.setup }
     {
-        let place = self.history.len() as u64;
         let seat = &mut self.seats[usize::from(process)];
         let waited = waits(seat);
         let (access, told) = seat.step(&mut self.locks, &mut self.versions, flick);
         let now = waits(seat);
         take(&mut self.history, process, seat, told.reply());
         tell(&mut self.seats, process, waited, now);
-        Ok(Act {
-            access: Some(access),
-            marks: told.marks(self.alloc, place),
-        })
+        Stepped { access, told }
     }
 
     /// A process halts, and its memory unit takes over.
@@ -260,140 +277,5 @@ impl World {
             access: None,
             marks: one(self.alloc, Mark::Restarted),
         }
-    }
-}
-
-/// Whose event it is.
-fn process_in(event: &Event) -> u8
-    ensures { result ≡ process_of event.now }
-{
-    match *event {
-        Event::Call(process, _) => process,
-        Event::Step(process, _) => process,
-        Event::Fail(process) => process,
-        Event::Withdraw(process) => process,
-        Event::Restart(process) => process,
-    }
-}
-
-/// The refusal that the stage of the process gives.
-fn refusal_at(event: &Event, stage: Stage) -> Option<Refusal>
-    ensures { result ≡ refused_at event.now stage }
-{
-    match event {
-        Event::Call(..) => match stage {
-            Stage::Idle => None,
-            Stage::Settling | Stage::Down => Some(Refusal::IsDown),
-            _ => Some(Refusal::Busy),
-        },
-        Event::Step(..) => match stage {
-            Stage::Idle | Stage::Down => Some(Refusal::NotRunning),
-            _ => None,
-        },
-        Event::Withdraw(_) => match stage {
-            Stage::Waiting => None,
-            _ => Some(Refusal::NotWaiting),
-        },
-        Event::Fail(_) => match stage {
-            Stage::Settling | Stage::Down => Some(Refusal::AlreadyFailed),
-            _ => None,
-        },
-        Event::Restart(_) => match stage {
-            Stage::Down => None,
-            _ => Some(Refusal::NotDown),
-        },
-    }
-}
-
-/// A call would be one too many: its number does not fit.
-fn is_full(event: &Event, version: u8, number: u16) -> bool
-    ensures { result ≡ (is_call event.now && (version == 2) && nat_le 65535 number) }
-{
-    matches!(event, Event::Call(..)) && version == 2 && u16::MAX <= number
-}
-
-/// The number of the call after the one with this number.
-fn number_after(setup: &Setup, number: u16) -> u16
-    requires { setup.now.version ≡ 2 → number < 65535 }
-    ensures { result ≡ next_number setup.now number }
-{
-    if setup.version == 2 { number + 1 } else { 0 }
-}
-
-/// Whether a process waits.
-fn waits(seat: &Seat) -> bool
-    ensures { result ≡ is_waiting_stage (stage_kept seat.now.kept) }
-{
-    matches!(seat.stage(), Stage::Waiting)
-}
-
-/// Whether there is such a process, and it waits.
-#[tactic(auto, using(crate::proofs::WorldTelling::waits_seat, crate::proofs::WorldTelling::waits_none))]
-fn waits_at(seats: &[Seat], process: usize) -> bool
-    ensures { result ≡ waits_in seats.now process }
-{
-    if process < seats.len() {
-        waits(&seats[process])
-    } else {
-        false
-    }
-}
-
-/// Whether a process is in its doorway or waits.
-fn is_queued(seat: &Seat) -> bool
-    ensures { result ≡ queued (stage_kept seat.now.kept) }
-{
-    matches!(seat.stage(), Stage::Doorway | Stage::Waiting)
-}
-
-/// Whether somebody is inside.
-fn is_occupied(seats: &[Seat]) -> bool
-    ensures { result ≡ list_any (λ seat. inside_kept seat.kept) seats.now }
-{
-    seats.iter().any(|seat| seat.is_inside())
-}
-
-/// Which of 16 processes wait.
-fn waiting(seats: &[Seat]) -> [bool; 16]
-    ensures { result ≡ waiting_in seats.now }
-{
-    let mut waiting = [false; 16];
-    for process in 0..16 {
-        waiting[process] = waits_at(seats, process);
-    }
-    waiting
-}
-
-/// Each process is told of one that goes on to wait, or not to wait.
-fn tell(seats: &mut [Seat], process: u8, waited: bool, waits: bool)
-    requires { process < 16 }
-    ensures { seats.new ≡ map (told process waited waits) seats.old }
-{
-    if waited != waits {
-        for seat in seats.iter_mut() {
-            seat.hears(process, waited, waits);
-        }
-    }
-}
-
-/// The command that a process takes, if it takes one, goes into the history, where there is room for it.
-fn take(history: &mut Vec<Taken>, process: u8, seat: &Seat, reply: Option<Reply>)
-    requires { (r : Reply) → reply ≡ Some r → vec_len history.old < vec_capacity history.old }
-    ensures items { history.new.items ≡ with_taken history.old.items process seat.now.command seat.now.number reply }
-    ensures capacity { vec_capacity history.old ≤ vec_capacity history.new }
-{
-    let _types: Option<(Command, Value, Name, Text)> = None;
-    let Some(reply) = reply else {
-        return;
-    };
-    let taken = Taken {
-        process,
-        command: seat.command(),
-        reply,
-        number: seat.number(),
-    };
-    match history.push(taken) {
-        Ok(()) => {}
-        Err(_) => unreachable!(),
     }
 }

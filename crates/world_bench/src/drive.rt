@@ -4,7 +4,7 @@ ghost use Rattle.plain_store.specs.Setups.{checked};
 
 use anyhow::{Result, bail};
 use plain_store::{Command, Setup, Store, Value};
-use record::{Event, Stage};
+use record::{Event, Refusal, Stage};
 use std::alloc::{AllocError, Global};
 use world::{Flicks, World};
 
@@ -47,8 +47,12 @@ impl Driver {
     /// So many calls of process 0, one after another, while no other process has one.
     pub fn alone(&mut self, calls: u16) -> Result<()> {
         for _ in 0..calls {
-            self.call(0)?;
-            self.finish(0)?;
+            if let Err(refusal) = self.whole_call() {
+                bail!("an event is refused: {refusal:?}");
+            }
+            if !self.is_idle(0) {
+                bail!("the call does not end");
+            }
         }
         Ok(())
     }
@@ -67,12 +71,17 @@ impl Driver {
             let Some(process) = running.get(at).copied() else {
                 bail!("nobody is picked");
             };
-            self.event(Event::Step(process, flicks.flick()))?;
-            if self.is_idle(process) && left > 0 {
-                left -= 1;
-                self.call(process)?;
-            } else if self.is_idle(process) {
-                running.retain(|other| *other != process);
+            if let Err(refusal) = self.step(process, flicks.flick()) {
+                bail!("process {process} can't step: {refusal:?}");
+            }
+            if self.is_idle(process) {
+                if left == 0 {
+                    running.retain(|other| *other != process);
+                } else if let Err(refusal) = self.call(process) {
+                    bail!("process {process} can't call: {refusal:?}");
+                } else {
+                    left -= 1;
+                }
             }
         }
         Ok(())
@@ -103,41 +112,46 @@ impl Driver {
     fn all_call(&mut self) -> Result<Vec<u8>> {
         let mut running = Vec::new(self.alloc);
         for process in 0..self.processes {
-            self.call(process)?;
+            if let Err(refusal) = self.call(process) {
+                bail!("process {process} can't call: {refusal:?}");
+            }
             running.push(process)?;
         }
         Ok(running)
     }
 
-    fn call(&mut self, process: u8) -> Result<()> {
+    /// A call of process 0, and its steps until it is idle, or a bound of steps.
+    fn whole_call(&mut self) -> Result<(), Refusal> {
+        self.call(0)?;
+        for _ in 0..STEPS {
+            if self.is_idle(0) {
+                break;
+            }
+            self.step(0, false)?;
+        }
+        Ok(())
+    }
+
+    fn call(&mut self, process: u8) -> Result<(), Refusal> {
         let command = if process == 0 {
             self.calls.first
         } else {
             self.calls.others
         };
-        self.event(Event::Call(process, command))
+        self.world.event(Event::Call(process, command))?;
+        self.events = self.events.wrapping_add(1);
+        Ok(())
     }
 
-    /// Steps of a process until it is idle.
-    fn finish(&mut self, process: u8) -> Result<()> {
-        for _ in 0..STEPS {
-            if self.is_idle(process) {
-                return Ok(());
-            }
-            self.event(Event::Step(process, false))?;
+    fn step(&mut self, process: u8, flick: bool) -> Result<(), Refusal> {
+        if let Err(refusal) = self.world.step(process, flick) {
+            return Err(refusal);
         }
-        bail!("the call of process {process} does not end")
+        self.events = self.events.wrapping_add(1);
+        Ok(())
     }
 
     fn is_idle(&self, process: u8) -> bool {
         matches!(self.world.stage(process), Some(Stage::Idle))
-    }
-
-    fn event(&mut self, event: Event) -> Result<()> {
-        if let Err(refusal) = self.world.event(event) {
-            bail!("refused: {refusal:?}");
-        }
-        self.events = self.events.wrapping_add(1);
-        Ok(())
     }
 }

@@ -1,7 +1,5 @@
 use Rattle.std.proofs.Common.{sym, subst}
-use Rattle.std.specs.Prelude.{Err, Ok, OnOk, Result}
-use Rattle.record.specs.Acts.{Act}
-use Rattle.record.specs.declared.refusals.Refusal.{Refusal}
+use Rattle.std.specs.Prelude.{OnOk}
 use Rattle.history_laws.proofs.Headlines.{the_headline}
 use Rattle.world.specs.Events.{GoesOn}
 use Rattle.world.proofs.world.World.event.Goals as goal
@@ -9,13 +7,8 @@ use Rattle.world.proofs.world.World.event.Goals as goal
 pub returns-in-Call-clause-shows : goal.returns-in-Call-clause-shows
 returns-in-Call-clause-shows c = subst (λ e. OnOk c.call.result (GoesOn c.args.self.now e c.call.new.self)) (sym c.in-Call.is) c.call.ensures.shows
 
--- what holds in any case holds where it went well
-on-ok : (r : Result Act Refusal) (P : Type 0) → P → OnOk r P
-on-ok (Ok act) P h = h
-on-ok (Err refusal) P h = tt
-
 pub returns-in-Step-clause-shows : goal.returns-in-Step-clause-shows
-returns-in-Step-clause-shows c = on-ok c.step.result (GoesOn c.args.self.now c.args.event c.step.new.self) (subst (λ e. GoesOn c.args.self.now e c.step.new.self) (sym c.in-Step.is) c.step.ensures.shows)
+returns-in-Step-clause-shows c = subst (λ e. GoesOn c.args.self.now e c.make_step.new.self) (sym c.in-Step.is) c.make_step.ensures.shows
 
 pub returns-in-Fail-clause-shows : goal.returns-in-Fail-clause-shows
 returns-in-Fail-clause-shows c = subst (λ e. GoesOn c.args.self.now e c.fail.new.self) (sym c.in-Fail.is) c.fail.ensures.shows

@@ -1,0 +1,15 @@
+pub mod CourseTurns
+pub mod Grows
+pub mod Images
+pub mod Lines
+pub mod Listed
+pub mod Movers
+pub mod Onwards
+pub mod Recorded
+pub mod Refusals
+pub mod ReplayEnds
+pub mod StoreLines
+pub mod Tellings
+pub mod TurnLaw
+pub mod Underways
+pub mod Written

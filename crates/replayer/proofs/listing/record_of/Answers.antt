@@ -1,0 +1,23 @@
+use Rattle.std.proofs.Common.{◌≡◌, ◌∷◌, ◌+◌, ℕ, List, reverse, take, ap, sym, subst, ◌∙◌}
+use Rattle.plain_store.specs.declared.setups.Setup.{Setup}
+use Rattle.record.specs.declared.events.Event.{Event}
+use Rattle.record.specs.Records.{past_of}
+use Rattle.world.specs.Shows.{Shows}
+use Rattle.replayer.specs.Listings.{Records}
+use Rattle.replayer.proofs.Recorded.{events_more}
+use Rattle.replayer.proofs.listing.record_of.Goals as goal
+
+pub loop-event-preserved : goal.loop-event-preserved
+loop-event-preserved c =
+    let s : Setup = c.args.setup.now in
+    let k : ℕ = c.loop-event.event-index in
+    let before : List Event = reverse (take k c.args.events.now) in
+    let here : Event = c.event-item.result in
+    let more : reverse (take (k + 1) c.args.events.now) ≡ here ∷ before = events_more c.args.events.now k here c.loop-event-test.true c.event-item.is in
+    let made : Records c.loop-event.world c.record_event.new.world (here ∷ before) c.record_event.new.entries.items =
+    c.in_ok-record_event.ensures before c.loop-event.invariant.shows (subst (λ (s : Setup). c.loop-event.entries.items ≡ reverse (past_of s before)) (sym c.loop-event.invariant.setup) c.loop-event.invariant.entries) in
+    record {
+      shows = subst (λ (l : List Event). Shows c.record_event.new.world l) (sym more) made.shows;
+      setup = made.setup ∙ c.loop-event.invariant.setup;
+      entries = made.entries_are ∙ ap (λ (s : Setup). reverse (past_of s (here ∷ before))) c.loop-event.invariant.setup ∙ ap (λ (l : List Event). reverse (past_of s l)) (sym more);
+    }

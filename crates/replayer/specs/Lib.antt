@@ -1,0 +1,11 @@
+pub mod Courses
+pub mod Happenings
+pub mod Listings
+pub mod Replays
+pub mod Runs
+pub mod Stores
+pub mod Summaries
+pub mod Telling
+pub mod Texts
+pub mod Turns
+pub mod Writing

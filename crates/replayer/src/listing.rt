@@ -1,0 +1,119 @@
+//! The events of a run, and the record of events.
+ghost use Rattle.std.specs.Prelude.{◌≡◌, ◌++◌, true, Ok, IfOk, OnOk};
+ghost use Rattle.plain_store.specs.Setups.{checked};
+ghost use Rattle.record.specs.declared.Refusal.TheVariants.{Memory};
+ghost use Rattle.record.specs.Given.{is_event};
+ghost use Rattle.record.specs.Headline.{Headline};
+ghost use Rattle.record.specs.Records.{process_of, record_of as record_made};
+ghost use Rattle.scenario.specs.Reads.{script};
+ghost use Rattle.replayer.specs.Listings.{ListsLine, RecordsEvent, accepted_events, event_told};
+
+use crate::told::Told;
+use crate::turns::Course;
+use history_laws::headline;
+use plain_store::{Command, Setup, Value};
+use record::{Entry, Event, Record, Refusal};
+use scenario::{Line, Scenario};
+use std::alloc::{AllocError, Global};
+use world::World;
+
+/// The events of a scenario's run that are accepted, in order. The one fault is want of memory.
+pub fn events_of(alloc: Global, scenario: &Scenario) -> Result<Vec<Event>, AllocError>
+    ensures { IfOk result (λ events. events.items ≡ accepted_events (script scenario.now)) }
+{
+    let mut course = Course::new(alloc, &scenario.setup)?;
+    let mut events = Vec::new(alloc);
+    for line in &scenario.lines {
+        list_line(&mut course, line, &mut events)?;
+    }
+    Ok(events)
+}
+
+/// Makes the turns of a line, and lists the events that are accepted.
+fn list_line(course: &mut Course, line: &Line, events: &mut Vec<Event>) -> Result<(), AllocError>
+    ensures { OnOk result (ListsLine line.now course.old course.new events.old.items events.new.items) }
+{
+    course.begin(line);
+    'turns: while let Some(told) = course.turn(line)? {
+        list(told, events)?;
+    }
+    Ok(())
+}
+
+/// Lists the event that is told, if one is.
+fn list(told: Told, events: &mut Vec<Event>) -> Result<(), AllocError>
+    ensures { OnOk result (events.new.items ≡ events.old.items ++ event_told told) }
+{
+    let _types: Option<(Command, Value)> = None;
+    if let Told::Accepted { event, .. } = &told {
+        events.push(*event)?;
+    }
+    Ok(())
+}
+
+/// The record of a list of events: an entry for each that is accepted. The one fault is want of memory. Of the
+/// record, as of every one, the headline holds.
+pub fn record_of(alloc: Global, setup: &Setup, events: &[Event]) -> Result<Record, AllocError>
+    requires { checked setup.now ≡ Ok tt }
+    ensures entries { IfOk result (λ made. made ≡ record_made setup.now events.now) }
+    ensures headline { Headline }
+{
+    headline();
+    let mut world = World::new(alloc, setup)?;
+    let mut entries = Vec::new(alloc);
+    for event in events {
+        record_event(&mut world, event, &mut entries)?;
+    }
+    Ok(Record { entries })
+}
+
+/// Makes an event, and adds its entry, unless it is refused.
+fn record_event(
+    world: &mut World,
+    event: &Event,
+    entries: &mut Vec<Entry>,
+) -> Result<(), AllocError>
+    ensures { OnOk result (RecordsEvent event.now world.old world.new entries.old.items entries.new.items) }
+{
+    sound_event(event);
+    match world.event(*event) {
+        Ok(act) => {
+            let process = process_in(event);
+            entries.push(Entry { process, act })?;
+            Ok(())
+        }
+        Err(refusal) => passed_over(refusal),
+    }
+}
+
+/// A refused event adds nothing; want of memory is no refusal of the record.
+fn passed_over(refusal: Refusal) -> Result<(), AllocError>
+    ensures { OnOk result (refusal ≡ Memory → ⊥) }
+{
+    match refusal {
+        Refusal::Memory => Err(AllocError),
+        _ => Ok(()),
+    }
+}
+
+/// Does nothing. Its contract says that what the event calls is a command.
+fn sound_event(event: &Event)
+    ensures { is_event event.now ≡ true }
+{
+    if let Event::Call(_, command) = event {
+        command.operands_are_sound();
+    }
+}
+
+/// Whose event it is.
+fn process_in(event: &Event) -> u8
+    ensures { result ≡ process_of event.now }
+{
+    match *event {
+        Event::Call(process, _) => process,
+        Event::Step(process, _) => process,
+        Event::Fail(process) => process,
+        Event::Withdraw(process) => process,
+        Event::Restart(process) => process,
+    }
+}
