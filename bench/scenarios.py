@@ -1,6 +1,13 @@
 #!/usr/bin/env python3
-"""Writes two scenario files for timing into a folder: `calls` with 4,000 calls, and `largest`, the largest legal
-file: 4,096 lines of 128 bytes, each with two bytes of line end, of which 4,000 are lines after the headings."""
+"""Writes scenario files for timing into a folder.
+
+For `plain`: `calls` with 4,000 calls, and `largest`, the largest legal file: 4,096 lines of 128 bytes, each with two
+bytes of line end, of which 4,000 are lines after the headings.
+
+For `replay`, each with 32 ticket and 32 stamp bits and a counter that each call adds 1 to: `lone-N` where process 0 of N
+calls again and again and `go`es until it is idle, on 8 slots; `turns-N` where the N processes do so one after the other,
+each by `wander`, so that no read is overlapped; `crowd-N` where all call at once and `wander`, with seeded flicks.
+"""
 
 import pathlib
 import sys
@@ -26,11 +33,38 @@ def largest():
     return "".join(filled(line) for line in head + opening + lines + skipped)
 
 
+def counting(processes, slots, lines):
+    head = ["bakery 2", f"processes {processes}", "tickets 32", "stamps 32", f"slots {slots}", "open a c:0"]
+    return "\n".join(head + lines + ["show"]) + "\n"
+
+
+def lone(processes):
+    """About 15 or 100 million events."""
+    return counting(processes, 8, ["call 0 add a 1", "go 0 idle"] * 1500)
+
+
+def turns(processes):
+    """At most 30 million events."""
+    return counting(processes, 1, [line for k in range(1500) for line in (f"call {k % processes} add a 1", "wander 100000")])
+
+
+def crowd(processes):
+    """Rounds in which each process calls once, and as many turns as such a round may want: a process inside makes some
+    1,500 Steps for each process, and is picked for one Step in as many."""
+    rounds = {2: 600, 8: 20, 16: 5}[processes]
+    wanders = {2: 1, 8: 10, 16: 80}[processes]
+    calls = [f"call {p} add a 1" for p in range(processes)]
+    return counting(processes, 1, ["flick pcg 1"] + (calls + ["wander 100000"] * wanders) * rounds)
+
+
 def main():
     folder = pathlib.Path(sys.argv[1] if len(sys.argv) > 1 else ".")
     folder.mkdir(parents=True, exist_ok=True)
     (folder / "calls").write_bytes(calls().encode())
     (folder / "largest").write_bytes(largest().encode())
+    for name, scenario, sizes in [("lone", lone, [2, 16]), ("turns", turns, [2, 8, 16]), ("crowd", crowd, [2, 8, 16])]:
+        for processes in sizes:
+            (folder / f"{name}-{processes}").write_bytes(scenario(processes).encode())
 
 
 main()

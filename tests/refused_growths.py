@@ -1,90 +1,110 @@
 #!/usr/bin/env python3
-"""Refuses each growth in turn, of `plain`, of `bits` and of `replay` on every file of a folder (examples/, if none is given), and of
-what the tests of the crate `scenario` read and print.
+"""Refuses each growth in turn: of `plain`, of `bits` and of `replay` on every file of a folder and on its worked
+scenarios (examples/, if none is given), of a long replay, and of every test of the crates.
 
 A run whose growth was refused must end with status 4 and tell `out of memory`, or `memory` on a line, and must have
-printed a front of what the file prints with ample memory; any other run must print just that. A test whose growth was
-refused must fail for want of memory and for nothing else. Each part ends at the first growth that nothing meets. A round
-builds without proving, which takes some 20 seconds for the program and 40 for the tests.
+printed a front of what the file prints with ample memory. A test whose growth was refused must pass, or fail and tell
+want of memory; one with more than 10,000 growths is left out. It needs `cc`, and the programs that `rt ci` leaves: the
+proved program and the crates' tests. The growths are those of the compiled programs, which a library loaded before them
+counts and refuses.
 """
 
+import os
 import pathlib
 import re
 import subprocess
 import sys
+import tempfile
+from concurrent.futures import ThreadPoolExecutor
 
 TOP = pathlib.Path(__file__).resolve().parent.parent
+PROGRAM = TOP / "crates" / "bakerystore" / "out" / "bakerystore"
 ENGINES = ["plain", "bits", "replay"]
-TESTS = [
-    "prints_headings_and_single_spaces",
-    "prints_a_lone_write",
-    "prints_a_torn_commit",
-    "prints_a_withdrawal",
-    "reads_bits_files",
-]
-WANT_OF_MEMORY = r"    error: (AllocError|LineFault \{ line: \d+, kind: Memory \})\n"
+MOST_GROWTHS = 10_000
+WANT_OF_MEMORY = re.compile(r"out of memory\n|line \d+: memory\n")
+# how a test tells it: as its own error, or as the one that it found in place of what it asserts
+TEST_WANTS_MEMORY = re.compile(r"\b(AllocError|Memory)\b")
 
 
-def tried(crate, growth, flags):
-    """Both outputs of `rt try` in a crate, with the given growth refused (0: none)."""
-    refused = ["--fail-alloc", str(growth)] if growth else []
-    return subprocess.run(["rt", "try", *refused, *flags], cwd=TOP / "crates" / crate, capture_output=True, text=True)
+class Refuser:
+    """Runs programs with one growth refused."""
+
+    def __init__(self, folder):
+        self.library = folder / "refuse_growth.so"
+        self.folder = folder
+        source = TOP / "tests" / "refuse_growth.c"
+        subprocess.run(["cc", "-O2", "-shared", "-fPIC", "-o", self.library, source], check=True)
+
+    def run(self, words, refused):
+        """The run with this growth refused (0: none), and how many growths it met."""
+        with tempfile.NamedTemporaryFile(dir=self.folder) as told:
+            environment = dict(os.environ, LD_PRELOAD=str(self.library), REFUSED=str(refused), GROWTHS=told.name)
+            ran = subprocess.run(words, capture_output=True, text=True, env=environment, timeout=600)
+            return ran, int(told.read() or 0)
+
+    def each(self, words):
+        """The whole run, and those with each of its growths refused; none of these where there are too many."""
+        whole, growths = self.run(words, 0)
+        if growths > MOST_GROWTHS:
+            return whole, []
+        with ThreadPoolExecutor(os.cpu_count()) as pool:
+            return whole, list(pool.map(lambda k: self.run(words, k)[0], range(1, growths + 1)))
 
 
-def run(engine, folder, growth):
-    """Output, fault lines and status of each file."""
-    told = tried("bakerystore", growth, ["--cases", str(folder), "--", engine, "-"])
-    # standard output has the files' outputs, each behind its name; standard error their fault lines, each before its end
-    printed = dict(re.findall(r"^== (.*)\n((?:(?!== ).*\n)*)", told.stdout, re.M))
-    ends = re.findall(r"((?:(?!case=).*\n)*)case=(\S+) run=(\w+) status=(\d+).*\n", told.stderr)
-    if len(ends) != len(printed) or len(ends) != sum(path.is_file() for path in folder.iterdir()):
-        sys.exit(f"not every file ran:\n{told.stdout}{told.stderr}")
-    faults = lambda text: "".join(line for line in text.splitlines(True) if not line.startswith("allocations:"))
-    return {name: (printed[name], faults(text), ended, int(status)) for text, name, ended, status in ends}
+def is_lost(ran, whole):
+    """Whether a run ended for want of memory after a front of what the whole one printed."""
+    return ran.returncode == 4 and bool(WANT_OF_MEMORY.fullmatch(ran.stderr)) and whole.stdout.startswith(ran.stdout)
 
 
-def is_good(ran, whole):
-    """Whether a run ended as the whole one, or told want of memory after a front of what that one printed."""
-    printed, fault, ended, status = ran
-    lost = status == 4 and re.fullmatch(r"out of memory\n|line \d+: memory\n", fault) and whole[0].startswith(printed)
-    return ended == "ended" and (ran == whole or bool(lost))
+def file_runs(refuser, folder):
+    """For each engine and file: how many growths were refused, and those whose run ended otherwise."""
+    files = sorted(path for path in folder.iterdir() if path.is_file()) + sorted(folder.glob("worked/*/scenario"))
+    for engine in ENGINES:
+        for file in files:
+            whole, runs = refuser.each([PROGRAM, engine, file])
+            wrong = [k for k, ran in enumerate(runs, 1) if not is_lost(ran, whole)]
+            yield f"{engine} {file.relative_to(folder)}", len(runs), wrong
 
 
-def rounds_of_engine(engine, folder):
-    """For each growth, whether each file's run was good; up to the first growth that no run meets."""
-    whole = run(engine, folder, 0)
-    for growth in range(1, 1000):
-        runs = run(engine, folder, growth)
-        yield {f"{engine} {name}": (is_good(ran, whole[name]), ran) for name, ran in runs.items()}
-        if runs == whole:
-            return
+def long_replay(refuser, folder):
+    """A write and a hundred reads. The first answer is there before the last growth is met."""
+    reads = "call 0 read a\ngo 0 idle\n" * 100
+    file = folder / "hundred_reads"
+    file.write_text(f"bakery 1\nprocesses 1\ntickets 2\nstamps 2\ncall 0 write a c:5\ngo 0 idle\n{reads}")
+    whole, runs = refuser.each([PROGRAM, "replay", file])
+    wrong = [k for k, ran in enumerate(runs, 1) if not is_lost(ran, whole)]
+    if not any(ran.stdout.count("\n") >= 6 for ran in runs):
+        wrong.append(0)
+    yield "replay of a hundred reads", len(runs), wrong
 
 
-def rounds_of_tests():
-    """The same for the tests."""
-    for growth in range(1, 1000):
-        told = tried("scenario", growth, ["--test"]).stdout
-        ends = {name: (end, why) for name, end, why in re.findall(r"^test (?:\w+::)*(\w+) \.\.\. (\w+)\n((?:    .*\n)*)", told, re.M)}
-        missing = [name for name in TESTS if name not in ends]
-        if missing:
-            sys.exit(f"not every test ran: {missing}\n{told}")
-        yield {name: (ends[name][0] == "ok" or bool(re.match(WANT_OF_MEMORY, ends[name][1])), ends[name]) for name in TESTS}
-        if all(ends[name][0] == "ok" for name in TESTS):
-            return
+def is_want_of_memory(ran):
+    return ran.returncode == 0 or bool(TEST_WANTS_MEMORY.search(ran.stdout + ran.stderr))
+
+
+def crate_tests(refuser):
+    """The same for each test of each crate."""
+    for program in sorted(TOP.glob("crates/*/out/*_tests")):
+        listed = subprocess.run([program, "--list"], capture_output=True, text=True, check=True).stdout
+        for test in re.findall(r"^(.*): test$", listed, re.M):
+            whole, runs = refuser.each([program, test])
+            wrong = [k for k, ran in enumerate(runs, 1) if not is_want_of_memory(ran)]
+            if whole.returncode != 0:
+                wrong.insert(0, 0)
+            yield f"{program.name} {test}", len(runs), wrong
 
 
 def main():
-    folder = pathlib.Path(sys.argv[1] if len(sys.argv) > 1 else TOP / "examples").resolve()
+    examples = pathlib.Path(sys.argv[1] if len(sys.argv) > 1 else TOP / "examples").resolve()
     passed = failed = 0
-    for what, rounds in [*((engine, rounds_of_engine(engine, folder)) for engine in ENGINES), ("tests", rounds_of_tests())]:
-        growth = 0
-        for growth, ends in enumerate(rounds, 1):
-            for name, (good, end) in ends.items():
-                passed += good
-                failed += not good
-                if not good:
-                    print(f"growth {growth} of {name}: {end}", flush=True)
-        print(f"{what}: {growth - 1} growths refused in turn", flush=True)
+    with tempfile.TemporaryDirectory() as name:
+        folder = pathlib.Path(name)
+        refuser = Refuser(folder)
+        for part in [file_runs(refuser, examples), long_replay(refuser, folder), crate_tests(refuser)]:
+            for what, growths, wrong in part:
+                print(f"{what}: {growths} growths refused in turn" + (f", wrong: {wrong}" if wrong else ""), flush=True)
+                passed += growths - len(wrong)
+                failed += len(wrong)
     print(f"{passed} passed, {failed} failed")
     sys.exit(failed != 0)
 

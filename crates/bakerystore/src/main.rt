@@ -13,11 +13,11 @@ use plain::run_plain;
 use replayer::replay;
 use scenario::{Fault, FromRead, IntoWrite};
 use statuses::fault_status;
-use std::alloc::AllocError;
+use std::alloc::{AllocError, Global};
 use std::env::{self, Env};
 use std::fs::{File, Files};
 use std::io;
-use std::io::{BufReader, ErrorKind, Input, Read};
+use std::io::{BufReader, BufWriter, ErrorKind, Input, Read, Write};
 use std::process::ExitCode;
 use words::{Engine, Request, read_words};
 
@@ -70,21 +70,38 @@ fn run<T: Files + Input + Print + AllocGlobal>(rt: &T, request: &Request) -> Res
     }
 }
 
-/// Runs the engine from a reader to standard output.
+/// Runs the engine from a reader to standard output, each through a buffer.
 fn run_on<T: Print + AllocGlobal, R: Read + Drop>(
     rt: &T,
     engine: Engine,
     reader: R,
 ) -> Result<(), Fault> {
-    let Ok(buffered) = BufReader::new(rt.alloc(), reader) else {
+    let Ok(reader) = BufReader::new(rt.alloc(), reader) else {
         return Err(Fault::Memory);
     };
-    let mut input = FromRead::new(buffered);
-    let mut output = IntoWrite::new(io::writer(rt));
+    let Ok(mut writer) = BufWriter::new(rt.alloc(), io::writer(rt)) else {
+        return Err(Fault::Memory);
+    };
+    let ran = run_engine(rt.alloc(), engine, reader, &mut writer);
+    // After a fault too: what the engine has written is a front of its text.
+    let flushed = writer.flush();
+    ran?;
+    flushed.map_err(|_error| Fault::Write)
+}
+
+/// Runs the engine from a reader to a writer.
+fn run_engine<R: Read + Drop, W: Write>(
+    alloc: Global,
+    engine: Engine,
+    reader: R,
+    writer: &mut W,
+) -> Result<(), Fault> {
+    let mut input = FromRead::new(reader);
+    let mut output = IntoWrite::new(writer);
     match engine {
-        Engine::Plain => run_plain(rt.alloc(), &mut input, &mut output),
-        Engine::Bits => run_bits(rt.alloc(), &mut input, &mut output),
-        Engine::Replay => replay(rt.alloc(), &mut input, &mut output).map(|_summary| ()),
+        Engine::Plain => run_plain(alloc, &mut input, &mut output),
+        Engine::Bits => run_bits(alloc, &mut input, &mut output),
+        Engine::Replay => replay(alloc, &mut input, &mut output).map(|_summary| ()),
     }
 }
 

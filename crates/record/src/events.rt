@@ -1,3 +1,6 @@
+ghost use Rattle.std.specs.Prelude.{◌≡◌};
+ghost use Rattle.record.specs.Records.{process_of};
+
 use plain_store::Command;
 
 /// What may happen to a world. The first number is the process, from 0. It is accepted or refused as a
@@ -16,4 +19,19 @@ pub enum Event {
     Withdraw(u8),
     /// A process that is down may call again.
     Restart(u8),
+}
+
+impl Event {
+    /// Whose event it is.
+    pub fn process(&self) -> u8
+        ensures { result ≡ process_of self.now }
+    {
+        match *self {
+            Event::Call(process, _) => process,
+            Event::Step(process, _) => process,
+            Event::Fail(process) => process,
+            Event::Withdraw(process) => process,
+            Event::Restart(process) => process,
+        }
+    }
 }

@@ -1,4 +1,5 @@
 pub mod CourseTurns
+pub mod Goes
 pub mod Grows
 pub mod Images
 pub mod Lines
@@ -12,4 +13,6 @@ pub mod StoreLines
 pub mod Tellings
 pub mod TurnLaw
 pub mod Underways
+pub mod Walks
+pub mod Wanders
 pub mod Written

@@ -9,11 +9,11 @@ use Rattle.replayer.specs.Courses.{CourseState, Follows, MakesTurn}
 use Rattle.replayer.specs.Happenings.{Happening, Tries, Lacks, Tires, Looks, accepted, past_after, tried}
 use Rattle.replayer.specs.Listings.{Lists, ListsLine, event_told, listed}
 use Rattle.replayer.specs.Runs.{Run, past_in, run_after, run_at_start, runs}
-use Rattle.replayer.specs.Telling.{TellsOf}
+use Rattle.replayer.specs.Telling.{TellsOf, marks_made}
 use Rattle.replayer.specs.Turns.{Turn, turn_of, turns_in}
 use Rattle.replayer.specs.declared.told.Told.{Told}
 use Rattle.replayer.specs.declared.told.Told.TheVariants as told
-use Rattle.replayer.proofs.Refusals.{not_refused}
+use Rattle.replayer.proofs.Refusals.{entry_by, not_refused}
 use Rattle.replayer.proofs.TurnLaw.{rest_of, rest_none, rest_whole, turn_on}
 use Rattle.replayer.proofs.Underways.{Said, Turned, One, Nothing, said, silent_one, told_none, told_one, turned}
 
@@ -23,23 +23,23 @@ reverse-front x xs = reverse-append (x ∷ []) xs
 
 -- what is told lists what happens
 pub listed_more : (s : Setup) (before : List Happening) (this : Happening) (answer : Told) → TellsOf s (past_after s before) this answer → listed s before ++ event_told answer ≡ listed s (this ∷ before)
-listed_more s before (Tries event) (told.Accepted made e) tells =
+listed_more s before (Tries event) (told.Accepted made) tells =
     ap (λ (m : Event). listed s before ++ m ∷ []) tells.0 ∙ sym (reverse-front event (accepted s (tried before)))
-    ∙ ap reverse (sym (ap (λ (o : Option Refusal). elim o as (λ _. List Event) [ None ↦ event ∷ accepted s (tried before) | Some r ↦ accepted s (tried before) ]) (not_refused s (past_after s before) event e tells.1)))
+    ∙ ap reverse (sym (ap (λ (o : Option Refusal). elim o as (λ _. List Event) [ None ↦ event ∷ accepted s (tried before) | Some r ↦ accepted s (tried before) ]) (not_refused s (past_after s before) event (entry_by event tells.1.0 (marks_made made)) tells.1.1)))
 listed_more s before (Tries event) (told.Refused p r) tells =
     append-nil (listed s before) ∙ ap reverse (sym (ap (λ (o : Option Refusal). elim o as (λ _. List Event) [ None ↦ event ∷ accepted s (tried before) | Some r ↦ accepted s (tried before) ]) tells.1))
 listed_more s before (Tries event) (told.Tired p) tells = absurd tells
-listed_more s before (Tries event) (told.Shown store) tells = absurd tells
+listed_more s before (Tries event) (told.Shown line) tells = absurd tells
 listed_more s before (Lacks p) (told.Refused q r) tells = append-nil (listed s before)
-listed_more s before (Lacks p) (told.Accepted made e) tells = absurd tells
+listed_more s before (Lacks p) (told.Accepted made) tells = absurd tells
 listed_more s before (Lacks p) (told.Tired q) tells = absurd tells
-listed_more s before (Lacks p) (told.Shown store) tells = absurd tells
+listed_more s before (Lacks p) (told.Shown line) tells = absurd tells
 listed_more s before (Tires p) (told.Tired q) tells = append-nil (listed s before)
-listed_more s before (Tires p) (told.Accepted made e) tells = absurd tells
+listed_more s before (Tires p) (told.Accepted made) tells = absurd tells
 listed_more s before (Tires p) (told.Refused q r) tells = absurd tells
-listed_more s before (Tires p) (told.Shown store) tells = absurd tells
-listed_more s before Looks (told.Shown store) tells = append-nil (listed s before)
-listed_more s before Looks (told.Accepted made e) tells = absurd tells
+listed_more s before (Tires p) (told.Shown line) tells = absurd tells
+listed_more s before Looks (told.Shown line) tells = append-nil (listed s before)
+listed_more s before Looks (told.Accepted made) tells = absurd tells
 listed_more s before Looks (told.Refused q r) tells = absurd tells
 listed_more s before Looks (told.Tired q) tells = absurd tells
 

@@ -1,18 +1,19 @@
 -- The text of what is told is the text of what happens.
-use Rattle.std.proofs.Common.{◌≡◌, ℕ, ◌+◌, List, [], ◌∷◌, length, Option, None, Some, ap, sym, ◌∙◌, arith, add-zero}
+use Rattle.std.proofs.Common.{◌≡◌, ℕ, ◌+◌, List, [], ◌∷◌, flat_map, length, Option, None, Some, ap, sym, ◌∙◌, arith, add-zero}
 use Rattle.plain_store.specs.declared.setups.Setup.{Setup}
 use Rattle.record.specs.declared.events.Event.{Event}
 use Rattle.record.specs.declared.refusals.Refusal.{Refusal}
 use Rattle.record.specs.Entries.{Entry, Past}
 use Rattle.record.specs.Records.{added, entry_of, past_of, process_of, refused}
+use Rattle.replayer.specs.Courses.{IsQuiet}
 use Rattle.replayer.specs.Happenings.{Happening, Tries, Lacks, Tires, Looks, past_after, refusals, refusals_at, tried}
 use Rattle.replayer.specs.Summaries.{counted}
-use Rattle.replayer.specs.Telling.{TellsOf, told_text}
-use Rattle.replayer.specs.Texts.{entry_text, refusal_line, store_text, text_at}
+use Rattle.replayer.specs.Telling.{TellsOf, marks_made, told_text}
+use Rattle.replayer.specs.Texts.{entry_text, mark_line, refusal_line, text_at}
 use Rattle.replayer.specs.declared.summaries.Summary.{Summary}
 use Rattle.replayer.specs.declared.told.Told.{Told}
 use Rattle.replayer.specs.declared.told.Told.TheVariants as told
-use Rattle.replayer.proofs.Refusals.{entry_added, none_added, not_refused}
+use Rattle.replayer.proofs.Refusals.{entry_added, entry_by, none_added, not_refused}
 
 -- an event that is accepted
 accepted_text : (s : Setup) (past : Past) (event : Event) (e : Entry) → entry_of s past event ≡ Some e → entry_text (length past) e ≡ text_at s past (Tries event)
@@ -28,20 +29,22 @@ refused_text s past event p r whose is =
 
 -- what is told
 pub told_is : (s : Setup) (past : Past) (this : Happening) (answer : Told) → TellsOf s past this answer → told_text (length past) answer ≡ text_at s past this
-told_is s past (Tries event) (told.Accepted made e) tells = accepted_text s past event e tells.1
+told_is s past (Tries event) (told.Accepted made) tells =
+    ap (λ (event : Event). flat_map (mark_line (length past) (process_of event)) (marks_made made)) tells.0
+    ∙ accepted_text s past event (entry_by event tells.1.0 (marks_made made)) tells.1.1
 told_is s past (Tries event) (told.Refused p r) tells = refused_text s past event p r tells.0 tells.1
 told_is s past (Tries event) (told.Tired p) tells = absurd tells
-told_is s past (Tries event) (told.Shown store) tells = absurd tells
+told_is s past (Tries event) (told.Shown line) tells = absurd tells
 told_is s past (Lacks p) (told.Refused q r) tells = λ i. refusal_line (tells.0 i) (tells.1 i)
-told_is s past (Lacks p) (told.Accepted made e) tells = absurd tells
+told_is s past (Lacks p) (told.Accepted made) tells = absurd tells
 told_is s past (Lacks p) (told.Tired q) tells = absurd tells
-told_is s past (Lacks p) (told.Shown store) tells = absurd tells
+told_is s past (Lacks p) (told.Shown line) tells = absurd tells
 told_is s past (Tires p) (told.Tired q) tells = ap (λ p. text_at s past (Tires p)) tells
-told_is s past (Tires p) (told.Accepted made e) tells = absurd tells
+told_is s past (Tires p) (told.Accepted made) tells = absurd tells
 told_is s past (Tires p) (told.Refused q r) tells = absurd tells
-told_is s past (Tires p) (told.Shown store) tells = absurd tells
-told_is s past Looks (told.Shown store) tells = ap store_text tells
-told_is s past Looks (told.Accepted made e) tells = absurd tells
+told_is s past (Tires p) (told.Shown line) tells = absurd tells
+told_is s past Looks (told.Shown line) tells = tells
+told_is s past Looks (told.Accepted made) tells = absurd tells
 told_is s past Looks (told.Refused q r) tells = absurd tells
 told_is s past Looks (told.Tired q) tells = absurd tells
 
@@ -66,21 +69,40 @@ made_counts s past event e is = ap (λ (o : Option Refusal). elim o as (λ _. �
 pub counts_more : (s : Setup) (before : List Happening) (this : Happening) (answer : Told) (summary : Summary) → TellsOf s (past_after s before) this answer →
     summary.events ≡ length (past_after s before) → summary.refused ≡ refusals s before →
     ((counted answer summary).events ≡ length (past_after s (this ∷ before))) × ((counted answer summary).refused ≡ refusals s (this ∷ before))
-counts_more s before (Tries event) (told.Accepted made e) summary tells events refused =
-    (ap (λ n. n + 1) events ∙ sym (longer s (tried before) event e tells.1), omega (arith, refused, made_counts s (past_after s before) event e tells.1))
+counts_more s before (Tries event) (told.Accepted made) summary tells events refused =
+    let e : Entry = entry_by event tells.1.0 (marks_made made) in
+    (ap (λ n. n + 1) events ∙ sym (longer s (tried before) event e tells.1.1), omega (arith, refused, made_counts s (past_after s before) event e tells.1.1))
 counts_more s before (Tries event) (told.Refused p r) summary tells events refused =
     (events ∙ sym (as_long s (tried before) event r tells.1), omega (arith, refused, refused_counts s (past_after s before) event r tells.1))
 counts_more s before (Tries event) (told.Tired p) summary tells events refused = absurd tells
-counts_more s before (Tries event) (told.Shown store) summary tells events refused = absurd tells
+counts_more s before (Tries event) (told.Shown line) summary tells events refused = absurd tells
 counts_more s before (Lacks p) (told.Refused q r) summary tells events refused = (events, ap (λ n. n + 1) refused)
-counts_more s before (Lacks p) (told.Accepted made e) summary tells events refused = absurd tells
+counts_more s before (Lacks p) (told.Accepted made) summary tells events refused = absurd tells
 counts_more s before (Lacks p) (told.Tired q) summary tells events refused = absurd tells
-counts_more s before (Lacks p) (told.Shown store) summary tells events refused = absurd tells
+counts_more s before (Lacks p) (told.Shown line) summary tells events refused = absurd tells
 counts_more s before (Tires p) (told.Tired q) summary tells events refused = (events, refused ∙ sym (add-zero (refusals s before)))
-counts_more s before (Tires p) (told.Accepted made e) summary tells events refused = absurd tells
+counts_more s before (Tires p) (told.Accepted made) summary tells events refused = absurd tells
 counts_more s before (Tires p) (told.Refused q r) summary tells events refused = absurd tells
-counts_more s before (Tires p) (told.Shown store) summary tells events refused = absurd tells
-counts_more s before Looks (told.Shown store) summary tells events refused = (events, refused ∙ sym (add-zero (refusals s before)))
-counts_more s before Looks (told.Accepted made e) summary tells events refused = absurd tells
+counts_more s before (Tires p) (told.Shown line) summary tells events refused = absurd tells
+counts_more s before Looks (told.Shown line) summary tells events refused = (events, refused ∙ sym (add-zero (refusals s before)))
+counts_more s before Looks (told.Accepted made) summary tells events refused = absurd tells
 counts_more s before Looks (told.Refused q r) summary tells events refused = absurd tells
 counts_more s before Looks (told.Tired q) summary tells events refused = absurd tells
+
+-- what has no mark has no text, and counts as one event
+pub record Quietly (s : Setup) (before : List Happening) (this : Happening) : Type 0 where
+  pub text : text_at s (past_after s before) this ≡ []
+  pub events : length (past_after s (this ∷ before)) ≡ length (past_after s before) + 1
+  pub refused : refusals s (this ∷ before) ≡ refusals s before
+
+pub quiet_counts : (s : Setup) (before : List Happening) (this : Happening) → IsQuiet s (past_after s before) (Some this) → Quietly s before this
+quiet_counts s before (Tries event) adds =
+    let e : Entry = entry_by event adds.0 [] in
+    record {
+      text = sym (accepted_text s (past_after s before) event e adds.1);
+      events = longer s (tried before) event e adds.1;
+      refused = omega (arith, made_counts s (past_after s before) event e adds.1);
+    }
+quiet_counts s before (Lacks p) adds = absurd adds
+quiet_counts s before (Tires p) adds = absurd adds
+quiet_counts s before Looks adds = absurd adds

@@ -126,3 +126,39 @@ turn_on s (line.Restart p) (suc left) run few = lone left (run_after s (line.Res
 turn_on s (line.Flick flick) (suc left) run few = refl
 turn_on s (line.Wander n) (suc left) run few = wander_on s n left run
 turn_on s line.Show (suc left) run few = lone left (run_after s line.Show run) (run_after s line.Show) few
+
+-- a turn never leaves more turns
+step_turn_less : (s : Setup) (p left : ℕ) (run : Run) → (step_turn s p left run).left ≤ left
+step_turn_less s p left run = by (may_step s p run)
+  where
+    by : (b : Bool) → (elim b as (λ _. ℕ) [ true ↦ left | false ↦ 0 ]) ≤ left
+    by true = omega arith
+    by false = omega arith
+
+on_turn_less : (s : Setup) (p left : ℕ) (run : Run) → (on_turn s p left run).left ≤ left
+on_turn_less s p zero run = omega arith
+on_turn_less s p (suc left) run = step_turn_less s p (suc left) run
+
+go_turn_less : (s : Setup) (p : ℕ) (target : Target) (left : ℕ) (run : Run) → (go_turn s p target left run).left ≤ left
+go_turn_less s p target left run = by (nat_lt p s.processes) (is_there target (stage p (past_in s run)))
+  where
+    by : (b c : Bool) → (elim b as (λ _. Turn) [ false ↦ happens (Lacks p) 0 run | true ↦ elim c as (λ _. Turn) [ true ↦ ends run | false ↦ on_turn s p left run ] ]).left ≤ left
+    by false c = omega arith
+    by true true = omega arith
+    by true false = on_turn_less s p left run
+
+wander_turn_less : (left : ℕ) (run : Run) (ps : List ℕ) → (wander_turn left run ps).left ≤ left
+wander_turn_less left run [] = omega arith
+wander_turn_less left run (p ∷ ps) = omega arith
+
+pub turn_less : (s : Setup) (line : Line) (left : ℕ) (run : Run) → (turn_of s line left run).left ≤ left
+turn_less s line zero run = omega arith
+turn_less s (line.Call p command) (suc left) run = omega arith
+turn_less s (line.Step p n) (suc left) run = omega (arith, step_turn_less s p left run)
+turn_less s (line.Go p target) (suc left) run = omega (arith, go_turn_less s p target left run)
+turn_less s (line.Fail p) (suc left) run = omega arith
+turn_less s (line.Withdraw p) (suc left) run = omega arith
+turn_less s (line.Restart p) (suc left) run = omega arith
+turn_less s (line.Flick flick) (suc left) run = omega arith
+turn_less s (line.Wander n) (suc left) run = omega (arith, wander_turn_less left run (movers s (past_in s run)))
+turn_less s line.Show (suc left) run = omega arith

@@ -1,5 +1,5 @@
 -- A line that is being made: what has happened of it, what was written, and what is left.
-use Rattle.std.proofs.Common.{◌≡◌, ℕ, zero, suc, ◌+◌, ◌≤◌, Bool, true, false, nat_lt, List, [], ◌∷◌, ◌++◌, length, Option, None, Some, refl, ap, sym, subst, ◌∙◌, arith, append-nil, append_assoc}
+use Rattle.std.proofs.Common.{◌≡◌, ℕ, zero, suc, ◌+◌, ◌≤◌, Bool, true, false, nat_lt, List, [], ◌∷◌, ◌++◌, length, Option, None, Some, refl, ap, sym, subst, ◌∙◌, arith, add-zero, append-nil, append_assoc}
 use Rattle.std.specs.Io.KnownBytes.{Appends}
 use Rattle.scenario.specs.Streams.{WritesFront}
 use Rattle.plain_store.specs.declared.setups.Setup.{Setup}
@@ -8,7 +8,7 @@ use Rattle.record.specs.Stages.{stage}
 use Rattle.scenario.specs.declared.lines.Line.{Line}
 use Rattle.scenario.specs.declared.lines.Line.TheVariants as line
 use Rattle.scenario.specs.declared.lines.Target.{Target}
-use Rattle.replayer.specs.Courses.{CourseState, Follows, Makes, MakesTurn}
+use Rattle.replayer.specs.Courses.{CourseState, Follows, IsQuiet, Makes, MakesTurns, QuietTurns}
 use Rattle.replayer.specs.Happenings.{Happening, Lacks, past_after, refusals}
 use Rattle.replayer.specs.Replays.{Moves}
 use Rattle.replayer.specs.Runs.{Run, is_there, movers, past_in, run_after}
@@ -20,9 +20,10 @@ use Rattle.replayer.specs.Writing.{Counts, Writes, WritesPart}
 use Rattle.replayer.specs.declared.summaries.Summary.{Summary}
 use Rattle.replayer.specs.declared.told.Told.{Told}
 use Rattle.replayer.specs.declared.told.Told.TheVariants as told
+use Rattle.replayer.specs.declared.told.Turns.{Turns}
 use Rattle.replayer.proofs.Grows.{Grows, rest_grows}
-use Rattle.replayer.proofs.Tellings.{counts_more, told_is}
-use Rattle.replayer.proofs.TurnLaw.{rest_of, rest_none, rest_whole, turn_on}
+use Rattle.replayer.proofs.Tellings.{Quietly, counts_more, quiet_counts, told_is}
+use Rattle.replayer.proofs.TurnLaw.{rest_of, rest_none, rest_whole, turn_less, turn_on}
 use Rattle.replayer.proofs.Written.{appends_both, appends_none, front_after, front_longer, front_whole}
 
 -- what has happened after a turn: one thing more, or nothing, and then the line has ended
@@ -104,23 +105,74 @@ silent_one s past o this is tells = subst (λ o. Tells s past o None) is tells
 told_bytes : (s : Setup) (now : Run) (this : Happening) (answer : Told) (summary : Summary) → Counts s now summary → TellsOf s (past_in s now) this answer → told_text summary.events answer ≡ text_at s (past_in s now) this
 told_bytes s now this answer summary counts tells = ap (λ n. told_text n answer) counts.events ∙ told_is s (past_in s now) this answer tells
 
--- a turn more
-pub underway_on : (s : Setup) (line : Line) (start : Run) (course course' : CourseState) (summary : Summary) (answer : Told) (old mid new : Option (List ℕ)) → course.left ≤ turns_in line →
-    Underway s line start course summary old mid → MakesTurn course line (Some answer) course' → Appends mid new (told_text summary.events answer) → Underway s line start course' (counted answer summary) old new
-underway_on s line start course course' summary answer old mid new few u makes wrote = by (turned s line course.left u.now)
+-- so many events more
+abbrev pub with_events : ℕ → Summary → Summary
+with_events n summary = record summary { events = summary.events + n }
+
+-- a line from a run on, where no course stands: the run now, with so many turns left
+pub record Reached (s : Setup) (line : Line) (start : Run) (left : ℕ) (now : Run) (summary : Summary) (old new : Option (List ℕ)) : Type 0 where
+  pub few : left ≤ turns_in line
+  pub counts : Counts s now summary
+  pub writes : Writes s start.happened now.happened old new
+  pub rest : rest_of s line left now ≡ run_after s line start
+
+reached : (s : Setup) (line : Line) (start : Run) (course : CourseState) (summary : Summary) (old new : Option (List ℕ)) → course.left ≤ turns_in line → (u : Underway s line start course summary old new) → Reached s line start course.left u.now summary old new
+reached s line start course summary old new few u = record { few = few; counts = u.counts; writes = u.writes; rest = u.rest }
+
+-- a turn without a mark
+reached_quiet : (s : Setup) (line : Line) (start : Run) (left : ℕ) (now : Run) (summary : Summary) (old new : Option (List ℕ)) → Reached s line start left now summary old new → IsQuiet s (past_in s now) (turn_of s line left now).this →
+    Reached s line start (turn_of s line left now).left (turn_of s line left now).run (with_events 1 summary) old new
+reached_quiet s line start left now summary old new u quiet = by (turned s line left now)
   where
     t : Turn
-    t = turn_of s line course.left u.now
+    t = turn_of s line left now
 
-    is : Said s line course.left u.now (Some answer) course'
-    is = said s line u.now (Some answer) course course' u.setup (makes u.now u.follows)
-
-    by : Turned t u.now.happened → Underway s line start course' (counted answer summary) old new
-    by (Nothing none ended same) = absurd (told_none s (past_in s u.now) t.this answer none is.tells)
+    by : Turned t now.happened → Reached s line start t.left t.run (with_events 1 summary) old new
+    by (Nothing none ended same) = absurd (subst (λ o. IsQuiet s (past_in s now) o) none quiet)
     by (One this some same) =
-        let tells : TellsOf s (past_in s u.now) this answer = told_one s (past_in s u.now) t.this this answer some is.tells in
-        let text : told_text summary.events answer ≡ text_at s (past_in s u.now) this = told_bytes s u.now this answer summary u.counts tells in
-        let counts = counts_more s u.now.happened this answer summary tells u.counts.events u.counts.refused in
+        let q : Quietly s now.happened this = quiet_counts s now.happened this (subst (λ o. IsQuiet s (past_in s now) o) some quiet) in
+        let less = turn_less s line left now in
+        record {
+          few = omega (arith, less, u.few);
+          counts = record {
+            events = ap (λ n. n + 1) u.counts.events ∙ sym q.events ∙ ap (λ l. length (past_after s l)) (sym same);
+            refused = u.counts.refused ∙ sym q.refused ∙ ap (refusals s) (sym same);
+          };
+          writes = record {
+            text = u.writes.text;
+            is = ap (text_of s) same ∙ ap (λ l. text_of s now.happened ++ l) q.text ∙ append-nil (text_of s now.happened) ∙ u.writes.is;
+            taken = u.writes.taken;
+          };
+          rest = sym (turn_on s line left now u.few) ∙ u.rest;
+        }
+
+-- so many of them
+reached_turns : (s : Setup) (line : Line) (start : Run) (quiet left : ℕ) (now : Run) (left' : ℕ) (now' : Run) (summary : Summary) (old new : Option (List ℕ)) → Reached s line start left now summary old new → QuietTurns s line quiet left now left' now' →
+    Reached s line start left' now' (with_events quiet summary) old new
+reached_turns s line start zero left now left' now' summary old new u (same, at) =
+    let family : ℕ → Run → Summary → Type 0 = λ n run summary. Reached s line start n run summary old new in
+    let none : with_events 0 summary ≡ summary = λ i. record { events = add-zero summary.events i; taken = summary.taken; refused = summary.refused } in
+    subst (λ n. family n now' (with_events 0 summary)) (sym same) (subst (λ run. family left run (with_events 0 summary)) (sym at) (subst (family left now) (sym none) u))
+reached_turns s line start (suc quiet) left now left' now' summary old new u (first, more) =
+    let family : Summary → Type 0 = λ summary. Reached s line start left' now' summary old new in
+    let events : (summary.events + 1) + quiet ≡ summary.events + suc quiet = omega arith in
+    let same : with_events quiet (with_events 1 summary) ≡ with_events (suc quiet) summary = λ i. record { events = events i; taken = summary.taken; refused = summary.refused } in
+    subst family same (reached_turns s line start quiet (turn_of s line left now).left (turn_of s line left now).run left' now' (with_events 1 summary) old new (reached_quiet s line start left now summary old new u first) more)
+
+-- a turn that tells
+reached_told : (s : Setup) (line : Line) (start : Run) (left : ℕ) (now : Run) (course' : CourseState) (summary : Summary) (answer : Told) (old mid new : Option (List ℕ)) →
+    Reached s line start left now summary old mid → Said s line left now (Some answer) course' → Appends mid new (told_text summary.events answer) → Underway s line start course' (counted answer summary) old new
+reached_told s line start left now course' summary answer old mid new u is wrote = by (turned s line left now)
+  where
+    t : Turn
+    t = turn_of s line left now
+
+    by : Turned t now.happened → Underway s line start course' (counted answer summary) old new
+    by (Nothing none ended same) = absurd (told_none s (past_in s now) t.this answer none is.tells)
+    by (One this some same) =
+        let tells : TellsOf s (past_in s now) this answer = told_one s (past_in s now) t.this this answer some is.tells in
+        let text : told_text summary.events answer ≡ text_at s (past_in s now) this = told_bytes s now this answer summary u.counts tells in
+        let counts = counts_more s now.happened this answer summary tells u.counts.events u.counts.refused in
         record {
           now = t.run;
           follows = is.follows;
@@ -130,29 +182,26 @@ underway_on s line start course course' summary answer old mid new few u makes w
             refused = counts.1 ∙ ap (refusals s) (sym same);
           };
           writes = record {
-            text = u.writes.text ++ text_at s (past_in s u.now) this;
-            is = ap (text_of s) same ∙ ap (λ l. l ++ text_at s (past_in s u.now) this) u.writes.is ∙ append_assoc (text_of s start.happened) u.writes.text (text_at s (past_in s u.now) this);
-            taken = appends_both old mid new u.writes.text (text_at s (past_in s u.now) this) u.writes.taken (subst (λ l. Appends mid new l) text wrote);
+            text = u.writes.text ++ text_at s (past_in s now) this;
+            is = ap (text_of s) same ∙ ap (λ l. l ++ text_at s (past_in s now) this) u.writes.is ∙ append_assoc (text_of s start.happened) u.writes.text (text_at s (past_in s now) this);
+            taken = appends_both old mid new u.writes.text (text_at s (past_in s now) this) u.writes.taken (subst (λ l. Appends mid new l) text wrote);
           };
-          rest = ap (λ n. rest_of s line n t.run) is.left ∙ sym (turn_on s line course.left u.now few) ∙ u.rest;
+          rest = ap (λ n. rest_of s line n t.run) is.left ∙ sym (turn_on s line left now u.few) ∙ u.rest;
         }
 
 -- the end of a line
-pub underway_ended : (s : Setup) (line : Line) (start : Run) (course course' : CourseState) (summary : Summary) (old new : Option (List ℕ)) → course.left ≤ turns_in line →
-    Underway s line start course summary old new → MakesTurn course line None course' → Moves s start (run_after s line start) course' summary old new
-underway_ended s line start course course' summary old new few u makes = by (turned s line course.left u.now)
+reached_ended : (s : Setup) (line : Line) (start : Run) (left : ℕ) (now : Run) (course' : CourseState) (summary : Summary) (old new : Option (List ℕ)) →
+    Reached s line start left now summary old new → Said s line left now None course' → Moves s start (run_after s line start) course' summary old new
+reached_ended s line start left now course' summary old new u is = by (turned s line left now)
   where
     t : Turn
-    t = turn_of s line course.left u.now
+    t = turn_of s line left now
 
-    is : Said s line course.left u.now None course'
-    is = said s line u.now None course course' u.setup (makes u.now u.follows)
-
-    by : Turned t u.now.happened → Moves s start (run_after s line start) course' summary old new
-    by (One this some same) = absurd (silent_one s (past_in s u.now) t.this this some is.tells)
+    by : Turned t now.happened → Moves s start (run_after s line start) course' summary old new
+    by (One this some same) = absurd (silent_one s (past_in s now) t.this this some is.tells)
     by (Nothing none ended same) =
-        let all : t.run ≡ run_after s line start = sym (rest_none s line t.run) ∙ ap (λ n. rest_of s line n t.run) (sym ended) ∙ sym (turn_on s line course.left u.now few) ∙ u.rest in
-        let here : u.now.happened ≡ (run_after s line start).happened = sym same ∙ ap (λ (r : Run). r.happened) all in
+        let all : t.run ≡ run_after s line start = sym (rest_none s line t.run) ∙ ap (λ n. rest_of s line n t.run) (sym ended) ∙ sym (turn_on s line left now u.few) ∙ u.rest in
+        let here : now.happened ≡ (run_after s line start).happened = sym same ∙ ap (λ (r : Run). r.happened) all in
         record {
           follows = subst (λ (r : Run). Follows course' r) all is.follows;
           setup = is.setup;
@@ -160,7 +209,61 @@ underway_ended s line start course course' summary old new few u makes = by (tur
           writes = record { text = u.writes.text; is = ap (text_of s) (sym here) ∙ u.writes.is; taken = u.writes.taken };
         }
 
--- a line that is cut short between two turns
+-- a line that is cut short in what a turn tells
+reached_torn : (s : Setup) (line : Line) (start : Run) (left : ℕ) (now : Run) (course' : CourseState) (summary : Summary) (answer : Told) (old mid new : Option (List ℕ)) →
+    Reached s line start left now summary old mid → Said s line left now (Some answer) course' → WritesFront mid new (told_text summary.events answer) → WritesPart s start.happened (run_after s line start).happened old new
+reached_torn s line start left now course' summary answer old mid new u is wrote = by (turned s line left now)
+  where
+    t : Turn
+    t = turn_of s line left now
+
+    by : Turned t now.happened → WritesPart s start.happened (run_after s line start).happened old new
+    by (Nothing none ended same) = absurd (told_none s (past_in s now) t.this answer none is.tells)
+    by (One this some same) =
+        let tells : TellsOf s (past_in s now) this answer = told_one s (past_in s now) t.this this answer some is.tells in
+        let text : told_text summary.events answer ≡ text_at s (past_in s now) this = told_bytes s now this answer summary u.counts tells in
+        let here : List ℕ = text_at s (past_in s now) this in
+        let more : Grows s t.run.happened (rest_of s line t.left t.run).happened = rest_grows s line t.left t.run in
+        let all : rest_of s line t.left t.run ≡ run_after s line start = sym (turn_on s line left now u.few) ∙ u.rest in
+        record {
+          text = u.writes.text ++ (here ++ more.text);
+          is = ap (λ (r : Run). text_of s r.happened) (sym all) ∙ more.is ∙ ap (λ l. text_of s l ++ more.text) same
+              ∙ append_assoc (text_of s now.happened) here more.text ∙ ap (λ l. l ++ (here ++ more.text)) u.writes.is ∙ append_assoc (text_of s start.happened) u.writes.text (here ++ more.text);
+          front = front_after old mid new u.writes.text (here ++ more.text) u.writes.taken (front_longer mid new here more.text (subst (λ l. WritesFront mid new l) text wrote));
+        }
+
+-- turns of a line, said of the setup
+pub record SaidTurns (s : Setup) (line : Line) (had : ℕ) (now : Run) (turns : Turns) (course : CourseState) : Type 0 where
+  pub left : ℕ
+  pub then : Run
+  pub quiet : QuietTurns s line turns.quiet had now left then
+  pub said : Said s line left then turns.told course
+
+said_turns : (s : Setup) (line : Line) (now : Run) (turns : Turns) (course course' : CourseState) → course.world.setup ≡ s → MakesTurns course line now turns course' → SaidTurns s line course.left now turns course'
+said_turns s line now turns course course' setup made =
+    let family : Setup → Type 0 = λ s. SaidTurns s line course.left now turns course' in
+    subst family setup (record { left = made.left; then = made.now; quiet = made.quiet; said = record { tells = made.makes.tells; follows = made.makes.follows; left = made.makes.left; setup = made.makes.setup } })
+
+-- the turns up to one that tells
+pub underway_on : (s : Setup) (line : Line) (start : Run) (course course' : CourseState) (summary : Summary) (turns : Turns) (answer : Told) (old mid new : Option (List ℕ)) → course.left ≤ turns_in line →
+    Underway s line start course summary old mid → ((run : Run) → Follows course run → MakesTurns course line run turns course') → turns.told ≡ Some answer → Appends mid new (told_text (summary.events + turns.quiet) answer) →
+    Underway s line start course' (counted answer (with_events turns.quiet summary)) old new
+underway_on s line start course course' summary turns answer old mid new few u makes told wrote =
+    let t : SaidTurns s line course.left u.now turns course' = said_turns s line u.now turns course course' u.setup (makes u.now u.follows) in
+    reached_told s line start t.left t.then course' (with_events turns.quiet summary) answer old mid new
+    (reached_turns s line start turns.quiet course.left u.now t.left t.then summary old mid (reached s line start course summary old mid few u) t.quiet)
+    (subst (λ o. Said s line t.left t.then o course') told t.said) wrote
+
+-- the turns up to the end of a line
+pub underway_ended : (s : Setup) (line : Line) (start : Run) (course course' : CourseState) (summary : Summary) (turns : Turns) (old new : Option (List ℕ)) → course.left ≤ turns_in line →
+    Underway s line start course summary old new → ((run : Run) → Follows course run → MakesTurns course line run turns course') → turns.told ≡ None → Moves s start (run_after s line start) course' (with_events turns.quiet summary) old new
+underway_ended s line start course course' summary turns old new few u makes none =
+    let t : SaidTurns s line course.left u.now turns course' = said_turns s line u.now turns course course' u.setup (makes u.now u.follows) in
+    reached_ended s line start t.left t.then course' (with_events turns.quiet summary) old new
+    (reached_turns s line start turns.quiet course.left u.now t.left t.then summary old new (reached s line start course summary old new few u) t.quiet)
+    (subst (λ o. Said s line t.left t.then o course') none t.said)
+
+-- a line that is cut short before its next turn
 pub underway_cut : (s : Setup) (line : Line) (start : Run) (course : CourseState) (summary : Summary) (old new : Option (List ℕ)) →
     Underway s line start course summary old new → WritesPart s start.happened (run_after s line start).happened old new
 underway_cut s line start course summary old new u =
@@ -171,41 +274,25 @@ underway_cut s line start course summary old new u =
       front = front_whole old new u.writes.text more.text u.writes.taken;
     }
 
--- a line that is cut short in what a turn tells
-pub underway_torn : (s : Setup) (line : Line) (start : Run) (course course' : CourseState) (summary : Summary) (answer : Told) (old mid new : Option (List ℕ)) → course.left ≤ turns_in line →
-    Underway s line start course summary old mid → MakesTurn course line (Some answer) course' → WritesFront mid new (told_text summary.events answer) → WritesPart s start.happened (run_after s line start).happened old new
-underway_torn s line start course course' summary answer old mid new few u makes wrote = by (turned s line course.left u.now)
-  where
-    t : Turn
-    t = turn_of s line course.left u.now
-
-    is : Said s line course.left u.now (Some answer) course'
-    is = said s line u.now (Some answer) course course' u.setup (makes u.now u.follows)
-
-    by : Turned t u.now.happened → WritesPart s start.happened (run_after s line start).happened old new
-    by (Nothing none ended same) = absurd (told_none s (past_in s u.now) t.this answer none is.tells)
-    by (One this some same) =
-        let tells : TellsOf s (past_in s u.now) this answer = told_one s (past_in s u.now) t.this this answer some is.tells in
-        let text : told_text summary.events answer ≡ text_at s (past_in s u.now) this = told_bytes s u.now this answer summary u.counts tells in
-        let here : List ℕ = text_at s (past_in s u.now) this in
-        let more : Grows s t.run.happened (rest_of s line t.left t.run).happened = rest_grows s line t.left t.run in
-        let all : rest_of s line t.left t.run ≡ run_after s line start = sym (turn_on s line course.left u.now few) ∙ u.rest in
-        record {
-          text = u.writes.text ++ (here ++ more.text);
-          is = ap (λ (r : Run). text_of s r.happened) (sym all) ∙ more.is ∙ ap (λ l. text_of s l ++ more.text) same
-              ∙ append_assoc (text_of s u.now.happened) here more.text ∙ ap (λ l. l ++ (here ++ more.text)) u.writes.is ∙ append_assoc (text_of s start.happened) u.writes.text (here ++ more.text);
-          front = front_after old mid new u.writes.text (here ++ more.text) u.writes.taken (front_longer mid new here more.text (subst (λ l. WritesFront mid new l) text wrote));
-        }
+-- a line that is cut short in what its turns tell
+pub underway_torn : (s : Setup) (line : Line) (start : Run) (course course' : CourseState) (summary : Summary) (turns : Turns) (answer : Told) (old mid new : Option (List ℕ)) → course.left ≤ turns_in line →
+    Underway s line start course summary old mid → ((run : Run) → Follows course run → MakesTurns course line run turns course') → turns.told ≡ Some answer → WritesFront mid new (told_text (summary.events + turns.quiet) answer) →
+    WritesPart s start.happened (run_after s line start).happened old new
+underway_torn s line start course course' summary turns answer old mid new few u makes told wrote =
+    let t : SaidTurns s line course.left u.now turns course' = said_turns s line u.now turns course course' u.setup (makes u.now u.follows) in
+    reached_torn s line start t.left t.then course' (with_events turns.quiet summary) answer old mid new
+    (reached_turns s line start turns.quiet course.left u.now t.left t.then summary old mid (reached s line start course summary old mid few u) t.quiet)
+    (subst (λ o. Said s line t.left t.then o course') told t.said) wrote
 
 -- what is told counts once at most
 pub events_counted : (answer : Told) (summary : Summary) → (counted answer summary).events ≤ summary.events + 1
-events_counted (told.Accepted event entry) summary = omega arith
+events_counted (told.Accepted made) summary = omega arith
 events_counted (told.Refused p r) summary = omega arith
 events_counted (told.Tired p) summary = omega arith
-events_counted (told.Shown store) summary = omega arith
+events_counted (told.Shown line) summary = omega arith
 
 pub refused_counted : (answer : Told) (summary : Summary) → (counted answer summary).refused ≤ summary.refused + 1
-refused_counted (told.Accepted event entry) summary = omega arith
+refused_counted (told.Accepted made) summary = omega arith
 refused_counted (told.Refused p r) summary = omega arith
 refused_counted (told.Tired p) summary = omega arith
-refused_counted (told.Shown store) summary = omega arith
+refused_counted (told.Shown line) summary = omega arith

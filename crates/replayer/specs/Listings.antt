@@ -10,6 +10,7 @@ use Rattle.world.specs.Shows.{Shows, WorldState}
 use Rattle.replayer.specs.Courses.{CourseState, Follows}
 use Rattle.replayer.specs.Happenings.{Happening, accepted, tried}
 use Rattle.replayer.specs.Runs.{Run, happenings, run_after}
+use Rattle.replayer.specs.Telling.{event_made}
 use Rattle.replayer.specs.declared.told.Told.{Told}
 use Rattle.replayer.specs.declared.told.Told.TheVariants as told
 
@@ -23,10 +24,10 @@ accepted_events script = listed script.setup (happenings script)
 
 -- the event that is told, if one is
 abbrev pub event_told : Told → List Event
-event_told (told.Accepted event entry) = event ∷ []
+event_told (told.Accepted made) = event_made made ∷ []
 event_told (told.Refused p refusal) = []
 event_told (told.Tired p) = []
-event_told (told.Shown store) = []
+event_told (told.Shown line) = []
 
 -- from one run to another: the cursor and the list
 pub record Lists (s : Setup) (after : Run) (course : CourseState) (events : List Event) : Type 0 where

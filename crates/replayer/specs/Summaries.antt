@@ -17,7 +17,7 @@ summary_of s happened = record {
 
 -- the counts after what is told; the commands taken are counted at the end
 abbrev pub counted : Told → Summary → Summary
-counted (told.Accepted event entry) summary = record summary { events = summary.events + 1 }
+counted (told.Accepted made) summary = record summary { events = summary.events + 1 }
 counted (told.Refused p refusal) summary = record summary { refused = summary.refused + 1 }
 counted (told.Tired p) summary = summary
-counted (told.Shown store) summary = summary
+counted (told.Shown line) summary = summary

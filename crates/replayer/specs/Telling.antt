@@ -1,21 +1,58 @@
 -- What a turn tells of what happens, and its text.
-use Rattle.std.specs.Prelude.{◌≡◌, ℕ, List, Option, None, Some}
+use Rattle.std.specs.Prelude.{◌≡◌, ℕ, Bool, true, false, List, [], ◌∷◌, flat_map, map, Option, None, Some, Result, Ok, Err}
+use Rattle.std.specs.String.{string_bytes}
+use Rattle.safe_number.specs.declared.Access.{Access}
 use Rattle.plain_store.specs.declared.setups.Setup.{Setup}
+use Rattle.record.specs.declared.events.Event.{Event}
+use Rattle.record.specs.declared.events.Event.TheVariants as event
+use Rattle.record.specs.declared.marks.Mark.{Mark}
+use Rattle.record.specs.declared.marks.Mark.TheVariants as mark
+use Rattle.record.specs.declared.refusals.Refusal.{Refusal}
 use Rattle.record.specs.declared.refusals.Refusal.TheVariants.{NoProcess}
 use Rattle.record.specs.Entries.{Past}
-use Rattle.record.specs.Records.{entry_of, process_of, refused}
+use Rattle.record.specs.Records.{entry_of, placed, process_of, refused}
+use Rattle.world.specs.Telling.{marks_told}
+use Rattle.world.specs.declared.told.Stepped.{Stepped}
+use Rattle.world.specs.declared.told.Told.TheVariants as step
 use Rattle.replayer.specs.Happenings.{Happening, Tries, Lacks, Tires, Looks}
-use Rattle.replayer.specs.Texts.{entry_text, newest_store, refusal_line, store_text, turns_line}
+use Rattle.replayer.specs.Texts.{mark_line, newest_store, refusal_line, store_text, turns_line}
+use Rattle.replayer.specs.declared.told.Made.{Made}
+use Rattle.replayer.specs.declared.told.Made.TheVariants as made
 use Rattle.replayer.specs.declared.told.Told.{Told}
 use Rattle.replayer.specs.declared.told.Told.TheVariants as told
 
+-- the event that was made
+abbrev pub event_made : Made → Event
+event_made (made.Called p command) = event.Call p command
+event_made (made.Stepped p flick place leads) = event.Step p flick
+event_made (made.Failed p) = event.Fail p
+event_made (made.Withdrew p) = event.Withdraw p
+event_made (made.Restarted p) = event.Restart p
+
+-- the marks of its entry
+abbrev pub marks_made : Made → List Mark
+marks_made (made.Called p command) = mark.Called command ∷ []
+marks_made (made.Stepped p flick place leads) = map (placed place) (marks_told leads)
+marks_made (made.Failed p) = mark.Failed ∷ []
+marks_made (made.Withdrew p) = mark.Withdrew ∷ []
+marks_made (made.Restarted p) = mark.Restarted ∷ []
+
+-- it was a Step
+abbrev pub is_step : Made → Bool
+is_step (made.Stepped p flick place leads) = true
+is_step _ = false
+
+-- an event adds an entry with these marks
+abbrev pub AddsMarks : Setup → Past → Event → List Mark → Type 0
+AddsMarks s past event marks = (access : Option Access) × (entry_of s past event ≡ Some (record { process = process_of event; access = access; marks = marks }))
+
 -- what is told is what happens after this past
 abbrev pub TellsOf : Setup → Past → Happening → Told → Type 0
-TellsOf s past (Tries event) (told.Accepted made entry) = (made ≡ event) × (entry_of s past event ≡ Some entry)
+TellsOf s past (Tries event) (told.Accepted made) = (event_made made ≡ event) × AddsMarks s past event (marks_made made)
 TellsOf s past (Tries event) (told.Refused p refusal) = (p ≡ process_of event) × (refused s past event ≡ Some refusal)
 TellsOf s past (Lacks p) (told.Refused q refusal) = (q ≡ p) × (refusal ≡ NoProcess)
 TellsOf s past (Tires p) (told.Tired q) = q ≡ p
-TellsOf s past Looks (told.Shown store) = store ≡ newest_store s past
+TellsOf s past Looks (told.Shown line) = string_bytes line ≡ store_text (newest_store s past)
 TellsOf s past _ _ = ⊥
 
 -- the same, where something or nothing happens
@@ -26,7 +63,17 @@ Tells s past _ _ = ⊥
 
 -- the text of what is told, where so many events were accepted before
 abbrev pub told_text : ℕ → Told → List ℕ
-told_text number (told.Accepted event entry) = entry_text number entry
+told_text number (told.Accepted made) = flat_map (mark_line number (process_of (event_made made))) (marks_made made)
 told_text number (told.Refused p refusal) = refusal_line p refusal
 told_text number (told.Tired p) = turns_line p
-told_text number (told.Shown store) = store_text store
+told_text number (told.Shown line) = string_bytes line
+
+-- what a Step of a process tells, with its flick and the place of a command that it takes
+abbrev pub told_step : ℕ → Bool → ℕ → Result Stepped Refusal → Told
+told_step p flick place (Ok stepped) = told.Accepted (made.Stepped p flick place stepped.told)
+told_step p flick place (Err refusal) = told.Refused p refusal
+
+-- a Step was made that has no mark
+abbrev pub is_quiet : Result Stepped Refusal → Bool
+is_quiet (Ok stepped) = elim stepped.told [ step.Nothing ↦ true | _ ↦ false ]
+is_quiet (Err refusal) = false

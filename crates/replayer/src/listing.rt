@@ -4,7 +4,7 @@ ghost use Rattle.plain_store.specs.Setups.{checked};
 ghost use Rattle.record.specs.declared.Refusal.TheVariants.{Memory};
 ghost use Rattle.record.specs.Given.{is_event};
 ghost use Rattle.record.specs.Headline.{Headline};
-ghost use Rattle.record.specs.Records.{process_of, record_of as record_made};
+ghost use Rattle.record.specs.Records.{record_of as record_made};
 ghost use Rattle.scenario.specs.Reads.{script};
 ghost use Rattle.replayer.specs.Listings.{ListsLine, RecordsEvent, accepted_events, event_told};
 
@@ -45,8 +45,8 @@ fn list(told: Told, events: &mut Vec<Event>) -> Result<(), AllocError>
     ensures { OnOk result (events.new.items ≡ events.old.items ++ event_told told) }
 {
     let _types: Option<(Command, Value)> = None;
-    if let Told::Accepted { event, .. } = &told {
-        events.push(*event)?;
+    if let Told::Accepted(made) = &told {
+        events.push(made.event())?;
     }
     Ok(())
 }
@@ -78,7 +78,7 @@ fn record_event(
     sound_event(event);
     match world.event(*event) {
         Ok(act) => {
-            let process = process_in(event);
+            let process = event.process();
             entries.push(Entry { process, act })?;
             Ok(())
         }
@@ -102,18 +102,5 @@ fn sound_event(event: &Event)
 {
     if let Event::Call(_, command) = event {
         command.operands_are_sound();
-    }
-}
-
-/// Whose event it is.
-fn process_in(event: &Event) -> u8
-    ensures { result ≡ process_of event.now }
-{
-    match *event {
-        Event::Call(process, _) => process,
-        Event::Step(process, _) => process,
-        Event::Fail(process) => process,
-        Event::Withdraw(process) => process,
-        Event::Restart(process) => process,
     }
 }

@@ -65,7 +65,8 @@ fn replay_scenario<W: Sink>(
     Ok(summary)
 }
 
-/// Makes the turns of a line, and writes what each tells before the next is made.
+/// Makes the turns of a line, and writes what each tells before the next is made. Steps without a mark tell nothing,
+/// and are counted.
 fn replay_line<W: Sink>(
     alloc: Global,
     course: &mut Course,
@@ -84,8 +85,12 @@ fn replay_line<W: Sink>(
     ensures failures { W.failures output.new ≡ W.failures output.old + failed_write result }
 {
     course.begin(line);
-    'turns: while let Some(told) = course.turn(line)? {
+    'turns: loop {
+        let turns = course.turns(line)?;
+        summary.events += u64::from(turns.quiet);
+        let Some(told) = turns.told else {
+            return Ok(());
+        };
         tell(alloc, told, summary, output)?;
     }
-    Ok(())
 }

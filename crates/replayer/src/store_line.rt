@@ -3,9 +3,20 @@ ghost use Rattle.std.specs.Prelude.{◌≡◌, ◌++◌, codes, flat_map, drop, 
 ghost use Rattle.std.specs.String.{string_bytes};
 ghost use Rattle.plain_store.specs.Store.{Contents};
 ghost use Rattle.replayer.specs.Stores.{pair_text, show_text};
+ghost use Rattle.replayer.specs.Texts.{store_text};
 
-use plain_store::{Name, Store, Value};
+use plain_store::{Image, Name, Store, Value};
 use std::alloc::{AllocError, Global};
+
+/// The newest store, or that somebody is inside.
+pub(crate) fn newest_line(alloc: Global, store: &Option<Image>) -> Result<String, AllocError>
+    ensures { IfOk result (λ line. string_bytes line ≡ store_text store.now) }
+{
+    match store {
+        None => String::from_str(alloc, "show busy\n"),
+        Some(store) => show_line(alloc, store),
+    }
+}
 
 /// The pairs of a store in order of first write, as `show a=c:5 b=t:x`.
 #[tactic(auto, using(crate::proofs::StoreLines::pairs_more, plain_store::proofs::OpeningPairs::some_within))]

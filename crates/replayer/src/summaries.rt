@@ -33,7 +33,7 @@ impl Summary {
         ensures { self.new ≡ counted told.now self.old }
     {
         match told {
-            Told::Accepted { .. } => self.events += 1,
+            Told::Accepted(_) => self.events += 1,
             Told::Refused { .. } => self.refused += 1,
             Told::Tired(_) | Told::Shown(_) => {}
         }

@@ -1,15 +1,15 @@
-ghost use Rattle.std.specs.Prelude.{◌≡◌, None};
+ghost use Rattle.std.specs.Prelude.{◌≡◌, IfOk, None};
 
-use crate::worked::RUNS;
+use crate::worked::{FAILURE_COMMIT_SETTLED_NEW, RUNS, WITHDRAWAL};
 use crate::{Summary, events_of, record_of, replay};
 use record::Mark;
 use scenario::{Failed, Fault, FaultKind, LineFault, Sink, Source, read_scenario};
-use std::alloc::Global;
+use std::alloc::{AllocError, Global};
 use std::test::Fail;
 
 /// Bytes that are read one by one, and a call that fails.
 #[derive(Drop)]
-struct Tape<'a> {
+pub struct Tape<'a> {
     bytes: &'a [u8],
     at: usize,
     /// How many bytes are given before the call that fails.
@@ -37,8 +37,8 @@ impl Source for Tape<'_> {
 
 /// What takes some bytes a call, up to a call that fails.
 #[derive(Drop)]
-struct Paper {
-    written: Vec<u8>,
+pub struct Paper {
+    pub written: Vec<u8>,
     /// How many bytes a call takes at most, at least 1.
     most: usize,
     /// How many calls there are before the one that fails.
@@ -71,7 +71,7 @@ impl Sink for Paper {
     }
 }
 
-fn tape_of(text: &str) -> Tape<'_>
+pub fn tape_of(text: &str) -> Tape<'_>
     ensures { result.failures ≡ 0 }
 {
     Tape {
@@ -82,16 +82,17 @@ fn tape_of(text: &str) -> Tape<'_>
     }
 }
 
-fn blank_paper(alloc: Global) -> Paper
-    ensures { result.failures ≡ 0 }
+/// Paper with room for what the runs of these tests write.
+pub fn blank_paper(alloc: Global) -> Result<Paper, AllocError>
+    ensures { IfOk result (λ paper. paper.failures ≡ 0) }
 {
-    Paper {
-        written: Vec::new(alloc),
+    Ok(Paper {
+        written: Vec::with_capacity(alloc, 4_096)?,
         most: usize::MAX,
         fails_after: usize::MAX,
         takes_none: false,
         failures: 0,
-    }
+    })
 }
 
 /// The run of a lone write.
@@ -100,11 +101,8 @@ const LONE: usize = 11;
 #[test]
 fn prints_the_worked_runs(rt: HostRuntime) -> Result<(), Fail> {
     for (file, prints) in RUNS {
-        let mut output = blank_paper(rt.alloc());
-        assert!(rt;
-            replay(rt.alloc(), &mut tape_of(file), &mut output).is_ok(),
-            "{file}"
-        );
+        let mut output = blank_paper(rt.alloc())?;
+        replay(rt.alloc(), &mut tape_of(file), &mut output)?;
         assert_eq!(rt; output.written.as_slice(), prints.as_bytes(), "{file}");
     }
     Ok(())
@@ -112,7 +110,7 @@ fn prints_the_worked_runs(rt: HostRuntime) -> Result<(), Fail> {
 
 #[test]
 fn tells_the_three_numbers(rt: HostRuntime) -> Result<(), Fail> {
-    let mut output = blank_paper(rt.alloc());
+    let mut output = blank_paper(rt.alloc())?;
     let file = "bakery 1\nstep 9 1\ngo 9 idle\ncall 0 read a\nwander 3\n";
     let summary = Summary {
         events: 4,
@@ -135,7 +133,7 @@ fn tells_the_fault_of_a_line(rt: HostRuntime) -> Result<(), Fail> {
         ("bakery 1\nstep 0 100001\n", 2, FaultKind::Number),
     ];
     for (file, line, kind) in files {
-        let mut output = blank_paper(rt.alloc());
+        let mut output = blank_paper(rt.alloc())?;
         assert_eq!(rt;
             replay(rt.alloc(), &mut tape_of(file), &mut output),
             Err(Fault::Line(LineFault { line, kind }))
@@ -151,7 +149,7 @@ fn tells_a_reader_that_fails(rt: HostRuntime) -> Result<(), Fail> {
     for fails_at in 0..file.len() {
         let mut input = tape_of(file);
         input.fails_at = fails_at;
-        let mut output = blank_paper(rt.alloc());
+        let mut output = blank_paper(rt.alloc())?;
         assert_eq!(rt;
             replay(rt.alloc(), &mut input, &mut output),
             Err(Fault::Read)
@@ -166,7 +164,7 @@ fn tells_a_writer_that_fails(rt: HostRuntime) -> Result<(), Fail> {
     let (file, prints) = RUNS[LONE];
     for fails_after in 0..prints.len() {
         for takes_none in [false, true] {
-            let mut output = blank_paper(rt.alloc());
+            let mut output = blank_paper(rt.alloc())?;
             output.most = 1;
             output.fails_after = fails_after;
             output.takes_none = takes_none;
@@ -182,9 +180,9 @@ fn tells_a_writer_that_fails(rt: HostRuntime) -> Result<(), Fail> {
 #[test]
 fn writes_to_a_writer_that_takes_single_bytes(rt: HostRuntime) -> Result<(), Fail> {
     let (file, prints) = RUNS[LONE];
-    let mut output = blank_paper(rt.alloc());
+    let mut output = blank_paper(rt.alloc())?;
     output.most = 1;
-    assert!(rt; replay(rt.alloc(), &mut tape_of(file), &mut output).is_ok());
+    replay(rt.alloc(), &mut tape_of(file), &mut output)?;
     assert_eq!(rt; output.written.as_slice(), prints.as_bytes());
     Ok(())
 }
@@ -197,7 +195,7 @@ fn lists_the_events_and_their_record(rt: HostRuntime) -> Result<(), Fail> {
         let events = events_of(rt.alloc(), &scenario)?;
         let record = record_of(rt.alloc(), &scenario.setup, events.as_slice())?;
         assert_eq!(rt; record.entries.len(), events.len());
-        let mut output = blank_paper(rt.alloc());
+        let mut output = blank_paper(rt.alloc())?;
         let summary = replay(rt.alloc(), &mut tape_of(file), &mut output)?;
         assert_eq!(rt; record.entries.len() as u64, summary.events);
     }
@@ -218,5 +216,24 @@ fn records_the_lone_write(rt: HostRuntime) -> Result<(), Fail> {
         entry.act.marks.as_slice(),
         [Mark::Waiting(1), Mark::Entered].as_slice()
     );
+    Ok(())
+}
+
+// Each entry is of the process whose event it is.
+#[test]
+fn records_the_processes_of_the_events(rt: HostRuntime) -> Result<(), Fail> {
+    let files = [
+        (FAILURE_COMMIT_SETTLED_NEW.0, 1_585),
+        (WITHDRAWAL.0, 58),
+        ("bakery 1\n# x\nslots 2\n  call 0  add a -3\n", 1),
+    ];
+    for (file, count) in files {
+        let scenario = read_scenario(rt.alloc(), file.as_bytes())?;
+        let events = events_of(rt.alloc(), &scenario)?;
+        assert_eq!(rt; events.len(), count);
+        let record = record_of(rt.alloc(), &scenario.setup, events.as_slice())?;
+        let entries = record.entries.iter().map(|entry| entry.process);
+        assert!(rt; entries.eq(events.iter().map(|event| event.process())));
+    }
     Ok(())
 }

@@ -1,26 +1,28 @@
-//! A run, turn by turn: what the next turn of a line does on the world.
-ghost use Rattle.std.specs.Prelude.{◌≡◌, ◌^◌, ◌<◌, ◌≤◌, true, Ok, Some, IfOk, IfSome, length, List};
+//! A run, turn by turn: what the next turns of a line do on the world.
+ghost use Rattle.std.specs.Prelude.{◌≡◌, ◌^◌, ◌+◌, ◌-◌, ◌<◌, ◌≤◌, true, false, Ok, Some, IfOk, IfSome, length, List};
+ghost use Rattle.std.specs.String.{string_bytes};
 ghost use Rattle.plain_store.specs.Setups.{checked};
 ghost use Rattle.record.specs.declared.Event.{Event as Happening};
-ghost use Rattle.record.specs.declared.Event.TheVariants.{Step};
 ghost use Rattle.record.specs.declared.Refusal.TheVariants.{Memory};
 ghost use Rattle.record.specs.Given.{is_event};
 ghost use Rattle.record.specs.Histories.{history};
-ghost use Rattle.record.specs.Records.{past_of, process_of};
-ghost use Rattle.record.specs.Stages.{stage};
+ghost use Rattle.record.specs.Records.{past_of};
 ghost use Rattle.world.specs.Flicks.{constant_flicks};
 ghost use Rattle.world.specs.Shows.{Shows};
-ghost use Rattle.replayer.specs.Courses.{Follows, Makes, CourseState};
+ghost use Rattle.replayer.specs.Courses.{Follows, Makes, MakesTurns, CourseState};
 ghost use Rattle.replayer.specs.Happenings.{Tries};
-ghost use Rattle.replayer.specs.Runs.{Run, has_step, is_there as is_target, movers, past_in, run_at_start, set_to as seed_set};
-ghost use Rattle.replayer.specs.Texts.{newest_store};
-ghost use Rattle.replayer.specs.Turns.{go_turn, happens, made_turn, step_turn, turn_of, turns_in as turns_of, wander_turn};
+ghost use Rattle.replayer.specs.Runs.{Run, is_there as is_target, past_in, run_at_start, set_to as seed_set};
+ghost use Rattle.replayer.specs.Telling.{event_made, is_step};
+ghost use Rattle.replayer.specs.Texts.{newest_store, store_text};
+ghost use Rattle.replayer.specs.Turns.{happens, turn_of, turns_in as turns_of};
 
-use crate::told::Told;
+mod walks;
+
+use crate::store_line::newest_line;
+use crate::told::{Made, Told, Turns};
 use plain_store::{Command, Image, Setup, Value};
-use record::{Entry, Event, Refusal, Stage};
-use scenario::{Flick, Line, Target};
-use smallvec::SmallVec;
+use record::Refusal;
+use scenario::{Flick, Line};
 use std::alloc::{AllocError, Global};
 use std::marker::Model;
 use world::{Flicks, World};
@@ -86,28 +88,80 @@ impl Course {
         ensures left { IfOk result (λ told. IfSome told (λ _. self.new.left < self.old.left)) }
         ensures made { IfOk result (λ told. (run : Run) → Follows self.old run → Makes self.old run (turn_of self.old.world.setup line.now self.old.left run) told self.new) }
     {
+        Ok(self.make(line, true)?.told)
+    }
+
+    /// The turns of the line up to the first that tells more than a Step without a mark: how many such Steps came
+    /// before it, and what it tells; nothing once the line has ended.
+    pub fn turns(&mut self, line: &Line) -> Result<Turns, AllocError>
+        requires { self.old.left ≤ turns_of line.now }
+        ensures left { IfOk result (λ turns. turns.quiet + self.new.left ≤ self.old.left) }
+        ensures less { IfOk result (λ turns. IfSome turns.told (λ _. turns.quiet + self.new.left < self.old.left)) }
+        ensures made { IfOk result (λ turns. (run : Run) → Follows self.old run → MakesTurns self.old line.now run turns self.new) }
+    {
+        self.make(line, false)
+    }
+
+    /// The same; where `all` is asked, a Step without a mark is told too.
+    fn make(&mut self, line: &Line, all: bool) -> Result<Turns, AllocError>
+        requires { self.old.left ≤ turns_of line.now }
+        ensures left { IfOk result (λ turns. turns.quiet + self.new.left ≤ self.old.left) }
+        ensures less { IfOk result (λ turns. IfSome turns.told (λ _. turns.quiet + self.new.left < self.old.left)) }
+        ensures all { IfOk result (λ turns. all ≡ true → turns.quiet ≡ 0) }
+        ensures made { IfOk result (λ turns. (run : Run) → Follows self.old run → MakesTurns self.old line.now run turns self.new) }
+    {
         let _types: Option<(Command, Value)> = None;
         if self.left == 0 {
-            return Ok(None);
+            return Ok(Turns::ended());
         }
-        self.left -= 1;
         match line {
+            Line::Step(process, _) => Ok(self.walk(*process, 0, all)),
+            Line::Go(process, target) => Ok(self.go(*process, *target, all)),
+            Line::Wander(_) => Ok(self.wander(all)),
             Line::Call(process, command) => {
                 command.operands_are_sound();
-                Ok(Some(self.event(*process, &Event::Call(*process, *command))?))
+                self.event(Made::Called {
+                    process: *process,
+                    command: *command,
+                })
             }
-            Line::Step(process, _) => Ok(Some(self.step(*process)?)),
-            Line::Go(process, target) => self.go(*process, *target),
-            Line::Fail(process) => Ok(Some(self.event(*process, &Event::Fail(*process))?)),
-            Line::Withdraw(process) => Ok(Some(self.event(*process, &Event::Withdraw(*process))?)),
-            Line::Restart(process) => Ok(Some(self.event(*process, &Event::Restart(*process))?)),
+            Line::Fail(process) => self.event(Made::Failed(*process)),
+            Line::Withdraw(process) => self.event(Made::Withdrew(*process)),
+            Line::Restart(process) => self.event(Made::Restarted(*process)),
             Line::Flick(flick) => {
+                self.left -= 1;
                 self.flicks.set(set_to(*flick));
-                Ok(None)
+                Ok(Turns::ended())
             }
-            Line::Wander(_) => self.wander(),
-            Line::Show => Ok(Some(Told::Shown(self.newest()))),
+            Line::Show => {
+                self.left -= 1;
+                Ok(Turns::one(Told::Shown(self.shown()?)))
+            }
         }
+    }
+
+    /// Makes an event that is no Step, unless it is refused.
+    fn event(&mut self, made: Made) -> Result<Turns, AllocError>
+        requires some_left { 0 < self.old.left }
+        requires other { is_step made ≡ false }
+        requires given { is_event (event_made made) ≡ true }
+        ensures left { self.new.left ≡ self.old.left - 1 }
+        ensures quiet { IfOk result (λ turns. turns.quiet ≡ 0) }
+        ensures made { IfOk result (λ turns. (run : Run) → Follows self.old run → Makes self.old run (happens (Tries (event_made made)) (self.old.left - 1) run) turns.told self.new) }
+    {
+        self.left -= 1;
+        let event = made.event();
+        match self.world.event(event) {
+            Ok(_) => Ok(Turns::one(Told::Accepted(made))),
+            Err(refusal) => refused(event.process(), refusal),
+        }
+    }
+
+    /// The line that shows the store after the history, or that somebody is inside.
+    fn shown(&self) -> Result<String, AllocError>
+        ensures { IfOk result (λ line. (events : List Happening) → Shows self.now.world events → string_bytes line ≡ store_text (newest_store self.now.world.setup (past_of self.now.world.setup events))) }
+    {
+        newest_line(self.alloc, &self.newest())
     }
 
     /// The store after the history; none while somebody is inside.
@@ -120,116 +174,15 @@ impl Course {
         }
         newest
     }
-
-    /// Makes an event of this process, unless it is refused.
-    fn event(&mut self, process: u8, event: &Event) -> Result<Told, AllocError>
-        requires process { process ≡ process_of event.now }
-        requires given { is_event event.now ≡ true }
-        ensures left { self.new.left ≡ self.old.left }
-        ensures made { IfOk result (λ told. (run : Run) → Follows self.old run → Makes self.old run (happens (Tries event.now) self.old.left run) (Some told) self.new) }
-    {
-        match self.world.event(*event) {
-            Ok(act) => Ok(Told::Accepted {
-                event: *event,
-                entry: Entry { process, act },
-            }),
-            Err(refusal) => refused(process, refusal),
-        }
-    }
-
-    /// A Step of this process, which takes its flick.
-    fn make_step(&mut self, process: u8) -> Result<Told, AllocError>
-        ensures left { self.new.left ≡ self.old.left }
-        ensures made { IfOk result (λ told. (run : Run) → Follows self.old run → Makes self.old run (made_turn process self.old.left run) (Some told) self.new) }
-    {
-        let flick = self.flicks.flick();
-        self.event(process, &Event::Step(process, flick))
-    }
-
-    /// A Step of this process; one that is refused ends the line.
-    fn step(&mut self, process: u8) -> Result<Told, AllocError>
-        ensures left { self.new.left ≤ self.old.left }
-        ensures made { IfOk result (λ told. (run : Run) → Follows self.old run → Makes self.old run (step_turn self.old.world.setup process self.old.left run) (Some told) self.new) }
-    {
-        let told = self.make_step(process)?;
-        if let Told::Refused { .. } = &told {
-            self.left = 0;
-        }
-        Ok(told)
-    }
-
-    /// A turn of `go`: a Step, unless the process is there, or has made all its Steps.
-    fn go(&mut self, process: u8, target: Target) -> Result<Option<Told>, AllocError>
-        ensures left { self.new.left ≤ self.old.left }
-        ensures made { IfOk result (λ told. (run : Run) → Follows self.old run → Makes self.old run (go_turn self.old.world.setup process target self.old.left run) told self.new) }
-    {
-        let Some(stage) = self.world.stage(process) else {
-            self.left = 0;
-            let refusal = Refusal::NoProcess;
-            return Ok(Some(Told::Refused { process, refusal }));
-        };
-        if is_there(target, stage) {
-            self.left = 0;
-            return Ok(None);
-        }
-        if self.left == 0 {
-            return Ok(Some(Told::Tired(process)));
-        }
-        Ok(Some(self.step(process)?))
-    }
-
-    /// A turn of `wander`: a Step of one that is picked, if there is one to pick.
-    fn wander(&mut self) -> Result<Option<Told>, AllocError>
-        ensures left { self.new.left ≤ self.old.left }
-        ensures made { IfOk result (λ told. (run : Run) → Follows self.old run → Makes self.old run (wander_turn self.old.left run (movers self.old.world.setup (past_in self.old.world.setup run))) told self.new) }
-    {
-        let movers = self.movers();
-        if movers.is_empty() {
-            self.left = 0;
-            return Ok(None);
-        }
-        let index = self.flicks.pick(movers.len());
-        Ok(Some(self.make_step(movers[index])?))
-    }
-
-    /// The processes with a Step to make, ascending. They take no memory.
-    fn movers(&self) -> SmallVec<u8, 16>
-        ensures { (run : Run) → Follows self.now run → result.items ≡ movers self.now.world.setup (past_in self.now.world.setup run) }
-    {
-        let mut movers = SmallVec::new(self.alloc);
-        for process in 0..self.processes {
-            if self.has_step(process) {
-                movers.push_reserved(process);
-            }
-        }
-        movers
-    }
-
-    /// Whether a process runs, or its memory unit settles.
-    fn has_step(&self, process: u8) -> bool
-        ensures { (run : Run) → Follows self.now run → process < self.now.world.setup.processes → result ≡ has_step (stage process (past_in self.now.world.setup run)) }
-    {
-        match self.world.stage(process) {
-            Some(stage) => has_step_in(stage),
-            None => false,
-        }
-    }
-}
-
-/// Whether a process in this stage runs, or its memory unit settles.
-fn has_step_in(stage: Stage) -> bool
-    ensures { result ≡ has_step stage }
-{
-    !matches!(stage, Stage::Idle | Stage::Down)
 }
 
 /// Tells that an event of this process was refused, unless it was so for want of memory.
-fn refused(process: u8, refusal: Refusal) -> Result<Told, AllocError>
-    ensures { IfOk result (λ told. (told ≡ Told.Refused process refusal) × (refusal ≡ Memory → ⊥)) }
+fn refused(process: u8, refusal: Refusal) -> Result<Turns, AllocError>
+    ensures { IfOk result (λ turns. (turns ≡ record { quiet = 0; told = Some (Told.Refused process refusal) }) × (refusal ≡ Memory → ⊥)) }
 {
     match refusal {
         Refusal::Memory => Err(AllocError),
-        _ => Ok(Told::Refused { process, refusal }),
+        _ => Ok(Turns::one(Told::Refused { process, refusal })),
     }
 }
 
@@ -259,17 +212,5 @@ fn set_to(flick: Flick) -> world::Flick
         Flick::Zero => world::Flick::Zero,
         Flick::One => world::Flick::One,
         Flick::Pcg(seed) => world::Flick::Pcg(seed),
-    }
-}
-
-/// Whether a process in this stage is where it is to go.
-fn is_there(target: Target, stage: Stage) -> bool
-    ensures { result ≡ is_target target stage }
-{
-    match target {
-        Target::Wait => !matches!(stage, Stage::Doorway | Stage::Settling),
-        Target::Inside => !matches!(stage, Stage::Doorway | Stage::Waiting | Stage::Settling),
-        Target::Idle => matches!(stage, Stage::Idle | Stage::Down),
-        Target::Down => matches!(stage, Stage::Down),
     }
 }

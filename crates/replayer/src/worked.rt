@@ -47,7 +47,7 @@ const COMMENTS_AND_SPACES: (&str, &str) = (
     "0 0 call add a -3\nend events 1 taken 0 refused 0\n",
 );
 
-const FAILURE_COMMIT_SETTLED_NEW: (&str, &str) = (
+pub const FAILURE_COMMIT_SETTLED_NEW: (&str, &str) = (
     "bakery 1\ntickets 2\nstamps 2\ncall 0 write a c:5\nstep 0 1152\nfail 0\nflick 1\ngo 0 down\n\
     call 1 read a\ngo 1 idle\n",
     "0 0 call write a c:5\n20 0 wait 1\n26 0 enter\n1153 0 fail\n1157 0 settled 1\n\
@@ -214,7 +214,7 @@ const TWO_PROCESSES_WANDER: (&str, &str) = (
     3604 1 leave\n3619 1 answer sum 8\nend events 3620 taken 2 refused 0\n",
 );
 
-const WITHDRAWAL: (&str, &str) = (
+pub const WITHDRAWAL: (&str, &str) = (
     "bakery 1\ntickets 2\nstamps 2\ncall 0 read a\ngo 0 wait\ncall 1 read a\ngo 1 wait\n\
     step 0 1\nwithdraw 0\ngo 0 idle\ngo 1 inside\nwithdraw 1\n",
     "0 0 call read a\n20 0 wait 1\n21 1 call read a\n41 1 wait 2\n43 0 withdraw\n\

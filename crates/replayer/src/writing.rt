@@ -5,13 +5,11 @@ ghost use Rattle.std.specs.Io.KnownBytes.{Appends};
 ghost use Rattle.scenario.specs.Streams.{WritesFront};
 ghost use Rattle.replayer.specs.Summaries.{counted};
 ghost use Rattle.replayer.specs.Telling.{told_text};
-ghost use Rattle.replayer.specs.Texts.{store_text, mark_line as line_of_mark, refusal_line as line_of_refusal, turns_line as line_of_turns, end_line as line_at_end};
+ghost use Rattle.replayer.specs.Texts.{mark_line as line_of_mark, refusal_line as line_of_refusal, turns_line as line_of_turns, end_line as line_at_end};
 ghost use Rattle.replayer.specs.Writing.{IsWriteFault, failed_write};
 
-use crate::store_line::show_line;
 use crate::summaries::Summary;
 use crate::told::Told;
-use plain_store::Image;
 use record::{Mark, Refusal};
 use scenario::{Fault, Sink, write_all};
 use std::alloc::{AllocError, Global};
@@ -25,20 +23,15 @@ fn write_told<W: Sink>(alloc: Global, number: u64, told: &Told, output: &mut W) 
     ensures failures { W.failures output.new ≡ W.failures output.old + failed_write result }
 {
     match told {
-        Told::Accepted { entry, .. } => {
-            write_marks(
-                alloc,
-                number,
-                entry.process,
-                entry.act.marks.as_slice(),
-                output,
-            )
+        Told::Accepted(made) => {
+            let process = made.event().process();
+            write_marks(alloc, number, process, made.marks(alloc).as_slice(), output)
         }
         Told::Refused { process, refusal } => {
             write_line(output, refusal_line(alloc, *process, refusal))
         }
         Told::Tired(process) => write_line(output, turns_line(alloc, *process)),
-        Told::Shown(store) => write_line(output, newest_line(alloc, store)),
+        Told::Shown(line) => write_all(output, line.as_bytes()),
     }
 }
 
@@ -95,16 +88,6 @@ fn turns_line(alloc: Global, process: u8) -> Result<String, AllocError>
     ensures { IfOk result (λ line. string_bytes line ≡ line_of_turns process) }
 {
     format!(in alloc; "- {process} turns\n")
-}
-
-/// The newest store, or that somebody is inside.
-fn newest_line(alloc: Global, store: &Option<Image>) -> Result<String, AllocError>
-    ensures { IfOk result (λ line. string_bytes line ≡ store_text store.now) }
-{
-    match store {
-        None => String::from_str(alloc, "show busy\n"),
-        Some(store) => show_line(alloc, store),
-    }
 }
 
 /// The last line of a replay, with these numbers.

@@ -2,12 +2,10 @@ use crate::{NumberFault, ReadRun, Register, bits_of, number_of};
 
 // Of the widths only those from 1 to 1728 are accepted, by registers and by reads.
 #[test]
-fn register_widths(rt: HostRuntime) {
+fn register_widths(rt: HostRuntime) -> Result<(), NumberFault> {
     for width in [1, 1472, 1473, 1600, 1728] {
-        let register = Register::new(rt.alloc(), width, 2);
-        assert!(rt; register.is_ok(), "a register of width {width}");
-        let read = ReadRun::new(rt.alloc(), width);
-        assert!(rt; read.is_ok(), "a read of width {width}");
+        let _register = Register::new(rt.alloc(), width, 2)?;
+        let _read = ReadRun::new(rt.alloc(), width)?;
     }
     for width in [0, 1729] {
         let register = Register::new(rt.alloc(), width, 2);
@@ -21,6 +19,7 @@ fn register_widths(rt: HostRuntime) {
             "a read of width {width}"
         );
     }
+    Ok(())
 }
 
 // A number stands in its bytes with the least significant first, and comes back.

@@ -7,6 +7,7 @@ use Rattle.plain_store.specs.declared.Setup.{Setup}
 use Rattle.plain_store.specs.Image.{are_pairs}
 use Rattle.plain_store.specs.Setups.{checked}
 use Rattle.record.specs.declared.events.Event.{Event}
+use Rattle.record.specs.declared.events.Event.TheVariants.{Step}
 use Rattle.record.specs.declared.history.Taken.{Taken}
 use Rattle.record.specs.declared.refusals.Refusal.{Refusal}
 use Rattle.record.specs.declared.refusals.Refusal.TheVariants.{NoProcess, CallsFull}
@@ -104,3 +105,9 @@ refused-full w events what full seat d shows inside is h k =
     by true true = refl
     by true false = refl
     by false v = refl
+
+-- a step, by the stage alone
+pub refused-step : (w : WorldState) (events : List Event) (p : ℕ) (flick : Bool) (r : Option Refusal) (seat d : Seat) → Shows w events → p < length w.seats → seat ≡ slice_index_or w.seats p d → refused_at (Step p flick) (stage_kept seat.kept) ≡ r →
+    refused w.setup (past_of w.setup events) (Step p flick) ≡ r
+refused-step w events p flick (Some r) seat d shows inside is h = refused-there w events (Step p flick) r seat d shows inside is h
+refused-step w events p flick None seat d shows inside is h = refused-full w events (Step p flick) false seat d shows inside is h refl

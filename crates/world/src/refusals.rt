@@ -1,23 +1,10 @@
 //! Why an event is refused.
 ghost use Rattle.std.specs.Prelude.{◌≡◌, ◌==◌, ◌&&◌, ◌<◌, nat_le};
-ghost use Rattle.record.specs.Records.{is_call, process_of, refused_at};
+ghost use Rattle.record.specs.Records.{is_call, refused_at};
 ghost use Rattle.world.specs.Changes.{next_number};
 
 use plain_store::Setup;
 use record::{Event, Refusal, Stage};
-
-/// Whose event it is.
-pub(crate) fn process_in(event: &Event) -> u8
-    ensures { result ≡ process_of event.now }
-{
-    match *event {
-        Event::Call(process, _) => process,
-        Event::Step(process, _) => process,
-        Event::Fail(process) => process,
-        Event::Withdraw(process) => process,
-        Event::Restart(process) => process,
-    }
-}
 
 /// The refusal that the stage of the process gives.
 pub(crate) fn refusal_at(event: &Event, stage: Stage) -> Option<Refusal>

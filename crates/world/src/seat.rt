@@ -1,7 +1,11 @@
 //! What a world keeps of one process.
-ghost use Rattle.std.specs.Prelude.{◌≡◌, ◌<◌, true, false, IfOk, Ok, []};
+ghost use Rattle.std.specs.Prelude.{◌≡◌, ℕ, ◌<◌, Bool, true, false, cond, None, Some, IfOk, Ok, []};
 ghost use Rattle.plain_store.specs.Setups.{checked};
 ghost use Rattle.record.specs.Closings.{withdrawing};
+ghost use Rattle.record.specs.Doorways.{is_waiting_stage};
+ghost use Rattle.record.specs.Records.{refused_at};
+ghost use Rattle.record.specs.declared.Event.TheVariants.{Step};
+ghost use Rattle.record.specs.declared.Refusal.TheVariants.{NotRunning};
 ghost use Rattle.record.specs.Parts.{Raises};
 ghost use Rattle.record.specs.Places.{enter};
 ghost use Rattle.record.specs.declared.Stage.TheVariants.{Waiting};
@@ -124,6 +128,25 @@ impl Seat {
             Work::Withdraws(_) => Stage::Leaving,
             Work::Settles { .. } | Work::Frees { .. } => Stage::Settling,
         }
+    }
+
+    /// Whether it waits.
+    #[inline]
+    pub fn is_waiting(&self) -> bool
+        ensures { result ≡ is_waiting_stage (stage_kept self.now.kept) }
+    {
+        match &self.work {
+            Work::AtDoor { waits } => *waits,
+            _ => false,
+        }
+    }
+
+    /// Whether it runs, or its memory unit settles; else its step is refused.
+    #[inline]
+    pub fn may_step(&self) -> bool
+        ensures { (process : ℕ) (flick : Bool) → refused_at (Step process flick) (stage_kept self.now.kept) ≡ cond result None (Some NotRunning) }
+    {
+        !matches!(&self.work, Work::Rests | Work::Lies)
     }
 
     pub fn is_inside(&self) -> bool

@@ -14,7 +14,7 @@ use record::{Stage, Taken};
 pub(crate) fn waits(seat: &Seat) -> bool
     ensures { result ≡ is_waiting_stage (stage_kept seat.now.kept) }
 {
-    matches!(seat.stage(), Stage::Waiting)
+    seat.is_waiting()
 }
 
 /// Whether there is such a process, and it waits.

@@ -1,4 +1,4 @@
-ghost use Rattle.std.specs.Prelude.{◌≡◌, ◌==◌, ◌&&◌, nat_le, ◌<◌, ◌≤◌, ◌∷◌, ◌++◌, [], true, false, map, option_map, None, Some, IfOk, IfErr, OnOk, OnErr, IsOk, Ok, length, List};
+ghost use Rattle.std.specs.Prelude.{◌≡◌, Bool, ◌==◌, ◌&&◌, nat_le, ◌<◌, ◌≤◌, ◌∷◌, ◌++◌, [], true, false, map, option_map, None, Some, IfOk, IfErr, OnOk, OnErr, IsOk, Ok, length, List};
 ghost use Rattle.std.specs.Vec.{vec_capacity, vec_len};
 ghost use Rattle.plain_store.specs.Setups.{checked};
 ghost use Rattle.plain_store.specs.Image.{image_of};
@@ -19,7 +19,7 @@ ghost use Rattle.world.specs.Shows.{Shows};
 ghost use Rattle.world.specs.Telling.{act_of};
 
 use crate::queue::listed;
-use crate::refusals::{is_full, number_after, process_in, refusal_at};
+use crate::refusals::{is_full, number_after, refusal_at};
 use crate::seat::Seat;
 use crate::seats::{is_occupied, is_queued, take, tell, waiting, waits};
 use crate::told::{Stepped, one};
@@ -103,7 +103,10 @@ impl World {
             }
             Event::Step(process, flick) => {
                 let place = self.history.len() as u64;
-                Ok(self.make_step(process, flick).act(self.alloc, place))
+                match self.make_step(process, flick) {
+                    Ok(stepped) => Ok(stepped.act(self.alloc, place)),
+                    Err(_) => unreachable!(),
+                }
             }
             Event::Fail(process) => Ok(self.fail(process)),
             Event::Withdraw(process) => Ok(self.withdraw(process)),
@@ -122,10 +125,10 @@ impl World {
         ensures setup { OnOk result (self.new.setup ≡ self.old.setup) }
         ensures through { (events : List Happening) → Shows self.old events → refused self.old.setup (past_of self.old.setup events) (Step process flick) ≡ None → IsOk result }
     {
-        if let Some(refusal) = self.refusal(&Event::Step(process, flick)) {
+        if let Some(refusal) = self.step_refusal(process) {
             return Err(refusal);
         }
-        Ok(self.make_step(process, flick))
+        self.make_step(process, flick)
     }
 
     /// Where a process stands; none, if there is no such process.
@@ -177,7 +180,7 @@ impl World {
     fn refusal(&self, event: &Event) -> Option<Refusal>
         ensures { IsRefused self.now event.now result }
     {
-        let at = usize::from(process_in(event));
+        let at = usize::from(event.process());
         if self.seats.len() <= at {
             return Some(Refusal::NoProcess);
         }
@@ -189,6 +192,22 @@ impl World {
             return Some(Refusal::CallsFull);
         }
         None
+    }
+
+    /// Why a step of a process is refused, if it is: the same without an event.
+    #[inline]
+    fn step_refusal(&self, process: u8) -> Option<Refusal>
+        ensures { (flick : Bool) → IsRefused self.now (Step process flick) result }
+    {
+        let at = usize::from(process);
+        if self.seats.len() <= at {
+            return Some(Refusal::NoProcess);
+        }
+        if self.seats[at].may_step() {
+            None
+        } else {
+            Some(Refusal::NotRunning)
+        }
     }
 
     /// A call begins, once the history has room for each call that may be taken.
@@ -216,11 +235,13 @@ impl World {
         })
     }
 
-    /// The next access of a process, or of its memory unit. A command that is taken goes into the history.
+    /// The next access of a process, or of its memory unit. A command that is taken goes into the history. It is
+    /// always made; as a result of `step` it need not be copied into one.
     #[inline]
-    fn make_step(&mut self, process: u8, flick: bool) -> Stepped
+    fn make_step(&mut self, process: u8, flick: bool) -> Result<Stepped, Refusal>
         requires { IsRefused self.old (Step process flick) None }
-        ensures accepted { Adds self.old (Step process flick) process (act_of (length self.old.history) result) }
+        ensures made { IsOk result }
+        ensures accepted { IfOk result (λ stepped. Adds self.old (Step process flick) process (act_of (length self.old.history) stepped)) }
         ensures shows { GoesOn self.old (Step process flick) self.new }
         ensures setup { self.new.setup ≡ self.old.setup }
     {
@@ -230,7 +251,7 @@ impl World {
         let now = waits(seat);
         take(&mut self.history, process, seat, told.reply());
         tell(&mut self.seats, process, waited, now);
-        Stepped { access, told }
+        Ok(Stepped { access, told })
     }
 
     /// A process halts, and its memory unit takes over.

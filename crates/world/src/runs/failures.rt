@@ -350,7 +350,8 @@ fn refused_after_calls(
             Event::Step(0, false),
             Event::Restart(0),
         ] {
-            assert!(rt; world.event(event).is_ok(), "{event:?}");
+            let refusal = world.event(event).err();
+            assert_eq!(rt; refusal, None, "{event:?}");
         }
     }
     Ok(world.event(Event::Call(0, read())).err())

@@ -1,5 +1,5 @@
 //! Want of memory: what is refused changes nothing, and succeeds at the next try. The test passes with ample
-//! memory, and where any one growth is refused (`rt try --test --fail-alloc N`).
+//! memory, and where any one growth is refused.
 use super::scripts::{a, write};
 use crate::World;
 use plain_store::{Name, Setup, Store, Value};

@@ -1,25 +1,59 @@
-use Rattle.std.proofs.Common.{◌≡◌, ◌∙◌, ap, sym, subst}
-use Rattle.std.specs.Prelude.{Some, None, slice_index}
-use Rattle.world.specs.Flicks.{pick_of}
-use Rattle.replayer.specs.Courses.{CourseState, Follows, Makes}
+use Rattle.std.proofs.Common.{◌≡◌, ◌∙◌, ◌<◌, ℕ, List, ap, arith, length, refl, sym, subst, slice_index}
+use Rattle.plain_store.specs.declared.setups.Setup.{Setup}
+use Rattle.scenario.specs.declared.lines.Line.TheVariants.{Wander as WanderLine}
+use Rattle.replayer.specs.Courses.{CourseState, Follows, MakesTurns}
 use Rattle.replayer.specs.Runs.{Run, movers, past_in}
-use Rattle.replayer.specs.Turns.{wander_turn}
-use Rattle.replayer.proofs.CourseTurns.{course, wander_ends, wander_made}
+use Rattle.replayer.proofs.CourseTurns.{course}
 use Rattle.replayer.proofs.Movers.{none_left, some_left}
+use Rattle.replayer.proofs.Walks.{quiet_ends, quiet_ok}
+use Rattle.replayer.proofs.Wanders.{wander_ends, wander_on, wander_starts, wander_told}
 use Rattle.replayer.proofs.turns.Course.wander.Goals as goal
 
 pub returns-then-is_empty-clause-made : goal.returns-then-is_empty-clause-made
-returns-then-is_empty-clause-made c =
-    let i = c.self.inside in
-    let family : CourseState → Type 0 = λ old. (run : Run) → Follows old run → Makes old run (wander_turn old.left run (movers old.world.setup (past_in old.world.setup run))) None (course i.world i.flicks 0) in
-    let are : CourseState → Type 0 = λ old. (run : Run) → Follows old run → c.movers-movers.result.items ≡ movers old.world.setup (past_in old.world.setup run) in
-    subst family c.self.view_is (wander_ends i.world i.flicks i.left c.movers-movers.result.items (none_left c.movers-movers.result.items (sym c.is_empty.ensures ∙ c.if-is_empty.true)) (subst are (sym c.self.view_is) c.movers-movers.ensures))
-
-pub returns-clause-made : goal.returns-clause-made
-returns-clause-made c =
+returns-then-is_empty-clause-made c = λ steps.
     let i = c.self.inside in
     let ps = c.movers-movers.result.items in
-    let family : CourseState → Type 0 = λ old. (run : Run) → Follows old run → Makes old run (wander_turn old.left run (movers old.world.setup (past_in old.world.setup run))) (Some c.in_ok-make_step.field-0) c.make_step.new.self in
-    let are : CourseState → Type 0 = λ old. (run : Run) → Follows old run → c.movers-movers.result.items ≡ movers old.world.setup (past_in old.world.setup run) in
-    subst family c.self.view_is (wander_made i.world i.flicks i.left _ ps c.in_ok-make_step.field-0 c.make_step.new.self (some_left ps (sym c.is_empty.ensures ∙ c.if-is_empty.false)) (subst are (sym c.self.view_is) c.movers-movers.ensures)
-    (ap (λ l. slice_index l c.pick-index.result) c.deref.ensures ∙ ap (slice_index ps) (c.pick-index.ensures.index ∙ ap (λ n. pick_of n i.flicks) c.len.ensures.value)) (rw c.pick-index.ensures.after at c.in_ok-make_step.ensures.made))
+    let family : CourseState → Type 0 = λ old. (run : Run) → Follows old run → MakesTurns old (WanderLine steps) run c.ended.result (course i.world i.flicks 0) in
+    let are : CourseState → Type 0 = λ old. (run : Run) → Follows old run → ps ≡ movers old.world.setup (past_in old.world.setup run) in
+    subst family c.self.view_is (wander_ends i.world i.flicks i.left steps ps c.ended.result (none_left ps (sym c.is_empty.ensures ∙ c.if-is_empty.true)) (subst are (sym c.self.view_is) c.movers-movers.ensures) c.ended.ensures)
+
+pub steps-init : goal.steps-init
+steps-init c =
+    let i = c.self.inside in
+    let left = ap (λ (old : CourseState). old.left) c.self.view_is in
+    record {
+      made = λ steps run follows. wander_starts c.args.self.now steps run c.as_slice-movers.result.now i.world i.flicks i.left c.self.view_is follows (c.as_slice-movers.ensures ∙ c.movers-movers.ensures run follows);
+      kept = record { are = c.self.invariant.are; few = c.self.invariant.few };
+      left = omega (arith, left);
+      all = λ all. refl;
+    }
+
+pub returns-then-all-clause-made : goal.returns-then-all-clause-made
+returns-then-all-clause-made c = λ steps run follows.
+    let i = c.steps.self-inside in
+    let ps = c.as_slice-movers.result.now in
+    let some : 0 < length ps = subst (λ (l : List ℕ). 0 < length l) (sym c.as_slice-movers.ensures) (some_left c.movers-movers.result.items (sym c.is_empty.ensures ∙ c.if-is_empty.false)) in
+    wander_told c.args.self.now steps run c.steps.quiet ps i.world c.step-stepped.new.self i.flicks c.pick.new.self c.flick-flick.new.self i.left _ _ c.flick-flick.result c.history.result.now c.step-stepped.result c.told_of-told.result
+    (λ none. omega (arith, none, c.steps-test.true)) some c.pick.ensures.after (ap (slice_index ps) c.pick.ensures.index) c.flick-flick.ensures.flick c.flick-flick.ensures.after c.history.ensures refl
+    c.step-stepped.ensures.accepted c.step-stepped.ensures.shows c.step-stepped.ensures.refused c.step-stepped.ensures.unchanged c.step-stepped.ensures.setup c.told_of-told.ensures (c.steps.invariant.made steps run follows)
+
+pub steps-preserved : goal.steps-preserved
+steps-preserved c =
+    let i = c.steps.self-inside in
+    let ps = c.as_slice-movers.result.now in
+    let some : 0 < length ps = subst (λ (l : List ℕ). 0 < length l) (sym c.as_slice-movers.ensures) (some_left c.movers-movers.result.items (sym c.is_empty.ensures ∙ c.if-is_empty.false)) in
+    let quiet = sym c.if-not-is_quiet.ensures in
+    let setup : c.step-stepped.new.self.setup ≡ i.world.setup = quiet_ok c.step-stepped.result quiet c.step-stepped.ensures.setup in
+    record {
+      made = λ steps run follows. wander_on c.args.self.now steps run c.steps.quiet ps i.world c.step-stepped.new.self i.flicks c.pick.new.self c.flick-flick.new.self i.left _ c.flick-flick.result c.step-stepped.result
+          (λ none. omega (arith, none, c.steps-test.true)) some c.pick.ensures.after (ap (slice_index ps) c.pick.ensures.index) c.flick-flick.ensures.flick c.flick-flick.ensures.after
+          c.step-stepped.ensures.accepted c.step-stepped.ensures.shows c.step-stepped.ensures.setup quiet (c.steps.invariant.made steps run follows);
+      kept = record { are = c.steps.invariant.kept.are ∙ ap (λ (s : Setup). s.processes) (sym setup); few = c.steps.invariant.kept.few };
+      left = omega (arith, c.steps-test.true, c.steps.invariant.left);
+      all = λ all. let no = c.if-all.false in absurd (cc);
+    }
+
+pub returns-clause-made : goal.returns-clause-made
+returns-clause-made c = λ steps run follows.
+    let i = c.steps.self-inside in
+    quiet_ends c.args.self.now (WanderLine steps) run _ (course i.world i.flicks i.left) refl (omega (arith, c.steps-test.false)) (c.steps.invariant.made steps run follows).made

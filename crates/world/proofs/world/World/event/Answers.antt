@@ -7,8 +7,8 @@ use Rattle.world.proofs.world.World.event.Goals as goal
 pub returns-in-Call-clause-shows : goal.returns-in-Call-clause-shows
 returns-in-Call-clause-shows c = subst (λ e. OnOk c.call.result (GoesOn c.args.self.now e c.call.new.self)) (sym c.in-Call.is) c.call.ensures.shows
 
-pub returns-in-Step-clause-shows : goal.returns-in-Step-clause-shows
-returns-in-Step-clause-shows c = subst (λ e. GoesOn c.args.self.now e c.make_step.new.self) (sym c.in-Step.is) c.make_step.ensures.shows
+pub returns-in-Ok-clause-shows : goal.returns-in-Ok-clause-shows
+returns-in-Ok-clause-shows c = subst (λ e. GoesOn c.args.self.now e c.make_step.new.self) (sym c.in-Step.is) c.make_step.ensures.shows
 
 pub returns-in-Fail-clause-shows : goal.returns-in-Fail-clause-shows
 returns-in-Fail-clause-shows c = subst (λ e. GoesOn c.args.self.now e c.fail.new.self) (sym c.in-Fail.is) c.fail.ensures.shows
@@ -25,8 +25,8 @@ returns-in-Some-clause-headline c = the_headline
 pub returns-in-Call-clause-headline : goal.returns-in-Call-clause-headline
 returns-in-Call-clause-headline c = the_headline
 
-pub returns-in-Step-clause-headline : goal.returns-in-Step-clause-headline
-returns-in-Step-clause-headline c = the_headline
+pub returns-in-Ok-clause-headline : goal.returns-in-Ok-clause-headline
+returns-in-Ok-clause-headline c = the_headline
 
 pub returns-in-Fail-clause-headline : goal.returns-in-Fail-clause-headline
 returns-in-Fail-clause-headline c = the_headline

@@ -1,0 +1,185 @@
+//! The lines that make Steps. A Step without a mark leaves every process where it is, so that only after one with
+//! marks a line has to look again who is where.
+ghost use Rattle.std.specs.Prelude.{◌≡◌, ◌+◌, ◌<◌, ◌≤◌, ℕ, true, IfSome, None};
+ghost use Rattle.record.specs.Stages.{stage};
+ghost use Rattle.scenario.specs.declared.lines.Line.TheVariants.{Step as StepLine, Go as GoLine, Wander as WanderLine};
+ghost use Rattle.replayer.specs.Courses.{Follows, MakesQuietly, MakesTurns};
+ghost use Rattle.replayer.specs.Runs.{Run, has_step, is_there as is_target, movers, past_in};
+ghost use Rattle.replayer.specs.Telling.{is_quiet as has_no_mark, told_step};
+
+use super::Course;
+use crate::told::{Made, Told, Turns};
+use plain_store::{Command, Value};
+use record::{Refusal, Stage};
+use scenario::Target;
+use smallvec::SmallVec;
+use world::Stepped;
+
+impl Course {
+    /// Steps of this process, while more than so many turns are left, up to the first that is told; one that is
+    /// refused ends the line.
+    pub(super) fn walk(&mut self, process: u8, floor: u32, all: bool) -> Turns
+        requires { floor ≤ self.old.left }
+        ensures left { result.quiet + self.new.left ≤ self.old.left }
+        ensures less { IfSome result.told (λ _. result.quiet + self.new.left < self.old.left) }
+        ensures above { IfSome result.told (λ _. floor + result.quiet < self.old.left) }
+        ensures all { all ≡ true → result.quiet ≡ 0 }
+        ensures ended { result.told ≡ None → self.new.left ≡ floor }
+        ensures told { IfSome result.told (λ _. (steps : ℕ) (run : Run) → Follows self.old run → MakesTurns self.old (StepLine process steps) run result self.new) }
+        ensures quiet { result.told ≡ None → (steps : ℕ) (run : Run) → Follows self.old run → MakesQuietly self.old (StepLine process steps) run result.quiet self.new }
+    {
+        let mut quiet = 0;
+        'steps: while floor < self.left {
+            self.left -= 1;
+            let flick = self.flicks.flick();
+            let place = self.world.history().len() as u64;
+            let stepped = self.world.step(process, flick);
+            if all || !is_quiet(&stepped) {
+                if stepped.is_err() {
+                    self.left = 0;
+                }
+                let told = told_of(process, flick, place, &stepped);
+                return Turns {
+                    quiet,
+                    told: Some(told),
+                };
+            }
+            quiet += 1;
+        }
+        Turns { quiet, told: None }
+    }
+
+    /// Turns of `go`: Steps, unless the process is there, or has made all its Steps.
+    pub(super) fn go(&mut self, process: u8, target: Target, all: bool) -> Turns
+        requires { 0 < self.old.left }
+        ensures left { result.quiet + self.new.left ≤ self.old.left }
+        ensures less { IfSome result.told (λ _. result.quiet + self.new.left < self.old.left) }
+        ensures all { all ≡ true → result.quiet ≡ 0 }
+        ensures made { (run : Run) → Follows self.old run → MakesTurns self.old (GoLine process target) run result self.new }
+    {
+        let Some(stage) = self.world.stage(process) else {
+            self.left = 0;
+            let refusal = Refusal::NoProcess;
+            return Turns::one(Told::Refused { process, refusal });
+        };
+        if is_there(target, stage) {
+            self.left = 0;
+            return Turns::ended();
+        }
+        let turns = self.walk(process, 1, all);
+        if turns.told.is_some() {
+            return turns;
+        }
+        self.left = 0;
+        Turns {
+            quiet: turns.quiet,
+            told: Some(Told::Tired(process)),
+        }
+    }
+
+    /// Turns of `wander`: Steps of picked ones, if there is one to pick.
+    pub(super) fn wander(&mut self, all: bool) -> Turns
+        ensures left { result.quiet + self.new.left ≤ self.old.left }
+        ensures less { IfSome result.told (λ _. result.quiet + self.new.left < self.old.left) }
+        ensures all { all ≡ true → result.quiet ≡ 0 }
+        ensures made { (steps : ℕ) (run : Run) → Follows self.old run → MakesTurns self.old (WanderLine steps) run result self.new }
+    {
+        let movers = self.movers();
+        if movers.is_empty() {
+            self.left = 0;
+            return Turns::ended();
+        }
+        let movers = movers.as_slice();
+        let mut quiet = 0;
+        'steps: while 0 < self.left {
+            self.left -= 1;
+            let process = movers[self.flicks.pick(movers.len())];
+            let flick = self.flicks.flick();
+            let place = self.world.history().len() as u64;
+            let stepped = self.world.step(process, flick);
+            if all || !is_quiet(&stepped) {
+                let told = told_of(process, flick, place, &stepped);
+                return Turns {
+                    quiet,
+                    told: Some(told),
+                };
+            }
+            quiet += 1;
+        }
+        Turns { quiet, told: None }
+    }
+
+    /// The processes with a Step to make, ascending. They take no memory.
+    fn movers(&self) -> SmallVec<u8, 16>
+        ensures { (run : Run) → Follows self.now run → result.items ≡ movers self.now.world.setup (past_in self.now.world.setup run) }
+    {
+        let mut movers = SmallVec::new(self.alloc);
+        for process in 0..self.processes {
+            if self.has_step(process) {
+                movers.push_reserved(process);
+            }
+        }
+        movers
+    }
+
+    /// Whether a process runs, or its memory unit settles.
+    fn has_step(&self, process: u8) -> bool
+        ensures { (run : Run) → Follows self.now run → process < self.now.world.setup.processes → result ≡ has_step (stage process (past_in self.now.world.setup run)) }
+    {
+        match self.world.stage(process) {
+            Some(stage) => has_step_in(stage),
+            None => false,
+        }
+    }
+}
+
+/// Whether a process in this stage runs, or its memory unit settles.
+fn has_step_in(stage: Stage) -> bool
+    ensures { result ≡ has_step stage }
+{
+    !matches!(stage, Stage::Idle | Stage::Down)
+}
+
+/// Whether a process in this stage is where it is to go.
+fn is_there(target: Target, stage: Stage) -> bool
+    ensures { result ≡ is_target target stage }
+{
+    match target {
+        Target::Wait => !matches!(stage, Stage::Doorway | Stage::Settling),
+        Target::Inside => !matches!(stage, Stage::Doorway | Stage::Waiting | Stage::Settling),
+        Target::Idle => matches!(stage, Stage::Idle | Stage::Down),
+        Target::Down => matches!(stage, Stage::Down),
+    }
+}
+
+/// Whether a Step was made that has no mark.
+#[inline]
+fn is_quiet(stepped: &Result<Stepped, Refusal>) -> bool
+    ensures { result ≡ has_no_mark stepped.now }
+{
+    let _types: Option<(Command, Value)> = None;
+    match stepped {
+        Ok(stepped) => matches!(stepped.told, world::Told::Nothing),
+        Err(_) => false,
+    }
+}
+
+/// What a Step tells, made or refused. It stands apart, so that the loops need not copy what hardly any Step tells.
+#[inline(never)]
+fn told_of(process: u8, flick: bool, place: u64, stepped: &Result<Stepped, Refusal>) -> Told
+    ensures { result ≡ told_step process flick place stepped.now }
+{
+    let _types: Option<(Command, Value)> = None;
+    match stepped {
+        Ok(stepped) => Told::Accepted(Made::Stepped {
+            process,
+            flick,
+            place,
+            told: stepped.told,
+        }),
+        Err(refusal) => Told::Refused {
+            process,
+            refusal: *refusal,
+        },
+    }
+}
