@@ -1,12 +1,12 @@
 #!/usr/bin/env python3
 """Refuses each growth in turn: of `plain`, of `bits` and of `replay` on every file of a folder and on its worked
-scenarios (examples/, if none is given), of a long replay, and of every test of the crates.
+scenarios (examples/, if none is given), of a long replay, and of the tests of the crates.
 
 A run whose growth was refused must end with status 4 and tell `out of memory`, or `memory` on a line, and must have
 printed a front of what the file prints with ample memory. A test whose growth was refused must pass, or fail and tell
-want of memory; left out are those of the program, four of scenario, and one with more than 10,000 growths. It needs `cc`, and the programs that `rt ci` leaves: the
-proved program and the crates' tests. The growths are those of the compiled programs, which a library loaded before them
-counts and refuses.
+want of memory; left out are the tests of the program, four of scenario, and each with more than 10,000 growths. It needs
+`cc`, and the programs that `rt ci` leaves: the proved program and the crates' tests. The growths are those of the compiled
+programs, which a library loaded before them counts and refuses.
 """
 
 import os
