@@ -28,7 +28,7 @@ use Rattle.critical.specs.Standings.{Writes, standing_at, asking, shown}
 use Rattle.critical.proofs.Advances.{read-asked, read-done, written-bits, write-done, fresh-shown}
 
 -- what is read goes on
-goes-asking : (n : ℕ) (part : Asked) (versions : Versions) → goes (asking n part versions) ≡ true
+pub goes-asking : (n : ℕ) (part : Asked) (versions : Versions) → goes (asking n part versions) ≡ true
 goes-asking n (asked.Commit k) versions = refl
 goes-asking n (asked.Stamp k b) versions = refl
 goes-asking n asked.Image versions = refl

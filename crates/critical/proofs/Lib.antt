@@ -8,3 +8,5 @@ pub mod Opening
 pub mod Places
 pub mod Widths
 pub mod Writings
+pub mod Within
+pub mod WithinSteps

@@ -1,6 +1,7 @@
 -- The bytes of a change, and their bits.
-use Rattle.std.proofs.Common.{◌≡◌, ℕ, ◌+◌, ◌*◌, length, ◌<◌, ◌⊎◌, List, refl, ◌∙◌, ap, inl, inr}
-use Rattle.safe_number.specs.Bytes.{AreBytes, bits_of_number, little_endian}
+use Rattle.std.proofs.Common.{◌≡◌, ℕ, ◌+◌, ◌*◌, length, ◌<◌, ◌⊎◌, List, refl, sym, ◌∙◌, ap, inl, inr}
+use Rattle.plain_store.specs.Image.{image_of}
+use Rattle.safe_number.specs.Bytes.{AreBytes, bits_in, bits_of_number, little_endian}
 use Rattle.safe_number.specs.Runs.{NumberWrite, next_of_write, number_write_after}
 use Rattle.safe_number.proofs.Bits.{bits-bytes}
 use Rattle.record.specs.Laws.{WriteOfBytesGoesByBits}
@@ -22,6 +23,16 @@ pub bits-of-part : (part : Written) (change : Change) (w : ℕ) → (part ≡ St
 bits-of-part Image change w is = elim is [ inl e ↦ absurd (cc) | inr e ↦ absurd (cc) ]
 bits-of-part Stamp change w is = refl
 bits-of-part Commit change w is = refl
+
+-- the next access of a write of the bytes of an image
+pub next-of-image : WriteOfBytesGoesByBits → (part : Written) (change : Change) (bytes : List ℕ) (w : NumberWrite) → part ≡ Image → bytes ≡ image_of change.store → w.bit < w.width → next_of_write bytes w ≡ next_written (change_bits part change w.width) w
+next-of-image law part change bytes w is same inside =
+    (law 0 bytes w inside).0 ∙ ap (λ bs. next_written (bits_in bs w.width) w) same ∙ ap (λ p. next_written (change_bits p change w.width) w) (sym is)
+
+-- and the write after it
+pub moved-by-image : WriteOfBytesGoesByBits → (readers : ℕ) (part : Written) (change : Change) (bytes : List ℕ) (w : NumberWrite) → part ≡ Image → bytes ≡ image_of change.store → w.bit < w.width → number_write_after readers bytes w ≡ write_moved readers (change_bits part change w.width) w
+moved-by-image law readers part change bytes w is same inside =
+    (law readers bytes w inside).1 ∙ ap (λ bs. write_moved readers (bits_in bs w.width) w) same ∙ ap (λ p. write_moved readers (change_bits p change w.width) w) (sym is)
 
 -- the width that an image takes
 pub wide : (part : Written) (change : Change) (w : ℕ) → part ≡ Image → FitsWidth part change w → w ≡ 8 * (23 * change.store.slots + 2 * length change.store.numbers)

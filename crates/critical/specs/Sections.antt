@@ -1,6 +1,8 @@
 -- A section, the places of its process that it shows, and what it tells.
-use Rattle.std.specs.Prelude.{◌≡◌, ℕ, ◌<◌, Bool, true, false, cond, List, [], ◌∷◌}
+use Rattle.std.specs.Prelude.{◌≡◌, ℕ, ◌+◌, ◌-◌, ◌<◌, ◌≤◌, Bool, true, false, cond, List, [], ◌∷◌, length}
 use Rattle.safe_number.specs.declared.Access.{Access}
+use Rattle.safe_number.specs.declared.Field.{Field}
+use Rattle.safe_number.specs.declared.Field.TheVariants.{Commit}
 use Rattle.plain_store.specs.declared.Answer.TheVariants as answer
 use Rattle.plain_store.specs.declared.Command.{Command}
 use Rattle.plain_store.specs.declared.Command.TheVariants.{Ask}
@@ -8,14 +10,14 @@ use Rattle.plain_store.specs.declared.Setup.{Setup}
 use Rattle.record.specs.declared.marks.Mark.{Mark}
 use Rattle.record.specs.declared.marks.Mark.TheVariants as mark
 use Rattle.record.specs.Parts.{Part, AsksImage, WritesImage, WritesStamp, WritesCommit, Clears, read_at, to_e}
-use Rattle.record.specs.Places.{Place, Run, Reading, Writing, enter, place_after, access_at}
-use Rattle.record.specs.Program.{newest_stamp}
+use Rattle.record.specs.Places.{Place, Run, Reading, Writing, enter, place_after, access_at, marks_of, value_of}
+use Rattle.record.specs.Program.{newest_stamp, stamp_field, image_field}
 use Rattle.record.specs.Registers.{processes, width}
 use Rattle.record.specs.Scripts.{Call}
 use Rattle.critical.specs.declared.progress.SectionProgress.{SectionProgress}
 use Rattle.critical.specs.declared.progress.SectionProgress.TheVariants as progress
-use Rattle.critical.specs.Registers.{DataRow, is_data, answered, MayMake, without_reads_at}
-use Rattle.critical.specs.Standings.{Standing, Done, standing_at}
+use Rattle.critical.specs.Registers.{DataRow, is_data, after_access, answered, MayMake, without_reads_at}
+use Rattle.critical.specs.Standings.{Standing, ReadsStamp, ReadsImage, Done, standing_at}
 
 -- the call, what is kept of its place, and how far the number access has come
 pub record Section : Type 0 where
@@ -102,3 +104,28 @@ after_fail_in c part (Reading bits begun) row = without_reads_at row (read_at c 
 
 abbrev pub after_fail : Call → Place → DataRow → DataRow
 after_fail c at row = after_fail_in c at.part at.run row
+
+-- which register of a process is read
+abbrev pub field_read : Standing → Field
+field_read (ReadsStamp k ks read commit versions) = stamp_field commit
+field_read (ReadsImage versions) = image_field versions.newest.commit
+field_read _ = Commit
+
+-- how many bits a number access has come to or has before it, without its last one
+abbrev pub bits_before_last : ℕ → Run → ℕ
+bits_before_last width (Writing w) = w.width - (w.bit + 1)
+bits_before_last width (Reading bits begun) = width - (length bits + 1)
+
+-- as many accesses at least are within the number access
+abbrev pub bits_within : Section → ℕ
+bits_within section = cond (is_going section) (bits_before_last (width section.call.setup (field_read section.standing)) section.run) 0
+
+-- one access within a number access, and what it leaves: the call goes on by it, and it has no mark
+pub record GoesOnWithin (section : Section) (row : DataRow) (flick : Bool) (then : Section) (row_then : DataRow) : Type 0 where
+  pub access : Access
+  pub is_next : (c : Call) (at : Place) → section ≡ section_at c at → access ≡ answered row flick (access_at c at.part at.run)
+  pub registers : row_then ≡ after_access row access
+  pub place : (c : Call) (at : Place) → section ≡ section_at c at → then ≡ section_at c (place_after c at (value_of access.how))
+  pub marks : (c : Call) (at : Place) → section ≡ section_at c at → marks_of c at (value_of access.how) ≡ []
+  pub fewer : bits_within section ≤ bits_within then + 1
+  pub going : is_going then ≡ true

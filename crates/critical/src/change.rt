@@ -1,13 +1,16 @@
 ghost use Rattle.std.specs.Prelude.{◌≡◌, ◌<◌, ◌==◌, ◌*◌, ◌≤◌};
 ghost use Rattle.reader_copies.specs.Runs.{progress_of};
+ghost use Rattle.safe_number.specs.Accesses.{access_of};
 ghost use Rattle.record.specs.Places.{next_written, write_moved};
 ghost use Rattle.record.specs.Program.{stamp_field, image_field, max_of};
 ghost use Rattle.critical.specs.Changes.{change_field, change_bits, number_written, made_so_far, FitsWidth};
+ghost use Rattle.critical.specs.Registers.{after_access, MayMake};
 
+use crate::data_row::DataRow;
 use plain_store::{Image, Reply};
 use reader_copies::{Made, Progress};
 use record::bytes_go_by_their_bits;
-use safe_number::{Field, WriteRun, bits_of};
+use safe_number::{Access, Field, WriteRun, bits_of};
 
 /// Which register of a change is written: part G writes them in this order.
 #[derive(Clone, Copy, Debug)]
@@ -70,6 +73,64 @@ impl Change {
             Written::Image => run.advance(readers, self.store.bytes()),
             Written::Stamp | Written::Commit => run.advance(readers, &bits_of(self.number(part))),
         }
+    }
+
+    /// Makes that access on the registers of the process that writes, and goes on by it. It is quick for an
+    /// image, which has many bits.
+    #[inline]
+    pub fn write_on(
+        &self,
+        part: Written,
+        row: &mut DataRow,
+        owner: u8,
+        readers: u8,
+        run: &mut WriteRun,
+    )
+        requires width { FitsWidth part self.now run.old.width }
+        requires going { run.old.bit < run.old.width × made_so_far run.old < 2 * readers }
+        requires readers { readers ≤ 16 }
+        requires may { MayMake row.old (access_of owner (change_field part self.now) (next_written (change_bits part self.now run.old.width) run.old)) }
+        ensures registers { row.new ≡ after_access row.old (access_of owner (change_field part self.now) (next_written (change_bits part self.now run.old.width) run.old)) }
+        ensures run { run.new ≡ write_moved readers (change_bits part self.now run.old.width) run.old }
+    {
+        match part {
+            Written::Image => {
+                bytes_go_by_their_bits();
+                let field = image_field(self.commit);
+                row.write_on(owner, field, readers, run, self.store.bytes());
+            }
+            Written::Stamp | Written::Commit => {
+                self.write_number_on(part, row, owner, readers, run);
+            }
+        }
+    }
+
+    /// Does the same for any part, in the way of the few bits of a number.
+    #[inline(never)]
+    fn write_number_on(
+        &self,
+        part: Written,
+        row: &mut DataRow,
+        owner: u8,
+        readers: u8,
+        run: &mut WriteRun,
+    )
+        requires width { FitsWidth part self.now run.old.width }
+        requires going { run.old.bit < run.old.width × made_so_far run.old < 2 * readers }
+        requires readers { readers ≤ 16 }
+        requires may { MayMake row.old (access_of owner (change_field part self.now) (next_written (change_bits part self.now run.old.width) run.old)) }
+        ensures registers { row.new ≡ after_access row.old (access_of owner (change_field part self.now) (next_written (change_bits part self.now run.old.width) run.old)) }
+        ensures run { run.new ≡ write_moved readers (change_bits part self.now run.old.width) run.old }
+    {
+        let (bit, made) = self.next(part, run);
+        row.apply(Access {
+            owner,
+            field: self.field(part),
+            bit,
+            reader: made.reader,
+            how: made.how,
+        });
+        self.advance(part, run, readers);
     }
 
     /// The number of a part that is no image.

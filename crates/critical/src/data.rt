@@ -1,6 +1,9 @@
 ghost use Rattle.std.specs.Prelude.{◌≡◌, ◌<◌, ◌≤◌, ◌*◌, IfOk, Ok, length, take};
 ghost use Rattle.safe_bit.specs.Cell.{read_answer};
 ghost use Rattle.reader_copies.specs.Row.{cell_at, row_after, without_reads, HasCell, CanMake};
+ghost use Rattle.reader_copies.specs.Runs.{next_read, next_write};
+ghost use Rattle.safe_number.specs.Runs.{bit_read, bit_write, number_read_after, number_write_after};
+ghost use Rattle.safe_number.specs.Written.{loaded};
 ghost use Rattle.plain_store.specs.Setups.{checked, opening_store};
 ghost use Rattle.record.specs.Program.{image_field};
 ghost use Rattle.record.specs.Registers.{bytes_of_bits};
@@ -11,7 +14,7 @@ use crate::held;
 use crate::image::{self, MOST_IMAGE_BYTES};
 use plain_store::{Image, Setup};
 use reader_copies::Made;
-use safe_number::{Field, NumberFault, Register};
+use safe_number::{Field, NumberFault, ReadRun, Register, WriteRun};
 use std::alloc::{AllocError, Global};
 use std::marker::Model;
 
@@ -94,6 +97,64 @@ impl Data {
             Field::Stamp1 => self.stamp1.answer(bit, reader, flick),
             Field::Image0 => self.image0.answer(bit, reader, flick),
             Field::Image1 => self.image1.answer(bit, reader, flick),
+        }
+    }
+
+    /// Makes the next access of a read of a register by its reader, whose end gives what `answer` tells. It is
+    /// quick for an image, which has many bits.
+    #[inline]
+    pub(crate) fn read_on(&mut self, field: Field, reader: u8, run: &mut ReadRun, flick: bool)
+        requires going { length run.old.bits < run.old.width }
+        requires there { HasCell (register_of self.old field) (length run.old.bits) reader }
+        requires turn { (cell_at (register_of self.old field) (length run.old.bits) reader).reading ≡ run.old.begun }
+        ensures register { self.new ≡ with_register self.old field (row_after (register_of self.old field) (length run.old.bits) (next_read reader (bit_read run.old) (loaded (register_of self.old field) reader run.old flick))) }
+        ensures run { run.new ≡ number_read_after run.old (loaded (register_of self.old field) reader run.old flick) }
+    {
+        match field {
+            Field::Image0 => self.image0.read_on(reader, run, flick),
+            Field::Image1 => self.image1.read_on(reader, run, flick),
+            Field::Choosing | Field::Ticket | Field::Commit | Field::Stamp0 | Field::Stamp1 => {
+                self.read_number_on(field, reader, run, flick);
+            }
+        }
+    }
+
+    /// Does the same for any register, in the way of the few bits of a number.
+    #[inline(never)]
+    fn read_number_on(&mut self, field: Field, reader: u8, run: &mut ReadRun, flick: bool)
+        requires going { length run.old.bits < run.old.width }
+        requires there { HasCell (register_of self.old field) (length run.old.bits) reader }
+        requires turn { (cell_at (register_of self.old field) (length run.old.bits) reader).reading ≡ run.old.begun }
+        ensures register { self.new ≡ with_register self.old field (row_after (register_of self.old field) (length run.old.bits) (next_read reader (bit_read run.old) (loaded (register_of self.old field) reader run.old flick))) }
+        ensures run { run.new ≡ number_read_after run.old (loaded (register_of self.old field) reader run.old flick) }
+    {
+        match field {
+            Field::Choosing | Field::Ticket => unreachable!(),
+            Field::Commit => self.commit.read_on(reader, run, flick),
+            Field::Stamp0 => self.stamp0.read_on(reader, run, flick),
+            Field::Stamp1 => self.stamp1.read_on(reader, run, flick),
+            Field::Image0 => self.image0.read_on(reader, run, flick),
+            Field::Image1 => self.image1.read_on(reader, run, flick),
+        }
+    }
+
+    /// Makes the next access of a write of `value` to a register with copies for `readers` readers.
+    #[inline]
+    pub(crate) fn write_on(&mut self, field: Field, readers: u8, run: &mut WriteRun, value: &[u8])
+        requires going { run.old.bit < run.old.width × (bit_write value.now run.old).made < 2 * readers }
+        requires readers { readers ≤ 16 }
+        requires value { run.old.bit < 8 * length value.now }
+        requires can { CanMake (register_of self.old field) run.old.bit (next_write (bit_write value.now run.old)) }
+        ensures register { self.new ≡ with_register self.old field (row_after (register_of self.old field) run.old.bit (next_write (bit_write value.now run.old))) }
+        ensures run { run.new ≡ number_write_after readers value.now run.old }
+    {
+        match field {
+            Field::Choosing | Field::Ticket => unreachable!(),
+            Field::Commit => self.commit.write_on(readers, run, value),
+            Field::Stamp0 => self.stamp0.write_on(readers, run, value),
+            Field::Stamp1 => self.stamp1.write_on(readers, run, value),
+            Field::Image0 => self.image0.write_on(readers, run, value),
+            Field::Image1 => self.image1.write_on(readers, run, value),
         }
     }
 

@@ -8,7 +8,7 @@ ghost use Rattle.record.specs.Registers.{image_bytes};
 ghost use Rattle.record.specs.Scripts.{Call};
 ghost use Rattle.critical.specs.Keeping.{IsRunOf, run_of, fresh_run, IsStanding};
 ghost use Rattle.critical.specs.Registers.{after_access, answered, FitsSetup};
-ghost use Rattle.critical.specs.Sections.{is_going, section_at, inside_place, new_section, started, ended, goes_on, progress_at, marks_told, after_fail, IsInRange, MayStep};
+ghost use Rattle.critical.specs.Sections.{is_going, section_at, inside_place, new_section, started, ended, goes_on, progress_at, marks_told, after_fail, bits_within, GoesOnWithin, IsInRange, MayStep};
 
 use crate::change::{Change, Written};
 use crate::data_row::DataRow;
@@ -197,6 +197,41 @@ impl Section {
             _ => false,
         };
         (access, self.advance(value))
+    }
+
+    /// How many bits it has come to or has before it, without the last one: so many of the next accesses at least are
+    /// within this number access.
+    #[inline]
+    pub fn bits_within(&self) -> u16
+        ensures { result ≡ bits_within self.now }
+    {
+        match &self.standing {
+            Standing::Reads { .. } => self.reading.bits_within(),
+            Standing::Writes { .. } => self.writing.bits_within(),
+            Standing::Done => 0,
+        }
+    }
+
+    /// Makes the next access as `step` does, where it is within a number access, and tells nothing: so it is the
+    /// quickest way through the many bits of an image.
+    #[inline]
+    pub fn step_within(&mut self, row: &mut DataRow, flick: bool)
+        requires within { 0 < bits_within self.old }
+        requires may { MayStep self.old row.old flick }
+        ensures { GoesOnWithin self.old row.old flick self.new row.new }
+    {
+        let me = self.call.process;
+        match &self.standing {
+            Standing::Reads { part, versions } => {
+                let (owner, field) = standing::register_asked(part, versions);
+                row.read_on(owner, field, me, &mut self.reading, flick);
+            }
+            Standing::Writes { part, change } => {
+                let readers = self.call.setup.processes;
+                change.write_on(*part, row, me, readers, &mut self.writing);
+            }
+            Standing::Done => unreachable!(),
+        }
     }
 
     /// While a change is written: the reply, the greatest stamp that was read, and the new value of the commit

@@ -142,6 +142,14 @@ impl CopyRead {
         self.value
     }
 
+    /// Whether it has begun.
+    #[inline]
+    pub fn has_begun(&self) -> bool
+        ensures { result ≡ self.now.begun }
+    {
+        self.begun
+    }
+
     /// The next access of this reader's read: the begin, and then the end, which gives `value`.
     #[inline]
     pub fn next(&self, reader: u8, value: bool) -> Made

@@ -19,7 +19,7 @@ use Rattle.scenario.specs.declared.lines.Target.{Target}
 use Rattle.world.specs.Events.{Adds, GoesOn, IsTurnedAway, entry_with, stage_in}
 use Rattle.world.specs.Flicks.{FlickState, after_set}
 use Rattle.world.specs.Shows.{Shows, WorldState}
-use Rattle.replayer.specs.Courses.{CourseState, Follows, Makes, MakesTurns, QuietTurns}
+use Rattle.replayer.specs.Courses.{CourseState, Follows, Makes, MakesTurns, QuietTurns, course}
 use Rattle.replayer.specs.Happenings.{Tries, Lacks, Looks, tried}
 use Rattle.replayer.specs.Runs.{Run, has_step, is_there, past_in, set_to}
 use Rattle.replayer.specs.Telling.{TellsOf, event_made, is_step}
@@ -30,10 +30,6 @@ use Rattle.replayer.specs.declared.told.Told.{Told}
 use Rattle.replayer.specs.declared.told.Told.TheVariants as told
 use Rattle.replayer.specs.declared.told.Turns.{Turns}
 use Rattle.replayer.proofs.Refusals.{entry_added, marked_made, shows_refused}
-
--- a course, by its parts
-abbrev pub course : WorldState → FlickState → ℕ → CourseState
-course w flicks left = record { world = w; flicks = flicks; left = left }
 
 -- an event that is accepted, and is no Step
 pub event_accepted : (w w' : WorldState) (flicks : FlickState) (left : ℕ) (made : Made) (act : Act) → is_step made ≡ false → Adds w (event_made made) (process_of (event_made made)) act → GoesOn w (event_made made) w' → w'.setup ≡ w.setup →

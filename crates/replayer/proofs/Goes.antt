@@ -10,7 +10,7 @@ use Rattle.scenario.specs.declared.lines.Target.{Target}
 use Rattle.world.specs.Events.{stage_in}
 use Rattle.world.specs.Flicks.{FlickState}
 use Rattle.world.specs.Shows.{Shows, WorldState}
-use Rattle.replayer.specs.Courses.{CourseState, Follows, IsQuiet, Makes, MakesQuietly, MakesTurns, QuietTurns}
+use Rattle.replayer.specs.Courses.{CourseState, Follows, IsQuiet, Makes, MakesQuietly, MakesTurns, QuietTurns, course}
 use Rattle.replayer.specs.Happenings.{Lacks, tried}
 use Rattle.replayer.specs.Runs.{Run, is_there, next_step, past_in, stepped}
 use Rattle.replayer.specs.Telling.{AddsMarks}
@@ -18,7 +18,7 @@ use Rattle.replayer.specs.Turns.{Turn, ends, go_turn, happens, made_turn, on_tur
 use Rattle.replayer.specs.declared.told.Told.{Told}
 use Rattle.replayer.specs.declared.told.Told.TheVariants as told
 use Rattle.replayer.specs.declared.told.Turns.{Turns}
-use Rattle.replayer.proofs.CourseTurns.{course, stage_told}
+use Rattle.replayer.proofs.CourseTurns.{stage_told}
 use Rattle.replayer.proofs.Walks.{step_turn_made}
 use Rattle.replayer.proofs.Wanders.{stage_quiet}
 

@@ -1,6 +1,7 @@
 -- Steps without a mark, one after another, and what stays as it was.
-use Rattle.std.proofs.Common.{◌≡◌, ℕ, zero, suc, ◌+◌, ◌-◌, Bool, true, false, List, [], ◌∷◌, map, length, IfOk, IfErr, IfSome, OnOk, OnErr, Result, Ok, Err, Option, None, Some, is_none, refl, ap, sym, subst, ◌∙◌, add-one}
+use Rattle.std.proofs.Common.{◌≡◌, ℕ, zero, suc, ◌+◌, ◌-◌, ◌<◌, arith, Bool, true, false, List, [], ◌∷◌, map, length, IfOk, IfErr, IfSome, OnOk, OnErr, Result, Ok, Err, Option, None, Some, is_none, refl, ap, sym, subst, ◌∙◌, add-one}
 use Rattle.std.specs.Result.{is_err}
+use Rattle.safe_number.specs.declared.Access.{Access}
 use Rattle.plain_store.specs.declared.setups.Setup.{Setup}
 use Rattle.record.specs.declared.events.Event.{Event}
 use Rattle.record.specs.declared.events.Event.TheVariants as event
@@ -15,17 +16,18 @@ use Rattle.world.specs.Events.{Adds, GoesOn, IsRefused, entry_with}
 use Rattle.world.specs.Flicks.{FlickState, flick_of, after_flick}
 use Rattle.world.specs.Shows.{Shows, WorldState}
 use Rattle.world.specs.Telling.{act_of, marks_told}
+use Rattle.world.specs.Walks.{Walks}
 use Rattle.world.specs.declared.told.Stepped.{Stepped}
 use Rattle.world.specs.declared.told.Told.{Told as Leads}
 use Rattle.world.specs.declared.told.Told.TheVariants as step
-use Rattle.replayer.specs.Courses.{CourseState, Follows, IsQuiet, Makes, MakesQuietly, MakesTurns, QuietTurns}
+use Rattle.replayer.specs.Courses.{CourseState, Follows, IsQuiet, Makes, MakesQuietly, MakesTurns, QuietTurns, course}
 use Rattle.replayer.specs.Happenings.{Happening, Tries, tried}
 use Rattle.replayer.specs.Runs.{Run, may_step, next_step, past_in, stepped}
-use Rattle.replayer.specs.Telling.{AddsMarks, TellsOf, is_quiet, told_step}
+use Rattle.replayer.specs.Telling.{AddsMarks, TellsOf, is_quiet, told_step, with_told}
 use Rattle.replayer.specs.Turns.{Turn, ends, made_turn, step_turn, turn_of}
 use Rattle.replayer.specs.declared.told.Told.{Told}
 use Rattle.replayer.specs.declared.told.Turns.{Turns}
-use Rattle.replayer.proofs.CourseTurns.{course, turn_next}
+use Rattle.replayer.proofs.CourseTurns.{turn_next}
 use Rattle.replayer.proofs.Refusals.{entry_by, not_refused, shows_refused}
 
 -- one more
@@ -37,6 +39,27 @@ quiet_more s line zero left run left' run' turn (same, at) is here =
     subst (λ n. family n run') (sym same) (subst (λ r. family left r) (sym at) base) is here
 quiet_more s line (suc quiet) left run left' run' turn (first, rest) is here =
     (first, quiet_more s line quiet (turn_of s line left run).left (turn_of s line left run).run left' run' turn rest is here)
+
+-- what holds of a Step holds of it with what it leads to
+pub told_if_ok : (leads : Leads) (r : Result Access Refusal) (P : Stepped → Type 0) → IfOk r (λ access. P (record { access = access; told = leads })) → IfOk (with_told leads r) P
+told_if_ok leads (Ok access) P h = h
+told_if_ok leads (Err refusal) P h = tt
+
+pub told_on_ok : (leads : Leads) (r : Result Access Refusal) (P : Type 0) → OnOk r P → OnOk (with_told leads r) P
+told_on_ok leads (Ok access) P h = h
+told_on_ok leads (Err refusal) P h = tt
+
+pub told_if_err : (leads : Leads) (r : Result Access Refusal) (P : Refusal → Type 0) → IfErr r P → IfErr (with_told leads r) P
+told_if_err leads (Ok access) P h = tt
+told_if_err leads (Err refusal) P h = h
+
+pub told_on_err : (leads : Leads) (r : Result Access Refusal) (P : Type 0) → OnErr r P → OnErr (with_told leads r) P
+told_on_err leads (Ok access) P h = tt
+told_on_err leads (Err refusal) P h = h
+
+pub told_is_err : (leads : Leads) (r : Result Access Refusal) → is_err (with_told leads r) ≡ is_err r
+told_is_err leads (Ok access) = refl
+told_is_err leads (Err refusal) = refl
 
 -- a Step that leads to nothing has no mark
 no_marks : (leads : Leads) → (elim leads as (λ _. Bool) [ step.Nothing ↦ true | _ ↦ false ]) ≡ true → marks_told leads ≡ []
@@ -199,6 +222,49 @@ left_err (Err r) left is = refl
 step_turn_left : (s : Setup) (p left place : ℕ) (flick : Bool) (run : Run) (result : Result Stepped Refusal) → TellsOf s (past_in s run) (Tries (next_step p run)) (told_step p flick place result) → step_turn s p left run ≡ made_turn p (left_after result left) run
 step_turn_left s p left place flick run (Ok made) tells = step_turn_made s p left run (map (placed place) (marks_told made.told)) tells.1
 step_turn_left s p left place flick run (Err r) tells = step_turn_refused s p left run r tells.1
+
+-- turns without a mark after turns without a mark
+turns_then : (s : Setup) (line : Line) (quiet more left : ℕ) (run : Run) (mid : ℕ) (run_mid : Run) (left' : ℕ) (run' : Run) → QuietTurns s line quiet left run mid run_mid → QuietTurns s line more mid run_mid left' run' →
+    QuietTurns s line (quiet + more) left run left' run'
+turns_then s line zero more left run mid run_mid left' run' (same, at) rest =
+    let all : more ≡ zero + more = omega arith in
+    subst (λ k. QuietTurns s line k left run left' run') all (subst (λ n. QuietTurns s line more n run left' run') same (subst (λ r. QuietTurns s line more mid r left' run') at rest))
+turns_then s line (suc quiet) more left run mid run_mid left' run' (first, turns) rest =
+    let all : suc (quiet + more) ≡ suc quiet + more = omega arith in
+    subst (λ k. QuietTurns s line k left run left' run') all
+    (first, turns_then s line quiet more (turn_of s line left run).left (turn_of s line left run).run mid run_mid left' run' turns rest)
+
+pub quietly_then : (old mid new : CourseState) (line : Line) (run : Run) (quiet more : ℕ) (here : MakesQuietly old line run quiet mid) → MakesQuietly mid line here.now more new → MakesQuietly old line run (quiet + more) new
+quietly_then old mid new line run quiet more here there = record {
+  now = there.now;
+  turns = turns_then old.world.setup line quiet more old.left run mid.left here.now new.left there.now here.turns (subst (λ (s : Setup). QuietTurns s line more mid.left here.now new.left there.now) here.setup there.turns);
+  follows = record { shows = there.follows.shows; flicks = there.follows.flicks };
+  setup = there.setup ∙ here.setup;
+}
+
+-- Steps that a world makes in a row without a mark are such turns
+pub walks_quietly : (n : ℕ) (w w' : WorldState) (flicks flicks' : FlickState) (left p steps : ℕ) (run : Run) → n < left → Walks w flicks p n w' flicks' → Follows (course w flicks left) run →
+    MakesQuietly (course w flicks left) (line.Step p steps) run n (course w' flicks' (left - n))
+walks_quietly zero w w' flicks flicks' left p steps run few (same, same_flicks) follows =
+    let all : left - 0 ≡ left = omega arith in
+    walk_starts (course w flicks left) (line.Step p steps) run (course w' flicks' (left - 0)) (λ i. course (same i) (same_flicks i) (all i)) follows
+walks_quietly (suc n) w w' flicks flicks' left p steps run few (w1, flicks1, walks, quietly, after) follows =
+    let before = walks_quietly n w w1 flicks flicks1 left p steps run (omega (arith, few)) walks follows in
+    let result : Result Stepped Refusal = Ok (record { access = quietly.access; told = step.Nothing }) in
+    let on = walk_on (course w flicks left) p steps run n w1 w' flicks1 flicks' (left - n) (flick_of flicks1) result (λ none. omega (arith, few, none)) refl after quietly.adds quietly.shows quietly.setup refl before in
+    let fewer : left - n - 1 ≡ left - suc n = omega arith in
+    subst (λ k. MakesQuietly (course w flicks left) (line.Step p steps) run (suc n) (course w' flicks' k)) fewer
+    (subst (λ k. MakesQuietly (course w flicks left) (line.Step p steps) run k (course w' flicks' (left - n - 1))) (add-one n) on)
+
+pub walks_made : (w w' : WorldState) (flicks flicks' : FlickState) (left left' p steps n : ℕ) → left' ≡ left - n → n < left → Walks w flicks p n w' flicks' → (run : Run) → Follows (course w flicks left) run →
+    MakesQuietly (course w flicks left) (line.Step p steps) run n (course w' flicks' left')
+walks_made w w' flicks flicks' left left' p steps n is few walks run follows =
+    subst (λ k. MakesQuietly (course w flicks left) (line.Step p steps) run n (course w' flicks' k)) (sym is) (walks_quietly n w w' flicks flicks' left p steps run few walks follows)
+
+-- they leave the setup
+pub walks_setup : (n : ℕ) (w w' : WorldState) (flicks flicks' : FlickState) (p : ℕ) → Walks w flicks p n w' flicks' → w'.setup ≡ w.setup
+walks_setup zero w w' flicks flicks' p (same, same_flicks) = ap (λ (w : WorldState). w.setup) same
+walks_setup (suc n) w w' flicks flicks' p (w1, flicks1, walks, quietly, after) = quietly.setup ∙ walks_setup n w w1 flicks flicks1 p walks
 
 -- the Step that is told
 pub walk_told : (old : CourseState) (p steps : ℕ) (run : Run) (quiet : ℕ) (w w' : WorldState) (flicks flicks' : FlickState) (left place : ℕ) (flick : Bool) (taken : List Taken) (result : Result Stepped Refusal) (answer : Told) (new : CourseState) → (left ≡ 0 → ⊥) →

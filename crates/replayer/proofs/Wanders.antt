@@ -17,14 +17,14 @@ use Rattle.world.specs.Flicks.{FlickState, flick_of, after_flick, pick_of, after
 use Rattle.world.specs.Shows.{Shows, WorldState}
 use Rattle.world.specs.Telling.{act_of}
 use Rattle.world.specs.declared.told.Stepped.{Stepped}
-use Rattle.replayer.specs.Courses.{CourseState, Follows, Makes, MakesQuietly, MakesTurns}
+use Rattle.replayer.specs.Courses.{CourseState, Follows, Makes, MakesQuietly, MakesTurns, course}
 use Rattle.replayer.specs.Happenings.{tried}
 use Rattle.replayer.specs.Runs.{Run, after_pick_in, has_step, movers, next_step, past_in}
 use Rattle.replayer.specs.Telling.{AddsMarks, is_quiet, told_step}
 use Rattle.replayer.specs.Turns.{Turn, ends, made_turn, turn_of, wander_turn}
 use Rattle.replayer.specs.declared.told.Told.{Told}
 use Rattle.replayer.specs.declared.told.Turns.{Turns}
-use Rattle.replayer.proofs.CourseTurns.{course, one_made, turn_next}
+use Rattle.replayer.proofs.CourseTurns.{one_made, turn_next}
 use Rattle.replayer.proofs.Refusals.{entry_by}
 use Rattle.replayer.proofs.Walks.{QuietStep, StepTold, on_quietly, quiet_made, step_told, then_told}
 

@@ -18,6 +18,10 @@ pub record CourseState : Type 0 where
   pub flicks : FlickState
   pub left : ℕ
 
+-- a course, by its parts
+abbrev pub course : WorldState → FlickState → ℕ → CourseState
+course w flicks left = record { world = w; flicks = flicks; left = left }
+
 -- how many processes there are
 pub record KeepsCourse (processes : ℕ) (world : WorldState) : Type 0 where
   pub are : processes ≡ world.setup.processes

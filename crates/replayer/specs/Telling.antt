@@ -13,6 +13,7 @@ use Rattle.record.specs.Entries.{Past}
 use Rattle.record.specs.Records.{entry_of, placed, process_of, refused}
 use Rattle.world.specs.Telling.{marks_told}
 use Rattle.world.specs.declared.told.Stepped.{Stepped}
+use Rattle.world.specs.declared.told.Told.{Told as Leads}
 use Rattle.world.specs.declared.told.Told.TheVariants as step
 use Rattle.replayer.specs.Happenings.{Happening, Tries, Lacks, Tires, Looks}
 use Rattle.replayer.specs.Texts.{mark_line, newest_store, refusal_line, store_text, turns_line}
@@ -67,6 +68,11 @@ told_text number (told.Accepted made) = flat_map (mark_line number (process_of (
 told_text number (told.Refused p refusal) = refusal_line p refusal
 told_text number (told.Tired p) = turns_line p
 told_text number (told.Shown line) = string_bytes line
+
+-- a Step that is made or refused, with what it leads to
+abbrev pub with_told : Leads → Result Access Refusal → Result Stepped Refusal
+with_told leads (Ok access) = Ok (record { access = access; told = leads })
+with_told leads (Err refusal) = Err refusal
 
 -- what a Step of a process tells, with its flick and the place of a command that it takes
 abbrev pub told_step : ℕ → Bool → ℕ → Result Stepped Refusal → Told

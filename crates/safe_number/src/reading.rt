@@ -1,4 +1,4 @@
-ghost use Rattle.std.specs.Prelude.{◌≡◌, ◌<◌, ◌≤◌, ◌+◌, ◌/◌, ◌==◌, [], false, length, IfOk, IsErrOf, ◌↔◌};
+ghost use Rattle.std.specs.Prelude.{◌≡◌, ◌<◌, ◌≤◌, ◌+◌, ◌-◌, ◌/◌, ◌==◌, [], false, length, IfOk, IsErrOf, ◌↔◌};
 ghost use Rattle.reader_copies.specs.Runs.{progress_of};
 ghost use Rattle.safe_number.specs.Bytes.{IsBytesOf, IsBadWidth};
 ghost use Rattle.safe_number.specs.Runs.{NumberRead, next_of_read, number_read_after, new_read};
@@ -97,9 +97,9 @@ impl ReadRun {
         match self.run.advance(value) {
             Progress::Going => Progress::Going,
             Progress::Done => {
+                self.run = CopyRead::new();
                 let k = self.bit as usize;
                 self.bytes[k / 8] = bytes::with_next_bit(self.bytes[k / 8], k % 8, value);
-                self.run = CopyRead::new();
                 self.bit += 1;
                 if self.bit == self.width {
                     Progress::Done
@@ -110,11 +110,27 @@ impl ReadRun {
         }
     }
 
+    /// How many bits are read now or later, without the last one.
+    #[inline]
+    pub fn bits_within(&self) -> u16
+        ensures { result ≡ self.now.width - (length self.now.bits + 1) }
+    {
+        self.width.saturating_sub(self.bit).saturating_sub(1)
+    }
+
     /// The bit that is read now.
     #[inline]
     pub(crate) fn bit(&self) -> u16
         ensures { result ≡ length self.now.bits }
     {
         self.bit
+    }
+
+    /// Whether the read of that bit has begun.
+    #[inline]
+    pub(crate) fn has_begun(&self) -> bool
+        ensures { result ≡ self.now.begun }
+    {
+        self.run.has_begun()
     }
 }

@@ -11,6 +11,7 @@ use crate::fault::NumberFault;
 use crate::reading::ReadRun;
 use crate::writing::WriteRun;
 use reader_copies::{CopiedRow, MAX_WIDTH, Made, Progress, Torn};
+use safe_bit::Move;
 use std::alloc::{AllocError, Global};
 use std::marker::Model;
 
@@ -109,6 +110,44 @@ impl Register {
         let (bit, made) = run.next(reader, value);
         self.apply(bit, made);
         (bit, made, run.advance(value))
+    }
+
+    /// Makes the next access of a write of `value` by the writer as `write_step` does, and tells nothing. The
+    /// write goes on as of a register with copies for `readers` readers.
+    #[inline]
+    pub fn write_on(&mut self, readers: u8, run: &mut WriteRun, value: &[u8])
+        requires going { run.old.bit < run.old.width × (bit_write value.now run.old).made < 2 * readers }
+        requires readers { readers ≤ 16 }
+        requires value { run.old.bit < 8 * length value.now }
+        requires can { CanMake self.old run.old.bit (next_write (bit_write value.now run.old)) }
+        ensures register { self.new ≡ row_after self.old run.old.bit (next_write (bit_write value.now run.old)) }
+        ensures run { run.new ≡ number_write_after readers value.now run.old }
+    {
+        let (bit, made) = run.next(value);
+        run.advance(readers, value);
+        self.apply(bit, made);
+    }
+
+    /// Makes the next access of a read by its reader, as `read_step` does, and tells nothing.
+    #[inline]
+    pub fn read_on(&mut self, reader: u8, run: &mut ReadRun, flick: bool)
+        requires going { length run.old.bits < run.old.width }
+        requires there { HasCell self.old (length run.old.bits) reader }
+        requires turn { (cell_at self.old (length run.old.bits) reader).reading ≡ run.old.begun }
+        ensures register { self.new ≡ row_after self.old (length run.old.bits) (next_read reader (bit_read run.old) (loaded self.old reader run.old flick)) }
+        ensures run { run.new ≡ number_read_after run.old (loaded self.old reader run.old flick) }
+    {
+        let bit = run.bit();
+        if run.has_begun() {
+            let value = self.answer(bit, reader, flick);
+            run.advance(value);
+            let how = Move::EndRead(value);
+            self.apply(bit, Made { reader, how });
+        } else {
+            run.advance(false);
+            let how = Move::BeginRead;
+            self.apply(bit, Made { reader, how });
+        }
     }
 
     /// Makes the next access that settles the torn bit of a cut write, in the writer's stead, and answers

@@ -1,4 +1,4 @@
-use crate::{NumberFault, ReadRun, Register, bits_of, number_of};
+use crate::{NumberFault, ReadRun, Register, WriteRun, bits_of, number_of};
 
 // Of the widths only those from 1 to 1728 are accepted, by registers and by reads.
 #[test]
@@ -39,5 +39,19 @@ fn presets_a_register(rt: HostRuntime) -> Result<(), NumberFault> {
     let mut register = Register::new(rt.alloc(), 3, 2)?;
     register.preset(&[6]);
     assert!(rt; !register.bit(0) && register.bit(1) && register.bit(2));
+    Ok(())
+}
+
+// A bit that is written and then read by accesses that tell nothing has the value that was written.
+#[test]
+fn goes_on_untold(rt: HostRuntime) -> Result<(), NumberFault> {
+    let mut register = Register::new(rt.alloc(), 1, 1)?;
+    let mut write = WriteRun::new(1);
+    register.write_on(1, &mut write, &[1]);
+    register.write_on(1, &mut write, &[1]);
+    let mut read = ReadRun::new(rt.alloc(), 1)?;
+    register.read_on(0, &mut read, false);
+    register.read_on(0, &mut read, false);
+    assert_eq!(rt; number_of(read.bytes()), 1);
     Ok(())
 }

@@ -1,4 +1,4 @@
-ghost use Rattle.std.specs.Prelude.{◌≡◌, ◌<◌, ◌≤◌, ◌*◌, ◌==◌, length};
+ghost use Rattle.std.specs.Prelude.{◌≡◌, ◌<◌, ◌≤◌, ◌+◌, ◌-◌, ◌*◌, ◌==◌, length};
 ghost use Rattle.reader_copies.specs.Runs.{progress_of};
 ghost use Rattle.safe_number.specs.Runs.{NumberWrite, bit_write, next_of_write, number_write_after, new_write, torn_bit};
 
@@ -90,6 +90,14 @@ impl WriteRun {
                 }
             }
         }
+    }
+
+    /// How many bits are written now or later, without the last one.
+    #[inline]
+    pub fn bits_within(&self) -> u16
+        ensures { result ≡ self.now.width - (self.now.bit + 1) }
+    {
+        self.width.saturating_sub(self.bit).saturating_sub(1)
     }
 
     /// How far the write of the present bit of `value` has come.

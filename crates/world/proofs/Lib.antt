@@ -17,6 +17,7 @@ pub mod SeatSteps
 pub mod SeatTurns
 pub mod SeatUnits
 pub mod SeatWithdraws
+pub mod SeatWithin
 pub mod WorldAsks
 pub mod WorldCuts
 pub mod WorldDoing
@@ -33,3 +34,4 @@ pub mod WorldSeats
 pub mod WorldShows
 pub mod WorldSteps
 pub mod WorldTelling
+pub mod WorldWalks

@@ -1,5 +1,5 @@
 -- What a step of a process, or of its memory unit, makes of what a world keeps of it, and of the registers.
-use Rattle.std.specs.Prelude.{◌≡◌, ℕ, ◌<◌, Bool, true, false, ◌&&◌, not, cond, List, [], length, Option, None, Some, option_map}
+use Rattle.std.specs.Prelude.{◌≡◌, ℕ, ◌+◌, ◌<◌, ◌≤◌, Bool, true, false, ◌&&◌, not, cond, List, [], length, Option, None, Some, option_map}
 use Rattle.safe_number.specs.declared.Access.{Access}
 use Rattle.safe_number.specs.declared.Field.{Field}
 use Rattle.plain_store.specs.declared.Command.{Command}
@@ -7,17 +7,19 @@ use Rattle.plain_store.specs.declared.Command.TheVariants.{Ask}
 use Rattle.plain_store.specs.declared.Setup.{Setup}
 use Rattle.record.specs.declared.Mark.{Mark}
 use Rattle.record.specs.Closings.{Closing, freeing, withdrawing, closing_next, closing_after}
+use Rattle.record.specs.Doorways.{is_waiting_stage}
 use Rattle.record.specs.Failures.{cut_at, cut_closing}
 use Rattle.record.specs.Parts.{is_over, is_read, read_at}
-use Rattle.record.specs.Places.{access_at, marks_of, place_after, place_of}
+use Rattle.record.specs.Places.{access_at, marks_of, place_after, place_of, value_of}
 use Rattle.record.specs.Scripts.{Next}
 use Rattle.bakery.specs.Locks as locks
 use Rattle.bakery.specs.Locks.{LockRows, lock_of, row_in, locks_after, locks_without_reads}
 use Rattle.critical.specs.Registers as versions
 use Rattle.critical.specs.Registers.{DataRow, FitsSetup, is_data, after_access, without_reads_at}
+use Rattle.critical.specs.Sections as sections
 use Rattle.laws.specs.Doings.{Doing, Rests, Lies, Runs, Closes, call, runs, closes}
 use Rattle.world.specs.Seats as kept
-use Rattle.world.specs.Seats.{Kept, Seat, kept_at, kept_closing, inside_kept}
+use Rattle.world.specs.Seats.{Kept, Seat, kept_at, kept_closing, inside_kept, stage_kept}
 
 -- the next access of what a process does, a read's end with its value left open; none if it rests, or is down
 abbrev pub next_of : Setup → ℕ → Doing → Bool → Option Access
@@ -89,6 +91,22 @@ pub record MayStep (seat : Seat) (lock_rows : List LockRows) (row : DataRow) (fl
 abbrev pub is_at_door : Kept → Bool
 is_at_door (kept.AtDoor door) = true
 is_at_door _ = false
+
+-- at the data: how many bits its number access has come to or has before it, without its last one
+abbrev pub bits_within : Kept → ℕ
+bits_within (kept.AtData section) = sections.bits_within section
+bits_within _ = 0
+
+-- a step within a number access at the data, and what it leaves: it has no mark, and changes no register of the lock
+pub record StepsWithin (lock_rows : List LockRows) (row : DataRow) (flick : Bool) (seat : Seat) (row_then : DataRow) (then : Seat) : Type 0 where
+  pub access : Access
+  pub is_next : (d : Doing) (next : Access) → IsAt seat d → next_of seat.setup seat.process d flick ≡ Some next → access ≡ answered lock_rows row flick next
+  pub seat_is : (d : Doing) → IsAt seat d → then ≡ record seat { kept = kept_at seat.setup seat.process (does_then seat.setup seat.process d flick (value_of access.how)) }
+  pub stays : is_waiting_stage (stage_kept then.kept) ≡ false
+  pub marks : (d : Doing) → IsAt seat d → marks_with seat.setup seat.process d flick (value_of access.how) ≡ []
+  pub fewer : bits_within seat.kept ≤ bits_within then.kept + 1
+  pub locks_same : locks_made lock_rows access ≡ lock_rows
+  pub row_is : row_then ≡ versions_made row access
 
 -- the registers once a process has dropped the read that it has open
 abbrev pub dropped_locks : Setup → ℕ → Doing → List LockRows → List LockRows

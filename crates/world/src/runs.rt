@@ -4,4 +4,5 @@ mod growths;
 mod locks;
 mod scripts;
 mod stores;
+mod walks;
 mod wanders;

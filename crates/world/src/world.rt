@@ -17,16 +17,19 @@ ghost use Rattle.std.specs.List.{list_any};
 ghost use Rattle.record.specs.Newest.{newest};
 ghost use Rattle.world.specs.Shows.{Shows};
 ghost use Rattle.world.specs.Telling.{act_of};
+ghost use Rattle.world.specs.Walks.{Walks, bits_within_at};
 
+use crate::flicks::Flicks;
 use crate::queue::listed;
 use crate::refusals::{is_full, number_after, refusal_at};
 use crate::seat::Seat;
 use crate::seats::{is_occupied, is_queued, take, tell, waiting, waits};
-use crate::told::{Stepped, one};
+use crate::told::{Stepped, Told, one};
 use bakery::Locks;
 use critical::DataRow;
 use plain_store::{Command, Image, Name, Reply, Setup, Text, Value};
 use record::{Act, Event, Mark, Refusal, Stage, Taken};
+use safe_number::Access;
 use smallvec::SmallVec;
 use std::alloc::{AllocError, Global};
 use std::marker::Model;
@@ -103,9 +106,10 @@ impl World {
             }
             Event::Step(process, flick) => {
                 let place = self.history.len() as u64;
-                match self.make_step(process, flick) {
-                    Ok(stepped) => Ok(stepped.act(self.alloc, place)),
-                    Err(_) => unreachable!(),
+                let mut told = Told::Nothing;
+                match self.step(process, flick, &mut told) {
+                    Ok(access) => Ok(Stepped { access, told }.act(self.alloc, place)),
+                    Err(refusal) => Err(refusal),
                 }
             }
             Event::Fail(process) => Ok(self.fail(process)),
@@ -114,21 +118,46 @@ impl World {
         }
     }
 
-    /// One step of a process, or of its memory unit, as `event` makes it, told in a few bytes: an act has room for
-    /// three marks, which few steps have. The place of a command that it takes is the length of the history before.
-    #[inline]
-    pub fn step(&mut self, process: u8, flick: bool) -> Result<Stepped, Refusal>
-        ensures accepted { IfOk result (λ stepped. Adds self.old (Step process flick) process (act_of (length self.old.history) stepped)) }
+    /// One step of a process, or of its memory unit, as `event` makes it: its access, and in `told` what it leads to.
+    /// An act has room for three marks, which few steps have, and so few lead to anything that what they lead to is
+    /// best written in place. The place of a command that it takes is the length of the history before. A step that is
+    /// refused leaves `told` as it is.
+    #[inline(never)]
+    pub fn step(&mut self, process: u8, flick: bool, told: &mut Told) -> Result<Access, Refusal>
+        ensures accepted { IfOk result (λ access. Adds self.old (Step process flick) process (act_of (length self.old.history) (record { access = access; told = told.new }))) }
         ensures shows { OnOk result (GoesOn self.old (Step process flick) self.new) }
         ensures refused { IfErr result (λ refusal. IsRefused self.old (Step process flick) (Some refusal)) }
         ensures unchanged { OnErr result (self.new ≡ self.old) }
+        ensures untold { OnErr result (told.new ≡ told.old) }
         ensures setup { OnOk result (self.new.setup ≡ self.old.setup) }
         ensures through { (events : List Happening) → Shows self.old events → refused self.old.setup (past_of self.old.setup events) (Step process flick) ≡ None → IsOk result }
     {
         if let Some(refusal) = self.step_refusal(process) {
             return Err(refusal);
         }
-        self.make_step(process, flick)
+        Ok(self.make_step(process, flick, told))
+    }
+
+    /// Steps of a process while they are within a number access at the data, at most so many: each as `step` makes
+    /// it, by the flick that is next, and without a mark. It answers how many it has made, and stops where the next
+    /// access is of a last bit, at the door or of the memory unit, or where there is no such process.
+    #[inline(never)]
+    pub fn walk(&mut self, process: u8, flicks: &mut Flicks, most: u32) -> u32
+        ensures most { result ≤ most }
+        ensures walks { Walks self.old flicks.old process result self.new flicks.new }
+        ensures stops { result < most → bits_within_at self.new.seats process ≡ 0 }
+    {
+        let mut made = 0;
+        'parts: while made < most {
+            let bits = self.bits_within(process);
+            if bits == 0 {
+                return made;
+            }
+            let steps = u32::from(bits).min(most - made);
+            self.walk_within(process, flicks, steps);
+            made += steps;
+        }
+        made
     }
 
     /// Where a process stands; none, if there is no such process.
@@ -235,23 +264,51 @@ impl World {
         })
     }
 
-    /// The next access of a process, or of its memory unit. A command that is taken goes into the history. It is
-    /// always made; as a result of `step` it need not be copied into one.
+    /// The next access of a process, or of its memory unit, and in `told` what it leads to. A command that is taken goes
+    /// into the history.
     #[inline]
-    fn make_step(&mut self, process: u8, flick: bool) -> Result<Stepped, Refusal>
+    fn make_step(&mut self, process: u8, flick: bool, told: &mut Told) -> Access
         requires { IsRefused self.old (Step process flick) None }
-        ensures made { IsOk result }
-        ensures accepted { IfOk result (λ stepped. Adds self.old (Step process flick) process (act_of (length self.old.history) stepped)) }
+        ensures accepted { Adds self.old (Step process flick) process (act_of (length self.old.history) (record { access = result; told = told.new })) }
         ensures shows { GoesOn self.old (Step process flick) self.new }
         ensures setup { self.new.setup ≡ self.old.setup }
     {
         let seat = &mut self.seats[usize::from(process)];
         let waited = waits(seat);
-        let (access, told) = seat.step(&mut self.locks, &mut self.versions, flick);
+        let (access, leads) = seat.step(&mut self.locks, &mut self.versions, flick);
         let now = waits(seat);
-        take(&mut self.history, process, seat, told.reply());
+        take(&mut self.history, process, seat, leads.reply());
         tell(&mut self.seats, process, waited, now);
-        Ok(Stepped { access, told })
+        *told = leads;
+        access
+    }
+
+    /// How many bits a process at the data has before the last one of its number access; 0, if it is elsewhere, or there
+    /// is no such process.
+    #[inline]
+    fn bits_within(&self, process: u8) -> u16
+        ensures { result ≡ bits_within_at self.now.seats process }
+    {
+        let at = usize::from(process);
+        if self.seats.len() <= at {
+            return 0;
+        }
+        self.seats[at].bits_within()
+    }
+
+    /// So many steps of a process that has as many bits at least before the last one.
+    #[inline]
+    fn walk_within(&mut self, process: u8, flicks: &mut Flicks, steps: u32)
+        requires { steps ≤ bits_within_at self.old.seats process }
+        ensures { Walks self.old flicks.old process steps self.new flicks.new }
+    {
+        let at = usize::from(process);
+        let mut made = 0;
+        'steps: while made < steps {
+            let flick = flicks.flick();
+            self.seats[at].step_within(&mut self.versions, flick);
+            made += 1;
+        }
     }
 
     /// A process halts, and its memory unit takes over.

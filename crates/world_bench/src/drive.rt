@@ -6,7 +6,7 @@ use anyhow::{Result, bail};
 use plain_store::{Command, Setup, Store, Value};
 use record::{Event, Refusal, Stage};
 use std::alloc::{AllocError, Global};
-use world::{Flicks, World};
+use world::{Flicks, Told, World};
 
 /// The most steps of a call that waits for nobody, and some more.
 const STEPS: u32 = 65_536;
@@ -144,9 +144,7 @@ impl Driver {
     }
 
     fn step(&mut self, process: u8, flick: bool) -> Result<(), Refusal> {
-        if let Err(refusal) = self.world.step(process, flick) {
-            return Err(refusal);
-        }
+        self.world.step(process, flick, &mut Told::Nothing)?;
         self.events = self.events.wrapping_add(1);
         Ok(())
     }

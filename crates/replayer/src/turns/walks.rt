@@ -3,17 +3,18 @@
 ghost use Rattle.std.specs.Prelude.{◌≡◌, ◌+◌, ◌<◌, ◌≤◌, ℕ, true, IfSome, None};
 ghost use Rattle.record.specs.Stages.{stage};
 ghost use Rattle.scenario.specs.declared.lines.Line.TheVariants.{Step as StepLine, Go as GoLine, Wander as WanderLine};
-ghost use Rattle.replayer.specs.Courses.{Follows, MakesQuietly, MakesTurns};
+ghost use Rattle.replayer.specs.Courses.{Follows, MakesQuietly, MakesTurns, course};
 ghost use Rattle.replayer.specs.Runs.{Run, has_step, is_there as is_target, movers, past_in};
-ghost use Rattle.replayer.specs.Telling.{is_quiet as has_no_mark, told_step};
+ghost use Rattle.replayer.specs.Telling.{is_quiet as has_no_mark, told_step, with_told};
 
 use super::Course;
 use crate::told::{Made, Told, Turns};
 use plain_store::{Command, Value};
 use record::{Refusal, Stage};
+use safe_number::Access;
 use scenario::Target;
 use smallvec::SmallVec;
-use world::Stepped;
+use world::{Flicks, World};
 
 impl Course {
     /// Steps of this process, while more than so many turns are left, up to the first that is told; one that is
@@ -29,16 +30,25 @@ impl Course {
         ensures quiet { result.told ≡ None → (steps : ℕ) (run : Run) → Follows self.old run → MakesQuietly self.old (StepLine process steps) run result.quiet self.new }
     {
         let mut quiet = 0;
+        let mut leads = world::Told::Nothing;
         'steps: while floor < self.left {
+            quiet += stroll(
+                &mut self.world,
+                &mut self.flicks,
+                &mut self.left,
+                process,
+                floor,
+                all,
+            );
             self.left -= 1;
             let flick = self.flicks.flick();
             let place = self.world.history().len() as u64;
-            let stepped = self.world.step(process, flick);
-            if all || !is_quiet(&stepped) {
+            let stepped = self.world.step(process, flick, &mut leads);
+            if all || !is_quiet(&stepped, &leads) {
                 if stepped.is_err() {
                     self.left = 0;
                 }
-                let told = told_of(process, flick, place, &stepped);
+                let told = told_of(process, flick, place, &stepped, &leads);
                 return Turns {
                     quiet,
                     told: Some(told),
@@ -91,14 +101,15 @@ impl Course {
         }
         let movers = movers.as_slice();
         let mut quiet = 0;
+        let mut leads = world::Told::Nothing;
         'steps: while 0 < self.left {
             self.left -= 1;
             let process = movers[self.flicks.pick(movers.len())];
             let flick = self.flicks.flick();
             let place = self.world.history().len() as u64;
-            let stepped = self.world.step(process, flick);
-            if all || !is_quiet(&stepped) {
-                let told = told_of(process, flick, place, &stepped);
+            let stepped = self.world.step(process, flick, &mut leads);
+            if all || !is_quiet(&stepped, &leads) {
+                let told = told_of(process, flick, place, &stepped, &leads);
                 return Turns {
                     quiet,
                     told: Some(told),
@@ -133,6 +144,32 @@ impl Course {
     }
 }
 
+/// Steps of a process within a number access, of which none has a mark, while more than one turn is left above so
+/// many; none, if each Step is to be told.
+#[inline]
+fn stroll(
+    world: &mut World,
+    flicks: &mut Flicks,
+    left: &mut u32,
+    process: u8,
+    floor: u32,
+    all: bool,
+) -> u32
+    requires { floor < left.old }
+    ensures left { result + left.new ≡ left.old }
+    ensures above { floor < left.new }
+    ensures all { all ≡ true → result ≡ 0 }
+    ensures setup { world.new.setup ≡ world.old.setup }
+    ensures quiet { (steps : ℕ) (run : Run) → Follows (course world.old flicks.old left.old) run → MakesQuietly (course world.old flicks.old left.old) (StepLine process steps) run result (course world.new flicks.new left.new) }
+{
+    if all {
+        return 0;
+    }
+    let made = world.walk(process, flicks, *left - floor - 1);
+    *left -= made;
+    made
+}
+
 /// Whether a process in this stage runs, or its memory unit settles.
 fn has_step_in(stage: Stage) -> bool
     ensures { result ≡ has_step stage }
@@ -154,28 +191,31 @@ fn is_there(target: Target, stage: Stage) -> bool
 
 /// Whether a Step was made that has no mark.
 #[inline]
-fn is_quiet(stepped: &Result<Stepped, Refusal>) -> bool
-    ensures { result ≡ has_no_mark stepped.now }
+fn is_quiet(stepped: &Result<Access, Refusal>, leads: &world::Told) -> bool
+    ensures { result ≡ has_no_mark (with_told leads.now stepped.now) }
 {
     let _types: Option<(Command, Value)> = None;
-    match stepped {
-        Ok(stepped) => matches!(stepped.told, world::Told::Nothing),
-        Err(_) => false,
-    }
+    stepped.is_ok() && matches!(leads, world::Told::Nothing)
 }
 
-/// What a Step tells, made or refused. It stands apart, so that the loops need not copy what hardly any Step tells.
+/// What a Step tells, made or refused.
 #[inline(never)]
-fn told_of(process: u8, flick: bool, place: u64, stepped: &Result<Stepped, Refusal>) -> Told
-    ensures { result ≡ told_step process flick place stepped.now }
+fn told_of(
+    process: u8,
+    flick: bool,
+    place: u64,
+    stepped: &Result<Access, Refusal>,
+    leads: &world::Told,
+) -> Told
+    ensures { result ≡ told_step process flick place (with_told leads.now stepped.now) }
 {
     let _types: Option<(Command, Value)> = None;
     match stepped {
-        Ok(stepped) => Told::Accepted(Made::Stepped {
+        Ok(_) => Told::Accepted(Made::Stepped {
             process,
             flick,
             place,
-            told: stepped.told,
+            told: *leads,
         }),
         Err(refusal) => Told::Refused {
             process,

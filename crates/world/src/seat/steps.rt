@@ -1,11 +1,11 @@
 //! The steps of one process, and of its memory unit.
-ghost use Rattle.std.specs.Prelude.{◌≡◌, ◌||◌, true, Bool, List, Some};
+ghost use Rattle.std.specs.Prelude.{◌≡◌, ◌<◌, ◌||◌, true, Bool, List, Some};
 ghost use Rattle.record.specs.Places.{value_of};
 ghost use Rattle.bakery.specs.Locks.{LockRows};
 ghost use Rattle.critical.specs.Registers.{DataRow};
 ghost use Rattle.laws.specs.Doings.{Doing};
 ghost use Rattle.world.specs.Seats.{kept_at, stage_kept};
-ghost use Rattle.world.specs.Steps.{CanMake, IsAt, MayStep, answered, does_then, is_at_door, locks_made, marks_with, may_step, next_of, versions_made};
+ghost use Rattle.world.specs.Steps.{CanMake, IsAt, MayStep, StepsWithin, answered, bits_within, does_then, is_at_door, locks_made, marks_with, may_step, next_of, versions_made};
 ghost use Rattle.world.specs.Telling.{marks_told};
 ghost use Rattle.world.specs.declared.seat.Work.TheVariants as works;
 ghost use Rattle.world.specs.Keeping.{is_at_data, is_clearing, is_door, is_unit_freeing, is_unit_settling, is_withdrawing, stage_waiting};
@@ -92,6 +92,28 @@ impl Seat {
             }
         }
         (access, told_at_data(&progress))
+    }
+
+    /// How many bits its number access at the data has come to or has before it, without the last one: so many of its
+    /// next steps at least are within that access. 0, if it is not at the data.
+    #[inline]
+    pub fn bits_within(&self) -> u16
+        ensures { result ≡ bits_within self.now.kept }
+    {
+        match &self.work {
+            Work::AtData => self.section.bits_within(),
+            _ => 0,
+        }
+    }
+
+    /// Makes the next access, within a number access at the data.
+    #[inline]
+    pub fn step_within(&mut self, versions: &mut DataRow, flick: bool)
+        requires within { 0 < bits_within self.old.kept }
+        requires may { (rows : List LockRows) × MayStep self.old rows versions.old flick }
+        ensures { (rows : List LockRows) → StepsWithin rows versions.old flick self.old versions.new self.new }
+    {
+        self.section.step_within(versions, flick);
     }
 
     /// Makes the next access with which the ticket is cleared before the answer.

@@ -1,12 +1,12 @@
 use Rattle.std.proofs.Common.{◌-◌, subst}
 use Rattle.std.specs.Prelude.{IfOk}
-use Rattle.replayer.specs.Courses.{CourseState, Follows, Makes}
+use Rattle.replayer.specs.Courses.{CourseState, Follows, Makes, course}
 use Rattle.replayer.specs.Happenings.{Tries}
 use Rattle.replayer.specs.Runs.{Run}
 use Rattle.replayer.specs.Telling.{event_made}
 use Rattle.replayer.specs.Turns.{happens}
 use Rattle.replayer.specs.declared.told.Turns.{Turns}
-use Rattle.replayer.proofs.CourseTurns.{course, accepted_told, refused_told}
+use Rattle.replayer.proofs.CourseTurns.{accepted_told, refused_told}
 use Rattle.replayer.proofs.turns.Course.event.Goals as goal
 use Rattle.replayer.proofs.turns.Course.event.Goals.{in-Ok, in-Err}
 

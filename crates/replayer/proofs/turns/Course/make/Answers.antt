@@ -2,10 +2,10 @@ use Rattle.std.proofs.Common.{◌≤◌, ◌-◌, ◌∙◌, ap, sym, subst}
 use Rattle.std.specs.Prelude.{Some, None}
 use Rattle.world.specs.Flicks.{after_set}
 use Rattle.scenario.specs.declared.lines.Line.TheVariants as line
-use Rattle.replayer.specs.Courses.{CourseState, Follows, MakesTurns}
+use Rattle.replayer.specs.Courses.{CourseState, Follows, MakesTurns, course}
 use Rattle.replayer.specs.Runs.{Run}
 use Rattle.replayer.specs.declared.told.Told.TheVariants as told
-use Rattle.replayer.proofs.CourseTurns.{course, flick_made, one_told, show_made, turn_ended, turn_made_by}
+use Rattle.replayer.proofs.CourseTurns.{flick_made, one_told, show_made, turn_ended, turn_made_by}
 use Rattle.replayer.proofs.Walks.{walk_whole}
 use Rattle.replayer.proofs.turns.Course.make.Goals as goal
 

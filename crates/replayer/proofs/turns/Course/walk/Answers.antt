@@ -1,8 +1,12 @@
-use Rattle.std.proofs.Common.{◌≡◌, ◌∙◌, ◌-◌, ℕ, ap, arith, refl, sym}
+use Rattle.std.proofs.Common.{Some, length, ◌≡◌, ◌∙◌, ◌+◌, ◌-◌, ℕ, ap, arith, refl, sym}
 use Rattle.plain_store.specs.declared.setups.Setup.{Setup}
-use Rattle.replayer.specs.Courses.{CourseState}
-use Rattle.replayer.proofs.CourseTurns.{course}
-use Rattle.replayer.proofs.Walks.{left_after, left_err, left_ok, quiet_ok, walk_on, walk_starts, walk_told}
+use Rattle.record.specs.declared.events.Event.TheVariants.{Step}
+use Rattle.scenario.specs.declared.lines.Line.TheVariants.{Step as StepLine}
+use Rattle.world.specs.Events.{Adds, GoesOn, IsRefused}
+use Rattle.world.specs.Telling.{act_of}
+use Rattle.replayer.specs.Telling.{with_told}
+use Rattle.replayer.specs.Courses.{CourseState, MakesQuietly, course}
+use Rattle.replayer.proofs.Walks.{told_if_err, told_if_ok, told_is_err, told_on_err, told_on_ok, left_after, left_err, left_ok, quiet_ok, quietly_then, walk_on, walk_starts, walk_told}
 use Rattle.replayer.proofs.turns.Course.walk.Goals as goal
 use Rattle.replayer.proofs.turns.Course.walk.Goals.{then-is_err, else-is_err}
 
@@ -21,27 +25,52 @@ steps-init c =
 pub returns-then-all-clause-told : goal.returns-then-all-clause-told
 returns-then-all-clause-told c = λ steps run follows.
     let i = c.steps.self-inside in
+    let w = c.stroll-quiet.new.world in
+    let flicks = c.stroll-quiet.new.flicks in
+    let left : ℕ = c.stroll-quiet.new.left in
+    let mid : CourseState = course w flicks left in
+    let before = c.steps.invariant.made steps run follows in
+    let here = quietly_then c.args.self.now (course i.world i.flicks i.left) mid (StepLine c.args.process steps) run c.steps.quiet c.stroll-quiet.result before (c.stroll-quiet.ensures.quiet steps before.now before.follows) in
+    let leads = c.step-stepped.new.told in
+    let result = with_told leads c.step-stepped.result in
+    let adds = told_if_ok leads c.step-stepped.result (λ made. Adds w (Step c.args.process c.flick-flick.result) c.args.process (act_of (length w.history) made)) c.step-stepped.ensures.accepted in
+    let shows = told_on_ok leads c.step-stepped.result (GoesOn w (Step c.args.process c.flick-flick.result) c.step-stepped.new.self) c.step-stepped.ensures.shows in
+    let setup_ok = told_on_ok leads c.step-stepped.result (c.step-stepped.new.self.setup ≡ w.setup) c.step-stepped.ensures.setup in
+    let away = told_if_err leads c.step-stepped.result (λ refusal. IsRefused w (Step c.args.process c.flick-flick.result) (Some refusal)) c.step-stepped.ensures.refused in
+    let same = told_on_err leads c.step-stepped.result (c.step-stepped.new.self ≡ w) c.step-stepped.ensures.unchanged in
     let w' = c.step-stepped.new.self in
     let flicks' = c.flick-flick.new.self in
-    let result = c.step-stepped.result in
-    let ends : c.if-is_err.self ≡ course w' flicks' (left_after result (i.left - 1)) = elim c.if-is_err.branch [
-      | then-is_err w ↦ w.self-is ∙ ap (λ (n : ℕ). course w' flicks' n) (sym (left_err result (i.left - 1) (sym c.is_err.ensures.value ∙ w.if-is_err.true)))
-      | else-is_err w ↦ w.self-is ∙ ap (λ (n : ℕ). course w' flicks' n) (sym (left_ok result (i.left - 1) (sym c.is_err.ensures.value ∙ w.if-is_err.false)))
+    let ends : c.if-is_err.self ≡ course w' flicks' (left_after result (left - 1)) = elim c.if-is_err.branch [
+      | then-is_err b ↦ b.self-is ∙ ap (λ (n : ℕ). course w' flicks' n) (sym (left_err result (left - 1) (told_is_err leads c.step-stepped.result ∙ sym c.is_err.ensures.value ∙ b.if-is_err.true)))
+      | else-is_err b ↦ b.self-is ∙ ap (λ (n : ℕ). course w' flicks' n) (sym (left_ok result (left - 1) (told_is_err leads c.step-stepped.result ∙ sym c.is_err.ensures.value ∙ b.if-is_err.false)))
     ] in
-    walk_told c.args.self.now c.args.process steps run c.steps.quiet i.world w' i.flicks flicks' i.left _ c.flick-flick.result c.history.result.now result c.told_of-told.result c.if-is_err.self
-    (λ none. omega (arith, none, c.steps-test.true)) c.flick-flick.ensures.flick c.flick-flick.ensures.after c.history.ensures refl
-    c.step-stepped.ensures.accepted c.step-stepped.ensures.shows c.step-stepped.ensures.refused c.step-stepped.ensures.unchanged c.step-stepped.ensures.setup c.told_of-told.ensures ends (c.steps.invariant.made steps run follows)
+    walk_told c.args.self.now c.args.process steps run (c.steps.quiet + c.stroll-quiet.result) w w' flicks flicks' left _ c.flick-flick.result c.history.result.now result c.told_of-told.result c.if-is_err.self
+    (λ none. omega (arith, none, c.stroll-quiet.ensures.above)) c.flick-flick.ensures.flick c.flick-flick.ensures.after c.history.ensures refl
+    adds shows away same setup_ok c.told_of-told.ensures ends here
 
 pub steps-preserved : goal.steps-preserved
 steps-preserved c =
     let i = c.steps.self-inside in
+    let w = c.stroll-quiet.new.world in
+    let flicks = c.stroll-quiet.new.flicks in
+    let left : ℕ = c.stroll-quiet.new.left in
+    let mid : CourseState = course w flicks left in
+    let leads = c.step-stepped.new.told in
+    let result = with_told leads c.step-stepped.result in
+    let adds = told_if_ok leads c.step-stepped.result (λ made. Adds w (Step c.args.process c.flick-flick.result) c.args.process (act_of (length w.history) made)) c.step-stepped.ensures.accepted in
+    let shows = told_on_ok leads c.step-stepped.result (GoesOn w (Step c.args.process c.flick-flick.result) c.step-stepped.new.self) c.step-stepped.ensures.shows in
+    let setup_ok = told_on_ok leads c.step-stepped.result (c.step-stepped.new.self.setup ≡ w.setup) c.step-stepped.ensures.setup in
     let quiet = sym c.if-not-is_quiet.ensures in
-    let setup : c.step-stepped.new.self.setup ≡ i.world.setup = quiet_ok c.step-stepped.result quiet c.step-stepped.ensures.setup in
+    let setup : c.step-stepped.new.self.setup ≡ i.world.setup = quiet_ok result quiet setup_ok ∙ c.stroll-quiet.ensures.setup in
     record {
-      made = λ steps run follows. walk_on c.args.self.now c.args.process steps run c.steps.quiet i.world c.step-stepped.new.self i.flicks c.flick-flick.new.self i.left c.flick-flick.result c.step-stepped.result
-          (λ none. omega (arith, none, c.steps-test.true)) c.flick-flick.ensures.flick c.flick-flick.ensures.after c.step-stepped.ensures.accepted c.step-stepped.ensures.shows c.step-stepped.ensures.setup quiet (c.steps.invariant.made steps run follows);
+      made = λ steps run follows.
+          let before = c.steps.invariant.made steps run follows in
+          let here : MakesQuietly c.args.self.now (StepLine c.args.process steps) run (c.steps.quiet + c.stroll-quiet.result) mid =
+          quietly_then c.args.self.now (course i.world i.flicks i.left) mid (StepLine c.args.process steps) run c.steps.quiet c.stroll-quiet.result before (c.stroll-quiet.ensures.quiet steps before.now before.follows) in
+          walk_on c.args.self.now c.args.process steps run (c.steps.quiet + c.stroll-quiet.result) w c.step-stepped.new.self flicks c.flick-flick.new.self left c.flick-flick.result result
+          (λ none. omega (arith, none, c.stroll-quiet.ensures.above)) c.flick-flick.ensures.flick c.flick-flick.ensures.after adds shows setup_ok quiet here;
       kept = record { are = c.steps.invariant.kept.are ∙ ap (λ (s : Setup). s.processes) (sym setup); few = c.steps.invariant.kept.few };
-      left = omega (arith, c.steps-test.true, c.steps.invariant.left);
-      floor = omega (arith, c.steps-test.true);
+      left = omega (arith, c.stroll-quiet.ensures.above, c.stroll-quiet.ensures.left, c.steps.invariant.left);
+      floor = omega (arith, c.stroll-quiet.ensures.above);
       all = λ all. let no = c.if-all.false in absurd (cc);
     }

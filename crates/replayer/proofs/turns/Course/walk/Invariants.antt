@@ -1,8 +1,7 @@
 use Rattle.std.proofs.Common.{◌-◌, ◌≡◌, ◌+◌, ◌≤◌, ℕ, true}
 use Rattle.scenario.specs.declared.lines.Line.TheVariants.{Step as StepLine}
-use Rattle.replayer.specs.Courses.{Follows, KeepsCourse, MakesQuietly}
+use Rattle.replayer.specs.Courses.{Follows, KeepsCourse, MakesQuietly, course}
 use Rattle.replayer.specs.Runs.{Run}
-use Rattle.replayer.proofs.CourseTurns.{course}
 use Rattle.replayer.proofs.turns.Course.walk.Given as goal
 
 -- so far each Step was made without a mark

@@ -1,8 +1,7 @@
 use Rattle.std.proofs.Common.{◌≡◌, ◌+◌, ℕ, true}
 use Rattle.scenario.specs.declared.lines.Line.TheVariants.{Wander as WanderLine}
-use Rattle.replayer.specs.Courses.{Follows, KeepsCourse}
+use Rattle.replayer.specs.Courses.{Follows, KeepsCourse, course}
 use Rattle.replayer.specs.Runs.{Run}
-use Rattle.replayer.proofs.CourseTurns.{course}
 use Rattle.replayer.proofs.Wanders.{WandersQuietly}
 use Rattle.replayer.proofs.turns.Course.wander.Given as goal
 

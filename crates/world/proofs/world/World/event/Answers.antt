@@ -3,12 +3,10 @@ use Rattle.std.specs.Prelude.{OnOk}
 use Rattle.history_laws.proofs.Headlines.{the_headline}
 use Rattle.world.specs.Events.{GoesOn}
 use Rattle.world.proofs.world.World.event.Goals as goal
+use Rattle.world.proofs.world.World.event.Goals.{in-Ok, in-Err}
 
 pub returns-in-Call-clause-shows : goal.returns-in-Call-clause-shows
 returns-in-Call-clause-shows c = subst (λ e. OnOk c.call.result (GoesOn c.args.self.now e c.call.new.self)) (sym c.in-Call.is) c.call.ensures.shows
-
-pub returns-in-Ok-clause-shows : goal.returns-in-Ok-clause-shows
-returns-in-Ok-clause-shows c = subst (λ e. GoesOn c.args.self.now e c.make_step.new.self) (sym c.in-Step.is) c.make_step.ensures.shows
 
 pub returns-in-Fail-clause-shows : goal.returns-in-Fail-clause-shows
 returns-in-Fail-clause-shows c = subst (λ e. GoesOn c.args.self.now e c.fail.new.self) (sym c.in-Fail.is) c.fail.ensures.shows
@@ -25,9 +23,6 @@ returns-in-Some-clause-headline c = the_headline
 pub returns-in-Call-clause-headline : goal.returns-in-Call-clause-headline
 returns-in-Call-clause-headline c = the_headline
 
-pub returns-in-Ok-clause-headline : goal.returns-in-Ok-clause-headline
-returns-in-Ok-clause-headline c = the_headline
-
 pub returns-in-Fail-clause-headline : goal.returns-in-Fail-clause-headline
 returns-in-Fail-clause-headline c = the_headline
 
@@ -36,3 +31,12 @@ returns-in-Withdraw-clause-headline c = the_headline
 
 pub returns-in-Restart-clause-headline : goal.returns-in-Restart-clause-headline
 returns-in-Restart-clause-headline c = the_headline
+
+pub returns-after-step-clause-shows : goal.returns-after-step-clause-shows
+returns-after-step-clause-shows c = elim c.match-step.branch [
+  | in-Ok w ↦ rw w.result-is (subst (λ e. GoesOn c.args.self.now e c.step.new.self) (sym c.in-Step.is) w.in-Ok.ensures.shows)
+  | in-Err w ↦ rw w.result-is tt
+]
+
+pub returns-after-step-clause-headline : goal.returns-after-step-clause-headline
+returns-after-step-clause-headline c = the_headline

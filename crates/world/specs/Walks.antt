@@ -1,0 +1,25 @@
+-- Steps of a process without a mark, one after another.
+use Rattle.std.specs.Prelude.{◌≡◌, ℕ, zero, suc, Bool, List, [], None, Some, slice_get}
+use Rattle.safe_number.specs.declared.Access.{Access}
+use Rattle.record.specs.declared.events.Event.TheVariants.{Step}
+use Rattle.world.specs.Events.{Adds, GoesOn}
+use Rattle.world.specs.Flicks.{FlickState, after_flick, flick_of}
+use Rattle.world.specs.Seats.{Seat}
+use Rattle.world.specs.Shows.{WorldState}
+use Rattle.world.specs.Steps.{bits_within}
+
+-- a step by this flick that has no mark
+pub record StepsQuietly (old : WorldState) (p : ℕ) (flick : Bool) (new : WorldState) : Type 0 where
+  pub access : Access
+  pub adds : Adds old (Step p flick) p (record { access = Some access; marks = [] })
+  pub shows : GoesOn old (Step p flick) new
+  pub setup : new.setup ≡ old.setup
+
+-- so many of them, each by the flick that is next
+abbrev pub Walks : WorldState → FlickState → ℕ → ℕ → WorldState → FlickState → Type 0
+Walks old flicks p zero new flicks_then = (new ≡ old) × (flicks_then ≡ flicks)
+Walks old flicks p (suc n) new flicks_then = (w : WorldState) × (f : FlickState) × Walks old flicks p n w f × StepsQuietly w p (flick_of f) new × (flicks_then ≡ after_flick f)
+
+-- how many bits a process at the data has before the last one of its number access; 0, if there is no such process
+abbrev pub bits_within_at : List Seat → ℕ → ℕ
+bits_within_at seats p = elim (slice_get seats p) [ None ↦ 0 | Some seat ↦ bits_within seat.kept ]
