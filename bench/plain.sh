@@ -1,11 +1,6 @@
 #!/usr/bin/env bash
-# Times the proved program on two files. Needs `rt run` to have been run in crates/bakerystore, and `perf`.
-set -eu
-cd "$(dirname "$0")/.."
-program=$PWD/crates/bakerystore/out/bakerystore
-folder=$(mktemp -d)
-trap 'rm -rf "$folder"' EXIT
-python3 bench/scenarios.py "$folder"
+# Times `plain` on two files.
+. "$(dirname "$0")/program.sh"
 printf 'bakery 1\n' > "$folder/empty"
 for file in empty calls largest; do
   printf '%-8s ' "$file"

@@ -29,8 +29,6 @@ LEFT_OUT = re.compile(
     r"bakerystore_tests .*|scenario_tests (tests::writes_outputs|printing_tests::"
     r"(bounds_the_lines_of_bits_files|reads_cut_files|tells_faults_of_bits_files))"
 )
-# a test that finds its refused call by something else, and how many of its growths are such calls
-FOUND_OTHERWISE = {"world_tests runs::locks::withdrawal": 1}
 
 
 class Refuser:
@@ -98,8 +96,6 @@ def crate_tests(refuser):
                 continue
             whole, runs = refuser.each([program, test])
             wrong = [k for k, ran in enumerate(runs, 1) if not is_want_of_memory(ran)]
-            if len(wrong) <= FOUND_OTHERWISE.get(f"{program.name} {test}", 0):
-                wrong = []
             if whole.returncode != 0:
                 wrong.insert(0, 0)
             yield f"{program.name} {test}", len(runs), wrong

@@ -1,5 +1,5 @@
 //! Flicks and picks: what an overlapped read gives, and which process makes the next step.
-ghost use Rattle.std.specs.Prelude.{◌≡◌, ◌≤◌};
+ghost use Rattle.std.specs.Prelude.{◌≡◌, ◌≤◌, ◌%◌};
 ghost use Rattle.world.specs.Flicks.{constant_flicks, pcg_flicks, after_set, flick_of, after_flick, pick_of, after_pick};
 
 use rand_core::SeedableRng;
@@ -76,6 +76,7 @@ impl Flicks {
     }
 
     /// The flick of one step. It takes a word unless the flicks are constant.
+    #[inline]
     pub fn flick(&mut self) -> bool
         ensures flick { result ≡ flick_of self.old }
         ensures after { self.new ≡ after_flick self.old }
@@ -87,11 +88,40 @@ impl Flicks {
     }
 
     /// An index below `k`: the next word modulo `k`. It takes the word, whatever the mode.
+    #[inline]
     pub fn pick(&mut self, k: usize) -> usize
         requires { 1 ≤ k }
         ensures index { result ≡ pick_of k self.old }
         ensures after { self.new ≡ after_pick self.old }
     {
-        self.generator.next_word() as usize % k
+        remainder(self.generator.next_word() as usize, k)
+    }
+}
+
+/// A word modulo `k`. Each pick of a run has to wait for it, and by a number that is written down it is a
+/// multiplication in place of a division: so the numbers of processes that there can be are written down.
+#[inline]
+fn remainder(word: usize, k: usize) -> usize
+    requires { 1 ≤ k }
+    ensures { result ≡ word % k }
+{
+    match k {
+        1 => 0,
+        2 => word % 2,
+        3 => word % 3,
+        4 => word % 4,
+        5 => word % 5,
+        6 => word % 6,
+        7 => word % 7,
+        8 => word % 8,
+        9 => word % 9,
+        10 => word % 10,
+        11 => word % 11,
+        12 => word % 12,
+        13 => word % 13,
+        14 => word % 14,
+        15 => word % 15,
+        16 => word % 16,
+        _ => word % k,
     }
 }

@@ -183,10 +183,10 @@ fn withdrawal(rt: HostRuntime) -> Result<(), Fail> {
         Line::Call(1, read()),
         Line::Go(1, Target::Wait),
     ])?;
-    assert_eq!(rt; script.world.ahead(1).as_slice(), [0].as_slice());
-    assert_eq!(rt; script.world.ahead(0).len(), 0);
+    let before_second = script.world.ahead(1);
+    let before_first = script.world.ahead(0);
     script.run(&[Line::Step(0, 1), Line::Withdraw(0)])?;
-    assert_eq!(rt; script.world.ahead(1).len(), 0);
+    let after_withdrawal = script.world.ahead(1);
     script.run(&[
         Line::Go(0, Target::Idle),
         Line::Go(1, Target::Inside),
@@ -212,5 +212,8 @@ fn withdrawal(rt: HostRuntime) -> Result<(), Fail> {
             refused: 1,
         },
     );
+    assert_eq!(rt; before_second.as_slice(), [0].as_slice());
+    assert_eq!(rt; before_first.len(), 0);
+    assert_eq!(rt; after_withdrawal.len(), 0);
     Ok(())
 }
