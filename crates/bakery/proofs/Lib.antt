@@ -1,10 +1,13 @@
-pub mod Accesses
-pub mod Cells
-pub mod Going
-pub mod Greatest
-pub mod Known
-pub mod NumberRuns
-pub mod Others
+-- The places that a call reaches at the door
 pub mod Passage
 pub mod Reached
+pub mod Known
+pub mod Going
+pub mod Others
+-- An access of the door, and what it leads to
+pub mod Accesses
 pub mod Telling
+-- Numbers and registers
+pub mod Cells
+pub mod Greatest
+pub mod NumberRuns

@@ -8,7 +8,6 @@ ghost use Rattle.record.specs.Scripts.{Call};
 ghost use Rattle.bakery.specs.Doors.{door_at, new_door, IsDoorAfter, next_after, is_going, is_waiting, next_of, torn_of, IsNamed, progress_at, marks_told, MayDrop, dropped, goes_on, tells_wait};
 ghost use Rattle.bakery.specs.Locks.{lock_of, CanAccess, answered, locks_after};
 
-use crate::access::access;
 use crate::lock::Locks;
 use crate::progress::DoorProgress;
 use crate::runs::{self, Runs};
@@ -77,11 +76,13 @@ impl Door {
         ensures named { IsNamed self.now.setup result }
     {
         match self.standing.read() {
-            Some((owner, field)) => access(owner, field, self.runs.read.next(self.process, value)),
+            Some((owner, field)) => {
+                Access::of(owner, field, self.runs.read.next(self.process, value))
+            }
             None => {
                 let (field, number) = self.standing.written();
                 let next = runs::next(&self.runs.write, &bits_of(number.into()));
-                access(self.process, field, next)
+                Access::of(self.process, field, next)
             }
         }
     }

@@ -10,7 +10,6 @@ ghost use Rattle.record.specs.Scripts.{Call};
 ghost use Rattle.bakery.specs.Leavings.{leaving_at, leaving_of, new_leaving, is_leaving, next_of_leaving};
 ghost use Rattle.bakery.specs.Locks.{CanAccess, lock_after};
 
-use crate::access::access;
 use crate::lock::Lock;
 use crate::runs;
 use plain_store::Setup;
@@ -67,7 +66,7 @@ impl Leaving {
         ensures program { (c : Call) (at : Place) → self.now ≡ leaving_at c at → result ≡ access_at c at.part at.run }
     {
         let next = runs::next(&self.run, &bits_of(0));
-        access(self.process, Field::Ticket, next)
+        Access::of(self.process, Field::Ticket, next)
     }
 
     /// Goes on by that access.

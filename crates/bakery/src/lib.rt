@@ -3,17 +3,12 @@
 //! what that gave, whatever memory serves it; its `step` makes the access on the lock's registers.
 #![tactic(auto)]
 
-mod access;
 mod door;
 mod leaving;
 mod lock;
 mod progress;
-#[cfg(test)]
-mod register_tests;
 mod runs;
 mod standing;
-#[cfg(test)]
-mod tests;
 
 pub use door::Door;
 pub use leaving::Leaving;

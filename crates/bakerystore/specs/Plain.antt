@@ -12,7 +12,7 @@ use Rattle.scenario.specs.declared.faults.LineFault.{LineFault}
 use Rattle.scenario.specs.declared.lines.Line.{Line}
 use Rattle.scenario.specs.declared.lines.Line.TheVariants as line
 use Rattle.scenario.specs.Engines.{text_by}
-use Rattle.replayer.specs.Stores.{show_text}
+use Rattle.plain_store.specs.StoreLine.{show_text}
 
 -- The store, how many calls were applied, and how many of each process.
 pub record Run : Type 0 where

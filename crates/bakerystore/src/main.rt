@@ -12,7 +12,7 @@ use bits::run_bits;
 use plain::run_plain;
 use replayer::replay;
 use scenario::{Fault, FromRead, IntoWrite};
-use statuses::fault_status;
+use statuses::{ended, fault_status};
 use std::alloc::{AllocError, Global};
 use std::env::{self, Env};
 use std::fs::{File, Files};
@@ -58,8 +58,8 @@ fn request<T: Env + AllocGlobal>(rt: &T) -> Result<Option<Request>, AllocError> 
     read_words(rt.alloc(), words.as_slice())
 }
 
-/// Opens the file and runs the engine on it.
-fn run<T: Files + Input + Print + AllocGlobal>(rt: &T, request: &Request) -> Result<(), Fault> {
+/// Opens the file and runs the engine on it; answers the exit status that its end stands for.
+fn run<T: Files + Input + Print + AllocGlobal>(rt: &T, request: &Request) -> Result<u8, Fault> {
     if request.file.as_str() == "-" {
         return run_on(rt, request.engine, rt.reader());
     }
@@ -75,7 +75,7 @@ fn run_on<T: Print + AllocGlobal, R: Read + Drop>(
     rt: &T,
     engine: Engine,
     reader: R,
-) -> Result<(), Fault> {
+) -> Result<u8, Fault> {
     let Ok(reader) = BufReader::new(rt.alloc(), reader) else {
         return Err(Fault::Memory);
     };
@@ -85,30 +85,33 @@ fn run_on<T: Print + AllocGlobal, R: Read + Drop>(
     let ran = run_engine(rt.alloc(), engine, reader, &mut writer);
     // After a fault too: what the engine has written is a front of its text.
     let flushed = writer.flush();
-    ran?;
-    flushed.map_err(|_error| Fault::Write)
+    let status = ran?;
+    match flushed {
+        Ok(()) => Ok(status),
+        Err(_) => Err(Fault::Write),
+    }
 }
 
-/// Runs the engine from a reader to a writer.
+/// Runs the engine from a reader to a writer; answers the exit status that its end stands for.
 fn run_engine<R: Read + Drop, W: Write>(
     alloc: Global,
     engine: Engine,
     reader: R,
     writer: &mut W,
-) -> Result<(), Fault> {
+) -> Result<u8, Fault> {
     let mut input = FromRead::new(reader);
     let mut output = IntoWrite::new(writer);
     match engine {
-        Engine::Plain => run_plain(alloc, &mut input, &mut output),
-        Engine::Bits => run_bits(alloc, &mut input, &mut output),
-        Engine::Replay => replay(alloc, &mut input, &mut output).map(|_summary| ()),
+        Engine::Plain => ended(run_plain(alloc, &mut input, &mut output)),
+        Engine::Bits => ended(run_bits(alloc, &mut input, &mut output)),
+        Engine::Replay => ended(replay(alloc, &mut input, &mut output)),
     }
 }
 
 /// Tells a fault on standard error, and answers the exit status.
-fn told<T: Eprint>(rt: &T, ran: Result<(), Fault>) -> u8 {
+fn told<T: Eprint>(rt: &T, ran: Result<u8, Fault>) -> u8 {
     match ran {
-        Ok(()) => 0,
+        Ok(status) => status,
         Err(fault) => {
             let _ = eprintln!(rt; "{fault}");
             fault_status(&fault)

@@ -6,8 +6,7 @@ ghost use Rattle.plain_store.specs.Shown.{reply_text};
 ghost use Rattle.scenario.specs.Engines.{Ran};
 ghost use Rattle.bakerystore.specs.Plain.{line_text, run_after, text_from, run_at_start, plain_text, call_text, called, applied_text, applied, caller_of, counted, reply_line as line_of_reply};
 
-use plain_store::{Caller, Command, PlainStore, Reply, Setup, Store, opened};
-use replayer::show_line;
+use plain_store::{Caller, Command, PlainStore, Reply, Setup, Store, opened, show_line};
 use scenario::{Fault, Line, Scenario, Sink, Source, read_input, read_scenario, write_all};
 use std::alloc::{AllocError, Global};
 use std::marker::Model;

@@ -4,7 +4,7 @@ use Rattle.std.proofs.lemmas.Bool.{ne_eqb}
 use Rattle.safe_number.specs.Bytes.{bits_in, bits_of_number}
 use Rattle.safe_number.specs.Runs.{NumberRead, NumberWrite, number_read_after, new_write, write_on}
 use Rattle.reader_copies.specs.Runs as copies
-use Rattle.plain_store.specs.Image.{image_of}
+use Rattle.store_image.specs.Image.{image_of}
 use Rattle.record.specs.Parts.{Part, read_at, written_at, part_after}
 use Rattle.record.specs.Places.{Place, Reading, Writing, place_after, enter, new_run, write_moved, bit_written}
 use Rattle.record.specs.Registers.{width}

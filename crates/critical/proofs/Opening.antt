@@ -12,7 +12,7 @@ use Rattle.safe_number.specs.declared.Access.{Access}
 use Rattle.safe_number.specs.declared.Field.{Field}
 use Rattle.safe_number.specs.declared.Field.TheVariants.{Choosing, Ticket, Commit, Stamp0, Stamp1, Image0, Image1}
 use Rattle.safe_number.proofs.Numbers.{range_same, get-bits}
-use Rattle.plain_store.specs.Image.{image_of}
+use Rattle.store_image.specs.Image.{image_of}
 use Rattle.plain_store.specs.Setups.{opening_store}
 use Rattle.plain_store.specs.declared.Setup.{Setup}
 use Rattle.record.specs.Newest.{copy}
@@ -21,7 +21,7 @@ use Rattle.critical.specs.Newest.{IsQuiet}
 use Rattle.critical.specs.Registers.{Data, FitsSetup, is_data, no_data, register_of, register_at, data_from, row_from, register_from, opening_cell, zero_cell}
 
 -- a constant over a range
-const-range : {X : Type 0} (x : X) (a n : ℕ) → replicate n x ≡ map (λ (k : ℕ). x) (range_with_len a n)
+pub const-range : {X : Type 0} (x : X) (a n : ℕ) → replicate n x ≡ map (λ (k : ℕ). x) (range_with_len a n)
 const-range x a zero = refl
 const-range x a (suc n) = ap (λ xs. x ∷ xs) (const-range x (a + 1) n)
 

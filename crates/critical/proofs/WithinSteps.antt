@@ -10,7 +10,7 @@ use Rattle.safe_number.specs.declared.Access.{Access}
 use Rattle.safe_number.specs.declared.Field.{Field}
 use Rattle.safe_number.specs.Runs.{NumberRead, NumberWrite, bit_read, next_of_read, number_read_after}
 use Rattle.safe_number.specs.Written.{loaded}
-use Rattle.record.specs.Moves.{ended}
+use Rattle.record.specs.Moves.{ended, ended_with}
 use Rattle.record.specs.Parts.{Part, read_at, written_at}
 use Rattle.record.specs.Places.{Place, Run, Reading, Writing, access_at, bit_written, next_written, place_after, run_after, value_of, write_moved}
 use Rattle.record.specs.Registers.{width}
@@ -126,31 +126,48 @@ read-goes called part versions asked r now w row after flick is within moved mad
         ∙ ap (λ run. section_at c (record { part = at.part; run = run })) (run-moved c at.part r called.process v ∙ ap (λ run. run_after c at.part run (value_of access.how)) (sym (run-read called part versions r w c at same)))
         ∙ ap (section_at c) (sym (within-place c at (value_of access.how) (ap is_within (sym same) ∙ within)))
 
--- the access of a write: of a register of the section's own process
-pub write-access : (called : Called) (part : Written) (change : Change) (r : NumberRead) (w : NumberWrite) (row : DataRow) (flick : Bool) → w.width ≡ width called.setup (change_field part change) →
+-- the access of a write: of a register of the section's own process, and as it was where only the ends of reads are answered
+write-at : (called : Called) (part : Written) (change : Change) (r : NumberRead) (w : NumberWrite) (f : Access → Access) → w.width ≡ width called.setup (change_field part change) →
+    f (access_of called.process (change_field part change) (next_written (change_bits part change w.width) w)) ≡ access_of called.process (change_field part change) (next_written (change_bits part change w.width) w) →
     (c : Call) (at : Place) → section_of called (keeps.Writes part change) r w ≡ section_at c at →
-    access_of called.process (change_field part change) (next_written (change_bits part change w.width) w) ≡ answered row flick (access_at c at.part at.run)
-write-access called part change r w row flick wide =
-    of-call called (keeps.Writes part change) r w (λ c at. access_of called.process (change_field part change) (next_written (change_bits part change w.width) w) ≡ answered row flick (access_at c at.part at.run)) here
+    access_of called.process (change_field part change) (next_written (change_bits part change w.width) w) ≡ f (access_at c at.part at.run)
+write-at called part change r w f wide left =
+    of-call called (keeps.Writes part change) r w (λ c at. access_of called.process (change_field part change) (next_written (change_bits part change w.width) w) ≡ f (access_at c at.part at.run)) here
   where
     bits : List Bool
     bits = change_bits part change w.width
 
-    plain : Access
-    plain = access_of called.process (change_field part change) (next_written bits w)
-
-    to : Move → Access
-    to how = record { owner = plain.owner; field = plain.field; bit = plain.bit; reader = plain.reader; how = how }
-
-    here : (at : Place) → section_of called (keeps.Writes part change) r w ≡ section_at (call_of called) at → access_of called.process (change_field part change) (next_written (change_bits part change w.width) w) ≡ answered row flick (access_at (call_of called) at.part at.run)
+    here : (at : Place) → section_of called (keeps.Writes part change) r w ≡ section_at (call_of called) at → access_of called.process (change_field part change) (next_written (change_bits part change w.width) w) ≡ f (access_at (call_of called) at.part at.run)
     here at same =
         let c = call_of called in
         let standing = ap (λ (s : Section). s.standing) (sym same) in
-        let run : copies.Writing = bit_written bits w in
-        ap to (sym (ended-write (read_answer (cell_at (register_at row plain.owner plain.field) plain.bit plain.reader) flick) (run.made % 2 == 0) run.value))
-        ∙ ap (λ f. answered row flick (access_of called.process f (next_written bits w))) (sym (written-field c at.part part change standing))
-        ∙ ap (λ bs. answered row flick (access_of called.process (written_at c at.part).0 (next_written bs w))) (sym (written-bits c at.part part change w.width standing wide))
-        ∙ ap (λ x. answered row flick (access_at c at.part x)) (sym (run-write called part change r w c at same))
+        sym left
+        ∙ ap (λ g. f (access_of called.process g (next_written bits w))) (sym (written-field c at.part part change standing))
+        ∙ ap (λ bs. f (access_of called.process (written_at c at.part).0 (next_written bs w))) (sym (written-bits c at.part part change w.width standing wide))
+        ∙ ap (λ x. f (access_at c at.part x)) (sym (run-write called part change r w c at same))
+
+-- an access of a write, with another move
+abbrev moving : (called : Called) (part : Written) (change : Change) (w : NumberWrite) → Move → Access
+moving called part change w how =
+    let plain : Access = access_of called.process (change_field part change) (next_written (change_bits part change w.width) w) in
+    record { owner = plain.owner; field = plain.field; bit = plain.bit; reader = plain.reader; how = how }
+
+-- told as a section tells it
+pub write-next : (called : Called) (part : Written) (change : Change) (r : NumberRead) (w : NumberWrite) (v : Bool) → w.width ≡ width called.setup (change_field part change) →
+    (c : Call) (at : Place) → section_of called (keeps.Writes part change) r w ≡ section_at c at →
+    access_of called.process (change_field part change) (next_written (change_bits part change w.width) w) ≡ ended_with v (access_at c at.part at.run)
+write-next called part change r w v wide =
+    let run : copies.Writing = bit_written (change_bits part change w.width) w in
+    write-at called part change r w (ended_with v) wide (ap (moving called part change w) (ended-write v (run.made % 2 == 0) run.value))
+
+-- made on the registers
+pub write-access : (called : Called) (part : Written) (change : Change) (r : NumberRead) (w : NumberWrite) (row : DataRow) (flick : Bool) → w.width ≡ width called.setup (change_field part change) →
+    (c : Call) (at : Place) → section_of called (keeps.Writes part change) r w ≡ section_at c at →
+    access_of called.process (change_field part change) (next_written (change_bits part change w.width) w) ≡ answered row flick (access_at c at.part at.run)
+write-access called part change r w row flick wide =
+    let run : copies.Writing = bit_written (change_bits part change w.width) w in
+    let plain : Access = access_of called.process (change_field part change) (next_written (change_bits part change w.width) w) in
+    write-at called part change r w (answered row flick) wide (ap (moving called part change w) (ended-write (read_answer (cell_at (register_at row plain.owner plain.field) plain.bit plain.reader) flick) (run.made % 2 == 0) run.value))
 
 -- it may be made
 pub write-may : (called : Called) (part : Written) (change : Change) (r : NumberRead) (w : NumberWrite) (row : DataRow) (flick : Bool) → w.width ≡ width called.setup (change_field part change) →

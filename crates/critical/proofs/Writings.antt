@@ -1,6 +1,6 @@
 -- The bytes of a change, and their bits.
 use Rattle.std.proofs.Common.{◌≡◌, ℕ, ◌+◌, ◌*◌, length, ◌<◌, ◌⊎◌, List, refl, sym, ◌∙◌, ap, inl, inr}
-use Rattle.plain_store.specs.Image.{image_of}
+use Rattle.store_image.specs.Image.{image_of}
 use Rattle.safe_number.specs.Bytes.{AreBytes, bits_in, bits_of_number, little_endian}
 use Rattle.safe_number.specs.Runs.{NumberWrite, next_of_write, number_write_after}
 use Rattle.safe_number.proofs.Bits.{bits-bytes}

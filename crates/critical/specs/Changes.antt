@@ -5,7 +5,7 @@ use Rattle.safe_number.specs.declared.Field.{Field}
 use Rattle.safe_number.specs.declared.Field.TheVariants as field
 use Rattle.safe_number.specs.Bytes.{bits_in, bits_of_number}
 use Rattle.safe_number.specs.Runs.{NumberWrite}
-use Rattle.plain_store.specs.Image.{image_of}
+use Rattle.store_image.specs.Image.{image_of}
 use Rattle.record.specs.Program.{stamp_field, image_field}
 use Rattle.critical.specs.declared.change.Change.{Change}
 use Rattle.critical.specs.declared.change.Written.{Written}

@@ -4,7 +4,7 @@ use Rattle.safe_bit.specs.Cell.{Cell}
 use Rattle.reader_copies.specs.Row.{cell_at, HasCell}
 use Rattle.safe_number.specs.declared.Field.{Field}
 use Rattle.safe_number.specs.Bytes.{number_of_bits}
-use Rattle.plain_store.specs.Reading.{store_in}
+use Rattle.store_image.specs.Reading.{store_in}
 use Rattle.plain_store.specs.Setups.{callers_of}
 use Rattle.plain_store.specs.Store.{Contents}
 use Rattle.record.specs.Program.{Version, newest_stamp, newest_process, version_of, stamp_field, image_field}

@@ -7,10 +7,11 @@ ghost use Rattle.critical.specs.Changes.{change_field, change_bits, number_writt
 ghost use Rattle.critical.specs.Registers.{after_access, MayMake};
 
 use crate::data_row::DataRow;
-use plain_store::{Image, Reply};
+use plain_store::Reply;
 use reader_copies::{Made, Progress};
 use record::bytes_go_by_their_bits;
 use safe_number::{Access, Field, WriteRun, bits_of};
+use store_image::Image;
 
 /// Which register of a change is written: part G writes them in this order.
 #[derive(Clone, Copy, Debug)]
@@ -122,14 +123,7 @@ impl Change {
         ensures registers { row.new ≡ after_access row.old (access_of owner (change_field part self.now) (next_written (change_bits part self.now run.old.width) run.old)) }
         ensures run { run.new ≡ write_moved readers (change_bits part self.now run.old.width) run.old }
     {
-        let (bit, made) = self.next(part, run);
-        row.apply(Access {
-            owner,
-            field: self.field(part),
-            bit,
-            reader: made.reader,
-            how: made.how,
-        });
+        row.apply(Access::of(owner, self.field(part), self.next(part, run)));
         self.advance(part, run, readers);
     }
 

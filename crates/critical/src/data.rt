@@ -12,11 +12,12 @@ ghost use Rattle.critical.specs.Registers.{register_of, with_register, data_from
 
 use crate::held;
 use crate::image::{self, MOST_IMAGE_BYTES};
-use plain_store::{Image, Setup};
+use plain_store::Setup;
 use reader_copies::Made;
 use safe_number::{Field, NumberFault, ReadRun, Register, WriteRun};
 use std::alloc::{AllocError, Global};
 use std::marker::Model;
+use store_image::Image;
 
 /// The registers of one process: its commit bit, and its two versions, of a stamp and an image each. The
 /// commit bit chooses the version that the process has committed.

@@ -10,12 +10,13 @@ ghost use Rattle.critical.specs.Registers.{data_of, register_at, with_register_a
 use crate::data::Data;
 use crate::newest::Newest;
 use crate::{held, image};
-use plain_store::{Image, Setup};
+use plain_store::Setup;
 use reader_copies::Made;
 use safe_bit::Move;
 use safe_number::{Access, Field, ReadRun, WriteRun};
 use std::alloc::{AllocError, Global};
 use std::marker::Model;
+use store_image::Image;
 
 /// The registers of the store's versions, of all processes of a setup.
 #[derive(Drop)]

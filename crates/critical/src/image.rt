@@ -1,13 +1,14 @@
 //! The image of a setup: its size, and the store that bytes stand for.
 ghost use Rattle.std.specs.Prelude.{◌≡◌, ◌*◌, ◌≤◌, length, List, Bool, Ok};
 ghost use Rattle.safe_number.specs.Bytes.{IsBytesOf};
-ghost use Rattle.plain_store.specs.Reading.{store_in};
+ghost use Rattle.store_image.specs.Reading.{store_in};
 ghost use Rattle.plain_store.specs.Setups.{checked, callers_of};
 ghost use Rattle.record.specs.Registers.{image_bytes, bytes_of_bits, width};
 
-use plain_store::{Image, Setup};
+use plain_store::Setup;
 use record::bytes_go_by_their_bits;
 use safe_number::Field;
+use store_image::Image;
 
 /// The bytes of the longest image: 8 slots, and 16 callers.
 pub(crate) const MOST_IMAGE_BYTES: usize = 216;

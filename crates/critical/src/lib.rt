@@ -12,8 +12,6 @@ mod newest;
 mod progress;
 mod section;
 mod standing;
-#[cfg(test)]
-mod tests;
 
 pub use data::Data;
 pub use data_row::DataRow;

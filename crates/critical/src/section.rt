@@ -102,24 +102,10 @@ impl Section {
         match &self.standing {
             Standing::Reads { part, versions } => {
                 let (owner, field) = standing::register_asked(part, versions);
-                let (bit, made) = self.reading.next(me, value);
-                Access {
-                    owner,
-                    field,
-                    bit,
-                    reader: made.reader,
-                    how: made.how,
-                }
+                Access::of(owner, field, self.reading.next(me, value))
             }
             Standing::Writes { part, change } => {
-                let (bit, made) = change.next(*part, &self.writing);
-                Access {
-                    owner: me,
-                    field: change.field(*part),
-                    bit,
-                    reader: made.reader,
-                    how: made.how,
-                }
+                Access::of(me, change.field(*part), change.next(*part, &self.writing))
             }
             Standing::Done => unreachable!(),
         }

@@ -16,8 +16,9 @@ use crate::change::{self, Change, Written};
 use crate::image;
 use crate::newest::Newest;
 use crate::progress::SectionProgress;
-use plain_store::{Caller, Command, Image, Reply, Setup, Store, Value};
+use plain_store::{Caller, Command, Reply, Setup, Store, Value};
 use safe_number::{Field, ReadRun, number_of};
+use store_image::Image;
 
 /// A call inside the critical section.
 #[derive(Clone, Copy, Debug)]

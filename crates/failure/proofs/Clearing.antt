@@ -7,6 +7,7 @@ use Rattle.safe_number.specs.Bytes.{bits_of_number}
 use Rattle.safe_number.specs.Runs.{NumberWrite}
 use Rattle.record.specs.Places.{bit_written, write_moved}
 use Rattle.failure.specs.Units.{IsUnderWay}
+use Rattle.bakery.proofs.Going.{made-same}
 
 -- the bits of 0 are 0
 pub no_bit : (w k : ℕ) → slice_index_or (bits_of_number w 0) k false ≡ false
@@ -17,15 +18,6 @@ no_bit (suc w) (suc k) = no_bit w k
 pub no_bit-alone : (k : ℕ) → slice_index_or (false ∷ []) k false ≡ false
 no_bit-alone zero = refl
 no_bit-alone (suc k) = refl
-
--- how many accesses were made does not hang on the bits
-pub same-made : (bits : List Bool) (w : NumberWrite) → (bit_written bits w).made ≡ (bit_written [] w).made
-same-made bits w = go w.run
-  where
-    go : (run : Option Writing) →
-        (let r : Writing = unwrap_or run (record { value = slice_index_or bits w.bit false; made = 0; ended = false }) in r).made ≡ (let r : Writing = unwrap_or run (record { value = slice_index_or [] w.bit false; made = 0; ended = false }) in r).made
-    go (Some run) = refl
-    go None = refl
 
 -- a write that is under way, and not done after its next access, is under way then
 pub under-way : (n width : ℕ) (bits : List Bool) (w : NumberWrite) → 1 ≤ n → IsUnderWay n width w → ((write_moved n bits w).bit == w.width) ≡ false → IsUnderWay n width (write_moved n bits w)
@@ -38,7 +30,7 @@ under-way n width bits w some on = go (m + 1 == 2 * n) refl
         → let to : NumberWrite = cond b (record { width = w.width; bit = w.bit + 1; run = None }) (record { width = w.width; bit = w.bit; run = Some (let r : Writing = record { value = (bit_written bits w).value; made = m + 1; ended = b } in r) }) in
         (to.bit == w.width) ≡ false → IsUnderWay n width to
     go true h l = let apart : w.bit + 1 ≡ w.width → ⊥ = eqb-false (w.bit + 1) w.width l in record { width = on.width; bit = omega (arith, on.bit, apart); made = omega (arith, some) }
-    go false h l = let apart : m + 1 ≡ 2 * n → ⊥ = eqb-false (m + 1) (2 * n) h in record { width = on.width; bit = on.bit; made = omega (arith, apart, on.made, same-made bits w) }
+    go false h l = let apart : m + 1 ≡ 2 * n → ⊥ = eqb-false (m + 1) (2 * n) h in record { width = on.width; bit = on.bit; made = omega (arith, apart, on.made, made-same bits w) }
 
 -- what a write that has or has not come to its end tells
 pub goes-on : (n : ℕ) (bits : List Bool) (w r : NumberWrite) (x : Option NumberWrite) → x ≡ cond ((write_moved n bits w).bit == w.width) None (Some (write_moved n bits w)) → x ≡ Some r →

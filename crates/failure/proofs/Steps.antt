@@ -15,10 +15,11 @@ use Rattle.record.specs.Failures.{cut}
 use Rattle.record.specs.Places.{bit_written, write_moved}
 use Rattle.record.specs.Scripts.{Call}
 use Rattle.bakery.specs.Doors.{IsNamed}
+use Rattle.bakery.proofs.Going.{made-same}
 use Rattle.failure.specs.declared.work.Work.{Work}
 use Rattle.failure.specs.declared.work.Work.TheVariants.{Settles, Frees, Lowers, Done}
 use Rattle.failure.specs.Units.{work_at, goes, remains, next_access, next_marks, next_of_work, work_after, whole_work, call_in, marks_told, IsUnderWay, IsWork, KeepsUnit}
-use Rattle.failure.proofs.Clearing.{same-made, under-way, goes-on, is-done}
+use Rattle.failure.proofs.Clearing.{under-way, goes-on, is-done}
 
 -- the next access is that of each closing
 pub next-at : (c : Call) (at : Closing) (flick : Bool) → goes (work_at at) ≡ true → next_access c at flick ≡ next_of_work c.setup c.process (work_at at) flick
@@ -89,7 +90,7 @@ named s p work flick a k h = go work k.kept h
     from b n e = let f : b ≡ a = cc in subst (IsNamed s) f n
 
     half : (bits : List Bool) (w : NumberWrite) (width : ℕ) → IsUnderWay s.processes width w → (bit_written bits w).made / 2 < s.processes
-    half bits w width on = omega (arith, on.made, same-made bits w)
+    half bits w width on = omega (arith, on.made, made-same bits w)
 
     go : (work : Work) → IsWork s work → next_of_work s p work flick ≡ Some a → IsNamed s a
     go (Settles t) on h = from _ (record { owner = k.process; reader = on.1; bit = on.0 }) h

@@ -4,8 +4,6 @@
 #![tactic(auto)]
 
 mod progress;
-#[cfg(test)]
-mod tests;
 mod unit;
 mod work;
 

@@ -7,7 +7,7 @@ ghost use Rattle.failure.specs.Units.{whole_work, next_of_work, work_after, rema
 
 use crate::progress::UnitProgress;
 use plain_store::Setup;
-use reader_copies::{Made, Progress};
+use reader_copies::Progress;
 use safe_number::{Access, Field, TornBit, WriteRun};
 
 /// The bytes of the number 0, to which a lock's register is cleared.
@@ -52,7 +52,7 @@ impl Work {
     {
         match self {
             Work::Settles(torn) => {
-                access_to(process, torn.field, torn.bit, torn.torn.next(flick))
+                Access::of(process, torn.field, (torn.bit, torn.torn.next(flick)))
             }
             Work::Frees(run) => clearing(process, Field::Ticket, run),
             Work::Lowers(run) => clearing(process, Field::Choosing, run),
@@ -113,8 +113,7 @@ fn clearing(process: u8, field: Field, run: &WriteRun) -> Access
     requires { run.now.bit < 32 }
     ensures { (bits : List Bool) → slice_index_or bits run.now.bit false ≡ false → result ≡ access_of process field (next_written bits run.now) }
 {
-    let (bit, made) = run.next(&CLEAR);
-    access_to(process, field, bit, made)
+    Access::of(process, field, run.next(&CLEAR))
 }
 
 /// A write of 0 to a register with copies for `readers` readers, after its next access, if it is not done.
@@ -129,19 +128,5 @@ fn clear_on(run: WriteRun, readers: u8) -> Option<WriteRun>
     match run.advance(readers, &CLEAR) {
         Progress::Going => Some(run),
         Progress::Done => None,
-    }
-}
-
-/// What is made of a bit of a register, as an access to that register.
-#[inline]
-fn access_to(owner: u8, field: Field, bit: u16, made: Made) -> Access
-    ensures { result ≡ access_of owner field (bit, made) }
-{
-    Access {
-        owner,
-        field,
-        bit,
-        reader: made.reader,
-        how: made.how,
     }
 }

@@ -8,10 +8,11 @@ use Rattle.safe_number.specs.declared.Field.{Field}
 use Rattle.safe_number.specs.declared.Field.TheVariants.{Commit, Image0}
 use Rattle.safe_number.specs.Bytes.{number_of_bits}
 use Rattle.safe_number.proofs.Numbers.{length_bits}
+use Rattle.safe_number.proofs.Bits.{length-bits_of_number}
 use Rattle.plain_store.specs.declared.Answer.TheVariants as answer
 use Rattle.plain_store.specs.declared.Command.{Command}
 use Rattle.plain_store.specs.declared.Setup.{Setup}
-use Rattle.plain_store.specs.Image.{image_of}
+use Rattle.store_image.specs.Image.{image_of}
 use Rattle.plain_store.specs.Setups.{opening_store}
 use Rattle.plain_store.specs.Store.{Contents, changes}
 use Rattle.record.specs.Entries.{Past}
@@ -22,7 +23,6 @@ use Rattle.record.specs.Places.{Place, Reading, enter, place_after}
 use Rattle.record.specs.Program.{Version, image_field, max_of, newest_process, newest_stamp, reply, stamp_field, store_read, version_of}
 use Rattle.record.specs.Registers.{image_bytes, processes, width}
 use Rattle.record.specs.Scripts.{Call}
-use Rattle.record.proofs.Ties.{length-bits_of_number}
 use Rattle.laws.proofs.Bits.{AreBitsOf, number_read}
 use Rattle.laws.specs.Doings.{call}
 use Rattle.laws.proofs.Invariant.{Touches, Wires, touches, wires}

@@ -6,7 +6,7 @@ use Rattle.safe_number.specs.declared.Field.{Field}
 use Rattle.safe_number.specs.declared.Field.TheVariants.{Image0, Image1}
 use Rattle.plain_store.specs.declared.Command.{Command}
 use Rattle.plain_store.specs.declared.Setup.{Setup}
-use Rattle.plain_store.specs.Reading.{IsImageOf}
+use Rattle.store_image.specs.Reading.{IsImageOf}
 use Rattle.plain_store.specs.Setups.{callers_of}
 use Rattle.plain_store.specs.Store.{Contents}
 use Rattle.record.specs.declared.events.Event.{Event}

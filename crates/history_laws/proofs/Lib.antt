@@ -1,44 +1,51 @@
-pub mod CallSpans
-pub mod ClosingMarks
-pub mod Order
-pub mod PartMarks
-pub mod Places
+-- What calls take, and in which order
 pub mod Told
 pub mod Took
+pub mod PartMarks
+pub mod ClosingMarks
+pub mod CallSpans
+pub mod Places
+pub mod Order
+-- The invariant of the data
 pub mod Kept
 pub mod Sound
+pub mod Given
 pub mod Versions
-pub mod Lifting
 pub mod NewestVersion
+pub mod CountedChanges
 pub mod Codec
 pub mod Sounding
-pub mod CountedChanges
+pub mod Opening
+pub mod Lifting
+-- It is kept by steps that read
 pub mod CleanReads
 pub mod DataReads
 pub mod DataReadSteps
-pub mod Uncommitted
 pub mod VersionsRead
+pub mod ReadEntries
+-- by steps that write a change, or settle one
+pub mod Uncommitted
 pub mod DataWrites
-pub mod VersionSettles
 pub mod EntryWrites
+pub mod WriteSteps
+pub mod VersionSettles
+pub mod SettleSteps
+pub mod Cutting
+-- and by all others
 pub mod Outside
 pub mod Entering
-pub mod Opening
 pub mod EntrySteps
-pub mod ReadEntries
-pub mod WriteSteps
-pub mod SettleSteps
-pub mod Given
-pub mod Cutting
 pub mod DataAlways
+-- What the invariant tells
 pub mod OpenVersions
 pub mod VersionReads
 pub mod NewestHeld
 pub mod ImageReads
 pub mod TrueMarks
+pub mod DataMore
 pub mod DataHeadline
-pub mod StoreNumbers
+-- One history
 pub mod HistoryItems
+pub mod StoreNumbers
 pub mod Asked
 pub mod Headlines
-pub mod DataMore

@@ -6,9 +6,9 @@ use Rattle.std.proofs.lemmas.List.FromFn.{get_or-map-range_with_len, length-map-
 use Rattle.safe_number.specs.declared.Field.{Field}
 use Rattle.safe_number.specs.declared.Field.TheVariants.{Commit}
 use Rattle.safe_number.specs.Bytes.{number_of_bits}
-use Rattle.safe_number.proofs.Bits.{number-bits}
+use Rattle.safe_number.proofs.Bits.{number-bits, length-bits_of_number}
 use Rattle.plain_store.specs.declared.Setup.{Setup}
-use Rattle.plain_store.specs.Image.{image_of}
+use Rattle.store_image.specs.Image.{image_of}
 use Rattle.plain_store.specs.Store.{Contents}
 use Rattle.record.specs.declared.events.Event.{Event}
 use Rattle.record.specs.Entries.{Past}
@@ -17,7 +17,6 @@ use Rattle.record.specs.Program.{Version, image_field, newest_process, stamp_fie
 use Rattle.record.specs.Records.{past_of}
 use Rattle.record.specs.Registers.{bytes_of_bits, image_bytes, processes, width}
 use Rattle.record.specs.Stages.{inside}
-use Rattle.record.proofs.Ties.{length-bits_of_number}
 use Rattle.record.proofs.Width.{IsGood}
 use Rattle.laws.proofs.Alone.{closes_inside}
 use Rattle.laws.specs.Doings.{Doing, doing}

@@ -10,6 +10,7 @@ use Rattle.record.specs.Registers.{processes}
 use Rattle.history_laws.proofs.Kept.{Kept}
 use Rattle.history_laws.proofs.Versions.{Versions, versions_of}
 use Rattle.laws.proofs.Invariant.{Wires}
+use Rattle.laws.proofs.Tickets.{above as begun_with}
 
 -- the stamps and the commit bits of some processes' versions
 stamps_of : (v : Versions) (qs : List ℕ) → map (λ (x : Version). x.1) (versions_of v qs) ≡ map v.stamp qs
@@ -19,11 +20,6 @@ stamps_of v (q ∷ qs) = ap (λ xs. v.stamp q ∷ xs) (stamps_of v qs)
 commits_of : (v : Versions) (qs : List ℕ) → map (λ (x : Version). x.0) (versions_of v qs) ≡ map v.commit qs
 commits_of v [] = refl
 commits_of v (q ∷ qs) = ap (λ xs. v.commit q ∷ xs) (commits_of v qs)
-
--- the greatest is not below what one begins with
-begun_with : (a : ℕ) (ts : List ℕ) → a ≤ fold max a ts
-begun_with a [] = omega arith
-begun_with a (t ∷ ts) = let l = begun_with (max a t) ts in grind (arith, l)
 
 -- none of these numbers is above the top, so neither is the greatest
 not_above : (f : ℕ → ℕ) (top a from n : ℕ) → ((q : ℕ) → q < from + n → f q ≤ top) → a ≤ top → fold max a (map f (range_with_len from n)) ≤ top

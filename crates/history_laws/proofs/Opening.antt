@@ -6,7 +6,7 @@ use Rattle.std.proofs.lemmas.Nat.{pow_pos}
 use Rattle.std.specs.Int.{is_in_range}
 use Rattle.std.specs.List.{list_all}
 use Rattle.plain_store.specs.declared.Setup.{Setup}
-use Rattle.plain_store.specs.Image.{is_number}
+use Rattle.store_image.specs.Image.{is_number}
 use Rattle.plain_store.specs.Setups.{callers_of, checked, opening_store}
 use Rattle.plain_store.proofs.GoodSetups.{good-checked, few-opening}
 use Rattle.record.proofs.Width.{is_good}

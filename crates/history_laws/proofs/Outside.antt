@@ -108,7 +108,7 @@ pub either-none : (b : Bool) (ms : List Mark) → reply_taken ms ≡ None → re
 either-none true ms h = h
 either-none false ms h = refl
 
-entered-none : (ws : List Wait) → reply_taken (entered_if_none ws) ≡ None
+pub entered-none : (ws : List Wait) → reply_taken (entered_if_none ws) ≡ None
 entered-none [] = refl
 entered-none (w ∷ ws) = refl
 

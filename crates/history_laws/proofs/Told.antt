@@ -12,7 +12,7 @@ use Rattle.record.specs.Places.{value_of}
 use Rattle.record.specs.Records.{entry_of, past_of}
 use Rattle.record.specs.Spans.{ends_span, all_takings}
 use Rattle.record.proofs.Width.{IsGood}
-use Rattle.laws.proofs.AtPlaces.{own-induction}
+use Rattle.laws.proofs.AtPlaces.{own-induction, either}
 use Rattle.laws.specs.Doings.{Doing, Rests, Lies, call, doing}
 use Rattle.laws.proofs.Doings.{Step}
 use Rattle.laws.proofs.Frame.{Happens, a_call, a_withdrawal, a_failure, a_restart, a_step, a_closing, doing-other, own-other, own-own}
@@ -40,9 +40,6 @@ happens-says s past p e d d' taken (a_closing command number at flick n i next i
     (closing-tells (call s p command number) command number (length (history s past)) at flick n taken next (subst (λ x. TookBy x taken) i h)))
 
 -- What is known goes on with an entry.
-
-either : (a b : Bool) → a ≡ false → b ≡ false → (a || b) ≡ false
-either a b h k = λ i. h i || k i
 
 pub since-called : (e : Entry) (mine : Past) → has is_called e ≡ true → since is_called (e ∷ mine) ≡ []
 since-called e mine h = ap (λ b. elim b as (λ _. Past) [ true ↦ [] | false ↦ e ∷ since is_called mine ]) h

@@ -2,7 +2,8 @@
 ghost use Rattle.std.specs.Prelude.{◌≤◌};
 
 use anyhow::{Result, bail};
-use plain_store::{Caller, Command, Image, Name, Reply, Store, Value};
+use plain_store::{Caller, Command, Name, NestedTypes, Reply, Store, Value};
+use store_image::Image;
 
 fn name(bytes: &[u8]) -> Result<Name> {
     let Ok(name) = Name::new(bytes) else {
@@ -41,8 +42,7 @@ pub fn full_image(callers: u8) -> Result<Image>
 
 /// Adds 1 to a counter, and gives the sum.
 fn add_one(image: &mut Image, name: Name, number: u16) -> Result<i64> {
-    // The proof of this function is told of the types inside a command here.
-    let _types: Option<Value> = None;
+    let _nested: NestedTypes = None;
     let caller = Caller { process: 0, number };
     match image.apply(&Command::Add(name, 1), caller)? {
         Reply::Sum(sum) => Ok(sum),

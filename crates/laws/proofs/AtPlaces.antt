@@ -150,7 +150,7 @@ pub record IsOfLock (test : Mark → Bool) : Type 0 where
   pub down : test Down ≡ false
   pub withdrawn : test (Answered answer.Withdrawn) ≡ false
 
-either : (a b : Bool) → a ≡ false → b ≡ false → (a || b) ≡ false
+pub either : (a b : Bool) → a ≡ false → b ≡ false → (a || b) ≡ false
 either true b h k = h
 either false b h k = k
 

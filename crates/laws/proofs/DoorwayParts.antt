@@ -21,6 +21,7 @@ use Rattle.plain_store.specs.Store.{Contents, changes}
 use Rattle.laws.proofs.Notes.{began_by, ended_by}
 use Rattle.laws.proofs.FrameInside.{run-unfresh}
 use Rattle.laws.proofs.AtPlaces.{IsOfLock, IsRunOf}
+use Rattle.laws.proofs.FrameMarks.{waiting-entered}
 
 -- the doorway has begun; fresh: nothing of the part is made
 abbrev pub has_begun : Part → (fresh : Bool) → Bool
@@ -174,10 +175,6 @@ finished-begun _ fresh h = refl
 
 abbrev pub of_waiting : IsOfLock is_waiting
 of_waiting = record { taken = λ k r. refl; left = refl; settled = λ v. refl; down = refl; withdrawn = refl }
-
-waiting-entered : (ws : List Wait) → list_any is_waiting (entered_if_none ws) ≡ false
-waiting-entered [] = refl
-waiting-entered (w ∷ ws) = refl
 
 pub waiting-last : (c : Call) (part : Part) (bits : List Bool) → list_any is_waiting (last_marks c part bits) ≡ is_lowering part
 waiting-last c (Lowers t) bits = refl

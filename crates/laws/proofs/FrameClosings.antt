@@ -26,6 +26,7 @@ use Rattle.record.proofs.Local.{start-plain, since-plain, call-plain, command-pl
 use Rattle.record.proofs.OpenSteps.{leaving_at, failing_at, closing-plain, closing-same}
 use Rattle.record.proofs.Staging.{stage-placed, no_start-placed, no_start}
 use Rattle.record.proofs.Width.{IsGood}
+use Rattle.record.proofs.OpenRecords.{leaving-chosen, since_failed-plain}
 use Rattle.laws.specs.Doings.{Closes, call, closes, goes_on, does_after, doing}
 use Rattle.laws.proofs.Frame.{Does, at_rest, lying, leaving, settling, a_closing, Goes, then_doing}
 
@@ -34,11 +35,6 @@ then-closing : (s : Setup) (past : Past) (p : ℕ) (e : Entry) (command : Comman
     then_doing s past p e ≡ closes command number (closing_after (call s p command number) at (value_written e))
 then-closing s past p e command number at a plain access does =
     ap (λ m. does_after s p (own p past) e m (doing s p past)) (no_start e.marks plain) ∙ ap (λ x. goes_on s p e x (doing s p past)) access ∙ ap (goes_on s p e (Some a)) does
-
--- what was chosen stays chosen
-leaving-chosen : (c : Call) (fs : List Bool) → IsChosen (closing_of c (withdrawing c) fs)
-leaving-chosen c [] = tt
-leaving-chosen c (f ∷ fs) = chosen-after c (closing_of c (withdrawing c) fs) f
 
 -- a step of a process that withdrew
 pub leaving-goes : (s : Setup) → IsGood s → (events : List Event) (p : ℕ) (flick : Bool) (e : Entry)
@@ -109,9 +105,6 @@ leaving-goes s g events p flick e b st does h = record {
     finish (Frees is q) i k = absurd (true≢false (sym (ap is_unit i) ∙ k))
     finish (Lowers q) i k = absurd (true≢false (sym (ap is_unit i) ∙ k))
     finish Ended i k = absurd (true≢false (sym (ap is_unit i) ∙ k))
-
-since_failed-plain : (e : Entry) (mine : Past) → has starts e ≡ false → since is_failed (e ∷ mine) ≡ e ∷ since is_failed mine
-since_failed-plain e mine h = ap (λ b. elim b as (λ _. Past) [ true ↦ [] | false ↦ e ∷ since is_failed mine ]) (no_failed e.marks h)
 
 -- a step of a memory unit
 pub settling-goes : (s : Setup) → IsGood s → (events : List Event) (p : ℕ) (flick : Bool) (e : Entry)

@@ -26,15 +26,11 @@ use Rattle.record.proofs.PlaceTurns.{access_in}
 use Rattle.record.proofs.Singles.{is_write}
 use Rattle.record.proofs.Ties.{written-width}
 use Rattle.record.proofs.Width.{IsGood, width-pos}
+use Rattle.record.proofs.ClosingScripts.{new-goes}
+use Rattle.record.proofs.Left.{ends-bit}
 use Rattle.laws.specs.Doings.{Doing, Rests, Lies, Runs, Closes, call, runs, closes}
 
 -- The last write, after an entry.
-
-pub last-kept : (e : Entry) (mine : Past) → e.access ≡ None → last_write (e ∷ mine) ≡ last_write mine
-last-kept e mine h = ap (λ o. elim o as (λ _. Option Access) [
-  | None ↦ last_write mine
-  | Some a ↦ elim a.how as (λ _. Option Access) [ BeginWrite v ↦ Some a | EndWrite ↦ Some a | Settle v ↦ Some a | BeginRead ↦ last_write mine | EndRead v ↦ last_write mine ]
-]) h
 
 pub last-made : (e : Entry) (mine : Past) (x : Access) → e.access ≡ Some x → last_write (e ∷ mine) ≡ cond (is_write x.how) (Some x) (last_write mine)
 last-made e mine x h =
@@ -62,9 +58,6 @@ pub data LeftBy (torn : Option Access) (f : Field) (w : NumberWrite) : Type 0 wh
   nothing : torn ≡ None → LeftBy torn f w
   one_bit : (a : Access) → torn ≡ Some a → a.field ≡ f → is_none w.run ≡ false → LeftBy torn f w
 
-pub new-goes : (n : ℕ) (bits : List Bool) (w : ℕ) → 0 < n → 0 < w → w ≡ length bits → Goes n bits (new_write w)
-new-goes n bits w some wide same = record { width = same; inside = wide; going = omega (arith, some) }
-
 -- a write that goes on, and has made an access of its present bit once it has begun it
 pub record WriteOn (n : ℕ) (bits : List Bool) (w : NumberWrite) : Type 0 where
   pub goes : Goes n bits w
@@ -72,19 +65,6 @@ pub record WriteOn (n : ℕ) (bits : List Bool) (w : NumberWrite) : Type 0 where
 
 pub new-on : (n : ℕ) (bits : List Bool) (w : ℕ) → 0 < n → 0 < w → w ≡ length bits → WriteOn n bits (new_write w)
 new-on n bits w some wide same = record { goes = new-goes n bits w some wide same; begun = λ r h. cc }
-
--- an access of a write finishes its bit if it is the last one on it
-ends-bit : (n m : ℕ) (v : Bool) → (not (is_begin (cond (m % 2 == 0) (BeginWrite v) EndWrite)) && (m / 2 + 1 == n)) ≡ (m + 1 == 2 * n)
-ends-bit n m v = go (m % 2 == 0) refl
-  where
-    go : (b : Bool) → (m % 2 == 0) ≡ b → (not (is_begin (cond b (BeginWrite v) EndWrite)) && (m / 2 + 1 == n)) ≡ (m + 1 == 2 * n)
-    go true h = let even : m % 2 ≡ 0 = eqb-true (m % 2) 0 h in sym (ne_eqb (m + 1) (2 * n) (λ u. omega (arith, u, even)))
-    go false h =
-        let odd : m % 2 ≢ 0 = eqb-false (m % 2) 0 h in
-        elim (cases_eq (m / 2 + 1) n) [
-          | inl e ↦ eq-eqb (m / 2 + 1) n e ∙ sym (eq-eqb (m + 1) (2 * n) (omega (arith, e, odd)))
-          | inr d ↦ ne_eqb (m / 2 + 1) n d ∙ sym (ne_eqb (m + 1) (2 * n) (λ u. d (omega (arith, u, odd))))
-        ]
 
 -- the access of a write
 abbrev pub written : ℕ → Field → List Bool → NumberWrite → Access

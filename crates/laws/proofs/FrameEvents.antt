@@ -51,7 +51,7 @@ is-down p stages.Leaving h = cc
 is-down p stages.Settling h = cc
 is-down p stages.Down h = refl
 
-is-waiting : (p : ℕ) (st : Stage) → refused_at (event.Withdraw p) st ≡ None → st ≡ stages.Waiting
+pub is-waiting : (p : ℕ) (st : Stage) → refused_at (event.Withdraw p) st ≡ None → st ≡ stages.Waiting
 is-waiting p stages.Idle h = cc
 is-waiting p stages.Doorway h = cc
 is-waiting p stages.Waiting h = refl

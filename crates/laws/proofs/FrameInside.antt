@@ -30,6 +30,7 @@ use Rattle.record.proofs.ClosingStanding.{withdrawn_stands, unit_stands}
 use Rattle.record.proofs.Standing.{running_stands}
 use Rattle.record.proofs.Turns.{and_false, and_true}
 use Rattle.record.proofs.Width.{IsGood}
+use Rattle.record.proofs.CutRecords.{inside-own}
 use Rattle.laws.specs.Doings.{Doing, Rests, Runs, call, runs, closes, doing}
 use Rattle.laws.proofs.Doings.{is_inside, is_inside_at, is_inside_closing, stage_of}
 use Rattle.laws.proofs.Frame.{Does, at_rest, lying, running, leaving, settling, Happens, a_call, a_withdrawal, a_failure, a_restart, a_step, a_closing, doing-other}
@@ -243,14 +244,6 @@ failing-inside c mine = go (unfinished c.setup.processes (last_write mine))
     go : (torn : Option Access) → is_inside_closing (settling_from c mine torn) ≡ inside c.process mine
     go None = and_true (inside c.process mine)
     go (Some a) = refl
-
-pub inside-own : (p : ℕ) (past : Past) → inside p (own p past) ≡ inside p past
-inside-own p [] = refl
-inside-own p (e ∷ past) = go (e.process == p) refl (inside-own p past)
-  where
-    go : (b : Bool) → (e.process == p) ≡ b → inside p (own p past) ≡ inside p past → inside p (cond b (e ∷ own p past) (own p past)) ≡ cond b (fold inside_after (inside p past) e.marks) (inside p past)
-    go true i ih = ap (λ b. cond b (fold inside_after (inside p (own p past)) e.marks) (inside p (own p past))) i ∙ ap (λ q. fold inside_after q e.marks) ih
-    go false i ih = ih
 
 -- what an accepted event makes of it
 pub inside-happens : (s : Setup) (past : Past) (p : ℕ) (e : Entry) (d d' : Doing) → Happens s past p e d d' → inside p past ≡ is_inside d → fold inside_after (is_inside d) e.marks ≡ is_inside d'

@@ -88,7 +88,7 @@ image-marks test false r h = ap (λ t. t || false) h
 
 -- The end of a doorway.
 
-waiting-entered : (ws : List Wait) → list_any is_waiting (entered_if_none ws) ≡ false
+pub waiting-entered : (ws : List Wait) → list_any is_waiting (entered_if_none ws) ≡ false
 waiting-entered [] = refl
 waiting-entered (w ∷ ws) = refl
 

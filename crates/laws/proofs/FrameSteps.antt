@@ -29,14 +29,16 @@ use Rattle.record.proofs.PlaceTurns.{access_in}
 use Rattle.record.proofs.Singles.{is_write}
 use Rattle.record.proofs.Turns.{and_false}
 use Rattle.record.proofs.Width.{IsGood}
+use Rattle.record.proofs.Opens.{last-none}
+use Rattle.record.proofs.CutRecords.{inside-own}
 use Rattle.laws.specs.Doings.{Doing, Rests, Lies, Runs, Closes, call, doing}
 use Rattle.laws.proofs.Doings.{is_inside, is_inside_at, IsCut, Step, calls, withdraws, fails, restarts, steps, closes_on}
 use Rattle.laws.proofs.Doings as doings
 use Rattle.laws.proofs.Frame.{may_fail, Happens, a_call, a_withdrawal, a_failure, a_restart, a_step, a_closing, doing-other, own-own, own-other}
 use Rattle.laws.proofs.FrameCells.{ByProcess, EntryBy, marks_only, makes}
-use Rattle.laws.proofs.FrameCuts.{left, LeftBy, nothing, one_bit, LeftRun, LeftIn, last-kept, last-made, enter-left, new-ticket, unit-left, step-left, closing-left}
+use Rattle.laws.proofs.FrameCuts.{left, LeftBy, nothing, one_bit, LeftRun, LeftIn, last-made, enter-left, new-ticket, unit-left, step-left, closing-left}
 use Rattle.laws.proofs.FrameEvents.{Accepted, accepted}
-use Rattle.laws.proofs.FrameInside.{inside-is, inside-own}
+use Rattle.laws.proofs.FrameInside.{inside-is}
 
 -- What an access leaves unfinished.
 
@@ -70,16 +72,16 @@ waits-left c torn t w ws (Reading bits begun) l = l.1
 
 left-happens : (s : Setup) → IsGood s → (past : Past) (p : ℕ) (e : Entry) (d d' : Doing) → Happens s past p e d d' → LeftIn s p (left s (own p past)) d → LeftIn s p (left s (e ∷ own p past)) d'
 left-happens s g past p e d d' (a_call command number was none marks then) l =
-    subst (LeftIn s p (left s (e ∷ own p past))) (sym then) (enter-left (call s p command number) g (left s (e ∷ own p past)) Raises refl (ap (unfinished s.processes) (last-kept e (own p past) none) ∙ subst (LeftIn s p (left s (own p past))) was l))
+    subst (LeftIn s p (left s (e ∷ own p past))) (sym then) (enter-left (call s p command number) g (left s (e ∷ own p past)) Raises refl (ap (unfinished s.processes) (last-none e (own p past) none) ∙ subst (LeftIn s p (left s (own p past))) was l))
 left-happens s g past p e d d' (a_withdrawal command number t w ws run was none marks then) l =
     subst (LeftIn s p (left s (e ∷ own p past))) (sym then) (
       new-ticket (call s p command number) g,
-      nothing (ap (unfinished s.processes) (last-kept e (own p past) none) ∙ waits-left (call s p command number) (left s (own p past)) t w ws run (subst (LeftIn s p (left s (own p past))) was l)),
+      nothing (ap (unfinished s.processes) (last-none e (own p past) none) ∙ waits-left (call s p command number) (left s (own p past)) t w ws run (subst (LeftIn s p (left s (own p past))) was l)),
     )
 left-happens s g past p e d d' (a_failure command number may none marks then) l =
     subst (LeftIn s p (left s (e ∷ own p past))) (sym then) (unit-left (call s p command number) g (own p past) (left s (own p past)) (left s (e ∷ own p past)))
 left-happens s g past p e d d' (a_restart was none marks then) l =
-    subst (LeftIn s p (left s (e ∷ own p past))) (sym then) (ap (unfinished s.processes) (last-kept e (own p past) none) ∙ subst (LeftIn s p (left s (own p past))) was l)
+    subst (LeftIn s p (left s (e ∷ own p past))) (sym then) (ap (unfinished s.processes) (last-none e (own p past) none) ∙ subst (LeftIn s p (left s (own p past))) was l)
 left-happens s g past p e d d' (a_step command number at a flick was over access is marks then) l =
     subst (LeftIn s p (left s (e ∷ own p past))) (sym then)
     (step-left s g p (left s (own p past)) (left s (e ∷ own p past)) command number at.part at.run (value_of a.how) over (subst (LeftIn s p (left s (own p past))) was l) writes reads)

@@ -20,12 +20,13 @@ use Rattle.record.proofs.PlaceTurns.{access_in}
 use Rattle.record.proofs.Singles.{is_write}
 use Rattle.record.proofs.Ties.{written-width}
 use Rattle.record.proofs.Width.{IsGood}
+use Rattle.record.proofs.Opens.{last-none}
 use Rattle.laws.specs.Held.{IsThere}
 use Rattle.laws.proofs.Always.{inv_of}
 use Rattle.laws.proofs.AtPlaces.{AtPlace, own-induction}
 use Rattle.laws.specs.Doings.{Doing, Rests, Lies, Runs, Closes, call, closes, doing, runs}
 use Rattle.laws.proofs.Frame.{Happens, a_call, a_withdrawal, a_failure, a_restart, a_step, a_closing, doing-other, own-other, own-own}
-use Rattle.laws.proofs.FrameCuts.{LeftClosing, LeftIn, last-kept, last-made, left}
+use Rattle.laws.proofs.FrameCuts.{LeftClosing, LeftIn, last-made, left}
 use Rattle.laws.proofs.FrameEvents.{Accepted, accepted}
 use Rattle.laws.proofs.FrameSteps.{left-is}
 use Rattle.laws.proofs.HeldOwners.{OwnersAt, OwnersThere, owner-there, owners_there}
@@ -188,7 +189,7 @@ last-there s mine e made last a h = go e.access refl
     written x there false k = last a k
 
     go : (x : Option Access) → e.access ≡ x → a.bit < width s a.field
-    go None none = last a (sym (last-kept e mine none) ∙ h)
+    go None none = last a (sym (last-none e mine none) ∙ h)
     go (Some x) is = written x (made x is) (is_write x.how) (sym (last-made e mine x is) ∙ h)
 
 -- the access of an entry, where the bit that a unit settles is there

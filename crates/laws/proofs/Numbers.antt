@@ -52,7 +52,7 @@ number-other p test e past h = ap (λ b. elim b as (λ _. Option ℕ) [
   ]
 ]) (ne_eqb e.process p h)
 
-number-own : (test : Entry → Bool) (e : Entry) (past : Past) (called : Bool) → has is_called e ≡ called → number_in_call e.process test (e ∷ past) ≡ elim called as (λ _. Option ℕ) [
+pub number-own : (test : Entry → Bool) (e : Entry) (past : Past) (called : Bool) → has is_called e ≡ called → number_in_call e.process test (e ∷ past) ≡ elim called as (λ _. Option ℕ) [
   | true ↦ None
   | false ↦ first_of (number_in_call e.process test past) (elim (test e) as (λ _. Option ℕ) [ true ↦ Some (length past) | false ↦ None ])
 ]

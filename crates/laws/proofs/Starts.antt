@@ -11,6 +11,7 @@ use Rattle.record.specs.Places.{enter, is_fresh}
 use Rattle.record.specs.Program.{image_field, stamp_field, version_of}
 use Rattle.record.specs.Scripts.{Call}
 use Rattle.record.proofs.Width.{IsGood}
+use Rattle.record.proofs.Turns.{and_true}
 use Rattle.laws.specs.Doings.{Doing, Rests, Runs, Closes, call}
 use Rattle.laws.proofs.Doings.{is_inside, is_inside_at, is_inside_closing, IsCut, at_rest, between, within, leaving, clearing}
 use Rattle.laws.proofs.Notes.{Notes, turned}
@@ -63,10 +64,6 @@ part_settles s p c n (Waits t0 a ws) w st = cc
 part_settles s p c n (AsksCommit k ks vs) w st = cc
 part_settles s p c n (AsksStamp k ks vs b) w st = cc
 part_settles s p c n (AsksImage vs) w st = cc
-
-and_true : (b : Bool) → (b && true) ≡ b
-and_true true = refl
-and_true false = refl
 
 -- the unit begins where p was: inside if p was, and with a ticket that is untouched, or not held
 pub cut_stands : (s : Setup) (p : ℕ) (c : Call) (cl : Closing) (d : Doing) (n : Notes) (m : Wires) → IsCut s p c cl d → Stands s p n m d → (is_inside_closing cl ≡ is_inside d) × StandsClosing n.holds cl

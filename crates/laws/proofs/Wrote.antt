@@ -5,6 +5,7 @@ use Rattle.std.specs.Prelude.{◌^◌}
 use Rattle.safe_number.specs.declared.Field.{Field}
 use Rattle.safe_number.specs.declared.Field.TheVariants.{Choosing, Ticket}
 use Rattle.safe_number.specs.Runs.{NumberWrite}
+use Rattle.safe_number.proofs.Bits.{length-bits_of_number}
 use Rattle.plain_store.specs.declared.Answer.TheVariants as answer
 use Rattle.plain_store.specs.declared.Command.{Command}
 use Rattle.plain_store.specs.declared.Setup.{Setup}
@@ -14,7 +15,6 @@ use Rattle.record.specs.Places.{Writing, is_fresh, is_last, enter, place_after, 
 use Rattle.record.specs.Program.{greatest, reply}
 use Rattle.record.specs.Registers.{others}
 use Rattle.record.specs.Scripts.{Call}
-use Rattle.record.proofs.Ties.{length-bits_of_number}
 use Rattle.record.proofs.Width.{IsGood}
 use Rattle.laws.specs.Doings.{Rests, Runs, call, runs}
 use Rattle.laws.proofs.Doings.{is_inside_at}

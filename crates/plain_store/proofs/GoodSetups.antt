@@ -40,6 +40,14 @@ good-checked s good =
       opening = grind (arith, nat_tests);
     }
 
+-- there are at most 16 processes
+pub few-processes : (s : Setup) → checked s ≡ Ok tt → s.processes ≤ 16
+few-processes s good = by (s.version == 1) (good-checked s good).processes
+  where
+    by : (b : Bool) → is_in_range 1 (if b then 8 else 16) s.processes ≡ true → s.processes ≤ 16
+    by true k = grind (arith, nat_tests)
+    by false k = grind (arith, nat_tests)
+
 -- an opening has no more pairs than there are slots
 pub few-opening : (s : Setup) → checked s ≡ Ok tt → length s.opening ≤ s.slots
 few-opening s good = by (s.version == 1) (good-checked s good).opening

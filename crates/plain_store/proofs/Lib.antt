@@ -1,13 +1,7 @@
 pub mod Ascii
 pub mod Changes
 pub mod GoodSetups
-pub mod ImageBytes
 pub mod Numbers
 pub mod OpeningPairs
 pub mod Places
-pub mod Puts
-pub mod ReadBytes
-pub mod Readings
-pub mod Rows
-pub mod SlotBytes
-pub mod SlotSearch
+pub mod StoreLines

@@ -1,14 +1,11 @@
 pub mod Commands
-pub mod Image
 pub mod Names
 pub mod Openings
 pub mod Outcomes
 pub mod Padding
 pub mod Pairs
-pub mod Placing
-pub mod Reading
 pub mod Setups
 pub mod Shown
-pub mod Slots
 pub mod Store
+pub mod StoreLine
 pub mod Values

@@ -1,11 +1,12 @@
 -- The one-thread store: its state, the reply to each command and the state after it.
 use Rattle.std.specs.Prelude.{ℕ, Bool, true, ◌&&◌, nat_lt, if◌then◌else◌, List, [], ◌∷◌, length, Option, Some, None, is_none, slice_index, slice_set, replicate}
+use Rattle.std.specs.List.{list_all}
 use Rattle.std.specs.Str.{bytes_eq}
 use Rattle.std.specs.Map.{lookup}
 use Rattle.indexmap.specs.IndexMap.{insert_entry}
 use Rattle.plain_store.specs.Commands.{name_of}
 use Rattle.plain_store.specs.Outcomes.{outcome, is_new}
-use Rattle.plain_store.specs.Pairs.{Pair}
+use Rattle.plain_store.specs.Pairs.{Pair, is_pair}
 use Rattle.plain_store.specs.declared.commands.Caller.{Caller}
 use Rattle.plain_store.specs.declared.commands.Command.{Command}
 use Rattle.plain_store.specs.declared.commands.Reply.{Reply}
@@ -31,6 +32,10 @@ value_at pairs name = lookup (bytes_eq name) pairs
 abbrev pub names_differ : List Pair → Bool
 names_differ [] = true
 names_differ (pair ∷ pairs) = is_none (value_at pairs pair.0) && names_differ pairs
+
+-- names and values are well formed, and no name stands twice
+abbrev pub are_pairs : List Pair → Bool
+are_pairs pairs = list_all is_pair pairs && names_differ pairs
 
 -- the pairs with a new value: a name that is there keeps its place, a new one comes last
 abbrev pub put : List Pair → List ℕ → Value → List Pair

@@ -3,27 +3,27 @@
 #![tactic(auto)]
 
 mod commands;
-mod image;
 mod names;
+mod nested;
 mod openings;
 mod outcomes;
 mod padding;
 mod plain;
-mod rules;
 mod setups;
 mod shown;
-mod slots;
 mod sound;
+mod store_line;
 mod stores;
-#[cfg(test)]
-mod tests;
 mod texts;
 
 pub use commands::{Answer, Caller, Command, Reply, Value};
-pub use image::{BadImage, Image};
 pub use names::{BadName, Name};
+pub use nested::NestedTypes;
 pub use openings::{OpenFault, Opening};
+pub use outcomes::{Outcome, is_new};
+pub use padding::pad;
 pub use plain::PlainStore;
 pub use setups::{BadSetup, Setup};
+pub use store_line::show_line;
 pub use stores::{Store, opened};
 pub use texts::{BadText, Text};

@@ -2,8 +2,8 @@
 //! code that holds a value can cite what its type keeps of it.
 ghost use Rattle.std.specs.Prelude.{◌≡◌, true};
 ghost use Rattle.plain_store.specs.Commands.{is_command};
-ghost use Rattle.plain_store.specs.Image.{are_pairs};
-ghost use Rattle.plain_store.specs.Slots.{is_pair};
+ghost use Rattle.plain_store.specs.Store.{are_pairs};
+ghost use Rattle.plain_store.specs.Pairs.{is_pair};
 
 use crate::commands::{Command, Value};
 use crate::names::Name;

@@ -10,6 +10,7 @@ use Rattle.safe_number.specs.declared.Access.{Access}
 use Rattle.safe_number.specs.declared.Field.TheVariants.{Choosing, Ticket}
 use Rattle.safe_number.specs.Accesses.{access_of, at_bit}
 use Rattle.safe_number.specs.Runs.{NumberWrite, new_write}
+use Rattle.safe_number.proofs.Bits.{length-bits_of_number}
 use Rattle.plain_store.specs.declared.Answer.TheVariants as answer
 use Rattle.record.specs.declared.marks.Mark.{Mark}
 use Rattle.record.specs.declared.marks.Mark.TheVariants.{Left, Answered, Down}
@@ -17,7 +18,6 @@ use Rattle.record.specs.Closings.{Closing, Withdraws, Settles, Frees, Lowers, Qu
 use Rattle.record.specs.Places.{next_written, write_moved}
 use Rattle.record.specs.Scripts.{Call, Next, Script, single, singles, writing}
 use Rattle.record.proofs.Cursors.{Goes, Moved, left_written, left-next, left-new, left-done, write-moves}
-use Rattle.record.proofs.Ties.{length-bits_of_number}
 
 -- the unit's last write, and its two writes
 abbrev pub lowering : Call → Script

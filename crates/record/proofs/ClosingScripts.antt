@@ -95,7 +95,7 @@ lowers-step c g w v flick on = (next, refl, write-step n bits w f [] last (omega
     fit false goes m = goes refl
 
 -- a new write goes on
-new-goes : (n : ℕ) (bits : List Bool) (w : ℕ) → 0 < n → 0 < w → w ≡ length bits → Goes n bits (new_write w)
+pub new-goes : (n : ℕ) (bits : List Bool) (w : ℕ) → 0 < n → 0 < w → w ≡ length bits → Goes n bits (new_write w)
 new-goes n bits w some wide same = record { width = same; inside = wide; going = omega (arith, some) }
 
 frees-step : (c : Call) → IsGood c.setup → (is : Bool) (w : NumberWrite) (v flick : Bool) → Goes c.setup.processes (no_ticket c) w → Steps c (Frees is w) v flick

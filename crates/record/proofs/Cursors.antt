@@ -9,6 +9,7 @@ use Rattle.reader_copies.specs.Runs.{Writing, bit_writes, rest_of_write}
 use Rattle.reader_copies.proofs.Orders.{rest-write, length-writes}
 use Rattle.safe_number.specs.Accesses.{at_bit, writes_from, number_writes, reads_from}
 use Rattle.safe_number.specs.Runs.{NumberWrite, new_write}
+use Rattle.safe_number.proofs.Orders.{drop_past}
 use Rattle.record.specs.Places.{bit_written, next_written, write_moved, next_read}
 
 one_more : (k : ℕ) → suc k ≡ k + 1
@@ -36,12 +37,6 @@ length-drop [] ys (suc k) some h = absurd (omega (arith, ap length h))
 length-drop (x ∷ xs) ys zero some h = omega (arith, ap length h)
 length-drop (x ∷ xs) ys (suc k) some h = omega (arith, length-drop xs ys k some h)
 
-pub drop-past : {X : Type 0} (xs : List X) (k : ℕ) → length xs ≤ k → drop k xs ≡ []
-drop-past [] zero h = refl
-drop-past [] (suc k) h = refl
-drop-past (x ∷ xs) zero h = absurd (omega arith)
-drop-past (x ∷ xs) (suc k) h = drop-past xs k (omega arith)
-
 pub drop-map : {X Y : Type 0} (f : X → Y) (xs : List X) (k : ℕ) → drop k (map f xs) ≡ map f (drop k xs)
 drop-map f [] zero = refl
 drop-map f [] (suc k) = refl
@@ -59,7 +54,7 @@ left_written n bits w = left_bits n bits w (w.width - w.bit)
 
 -- what is left when the next bit comes
 next_bit : (n : ℕ) (bits : List Bool) (width bit m : ℕ) → bit + m ≡ length bits → left_bits n bits (record { width = width; bit = bit; run = None }) m ≡ writes_from n bit (drop bit bits)
-next_bit n bits width bit zero h = sym (ap (writes_from n bit) (drop-past bits bit (omega arith)))
+next_bit n bits width bit zero h = sym (ap (writes_from n bit) (drop_past bits bit (omega arith)))
 next_bit n bits width bit (suc m) h = sym (ap (writes_from n bit) (drop_more bits bit false (omega arith)))
 
 -- whether the present bit is done or not
@@ -72,7 +67,7 @@ on_bit n bits width bit m made v true fits e left all =
     let fewer : width - (bit + 1) ≡ m = omega arith in
     ap (left_bits n bits (record { width = width; bit = bit + 1; run = None })) fewer
     ∙ next_bit n bits width (bit + 1) m (omega arith)
-    ∙ ap (λ xs. map (at_bit bit) xs ++ writes_from n (bit + 1) (drop (bit + 1) bits)) (sym (drop-past (bit_writes n v) made (omega (arith, length-writes 0 n v))))
+    ∙ ap (λ xs. map (at_bit bit) xs ++ writes_from n (bit + 1) (drop (bit + 1) bits)) (sym (drop_past (bit_writes n v) made (omega (arith, length-writes 0 n v))))
 on_bit n bits width bit m made v false fits e left all =
     ap (left_bits n bits (record { width = width; bit = bit; run = Some (record { value = v; made = made; ended = false }) })) left
 

@@ -40,7 +40,7 @@ use Rattle.record.specs.Registers.{width}
 use Rattle.reader_copies.specs.Runs.{Writing as BitWriting, Settling}
 
 -- whether a process is inside is seen in its own entries
-inside-own : (p : ℕ) (past : Past) → inside p (own p past) ≡ inside p past
+pub inside-own : (p : ℕ) (past : Past) → inside p (own p past) ≡ inside p past
 inside-own p [] = refl
 inside-own p (e ∷ past) = go (e.process == p) refl (inside-own p past)
   where

@@ -23,7 +23,7 @@ abbrev pub bit_left : Access → TornBit
 bit_left a = record { field = a.field; bit = a.bit; torn = record { made = made_with a; reader = 0; begun = false; value = None } }
 
 -- an access of a write finishes its bit if it is the last one on it
-ends-bit : (n m : ℕ) (v : Bool) → (not (is_begin (cond (m % 2 == 0) (BeginWrite v) EndWrite)) && (m / 2 + 1 == n)) ≡ (m + 1 == 2 * n)
+pub ends-bit : (n m : ℕ) (v : Bool) → (not (is_begin (cond (m % 2 == 0) (BeginWrite v) EndWrite)) && (m / 2 + 1 == n)) ≡ (m + 1 == 2 * n)
 ends-bit n m v = go (m % 2 == 0) refl
   where
     go : (b : Bool) → (m % 2 == 0) ≡ b → (not (is_begin (cond b (BeginWrite v) EndWrite)) && (m / 2 + 1 == n)) ≡ (m + 1 == 2 * n)

@@ -1,29 +1,34 @@
-pub mod Accepted
-pub mod Bytes
-pub mod Closing
-pub mod ClosingScripts
-pub mod ClosingStanding
-pub mod Cursors
-pub mod CutRecords
-pub mod Follow
-pub mod Knows
-pub mod Left
-pub mod Local
-pub mod Marking
-pub mod OpenSteps
-pub mod OpenRecords
-pub mod Opens
+-- A place of the program, and what its script says
 pub mod Place
-pub mod PlaceTurns
+pub mod Standing
 pub mod Singles
 pub mod Staging
-pub mod Standing
+pub mod Marking
+pub mod Knows
+pub mod Follow
 pub mod Ties
-pub mod Total
-pub mod TurnRecords
+pub mod Cursors
+-- What closes a call that was cut or given up
+pub mod Closing
+pub mod ClosingStanding
+pub mod ClosingScripts
+pub mod Left
+pub mod CutRecords
+-- Which copies are open, and whose turn it is
+pub mod Opens
+pub mod OpenSteps
+pub mod OpenRecords
 pub mod Turns
-pub mod Whole
-pub mod Width
-pub mod WorkedRuns
+pub mod PlaceTurns
+pub mod TurnRecords
+-- Every record
+pub mod Total
+pub mod Accepted
+pub mod Local
 pub mod World
 pub mod Writer
+pub mod Whole
+-- Numbers, and runs that are computed
+pub mod Bytes
+pub mod Width
+pub mod WorkedRuns

@@ -30,7 +30,7 @@ use Rattle.record.proofs.Staging.{stage-placed, no_start-placed}
 use Rattle.record.proofs.Width.{IsGood}
 
 -- what was chosen stays chosen
-leaving-chosen : (c : Call) (fs : List Bool) → IsChosen (closing_of c (withdrawing c) fs)
+pub leaving-chosen : (c : Call) (fs : List Bool) → IsChosen (closing_of c (withdrawing c) fs)
 leaving-chosen c [] = tt
 leaving-chosen c (f ∷ fs) = chosen-after c (closing_of c (withdrawing c) fs) f
 
@@ -112,7 +112,7 @@ withdrawn-out s g events p flick e b st w t h = record { turns = turn-of mine e 
     finish (Lowers q) i k = absurd (true≢false (sym (ap is_unit i) ∙ k))
     finish Ended i k = absurd (true≢false (sym (ap is_unit i) ∙ k))
 
-since_failed-plain : (e : Entry) (mine : Past) → has starts e ≡ false → since is_failed (e ∷ mine) ≡ e ∷ since is_failed mine
+pub since_failed-plain : (e : Entry) (mine : Past) → has starts e ≡ false → since is_failed (e ∷ mine) ≡ e ∷ since is_failed mine
 since_failed-plain e mine h = ap (λ b. elim b as (λ _. Past) [ true ↦ [] | false ↦ e ∷ since is_failed mine ]) (no_failed e.marks h)
 
 -- a step of a memory unit

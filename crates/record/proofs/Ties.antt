@@ -9,6 +9,7 @@ use Rattle.safe_number.specs.Accesses.{access_of, number_writes, number_reads}
 use Rattle.safe_number.specs.Bytes.{bits_of_number}
 use Rattle.safe_number.specs.Runs.{NumberWrite, new_write}
 use Rattle.safe_number.proofs.Numbers.{length_bits}
+use Rattle.safe_number.proofs.Bits.{length-bits_of_number}
 use Rattle.record.specs.Moves.{ended, ended_with}
 use Rattle.record.specs.Parts.{Part, Raises, Asks, TakesTicket, Lowers, Refuses, Waits, AsksCommit, AsksStamp, AsksImage, WritesImage, WritesStamp, WritesCommit, Clears, Over, is_read, is_over, read_at, written_at, doing, part_after, stage_of, first_marks, last_marks}
 use Rattle.record.specs.Places.{reads_of, IsFollowed, Run, Writing, Reading, Place, bit_written, next_written, write_moved, next_read, enter, is_fresh, is_last, access_at, bits_with, run_after, place_after, marks_of, stage_at, value_of, place_of}
@@ -43,10 +44,6 @@ pub data Tie (c : Call) (part : Part) : Run → ℕ → List Bool → Type 0 whe
 pub record Tied (c : Call) (at : Place) (spot : Spot) : Type 0 where
   pub part : spot.part ≡ at.part
   pub run : Tie c at.part at.run spot.made spot.bits
-
-pub length-bits_of_number : (w n : ℕ) → length (bits_of_number w n) ≡ w
-length-bits_of_number zero n = refl
-length-bits_of_number (suc w) n = ap suc (length-bits_of_number w (Prim.Native.Nat.◌/◌ n 2))
 
 -- as many bits are written as the register has
 pub written-width : (c : Call) (part : Part) → is_read part ≡ false → is_over part ≡ false → width c.setup (written_at c part).0 ≡ length (written_at c part).1

@@ -8,7 +8,7 @@ use Rattle.safe_number.specs.declared.Field.TheVariants.{Choosing, Ticket, Commi
 use Rattle.safe_number.specs.Bytes.{bits_of_number}
 use Rattle.safe_number.proofs.Numbers.{length_bits}
 use Rattle.plain_store.specs.declared.Setup.{Setup}
-use Rattle.plain_store.specs.Image.{image_of}
+use Rattle.store_image.specs.Image.{image_of}
 use Rattle.plain_store.specs.Setups.{checked}
 use Rattle.plain_store.specs.Store.{after}
 use Rattle.plain_store.proofs.GoodSetups.{good-checked}

@@ -10,16 +10,16 @@ use Rattle.record.specs.declared.marks.Mark.{Mark}
 use Rattle.record.specs.declared.marks.Mark.TheVariants.{Called, Waiting, Entered, Answered, Failed, Settled, Down, Withdrew, Restarted}
 use Rattle.record.specs.declared.refusals.Refusal.{Refusal}
 use Rattle.record.specs.declared.refusals.Refusal.TheVariants.{Busy, IsDown, NotRunning, NotWaiting, AlreadyFailed, NotDown}
-use Rattle.plain_store.specs.Image.{image_of}
-use Rattle.plain_store.specs.Slots.{unused_slot}
+use Rattle.store_image.specs.Image.{image_of}
+use Rattle.store_image.specs.Slots.{unused_slot}
 use Rattle.record.specs.Doorways.{ahead}
 use Rattle.record.specs.Entries.{Past}
 use Rattle.record.specs.Newest.{newest_bytes}
 use Rattle.record.specs.Records.{refused, added, past_of, process_of}
-use Rattle.plain_store.specs.Image as slots
-use Rattle.plain_store.specs.Image.{number_bytes, number_in}
-use Rattle.plain_store.specs.Reading.{store_in}
-use Rattle.plain_store.specs.Slots.{count_bytes, count_in, name_in, value_in}
+use Rattle.store_image.specs.Image as slots
+use Rattle.store_image.specs.Image.{number_bytes, number_in}
+use Rattle.store_image.specs.Reading.{store_in}
+use Rattle.store_image.specs.Slots.{count_bytes, count_in, name_in, value_in}
 use Rattle.plain_store.specs.Store.{changes, empty_store}
 use Rattle.record.specs.Program.{new_image}
 

@@ -3,7 +3,7 @@ use Rattle.std.specs.Prelude.{◌≡◌, Bool, true, List, ◌∷◌, Ok, Some}
 use Rattle.std.specs.List.{list_all}
 use Rattle.plain_store.specs.declared.Setup.{Setup}
 use Rattle.plain_store.specs.Commands.{is_command}
-use Rattle.plain_store.specs.Image.{are_pairs}
+use Rattle.plain_store.specs.Store.{are_pairs}
 use Rattle.plain_store.specs.Setups.{checked}
 use Rattle.record.specs.declared.events.Event.{Event}
 use Rattle.record.specs.declared.events.Event.TheVariants as event

@@ -14,8 +14,8 @@ use Rattle.plain_store.specs.declared.Command.TheVariants.{Ask}
 use Rattle.plain_store.specs.declared.Reply.{Reply}
 use Rattle.plain_store.specs.declared.Reply.TheVariants.{Last}
 use Rattle.plain_store.specs.declared.Setup.{Setup}
-use Rattle.plain_store.specs.Image.{image_of}
-use Rattle.plain_store.specs.Reading.{IsImageOf}
+use Rattle.store_image.specs.Image.{image_of}
+use Rattle.store_image.specs.Reading.{IsImageOf}
 use Rattle.plain_store.specs.Setups.{callers_of, checked, opening_store}
 use Rattle.plain_store.specs.Store.{Contents, changes, reply_to, after}
 use Rattle.record.specs.declared.events.Event.{Event}

@@ -8,7 +8,7 @@ use Rattle.safe_number.specs.declared.Field.{Field}
 use Rattle.safe_number.specs.declared.Field.TheVariants.{Commit}
 use Rattle.safe_number.specs.Bytes.{number_of_bits}
 use Rattle.plain_store.specs.declared.Setup.{Setup}
-use Rattle.plain_store.specs.Image.{image_of}
+use Rattle.store_image.specs.Image.{image_of}
 use Rattle.record.specs.Entries.{Past}
 use Rattle.record.specs.Histories.{history, store_after}
 use Rattle.record.specs.Moves.{moves_of}

@@ -6,8 +6,8 @@ use Rattle.safe_number.specs.Bytes.{bits_in, bits_of_number, number_of_bits}
 use Rattle.plain_store.specs.declared.Answer.{Answer}
 use Rattle.plain_store.specs.declared.Answer.TheVariants as answer
 use Rattle.plain_store.specs.declared.Reply.{Reply}
-use Rattle.plain_store.specs.Image.{image_of}
-use Rattle.plain_store.specs.Reading.{store_in}
+use Rattle.store_image.specs.Image.{image_of}
+use Rattle.store_image.specs.Reading.{store_in}
 use Rattle.plain_store.specs.Setups.{callers_of}
 use Rattle.plain_store.specs.Store.{Contents, changes, reply_to, after}
 use Rattle.record.specs.declared.marks.Mark.{Mark}

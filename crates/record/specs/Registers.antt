@@ -8,7 +8,7 @@ use Rattle.safe_number.specs.Accesses.{access_of, number_writes, number_reads}
 use Rattle.safe_number.specs.Bytes.{bits_in, number_of_bits}
 use Rattle.plain_store.specs.declared.Setup.{Setup}
 use Rattle.plain_store.specs.Setups.{callers_of, opening_store}
-use Rattle.plain_store.specs.Image.{image_of}
+use Rattle.store_image.specs.Image.{image_of}
 
 -- all processes, ascending
 abbrev pub processes : Setup → List ℕ

@@ -3,7 +3,7 @@ ghost use Rattle.record.specs.Shown.{mark_text, refusal_text};
 
 use crate::marks::Mark;
 use crate::refusals::Refusal;
-use plain_store::{Answer, Command, Reply, Value};
+use plain_store::NestedTypes;
 use std::fmt;
 
 impl fmt::Display for Mark {
@@ -12,7 +12,7 @@ impl fmt::Display for Mark {
     ghost output = { λ mark. Some (mark_text mark) };
 
     fn fmt<W: fmt::Write>(&self, f: &mut fmt::Formatter<W>) -> fmt::Result {
-        let _types: Option<(Answer, Command, Reply, Value)> = None;
+        let _nested: NestedTypes = None;
         match self {
             Mark::Called(command) => write!(f, "call {command}"),
             Mark::Waiting(ticket) => write!(f, "wait {ticket}"),

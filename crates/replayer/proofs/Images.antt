@@ -1,10 +1,10 @@
 -- A store is known by its image, and the newest store by that of the registers.
 use Rattle.std.proofs.Common.{◌≡◌, ◌*◌, ◌+◌, Bool, true, false, cond, List, [], ◌++◌, length, Option, Some, None, option_map, IfSome, refl, ap, sym, ◌∙◌, arith}
-use Rattle.plain_store.specs.Image.{IsStore, image_of, store_read}
+use Rattle.store_image.specs.Image.{IsStore, image_of, store_read}
 use Rattle.plain_store.specs.Store.{Contents}
-use Rattle.plain_store.specs.Reading.{used_in}
-use Rattle.plain_store.proofs.ImageBytes.{length-image_of, store_read-image_of}
-use Rattle.plain_store.proofs.Readings.{used_in-image_of}
+use Rattle.store_image.specs.Reading.{used_in}
+use Rattle.store_image.proofs.ImageBytes.{length-image_of, store_read-image_of}
+use Rattle.store_image.proofs.Readings.{used_in-image_of}
 use Rattle.record.specs.declared.events.Event.{Event}
 use Rattle.record.specs.Entries.{Past}
 use Rattle.record.specs.Histories.{history, store_after}

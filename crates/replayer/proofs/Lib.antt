@@ -1,18 +1,21 @@
-pub mod CourseTurns
-pub mod Goes
-pub mod Grows
-pub mod Images
-pub mod Lines
-pub mod Listed
-pub mod Movers
-pub mod Onwards
-pub mod Recorded
-pub mod Refusals
-pub mod ReplayEnds
-pub mod StoreLines
-pub mod Tellings
+-- The turns of a line
 pub mod TurnLaw
-pub mod Underways
+pub mod CourseTurns
 pub mod Walks
+pub mod Goes
+pub mod Movers
 pub mod Wanders
+pub mod Refusals
+-- What happens in a run, and its text
+pub mod Grows
+pub mod Tellings
+pub mod Lines
+pub mod Images
+-- Events and their record
+pub mod Listed
+pub mod Recorded
+-- A replay, from line to line to its end
+pub mod Underways
+pub mod Onwards
 pub mod Written
+pub mod ReplayEnds

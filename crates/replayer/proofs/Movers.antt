@@ -7,14 +7,6 @@ use Rattle.plain_store.proofs.GoodSetups.{good-checked}
 use Rattle.plain_store.specs.Setups.{checked}
 use Rattle.plain_store.specs.declared.setups.Setup.{Setup}
 
--- there are at most 16 processes
-pub few_processes : (s : Setup) → checked s ≡ Ok tt → s.processes ≤ 16
-few_processes s good = by (s.version == 1) (good-checked s good).processes
-  where
-    by : (b : Bool) → is_in_range 1 (if b then 8 else 16) s.processes ≡ true → s.processes ≤ 16
-    by true k = grind (arith, nat_tests)
-    by false k = grind (arith, nat_tests)
-
 -- one number more, which passes or not
 pub filter_more : (p : ℕ → Bool) (a n j : ℕ) → a + n ≡ j → filter p (range_with_len a (suc n)) ≡ filter p (range_with_len a n) ++ cond (p j) (j ∷ []) []
 filter_more p a zero j e = ap (λ k. cond (p k) (k ∷ []) []) (sym (add-zero a) ∙ e)

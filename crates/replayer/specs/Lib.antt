@@ -3,7 +3,6 @@ pub mod Happenings
 pub mod Listings
 pub mod Replays
 pub mod Runs
-pub mod Stores
 pub mod Summaries
 pub mod Telling
 pub mod Texts

@@ -17,7 +17,7 @@ use Rattle.scenario.specs.Reading.{Script, scenario_of}
 use Rattle.scenario.specs.declared.faults.LineFault.{LineFault}
 use Rattle.replayer.specs.Happenings.{Happening, Tries, Lacks, Tires, Looks, past_after}
 use Rattle.replayer.specs.Runs.{happenings}
-use Rattle.replayer.specs.Stores.{show_text}
+use Rattle.plain_store.specs.StoreLine.{show_text}
 use Rattle.replayer.specs.Summaries.{summary_of}
 use Rattle.replayer.specs.declared.summaries.Summary.{Summary}
 

@@ -11,7 +11,7 @@ ghost use Rattle.replayer.specs.Listings.{ListsLine, RecordsEvent, accepted_even
 use crate::told::Told;
 use crate::turns::Course;
 use history_laws::headline;
-use plain_store::{Command, Setup, Value};
+use plain_store::{NestedTypes, Setup};
 use record::{Entry, Event, Record, Refusal};
 use scenario::{Line, Scenario};
 use std::alloc::{AllocError, Global};
@@ -44,7 +44,7 @@ fn list_line(course: &mut Course, line: &Line, events: &mut Vec<Event>) -> Resul
 fn list(told: Told, events: &mut Vec<Event>) -> Result<(), AllocError>
     ensures { OnOk result (events.new.items ≡ events.old.items ++ event_told told) }
 {
-    let _types: Option<(Command, Value)> = None;
+    let _nested: NestedTypes = None;
     if let Told::Accepted(made) = &told {
         events.push(made.event())?;
     }

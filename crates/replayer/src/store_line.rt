@@ -1,12 +1,11 @@
-//! A store on one line.
-ghost use Rattle.std.specs.Prelude.{◌≡◌, ◌++◌, codes, flat_map, drop, IfOk, OnOk};
+//! The newest store of a run, on one line.
+ghost use Rattle.std.specs.Prelude.{◌≡◌, IfOk};
 ghost use Rattle.std.specs.String.{string_bytes};
-ghost use Rattle.plain_store.specs.Store.{Contents};
-ghost use Rattle.replayer.specs.Stores.{pair_text, show_text};
 ghost use Rattle.replayer.specs.Texts.{store_text};
 
-use plain_store::{Image, Name, Store, Value};
+use plain_store::show_line;
 use std::alloc::{AllocError, Global};
+use store_image::Image;
 
 /// The newest store, or that somebody is inside.
 pub(crate) fn newest_line(alloc: Global, store: &Option<Image>) -> Result<String, AllocError>
@@ -16,29 +15,4 @@ pub(crate) fn newest_line(alloc: Global, store: &Option<Image>) -> Result<String
         None => String::from_str(alloc, "show busy\n"),
         Some(store) => show_line(alloc, store),
     }
-}
-
-/// The pairs of a store in order of first write, as `show a=c:5 b=t:x`.
-#[tactic(auto, using(crate::proofs::StoreLines::pairs_more, plain_store::proofs::OpeningPairs::some_within))]
-pub fn show_line<S: Store>(alloc: Global, store: &S) -> Result<String, AllocError>
-    ensures { IfOk result (λ line. string_bytes line ≡ show_text (S.contents store.now).pairs) }
-{
-    if store.len() == 0 {
-        return String::from_str(alloc, "show empty\n");
-    }
-    let mut line = String::from_str(alloc, "show")?;
-    for place in 0..store.len() {
-        let (name, value) = store.entry(place).unwrap();
-        let pair = pair_line(alloc, &name, &value)?;
-        line.push_str(pair.as_str())?;
-    }
-    line.push_str("\n")?;
-    Ok(line)
-}
-
-#[tactic(auto, using(crate::proofs::StoreLines::pair_text_is))]
-fn pair_line(alloc: Global, name: &Name, value: &Value) -> Result<String, AllocError>
-    ensures { IfOk result (λ line. string_bytes line ≡ pair_text (name.now, value.now)) }
-{
-    format!(in alloc; " {name}={value}")
 }

@@ -2,7 +2,7 @@
 ghost use Rattle.std.specs.Prelude.{◌≡◌, ◌∷◌, []};
 ghost use Rattle.replayer.specs.Telling.{event_made, marks_made};
 
-use plain_store::{Command, Value};
+use plain_store::{Command, NestedTypes};
 use record::{Event, Mark, Refusal};
 use smallvec::SmallVec;
 use std::alloc::Global;
@@ -31,7 +31,7 @@ impl Made {
     pub fn event(&self) -> Event
         ensures { result ≡ event_made self.now }
     {
-        let _types: Option<(Command, Value)> = None;
+        let _nested: NestedTypes = None;
         match self {
             Made::Called { process, command } => Event::Call(*process, *command),
             Made::Stepped { process, flick, .. } => Event::Step(*process, *flick),
@@ -45,7 +45,7 @@ impl Made {
     pub fn marks(&self, alloc: Global) -> SmallVec<Mark, 3>
         ensures { result.items ≡ marks_made self.now }
     {
-        let _types: Option<(Command, Value)> = None;
+        let _nested: NestedTypes = None;
         match self {
             Made::Called { command, .. } => one(alloc, Mark::Called(*command)),
             Made::Stepped { place, told, .. } => told.marks(alloc, *place),

@@ -20,11 +20,12 @@ mod walks;
 
 use crate::store_line::newest_line;
 use crate::told::{Made, Told, Turns};
-use plain_store::{Command, Image, Setup, Value};
+use plain_store::{NestedTypes, Setup};
 use record::Refusal;
 use scenario::{Flick, Line};
 use std::alloc::{AllocError, Global};
 use std::marker::Model;
+use store_image::Image;
 use world::{Flicks, World};
 
 /// The Steps that a `go` makes at most.
@@ -110,7 +111,7 @@ impl Course {
         ensures all { IfOk result (λ turns. all ≡ true → turns.quiet ≡ 0) }
         ensures made { IfOk result (λ turns. (run : Run) → Follows self.old run → MakesTurns self.old line.now run turns self.new) }
     {
-        let _types: Option<(Command, Value)> = None;
+        let _nested: NestedTypes = None;
         if self.left == 0 {
             return Ok(Turns::ended());
         }
@@ -190,7 +191,7 @@ fn refused(process: u8, refusal: Refusal) -> Result<Turns, AllocError>
 fn turns_in(line: &Line) -> u32
     ensures { result ≡ turns_of line.now }
 {
-    let _types: Option<(Command, Value)> = None;
+    let _nested: NestedTypes = None;
     match line {
         Line::Step(_, steps) => *steps,
         Line::Wander(turns) => *turns,

@@ -5,8 +5,6 @@
 mod bit;
 mod laws;
 mod moves;
-#[cfg(test)]
-mod tests;
 
 pub use bit::SafeBit;
 pub use laws::{safe_rule, safe_rule_of_moves, shown_moves};

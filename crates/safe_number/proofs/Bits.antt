@@ -73,7 +73,7 @@ pub bytes-same : (bits : List Bool) (a b : List ℕ) → AreBytes a → AreBytes
 bytes-same bits a b ha hb len of_a of_b = same_bytes a b ha hb len (number-bytes bits a ha of_a ∙ sym (number-bytes bits b hb of_b))
 
 -- the lowest bits of a number
-length-bits_of_number : (w n : ℕ) → length (bits_of_number w n) ≡ w
+pub length-bits_of_number : (w n : ℕ) → length (bits_of_number w n) ≡ w
 length-bits_of_number zero n = refl
 length-bits_of_number (suc w) n = omega (arith, length-bits_of_number w (n / 2))
 

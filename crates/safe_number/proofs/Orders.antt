@@ -19,7 +19,7 @@ pub record GoesOn (n : ℕ) (value : List ℕ) (w : NumberWrite) : Type 0 where
   pub going : (bit_write value w).made < 2 * n
 
 -- past the last access of a bit nothing of it is left
-drop_past : {X : Type 0} (xs : List X) (k : ℕ) → length xs ≤ k → drop k xs ≡ []
+pub drop_past : {X : Type 0} (xs : List X) (k : ℕ) → length xs ≤ k → drop k xs ≡ []
 drop_past [] zero h = refl
 drop_past [] (suc k) h = refl
 drop_past (x ∷ xs) zero h = absurd (omega arith)

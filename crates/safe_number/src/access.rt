@@ -1,4 +1,7 @@
-use reader_copies::Torn;
+ghost use Rattle.std.specs.Prelude.{◌≡◌};
+ghost use Rattle.safe_number.specs.Accesses.{access_of};
+
+use reader_copies::{Made, Torn};
 use safe_bit::Move;
 
 /// A register of a process: those of the lock, and those of the store and its two versions.
@@ -24,6 +27,24 @@ pub struct Access {
     /// The process whose copy it is.
     pub reader: u8,
     pub how: Move,
+}
+
+impl Access {
+    /// What is made of a bit of a register, as the next access of a read or a write tells it, as an access to
+    /// that register.
+    #[inline]
+    pub fn of(owner: u8, field: Field, next: (u16, Made)) -> Access
+        ensures { result ≡ access_of owner field next }
+    {
+        let (bit, made) = next;
+        Access {
+            owner,
+            field,
+            bit,
+            reader: made.reader,
+            how: made.how,
+        }
+    }
 }
 
 /// A bit whose write was cut before it had ended on every copy.

@@ -7,8 +7,6 @@ mod fault;
 mod laws;
 mod reading;
 mod register;
-#[cfg(test)]
-mod tests;
 mod writing;
 
 pub use access::{Access, Field, TornBit};

@@ -6,11 +6,10 @@ use Rattle.std.proofs.lemmas.List.{length-append}
 use Rattle.std.proofs.lemmas.List.Folds.{list_all-append}
 use Rattle.std.specs.Int.{is_in_range}
 use Rattle.std.specs.List.{list_all}
-use Rattle.plain_store.specs.Pairs.{Pair}
+use Rattle.plain_store.specs.Pairs.{Pair, is_pair}
 use Rattle.plain_store.proofs.GoodSetups.{all_pass, no_fault}
 use Rattle.plain_store.proofs.OpeningPairs.{differ-more}
 use Rattle.plain_store.specs.Setups.{checks, checked, is_good_opening}
-use Rattle.plain_store.specs.Slots.{is_pair}
 use Rattle.plain_store.specs.Store.{value_at, names_differ}
 use Rattle.plain_store.specs.declared.commands.Value.{Value}
 use Rattle.plain_store.specs.declared.setups.Setup.{Setup}

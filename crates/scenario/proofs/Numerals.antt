@@ -1,7 +1,7 @@
 -- What is parsed of a numeral.
 use Rattle.std.specs.Int.RustNames.{FitsSigned}
 use Rattle.std.proofs.lemmas.Str.Ascii.{IsAscii-cons}
-use Rattle.plain_store.specs.Outcomes.{fits_i64}
+use Rattle.plain_store.specs.Values.{fits_i64}
 use Rattle.std.proofs.Common.{◌==◌, drop, negsuc, slice_index, ◌≡◌, ℕ, ℤ, pos, ◌<◌, ◌^◌, Bool, true, false, not, cond, nat_le, List, [], ◌∷◌, ◌&&◌, length, Some, None, Result, Ok, Err, refl, ap, sym, ◌∙◌, arith, rules, if◌then◌else◌, w64}
 use Rattle.std.specs.Char.{is_ascii_digit}
 use Rattle.std.specs.Result.{MatchResult, result_ok}

@@ -11,7 +11,7 @@ use Rattle.std.specs.Option.{ok_or}
 use Rattle.std.specs.Str.{bytes_eq}
 use Rattle.std.specs.Str.Parse.{digits_value, signed_digits_value}
 use Rattle.plain_store.specs.Names.{is_name, is_text}
-use Rattle.plain_store.specs.Outcomes.{fits_i64}
+use Rattle.plain_store.specs.Values.{fits_i64, is_value}
 use Rattle.plain_store.specs.Shown.{value_text}
 use Rattle.plain_store.specs.declared.commands.Value.{Value}
 use Rattle.plain_store.specs.declared.commands.Value.TheVariants.{Count, Text}
@@ -21,7 +21,6 @@ use Rattle.scenario.specs.Numbers.{is_numeral, is_signed_numeral, in_i64, intege
 use Rattle.scenario.specs.Operands.{number_at, integer_at, name_at, counter, value_at}
 use Rattle.scenario.specs.Printing.{target_word}
 use Rattle.scenario.specs.Statements.{is_verb_of, verb_at}
-use Rattle.plain_store.specs.Slots.{is_value}
 use Rattle.scenario.specs.declared.faults.FaultKind.TheVariants.{Number, BadName, BadValue, Unknown}
 use Rattle.scenario.specs.declared.keywords.Verb.{Verb}
 use Rattle.scenario.specs.declared.keywords.Verb.TheVariants as verb

@@ -1,6 +1,7 @@
 -- What `write!` puts together is what is printed.
 use Rattle.std.proofs.Common.{◌≡◌, ℕ, ◌+◌, ◌<◌, List, [], ◌∷◌, ◌++◌, Some, length, drop, get_or, slice_get, flat_map, map, codes, refl, ap, sym, ◌∙◌, append_assoc}
 use Rattle.std.specs.Fmt.{decimal}
+use Rattle.plain_store.proofs.OpeningPairs.{drop-next}
 use Rattle.plain_store.specs.Pairs.{Pair}
 use Rattle.plain_store.specs.Shown.{command_text, value_text}
 use Rattle.plain_store.specs.declared.commands.Command.{Command}
@@ -12,7 +13,7 @@ use Rattle.scenario.specs.declared.lines.Flick.{Flick}
 use Rattle.scenario.specs.declared.lines.Flick.TheVariants as flick
 use Rattle.scenario.specs.declared.lines.Line.{Line}
 use Rattle.scenario.specs.declared.lines.Line.TheVariants as line
-use Rattle.scenario.proofs.Places.{drop_at, drop_in}
+use Rattle.scenario.proofs.Places.{drop_in}
 
 -- a command's text is its words
 command_is : (c : Command) → command_text c ≡ spaced (command_words c)
@@ -56,7 +57,7 @@ setup_lines_are s = sym (
 
 -- a text and the pairs from a place on, one pair later
 pub opening_more : (told : List ℕ) (pairs : List Pair) (k : ℕ) (p : Pair) → slice_get pairs k ≡ Some p → (told ++ printed_line (open_words p)) ++ flat_map printed_line (map open_words (drop (k + 1) pairs)) ≡ told ++ flat_map printed_line (map open_words (drop k pairs))
-opening_more told pairs k p at = append_assoc told _ _ ∙ ap (λ ps. told ++ flat_map printed_line (map open_words ps)) (sym (drop_at pairs k p at))
+opening_more told pairs k p at = append_assoc told _ _ ∙ ap (λ ps. told ++ flat_map printed_line (map open_words ps)) (sym (drop-next pairs k p at))
 
 -- a text and the lines from a place on, one line later
 pub lines_more : (told : List ℕ) (lines : List Line) (k : ℕ) (here : Line) → k < length lines → here ≡ get_or lines k here → (told ++ printed_line (line_words here)) ++ flat_map printed_line (map line_words (drop (k + 1) lines)) ≡ told ++ flat_map printed_line (map line_words (drop k lines))

@@ -8,9 +8,8 @@ use Rattle.std.specs.Int.{is_in_range}
 use Rattle.std.specs.List.{list_all}
 use Rattle.std.specs.Str.{bytes_eq}
 use Rattle.plain_store.proofs.GoodSetups.{good-checked, few-opening}
-use Rattle.plain_store.specs.Pairs.{Pair}
+use Rattle.plain_store.specs.Pairs.{Pair, is_pair}
 use Rattle.plain_store.specs.Setups.{is_good_opening}
-use Rattle.plain_store.specs.Slots.{is_pair}
 use Rattle.plain_store.specs.Store.{value_at, names_differ}
 use Rattle.plain_store.specs.declared.setups.Setup.{Setup}
 use Rattle.scenario.specs.Checks.{◌>>=◌}

@@ -8,10 +8,9 @@ use Rattle.std.specs.Int.{is_in_range}
 use Rattle.std.specs.Option.{ok_or}
 use Rattle.plain_store.specs.Commands.{is_command}
 use Rattle.plain_store.specs.Names.{is_name}
-use Rattle.plain_store.specs.Outcomes.{fits_i64}
-use Rattle.plain_store.specs.Pairs.{Pair}
+use Rattle.plain_store.specs.Values.{fits_i64, is_value}
+use Rattle.plain_store.specs.Pairs.{Pair, is_pair}
 use Rattle.plain_store.specs.Shown.{value_text}
-use Rattle.plain_store.specs.Slots.{is_pair, is_value}
 use Rattle.plain_store.specs.declared.commands.Command.{Command}
 use Rattle.plain_store.specs.declared.commands.Command.TheVariants as command
 use Rattle.plain_store.specs.declared.commands.Value.{Value}

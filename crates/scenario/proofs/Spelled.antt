@@ -8,9 +8,8 @@ use Rattle.std.specs.List.{list_all}
 use Rattle.std.specs.Option.{ok_or}
 use Rattle.std.specs.Str.Parse.{digits_value, signed_digits_value}
 use Rattle.plain_store.specs.Names.{is_name, is_name_byte}
-use Rattle.plain_store.specs.Outcomes.{fits_i64}
+use Rattle.plain_store.specs.Values.{fits_i64, is_value}
 use Rattle.plain_store.specs.Shown.{value_text}
-use Rattle.plain_store.specs.Slots.{is_value}
 use Rattle.plain_store.specs.declared.commands.Value.{Value}
 use Rattle.plain_store.specs.declared.commands.Value.TheVariants.{Count, Text}
 use Rattle.scenario.specs.Numbers.{are_digits, is_numeral, is_signed_numeral, in_i64, integer_of}

@@ -3,7 +3,7 @@ use Rattle.std.specs.Prelude.{◌≡◌, ◌≤◌, ◌^◌, Bool, true, nat_lt,
 use Rattle.std.specs.List.{list_all}
 use Rattle.plain_store.specs.Commands.{is_command}
 use Rattle.plain_store.specs.Setups.{checked}
-use Rattle.plain_store.specs.Slots.{is_pair}
+use Rattle.plain_store.specs.Pairs.{is_pair}
 use Rattle.plain_store.specs.Store.{names_differ}
 use Rattle.scenario.specs.Reading.{Script}
 use Rattle.scenario.specs.Statements.{is_line_of}

@@ -11,16 +11,12 @@ mod lines;
 mod numbers;
 mod operands;
 mod printing;
-#[cfg(test)]
-mod printing_tests;
 mod reading;
 mod scenarios;
 mod sound;
 mod spelling;
 mod statements;
 mod streams;
-#[cfg(test)]
-mod tests;
 mod words;
 
 pub use bit_files::{BitLine, read_bits};

@@ -10,7 +10,7 @@ ghost use Rattle.std.specs.List.{list_all};
 use crate::lines::{Flick, Line, Target};
 use crate::scenarios::Scenario;
 use crate::sound::sound_line;
-use plain_store::{Command, Name, Opening, Setup, Value};
+use plain_store::{Name, NestedTypes, Opening, Setup, Value};
 use std::alloc::{AllocError, Global};
 use std::fmt;
 
@@ -121,7 +121,7 @@ impl fmt::Display for Line {
 
     #[tactic(auto, using(crate::proofs::Printed::call_is, crate::proofs::Printed::flick_is))]
     fn fmt<W: fmt::Write>(&self, f: &mut fmt::Formatter<W>) -> fmt::Result {
-        let _types: Option<(Command, Value)> = None;
+        let _nested: NestedTypes = None;
         match self {
             Line::Call(process, command) => write!(f, "call {process} {command}"),
             Line::Step(process, steps) => write!(f, "step {process} {steps}"),

@@ -16,7 +16,7 @@ use crate::lines::Line;
 use crate::operands::{name, number, value};
 use crate::scenarios::Scenario;
 use crate::statements;
-use plain_store::{Command, Name, Setup, Value};
+use plain_store::{Name, NestedTypes, Setup, Value};
 use std::alloc::Global;
 use std::marker::Model;
 
@@ -178,7 +178,7 @@ impl Reader {
     fn other(&mut self, name: LineWord, words: &[&[u8]]) -> Result<(), FaultKind>
         ensures { Takes result (other_read name (texts words.now) self.old) self.new }
     {
-        let _types: Option<(Command, Value)> = None;
+        let _nested: NestedTypes = None;
         self.keep(statements::line(self.setup.version, name, words)?)
     }
 
@@ -188,7 +188,7 @@ impl Reader {
         requires { is_line_of self.old.setup.version line ≡ true }
         ensures { Takes result (kept_read line self.old) self.new }
     {
-        let _types: Option<(Command, Value)> = None;
+        let _nested: NestedTypes = None;
         keep_line(&mut self.lines, line)
     }
 }

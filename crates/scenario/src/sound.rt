@@ -3,13 +3,13 @@ ghost use Rattle.std.specs.Prelude.{◌≡◌, ◌^◌, true, nat_lt};
 ghost use Rattle.scenario.specs.Scripts.{is_line, is_flick};
 
 use crate::lines::{Flick, Line};
-use plain_store::{Command, Value};
+use plain_store::NestedTypes;
 
 /// Its process has 8 bits, and its other operands are names, values and numbers.
 pub fn sound_line(line: &Line)
     ensures { is_line line.now ≡ true }
 {
-    let _types: Option<(Command, Value)> = None;
+    let _nested: NestedTypes = None;
     match line {
         Line::Call(process, command) => {
             sound_process(*process);

@@ -1,37 +1,43 @@
-pub mod QueueAfter
-pub mod QueueBegun
-pub mod QueueListed
-pub mod QueueLists
-pub mod RowsAccess
+-- The registers of all processes
 pub mod RowsCells
-pub mod RowsChange
-pub mod RowsDrops
 pub mod RowsKept
+pub mod RowsChange
+pub mod RowsAccess
+pub mod RowsDrops
 pub mod RowsNewest
-pub mod SeatClears
-pub mod SeatData
+-- One seat, by what its process is doing
 pub mod SeatDoors
-pub mod SeatDrops
-pub mod SeatFails
 pub mod SeatSteps
-pub mod SeatTurns
-pub mod SeatUnits
-pub mod SeatWithdraws
+pub mod SeatDrops
+pub mod SeatData
 pub mod SeatWithin
-pub mod WorldAsks
-pub mod WorldCuts
+pub mod SeatClears
+pub mod SeatWithdraws
+pub mod SeatUnits
+pub mod SeatFails
+pub mod SeatTurns
+-- Who waits before whom
+pub mod QueueBegun
+pub mod QueueAfter
+pub mod QueueLists
+pub mod QueueListed
+-- What is kept of each process
 pub mod WorldDoing
-pub mod WorldEnds
+pub mod WorldSeats
+pub mod WorldLists
+pub mod WorldTelling
+pub mod WorldPending
+pub mod WorldCuts
+-- The world after an event
+pub mod WorldNew
+pub mod WorldOpen
+pub mod WorldMarks
+pub mod WorldSteps
+pub mod WorldWalks
+pub mod WorldShows
 pub mod WorldGoes
 pub mod WorldGoesMarked
-pub mod WorldLists
-pub mod WorldMarks
-pub mod WorldNew
+pub mod WorldEnds
+-- What a world is asked
+pub mod WorldAsks
 pub mod WorldNewest
-pub mod WorldOpen
-pub mod WorldPending
-pub mod WorldSeats
-pub mod WorldShows
-pub mod WorldSteps
-pub mod WorldTelling
-pub mod WorldWalks

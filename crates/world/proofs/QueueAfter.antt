@@ -22,10 +22,10 @@ use Rattle.laws.specs.Doings.{Doing, Rests, Lies, Runs, Closes, doing}
 use Rattle.laws.proofs.AtPlaces.{AtPlace}
 use Rattle.laws.proofs.DoorwayParts.{has_begun, has_finished, both}
 use Rattle.laws.proofs.FrameMarks.{at_access, ends_doorway, is_lowering, is_resting, waiting-is}
-use Rattle.laws.proofs.Numbers.{NumbersAt, numbers}
+use Rattle.laws.proofs.Numbers.{NumbersAt, numbers, number-own}
 use Rattle.laws.proofs.Theorems.{waiter, waiter-numbers, not_ahead_of_itself}
 use Rattle.world.specs.Seats.{waiting_before}
-use Rattle.world.proofs.QueueBegun.{number-other, number-own, not-called}
+use Rattle.world.proofs.QueueBegun.{number-other, not-called}
 use Rattle.world.proofs.QueueLists.{set-range, same-range}
 
 -- What is looked up.

@@ -29,7 +29,7 @@ use Rattle.laws.proofs.FrameDoorways.{begins_at, begins_with, begins-is}
 use Rattle.laws.proofs.FrameEvents.{accepted}
 use Rattle.laws.proofs.FrameMarks.{is_raising, is_resting, is_running, called-is}
 use Rattle.laws.proofs.FrameSteps.{step_of}
-use Rattle.laws.proofs.Numbers.{NumbersAt, numbers}
+use Rattle.laws.proofs.Numbers.{NumbersAt, numbers, number-own}
 use Rattle.world.specs.Seats.{kept_at, kept_in}
 use Rattle.world.specs.Steps.{is_at_door}
 
@@ -44,19 +44,6 @@ number-other q test e past h = ap (λ b. elim b as (λ _. Option ℕ) [
     | false ↦ first_of (number_in_call q test past) (elim (test e) as (λ _. Option ℕ) [ true ↦ Some (length past) | false ↦ None ])
   ]
 ]) (ne_eqb e.process q h)
-
--- one of its own is the first that passes, if none did and it does; a call begins anew
-pub number-own : (test : Entry → Bool) (e : Entry) (past : Past) (called : Bool) → has is_called e ≡ called → number_in_call e.process test (e ∷ past) ≡ elim called as (λ _. Option ℕ) [
-  | true ↦ None
-  | false ↦ first_of (number_in_call e.process test past) (elim (test e) as (λ _. Option ℕ) [ true ↦ Some (length past) | false ↦ None ])
-]
-number-own test e past called h = (λ i. elim (eq-eqb e.process e.process refl i) as (λ _. Option ℕ) [
-  | false ↦ number_in_call e.process test past
-  | true ↦ elim (h i) as (λ _. Option ℕ) [
-    | true ↦ None
-    | false ↦ first_of (number_in_call e.process test past) (elim (test e) as (λ _. Option ℕ) [ true ↦ Some (length past) | false ↦ None ])
-  ]
-])
 
 -- only a process's own entries make anything of its doorway
 pub begun-others : (q : ℕ) (e : Entry) (past : Past) → e.process ≢ q → doorway_begin q (e ∷ past) ≡ doorway_begin q past

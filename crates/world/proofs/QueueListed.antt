@@ -4,7 +4,7 @@ use Rattle.std.proofs.lemmas.Bool.Decides.{nat_tests}
 use Rattle.std.specs.Int.{is_in_range}
 use Rattle.plain_store.specs.declared.Setup.{Setup}
 use Rattle.plain_store.specs.Setups.{checked}
-use Rattle.plain_store.proofs.GoodSetups.{good-checked}
+use Rattle.plain_store.proofs.GoodSetups.{good-checked, few-processes}
 use Rattle.record.specs.declared.events.Event.{Event}
 use Rattle.record.specs.Doorways.{doorway_begin, doorway_end, is_before, is_queued, is_waiting_stage, is_ahead, ahead}
 use Rattle.record.specs.Entries.{Past}
@@ -17,14 +17,6 @@ use Rattle.laws.proofs.FrameSteps.{doing-above}
 use Rattle.world.specs.Queue.{listed}
 use Rattle.world.specs.Seats.{waiting_before}
 use Rattle.world.proofs.QueueLists.{listed-range, longer-range}
-
--- there are at most 16 processes
-few : (s : Setup) → checked s ≡ Ok tt → s.processes ≤ 16
-few s good = by (s.version == 1) (good-checked s good).processes
-  where
-    by : (b : Bool) → is_in_range 1 (if b then 8 else 16) s.processes ≡ true → s.processes ≤ 16
-    by true k = grind (arith, nat_tests)
-    by false k = grind (arith, nat_tests)
 
 -- who is not there waits for nobody
 above : (s : Setup) → IsGood s → (events : List Event) (j p : ℕ) → s.processes ≤ j → is_ahead (past_of s events) j p ≡ false
@@ -39,4 +31,4 @@ pub ahead-listed : (s : Setup) → checked s ≡ Ok tt → (events : List Event)
 ahead-listed s good events p =
     let past : Past = past_of s events in
     ap (λ l. elim (is_queued (stage p past)) as (λ _. List ℕ) [ true ↦ l | false ↦ [] ])
-    (longer-range (λ j. is_ahead past j p) 0 s.processes 16 (few s good) (λ j l. above s (is_good s good) events j p (omega (arith, l))) ∙ sym (listed-range (λ j. is_ahead past j p) 0 16))
+    (longer-range (λ j. is_ahead past j p) 0 s.processes 16 (few-processes s good) (λ j l. above s (is_good s good) events j p (omega (arith, l))) ∙ sym (listed-range (λ j. is_ahead past j p) 0 16))

@@ -12,7 +12,7 @@ use Rattle.record.specs.Registers.{processes, width}
 use Rattle.record.proofs.Width.{is_good}
 use Rattle.bakery.specs.Locks.{new_lock, new_locks}
 use Rattle.critical.specs.Registers.{opening_cell, row_from}
-use Rattle.critical.proofs.Opening.{zero-register}
+use Rattle.critical.proofs.Opening.{zero-register, const-range}
 use Rattle.laws.specs.Held.{cell_held, drops}
 use Rattle.laws.proofs.HeldCells.{held-marks}
 use Rattle.world.specs.Shows.{lock_from, locks_from}
@@ -54,17 +54,12 @@ are_of s ok past = record {
 
 -- As they open.
 
--- a constant over a range
-all-same : {X : Type 0} (x : X) (a n : ℕ) → replicate n x ≡ map (λ (k : ℕ). x) (range_with_len a n)
-all-same x a zero = refl
-all-same x a (suc n) = ap (λ xs. x ∷ xs) (all-same x (a + 1) n)
-
 lock-open : (s : Setup) (p : ℕ) → new_lock s ≡ lock_from (cell_held s []) s p
 lock-open s zero = λ i. record { choosing = zero-register s 0 Choosing i; ticket = zero-register s 0 Ticket i }
 lock-open s (suc p) = λ i. record { choosing = zero-register s (suc p) Choosing i; ticket = zero-register s (suc p) Ticket i }
 
 pub locks-open : (s : Setup) → new_locks s ≡ locks_at s []
-locks-open s = all-same (new_lock s) 0 s.processes ∙ (λ i. map (λ p. lock-open s p i) (processes s))
+locks-open s = const-range (new_lock s) 0 s.processes ∙ (λ i. map (λ p. lock-open s p i) (processes s))
 
 pub versions-open : (s : Setup) → row_from (opening_cell s) s ≡ row_at s []
 versions-open s = refl

@@ -23,6 +23,7 @@ use Rattle.record.proofs.World.{refused-idle}
 use Rattle.bakery.specs.Locks.{LockRows}
 use Rattle.critical.specs.Registers.{DataRow}
 use Rattle.laws.specs.Doings.{Doing, Runs, call, doing}
+use Rattle.laws.proofs.FrameEvents.{is-waiting}
 use Rattle.world.specs.Changes.{is_pending, next_number, pending, pending_in, told, waiting_in}
 use Rattle.world.specs.Events.{IsRefused}
 use Rattle.world.specs.Seats.{Seat, seat_of, kept_at, stage_kept}
@@ -134,15 +135,6 @@ pub fail-keeps : (seat then : Seat) (x : Doing) → IsAt seat x → then ≡ rec
 fail-keeps seat then x at is h = ap (λ (y : Seat). is_pending y.kept) is ∙ fails-pending seat.setup seat.process x (sym (ap is_pending at.kept) ∙ h)
 
 -- A withdrawal.
-
-is-waiting : (p : ℕ) (st : Stage) → refused_at (event.Withdraw p) st ≡ None → st ≡ stages.Waiting
-is-waiting p stages.Waiting h = refl
-is-waiting p stages.Idle h = cc
-is-waiting p stages.Doorway h = cc
-is-waiting p stages.Inside h = cc
-is-waiting p stages.Leaving h = cc
-is-waiting p stages.Settling h = cc
-is-waiting p stages.Down h = cc
 
 pub waits-at : (w : WorldState) (events : List Event) (p : ℕ) (d : Seat) → Shows w events → IsRefused w (event.Withdraw p) None → (seat : Seat) → seat ≡ slice_index_or w.seats p d → stage_kept seat.kept ≡ stages.Waiting
 waits-at w events p d shows ok seat is = stage-at w events (event.Withdraw p) d shows ok seat is ∙ is-waiting p (stage p (past_of w.setup events)) (is-allowed w.setup (past_of w.setup events) (event.Withdraw p) (ok events shows)).at

@@ -4,8 +4,8 @@ use Rattle.std.specs.Prelude.{Ok}
 use Rattle.std.specs.List.{list_any}
 use Rattle.plain_store.specs.declared.Command.TheVariants.{Ask}
 use Rattle.plain_store.specs.declared.Setup.{Setup}
-use Rattle.plain_store.specs.Image.{image_of}
-use Rattle.plain_store.specs.Reading.{store_in}
+use Rattle.store_image.specs.Image.{image_of}
+use Rattle.store_image.specs.Reading.{store_in}
 use Rattle.plain_store.specs.Setups.{callers_of, checked}
 use Rattle.plain_store.specs.Store.{Contents}
 use Rattle.record.specs.declared.events.Event.{Event}

@@ -27,6 +27,7 @@ use Rattle.laws.specs.Doings.{Doing, Rests, Lies, Runs, Closes, call, runs, clos
 use Rattle.world.specs.Changes.{is_pending, pending, pending_in, told}
 use Rattle.world.specs.Seats.{Seat, kept_at, kept_in, kept_closing, inside_kept}
 use Rattle.world.specs.Steps.{marks_with, does_then, kept_failing}
+use Rattle.history_laws.proofs.Outside.{entered-none}
 
 -- a call at this part may still be taken
 abbrev pending_part : Part → Bool
@@ -73,10 +74,6 @@ done-after : (c : Call) (x : Part) (v : List Bool) → pending_part x ≡ false 
 done-after c (part.Clears a) v h = refl
 done-after c part.Over v h = refl
 done-after c _ v h = cc
-
-entered-none : (ws : List Wait) → reply_taken (entered_if_none ws) ≡ None
-entered-none [] = refl
-entered-none (w ∷ ws) = refl
 
 -- the part whose last access takes a command is followed by the clearing
 takes-last : (c : Call) (x : Part) (v : List Bool) (r : Reply) → reply_taken (last_marks c x v) ≡ Some r → (pending_part x ≡ true) × (pending_part (part_after c x v) ≡ false)

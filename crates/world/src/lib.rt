@@ -5,12 +5,8 @@
 mod flicks;
 mod queue;
 mod refusals;
-#[cfg(test)]
-mod runs;
 mod seat;
 mod seats;
-#[cfg(test)]
-mod tests;
 mod told;
 mod world;
 

@@ -7,7 +7,7 @@ ghost use Rattle.world.specs.Changes.{told, waiting_in, waits_in, with_taken};
 ghost use Rattle.world.specs.Seats.{inside_kept, stage_kept};
 
 use crate::seat::Seat;
-use plain_store::{Command, Name, Reply, Text, Value};
+use plain_store::{NestedTypes, Reply};
 use record::{Stage, Taken};
 
 /// Whether a process waits.
@@ -72,7 +72,7 @@ pub(crate) fn take(history: &mut Vec<Taken>, process: u8, seat: &Seat, reply: Op
     ensures items { history.new.items ≡ with_taken history.old.items process seat.now.command seat.now.number reply }
     ensures capacity { vec_capacity history.old ≤ vec_capacity history.new }
 {
-    let _types: Option<(Command, Value, Name, Text)> = None;
+    let _nested: NestedTypes = None;
     let Some(reply) = reply else {
         return;
     };

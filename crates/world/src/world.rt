@@ -1,7 +1,7 @@
 ghost use Rattle.std.specs.Prelude.{◌≡◌, Bool, ◌==◌, ◌&&◌, nat_le, ◌<◌, ◌≤◌, ◌∷◌, ◌++◌, [], true, false, map, option_map, None, Some, IfOk, IfErr, OnOk, OnErr, IsOk, Ok, length, List};
 ghost use Rattle.std.specs.Vec.{vec_capacity, vec_len};
 ghost use Rattle.plain_store.specs.Setups.{checked};
-ghost use Rattle.plain_store.specs.Image.{image_of};
+ghost use Rattle.store_image.specs.Image.{image_of};
 ghost use Rattle.record.specs.declared.Event.{Event as Happening};
 ghost use Rattle.record.specs.declared.Event.TheVariants.{Call, Step, Fail, Withdraw, Restart};
 ghost use Rattle.record.specs.declared.Refusal.TheVariants.{Memory};
@@ -27,12 +27,13 @@ use crate::seats::{is_occupied, is_queued, take, tell, waiting, waits};
 use crate::told::{Stepped, Told, one};
 use bakery::Locks;
 use critical::DataRow;
-use plain_store::{Command, Image, Name, Reply, Setup, Text, Value};
+use plain_store::{Command, Name, Reply, Setup, Text, Value};
 use record::{Act, Event, Mark, Refusal, Stage, Taken};
 use safe_number::Access;
 use smallvec::SmallVec;
 use std::alloc::{AllocError, Global};
 use std::marker::Model;
+use store_image::Image;
 
 /// N processes over one set of registers, and the history of the commands that they took.
 ///

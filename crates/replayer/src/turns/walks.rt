@@ -9,7 +9,7 @@ ghost use Rattle.replayer.specs.Telling.{is_quiet as has_no_mark, told_step, wit
 
 use super::Course;
 use crate::told::{Made, Told, Turns};
-use plain_store::{Command, Value};
+use plain_store::NestedTypes;
 use record::{Refusal, Stage};
 use safe_number::Access;
 use scenario::Target;
@@ -194,7 +194,7 @@ fn is_there(target: Target, stage: Stage) -> bool
 fn is_quiet(stepped: &Result<Access, Refusal>, leads: &world::Told) -> bool
     ensures { result ≡ has_no_mark (with_told leads.now stepped.now) }
 {
-    let _types: Option<(Command, Value)> = None;
+    let _nested: NestedTypes = None;
     stepped.is_ok() && matches!(leads, world::Told::Nothing)
 }
 
@@ -209,7 +209,7 @@ fn told_of(
 ) -> Told
     ensures { result ≡ told_step process flick place (with_told leads.now stepped.now) }
 {
-    let _types: Option<(Command, Value)> = None;
+    let _nested: NestedTypes = None;
     match stepped {
         Ok(_) => Told::Accepted(Made::Stepped {
             process,

@@ -1,6 +1,6 @@
 use Rattle.std.proofs.Common.{◌≡◌, length, ◌∙◌, ap, arith}
-use Rattle.plain_store.specs.Reading.{store_in}
-use Rattle.plain_store.proofs.ImageBytes.{length-image_of}
+use Rattle.store_image.specs.Reading.{store_in}
+use Rattle.store_image.proofs.ImageBytes.{length-image_of}
 use Rattle.critical.proofs.image.image_in.Goals as goal
 
 pub returns-in-Ok-clause-store : goal.returns-in-Ok-clause-store

@@ -1,5 +1,5 @@
 use Rattle.std.proofs.Common.{◌∙◌, ap}
-use Rattle.plain_store.specs.Reading.{store_in}
+use Rattle.store_image.specs.Reading.{store_in}
 use Rattle.plain_store.specs.Setups.{callers_of}
 use Rattle.record.specs.Registers.{image_bytes}
 use Rattle.critical.proofs.image.image_read.Goals as goal

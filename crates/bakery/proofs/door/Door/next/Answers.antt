@@ -15,7 +15,7 @@ use Rattle.bakery.proofs.door.Door.next.Goals as goal
 pub returns-in-Some-clause-access : goal.returns-in-Some-clause-access
 returns-in-Some-clause-access c =
     let i = c.self.inside in
-    c.access.ensures ∙ ap (access_of c.in-Some.owner c.in-Some.field) c.next.ensures
+    c.of.ensures ∙ ap (access_of c.in-Some.owner c.in-Some.field) c.next.ensures
     ∙ next-read i.setup i.process i.standing i.runs.write i.runs.read c.args.value (c.in-Some.owner, c.in-Some.field) (c.in-Some.ensures (call_of i.setup i.process))
     ∙ ap (λ (d : DoorState). next_of d c.args.value) c.self.view_is
 
@@ -38,7 +38,7 @@ returns-in-None-clause-access c =
     let number = c.written-field.result.1 in
     let bytes = c.next-next.ensures ∙ ap (λ n. next_written (bits_of_number i.runs.write.width n) i.runs.write) (c.bits_of.ensures ∙ c.into.ensures) in
     let going : is_over (part_of i.standing) ≡ false = not-over (is_over (part_of i.standing)) (ap is_going c.self.view_is ∙ c.requires) in
-    c.access-in-None.ensures ∙ ap (access_of i.process field) bytes
+    c.of-in-None.ensures ∙ ap (access_of i.process field) bytes
     ∙ next-write i.setup i.process i.standing i.runs.write i.runs.read c.args.value field number (is-none _ _ (c.in-None.ensures (call_of i.setup i.process))) going c.self.invariant.write_width
     (ap (λ (x : Field × ℕ). x.0) c.written-field.ensures) (ap (λ (x : Field × ℕ). x.1) c.written-field.ensures)
     ∙ ap (λ (d : DoorState). next_of d c.args.value) c.self.view_is

@@ -1,6 +1,6 @@
 use Rattle.std.proofs.Common.{◌∙◌, sym, ap, length, arith, rules}
 use Rattle.safe_number.specs.Bytes.{bits_in, AreBytes}
-use Rattle.plain_store.proofs.ImageBytes.{length-image_of}
+use Rattle.store_image.proofs.ImageBytes.{length-image_of}
 use Rattle.record.specs.Places.{write_moved}
 use Rattle.critical.specs.Changes.{change_bits, number_written}
 use Rattle.critical.proofs.Writings.{moved-by-number, bits-of-part, wide}

@@ -5,9 +5,9 @@ use Rattle.reader_copies.specs.Row.{cell_at, IsClosed}
 use Rattle.safe_number.specs.Runs.{preset_number}
 use Rattle.safe_number.specs.declared.Field.TheVariants.{Image0}
 use Rattle.plain_store.specs.Setups.{callers_of, opening_store}
-use Rattle.plain_store.specs.Image.{image_of}
+use Rattle.store_image.specs.Image.{image_of}
 use Rattle.plain_store.specs.Store.{Contents}
-use Rattle.plain_store.proofs.ImageBytes.{length-image_of}
+use Rattle.store_image.proofs.ImageBytes.{length-image_of}
 use Rattle.critical.specs.Registers.{Data, data_from, register_from, opening_cell, zero_cell}
 use Rattle.critical.proofs.Opening.{open-other, open-first, zero-closed, zero-wide}
 use Rattle.critical.proofs.Widths.{ranges}

@@ -1,6 +1,6 @@
 use Rattle.std.proofs.Common.{◌≡◌, ℕ, ◌*◌, ◌<◌, refl, List, [], ◌∷◌, ◌++◌, length, map, take, sym, ap, ◌∙◌, subst, arith}
 use Rattle.std.specs.List.{range_with_len}
-use Rattle.plain_store.specs.Reading.{store_in}
+use Rattle.store_image.specs.Reading.{store_in}
 use Rattle.plain_store.specs.Setups.{callers_of}
 use Rattle.plain_store.specs.Store.{Contents}
 use Rattle.record.specs.Program.{Version, image_field}

@@ -1,7 +1,0 @@
-use Rattle.std.proofs.Common.{◌≡◌, ◌<◌, ℕ, true}
-use Rattle.plain_store.specs.Reading.{follows_rules}
-use Rattle.plain_store.proofs.rules.first_bad.Given as goal
-
--- the slots passed follow the rules
-abbrev pub invariant-loop-place : goal.invariant-loop-place
-invariant-loop-place l = (j : ℕ) → j < l.place → follows_rules l.bytes j ≡ true

@@ -1,9 +1,0 @@
-use Rattle.std.proofs.Common.{◌≡◌}
-use Rattle.plain_store.proofs.SlotSearch.{rest_in}
-use Rattle.plain_store.specs.Image.{rows}
-use Rattle.plain_store.specs.Reading.{have_name}
-use Rattle.plain_store.proofs.rules.have_name.Given as goal
-
--- the slots to come have the name exactly if all have it
-abbrev pub invariant-loop-place : goal.invariant-loop-place
-invariant-loop-place l = have_name (rest_in l.slots l.bytes l.place) l.name ≡ have_name (rows 23 l.slots l.bytes) l.name

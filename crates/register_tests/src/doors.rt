@@ -1,0 +1,280 @@
+//! The doorways, waits and withdrawals of the worked runs, driven by hand: the cursors of two processes over a
+//! plain memory.
+ghost use Rattle.std.specs.Prelude.{◌≡◌, true};
+ghost use Rattle.bakery.specs.Doors.{is_going, is_waiting, goes_on, tells_wait};
+ghost use Rattle.bakery.specs.Leavings.{is_leaving};
+
+use super::memory::Memory;
+use bakery::{Door, DoorProgress, Leaving, Locks};
+use plain_store::Setup;
+use reader_copies::Progress;
+use safe_bit::Move;
+use safe_number::{Access, Field};
+use std::process::Abort;
+use std::test::Fail;
+
+/// What was told last before the first access of a doorway.
+const START: DoorProgress = DoorProgress::Doorway;
+
+/// Makes so many accesses of a door, where `told` was told last, and answers what the last one tells.
+fn walk(
+    rt: &impl Abort,
+    memory: &mut Memory,
+    door: &mut Door,
+    told: DoorProgress,
+    steps: u32,
+    flick: bool,
+) -> DoorProgress
+    requires going { goes_on told ≡ true → is_going door.old ≡ true }
+    requires waiting { tells_wait told ≡ true → is_waiting door.old ≡ true }
+    ensures going { goes_on result ≡ true → is_going door.new ≡ true }
+    ensures waiting { tells_wait result ≡ true → is_waiting door.new ≡ true }
+{
+    let mut told = told;
+    for _ in 0..steps {
+        match told {
+            DoorProgress::Doorway | DoorProgress::Waiting(_) => {
+                let value = memory.make(rt, door.next(false), flick);
+                told = door.advance(value);
+            }
+            _ => panic!(rt; "the door was passed: {told:?}"),
+        }
+    }
+    told
+}
+
+/// Makes accesses of a door, where `told` was told last, and answers what the last one tells. They have to be
+/// these, on the own copy.
+fn walk_by(
+    rt: &impl Abort,
+    memory: &mut Memory,
+    door: &mut Door,
+    told: DoorProgress,
+    accesses: &[(Field, u16, Move)],
+) -> DoorProgress
+    requires { goes_on told ≡ true → is_going door.old ≡ true }
+    ensures { goes_on result ≡ true → is_going door.new ≡ true }
+{
+    let mut told = told;
+    for access in accesses {
+        match told {
+            DoorProgress::Doorway | DoorProgress::Waiting(_) => {
+                let next = door.next(false);
+                assert_eq!(rt; (next.field, next.bit, next.how), *access);
+                let value = memory.make(rt, next, false);
+                told = door.advance(value);
+            }
+            _ => panic!(rt; "the door was passed: {told:?}"),
+        }
+    }
+    told
+}
+
+/// Makes so many accesses of a leaving that was left at `progress`, and answers whether those are all.
+fn leave(
+    rt: &impl Abort,
+    memory: &mut Memory,
+    leaving: &mut Leaving,
+    progress: Progress,
+    steps: u32,
+) -> Progress
+    requires { progress ≡ Progress.Going → is_leaving leaving.old ≡ true }
+    ensures { result ≡ Progress.Going → is_leaving leaving.new ≡ true }
+{
+    let mut progress = progress;
+    for _ in 0..steps {
+        match progress {
+            Progress::Going => {
+                let _ = memory.make(rt, leaving.next(), false);
+                progress = leaving.advance();
+            }
+            Progress::Done => panic!(rt; "the ticket was cleared"),
+        }
+    }
+    progress
+}
+
+// Alone, a process is inside after the 8 accesses of its doorway, with the ticket 1.
+#[test]
+fn lone_write(rt: HostRuntime) -> Result<(), Fail> {
+    let mut memory = Memory::new(rt.alloc())?;
+    let mut door = Door::new(rt.alloc(), 0, &Setup::one(1, 2, 2, 1))?;
+    door.start();
+    let doorway = [
+        (Field::Choosing, 0, Move::BeginWrite(true)),
+        (Field::Choosing, 0, Move::EndWrite),
+        (Field::Ticket, 0, Move::BeginWrite(true)),
+        (Field::Ticket, 0, Move::EndWrite),
+        (Field::Ticket, 1, Move::BeginWrite(false)),
+        (Field::Ticket, 1, Move::EndWrite),
+        (Field::Choosing, 0, Move::BeginWrite(false)),
+    ];
+    let told = walk_by(&rt, &mut memory, &mut door, START, &doorway);
+    assert_eq!(rt; told, DoorProgress::Doorway);
+    let last = [(Field::Choosing, 0, Move::EndWrite)];
+    let told = walk_by(&rt, &mut memory, &mut door, told, &last);
+    assert_eq!(rt; told, DoorProgress::Inside(1));
+    Ok(())
+}
+
+// Two doorways overlap, and both take the ticket 1: process 0 goes first, process 1 waits for its ticket.
+#[test]
+fn tie(rt: HostRuntime) -> Result<(), Fail> {
+    let setup = Setup::one(2, 2, 2, 1);
+    let mut memory = Memory::new(rt.alloc())?;
+    let mut first = Door::new(rt.alloc(), 0, &setup)?;
+    let mut second = Door::new(rt.alloc(), 1, &setup)?;
+    first.start();
+    second.start();
+    let told = walk(&rt, &mut memory, &mut first, START, 8, false);
+    let other = walk(&rt, &mut memory, &mut second, START, 8, false);
+    let told = walk(&rt, &mut memory, &mut first, told, 11, false);
+    assert_eq!(rt; told, DoorProgress::Doorway);
+    let told = walk(&rt, &mut memory, &mut first, told, 1, false);
+    assert_eq!(rt; told, DoorProgress::Waiting(1));
+    let other = walk(&rt, &mut memory, &mut second, other, 11, false);
+    assert_eq!(rt; other, DoorProgress::Doorway);
+    let other = walk(&rt, &mut memory, &mut second, other, 1 + 6, false);
+    assert_eq!(rt; other, DoorProgress::Waiting(1));
+    let told = walk(&rt, &mut memory, &mut first, told, 5, false);
+    assert_eq!(rt; told, DoorProgress::Waiting(1));
+    let told = walk(&rt, &mut memory, &mut first, told, 1, false);
+    assert_eq!(rt; told, DoorProgress::Inside(1));
+    let other = walk(&rt, &mut memory, &mut second, other, 4, false);
+    assert_eq!(rt; other, DoorProgress::Waiting(1));
+    Ok(())
+}
+
+// A read of process 0's choosing lasts from one call of it into the next, and ends with the flick 0 while
+// the bit is 1: process 1 is let by, and the new call has to wait for it with the ticket 2.
+#[test]
+fn slow_read(rt: HostRuntime) -> Result<(), Fail> {
+    let setup = Setup::one(2, 2, 2, 1);
+    let mut memory = Memory::new(rt.alloc())?;
+    let mut first = Door::new(rt.alloc(), 0, &setup)?;
+    let mut second = Door::new(rt.alloc(), 1, &setup)?;
+    first.start();
+    second.start();
+    let told = walk(&rt, &mut memory, &mut first, START, 8, false);
+    let other = walk(&rt, &mut memory, &mut second, START, 20, false);
+    assert_eq!(rt; other, DoorProgress::Waiting(1));
+    let other = walk(&rt, &mut memory, &mut second, other, 1, false);
+    let told = walk(&rt, &mut memory, &mut first, told, 12, false);
+    assert_eq!(rt; told, DoorProgress::Waiting(1));
+    let told = walk(&rt, &mut memory, &mut first, told, 6, false);
+    assert_eq!(rt; told, DoorProgress::Inside(1));
+    let mut leaving = Leaving::new(0, &setup);
+    let progress = leave(&rt, &mut memory, &mut leaving, Progress::Going, 8);
+    assert_eq!(rt; progress, Progress::Done);
+    first.start();
+    let told = walk(&rt, &mut memory, &mut first, START, 4, false);
+    let other = walk(&rt, &mut memory, &mut second, other, 1 + 3, false);
+    assert_eq!(rt; other, DoorProgress::Waiting(1));
+    let other = walk(&rt, &mut memory, &mut second, other, 1, false);
+    assert_eq!(rt; other, DoorProgress::Inside(1));
+    let told = walk(&rt, &mut memory, &mut first, told, 16, false);
+    assert_eq!(rt; told, DoorProgress::Waiting(2));
+    let told = walk(&rt, &mut memory, &mut first, told, 6, false);
+    assert_eq!(rt; told, DoorProgress::Waiting(2));
+    let mut leaving = Leaving::new(1, &setup);
+    let progress = leave(&rt, &mut memory, &mut leaving, Progress::Going, 8);
+    assert_eq!(rt; progress, Progress::Done);
+    let told = walk(&rt, &mut memory, &mut first, told, 4, false);
+    assert_eq!(rt; told, DoorProgress::Inside(2));
+    Ok(())
+}
+
+// With one bit the ticket 1 is the greatest: while process 0 has it, the doorway of process 1 ends without.
+#[test]
+fn tickets_full(rt: HostRuntime) -> Result<(), Fail> {
+    let setup = Setup::one(2, 1, 2, 1);
+    let mut memory = Memory::new(rt.alloc())?;
+    let mut first = Door::new(rt.alloc(), 0, &setup)?;
+    let mut second = Door::new(rt.alloc(), 1, &setup)?;
+    first.start();
+    let told = walk(&rt, &mut memory, &mut first, START, 14, false);
+    assert_eq!(rt; told, DoorProgress::Waiting(1));
+    second.start();
+    let other = walk(&rt, &mut memory, &mut second, START, 9, false);
+    assert_eq!(rt; other, DoorProgress::Doorway);
+    let other = walk(&rt, &mut memory, &mut second, other, 1, false);
+    assert_eq!(rt; other, DoorProgress::Full { process: 0 });
+    let told = walk(&rt, &mut memory, &mut first, told, 4, false);
+    assert_eq!(rt; told, DoorProgress::Inside(1));
+    Ok(())
+}
+
+// Nobody ever has the ticket 3, but a read of it that overlaps the clearing of the ticket 1 gives it.
+#[test]
+fn flickering_ticket(rt: HostRuntime) -> Result<(), Fail> {
+    let setup = Setup::one(2, 2, 2, 1);
+    let mut memory = Memory::new(rt.alloc())?;
+    let mut first = Door::new(rt.alloc(), 0, &setup)?;
+    let mut second = Door::new(rt.alloc(), 1, &setup)?;
+    first.start();
+    let told = walk(&rt, &mut memory, &mut first, START, 20, false);
+    assert_eq!(rt; told, DoorProgress::Waiting(1));
+    let mut leaving = Leaving::new(0, &setup);
+    second.start();
+    let other = walk(&rt, &mut memory, &mut second, START, 4, false);
+    let progress = leave(&rt, &mut memory, &mut leaving, Progress::Going, 3);
+    assert_eq!(rt; progress, Progress::Going);
+    let other = walk(&rt, &mut memory, &mut second, other, 2, true);
+    let progress = leave(&rt, &mut memory, &mut leaving, progress, 4);
+    let other = walk(&rt, &mut memory, &mut second, other, 2, true);
+    let other = walk(&rt, &mut memory, &mut second, other, 3, false);
+    assert_eq!(rt; other, DoorProgress::Doorway);
+    let other = walk(&rt, &mut memory, &mut second, other, 1, false);
+    assert_eq!(rt; other, DoorProgress::Full { process: 0 });
+    assert_eq!(rt; progress, Progress::Going);
+    let progress = leave(&rt, &mut memory, &mut leaving, progress, 1);
+    assert_eq!(rt; progress, Progress::Done);
+    Ok(())
+}
+
+// Process 0 withdraws while it reads whether process 1 is choosing: its ticket is cleared with 8 accesses,
+// and process 1, which has the ticket 2, is then let by. A call of process 0 may then begin anew.
+#[test]
+fn withdrawal(rt: HostRuntime) -> Result<(), Fail> {
+    let setup = Setup::one(2, 2, 2, 1);
+    let mut memory = Memory::new(rt.alloc())?;
+    let mut locks = Locks::new(rt.alloc(), &setup)?;
+    let mut first = Door::new(rt.alloc(), 0, &setup)?;
+    let mut second = Door::new(rt.alloc(), 1, &setup)?;
+    first.start();
+    let told = walk(&rt, &mut memory, &mut first, START, 20, false);
+    assert_eq!(rt; told, DoorProgress::Waiting(1));
+    second.start();
+    let other = walk(&rt, &mut memory, &mut second, START, 20, false);
+    assert_eq!(rt; other, DoorProgress::Waiting(2));
+    let told = walk(&rt, &mut memory, &mut first, told, 1, false);
+    let DoorProgress::Waiting(1) = told else {
+        panic!(rt; "process 0 does not wait with the ticket 1: {told:?}");
+    };
+    let next = first.next(true);
+    let Access {
+        owner: 1,
+        field: Field::Choosing,
+        bit: 0,
+        reader: 0,
+        how: Move::EndRead(true),
+    } = next
+    else {
+        panic!(rt; "process 0 does not read whether process 1 is choosing: {next:?}");
+    };
+    first.withdraw(&mut locks);
+    let mut leaving = Leaving::new(0, &setup);
+    let progress = leave(&rt, &mut memory, &mut leaving, Progress::Going, 7);
+    assert_eq!(rt; progress, Progress::Going);
+    let progress = leave(&rt, &mut memory, &mut leaving, progress, 1);
+    assert_eq!(rt; progress, Progress::Done);
+    let other = walk(&rt, &mut memory, &mut second, other, 5, false);
+    assert_eq!(rt; other, DoorProgress::Waiting(2));
+    let other = walk(&rt, &mut memory, &mut second, other, 1, false);
+    assert_eq!(rt; other, DoorProgress::Inside(2));
+    first.start();
+    let anew = [(Field::Choosing, 0, Move::BeginWrite(true))];
+    let told = walk_by(&rt, &mut memory, &mut first, START, &anew);
+    assert_eq!(rt; told, DoorProgress::Doorway);
+    Ok(())
+}

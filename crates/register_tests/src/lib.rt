@@ -1,0 +1,20 @@
+//! Tests of the bits, the registers, the lock, the section and the memory unit, in a crate of their own, so
+//! that each of those layers is proved once. Nothing else stands here.
+#![tactic(auto)]
+
+#[cfg(test)]
+mod bits;
+#[cfg(test)]
+mod copies;
+#[cfg(test)]
+mod doors;
+#[cfg(test)]
+mod locks;
+#[cfg(test)]
+mod memory;
+#[cfg(test)]
+mod numbers;
+#[cfg(test)]
+mod sections;
+#[cfg(test)]
+mod units;

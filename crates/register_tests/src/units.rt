@@ -1,0 +1,234 @@
+//! The units of the worked failures, driven by hand: their accesses from the failure to the mark `Down`.
+ghost use Rattle.std.specs.Prelude.{◌≡◌, zero};
+ghost use Rattle.failure.specs.Units.{goes_on, is_going};
+
+use bakery::Locks;
+use critical::DataRow;
+use failure::{Unit, UnitProgress};
+use plain_store::Setup;
+use reader_copies::CopyWrite;
+use safe_bit::Move;
+use safe_number::{Access, Field, TornBit};
+use std::process::Abort;
+use std::test::Fail;
+
+/// An access to a register of process 0: its bit, its reader, and the move.
+type Step = (u16, u8, Move);
+
+/// The clearing of a bit with copies for 2 readers.
+const CHOOSING_OF_TWO: [Step; 4] = [
+    (0, 0, Move::BeginWrite(false)),
+    (0, 0, Move::EndWrite),
+    (0, 1, Move::BeginWrite(false)),
+    (0, 1, Move::EndWrite),
+];
+
+/// The clearing of a ticket of 2 bits with copies for 2 readers.
+const TICKET_OF_TWO: [Step; 8] = [
+    (0, 0, Move::BeginWrite(false)),
+    (0, 0, Move::EndWrite),
+    (0, 1, Move::BeginWrite(false)),
+    (0, 1, Move::EndWrite),
+    (1, 0, Move::BeginWrite(false)),
+    (1, 0, Move::EndWrite),
+    (1, 1, Move::BeginWrite(false)),
+    (1, 1, Move::EndWrite),
+];
+
+/// The clearing of a register of 4 bits, each with one copy. A front of it clears a narrower one.
+const ALONE: [Step; 8] = [
+    (0, 0, Move::BeginWrite(false)),
+    (0, 0, Move::EndWrite),
+    (1, 0, Move::BeginWrite(false)),
+    (1, 0, Move::EndWrite),
+    (2, 0, Move::BeginWrite(false)),
+    (2, 0, Move::EndWrite),
+    (3, 0, Move::BeginWrite(false)),
+    (3, 0, Move::EndWrite),
+];
+
+/// Makes these accesses to a register, which have to be the unit's next ones, where `told` was told last.
+/// The first is made with this flick and each other one with the other flick. Answers what remains.
+fn walk(
+    rt: &impl Abort,
+    unit: &mut Unit,
+    told: UnitProgress,
+    field: Field,
+    flick: bool,
+    steps: &[Step],
+) -> UnitProgress
+    requires { is_going unit.old ≡ goes_on told }
+    ensures { is_going unit.new ≡ goes_on result }
+{
+    let mut told = told;
+    let mut flick = flick;
+    for (bit, reader, how) in steps {
+        match told {
+            UnitProgress::Down => panic!(rt; "the process is down"),
+            UnitProgress::Settling | UnitProgress::Clearing => {
+                let access = Access {
+                    owner: 0,
+                    field,
+                    bit: *bit,
+                    reader: *reader,
+                    how: *how,
+                };
+                assert_eq!(rt; unit.next(flick), access);
+                told = unit.advance(flick);
+                flick = !flick;
+            }
+        }
+    }
+    told
+}
+
+/// The bit of a register whose write was cut.
+fn torn_bit(rt: &impl Abort, field: Field, bit: u16, write: CopyWrite) -> TornBit
+    ensures bit { (result.field ≡ field) × (result.bit ≡ bit) }
+    ensures torn { result.torn.reader ≡ 0 }
+{
+    match write.torn() {
+        Some(torn) => TornBit { field, bit, torn },
+        None => panic!(rt; "no copy of the bit was begun, or all were ended"),
+    }
+}
+
+// The commit bit is torn between its two copies, and both are settled at the value that was being written:
+// 4 accesses, then 8 for the ticket and 4 for the choosing bit.
+#[test]
+fn torn_commit_settled_new(rt: HostRuntime) {
+    let mut write = CopyWrite::new(true);
+    let _ = write.advance(2);
+    let _ = write.advance(2);
+    let torn = torn_bit(&rt, Field::Commit, 0, write);
+    let mut unit = Unit::start(0, &Setup::one(2, 2, 2, 1), Some(torn));
+    let settling = [
+        (0, 0, Move::BeginWrite(true)),
+        (0, 0, Move::EndWrite),
+        (0, 1, Move::BeginWrite(true)),
+    ];
+    let told = walk(
+        &rt,
+        &mut unit,
+        UnitProgress::Settling,
+        Field::Commit,
+        true,
+        &settling,
+    );
+    assert_eq!(rt; told, UnitProgress::Settling);
+    let last = [(0, 1, Move::EndWrite)];
+    let told = walk(&rt, &mut unit, told, Field::Commit, false, &last);
+    assert_eq!(rt; told, UnitProgress::Clearing);
+    let told = walk(&rt, &mut unit, told, Field::Ticket, true, &TICKET_OF_TWO);
+    assert_eq!(rt; told, UnitProgress::Clearing);
+    let told = walk(
+        &rt,
+        &mut unit,
+        told,
+        Field::Choosing,
+        true,
+        &CHOOSING_OF_TWO,
+    );
+    assert_eq!(rt; told, UnitProgress::Down);
+}
+
+// The second copy of the commit bit is open, and both are settled at the old value: the first by begin and
+// end of a write, the second by one access.
+#[test]
+fn torn_commit_settled_old(rt: HostRuntime) {
+    let mut write = CopyWrite::new(true);
+    let _ = write.advance(2);
+    let _ = write.advance(2);
+    let _ = write.advance(2);
+    let torn = torn_bit(&rt, Field::Commit, 0, write);
+    let mut unit = Unit::start(0, &Setup::one(2, 2, 2, 1), Some(torn));
+    let settling = [
+        (0, 0, Move::BeginWrite(false)),
+        (0, 0, Move::EndWrite),
+        (0, 1, Move::Settle(false)),
+    ];
+    let told = walk(
+        &rt,
+        &mut unit,
+        UnitProgress::Settling,
+        Field::Commit,
+        false,
+        &settling,
+    );
+    assert_eq!(rt; told, UnitProgress::Clearing);
+    let told = walk(&rt, &mut unit, told, Field::Ticket, true, &TICKET_OF_TWO);
+    assert_eq!(rt; told, UnitProgress::Clearing);
+    let told = walk(
+        &rt,
+        &mut unit,
+        told,
+        Field::Choosing,
+        true,
+        &CHOOSING_OF_TWO,
+    );
+    assert_eq!(rt; told, UnitProgress::Down);
+}
+
+// Alone, and cut within bit 50 of an image: one access settles it, then come 4 for the ticket and 2 for the
+// choosing bit.
+#[test]
+fn failure_within_an_image(rt: HostRuntime) {
+    let mut write = CopyWrite::new(false);
+    let _ = write.advance(1);
+    let torn = torn_bit(&rt, Field::Image0, 50, write);
+    let mut unit = Unit::start(0, &Setup::one(1, 2, 2, 1), Some(torn));
+    let settling = [(50, 0, Move::Settle(true))];
+    let told = walk(
+        &rt,
+        &mut unit,
+        UnitProgress::Settling,
+        Field::Image0,
+        true,
+        &settling,
+    );
+    assert_eq!(rt; told, UnitProgress::Clearing);
+    let told = walk(&rt, &mut unit, told, Field::Ticket, true, &ALONE[..4]);
+    assert_eq!(rt; told, UnitProgress::Clearing);
+    let told = walk(&rt, &mut unit, told, Field::Choosing, true, &ALONE[..2]);
+    assert_eq!(rt; told, UnitProgress::Down);
+}
+
+// A process that failed before its first access has torn no bit: 8 accesses clear its ticket of 4 bits, and
+// 2 its choosing bit.
+#[test]
+fn restart_of_a_failed_process(rt: HostRuntime) {
+    let mut unit = Unit::start(0, &Setup::one(1, 4, 4, 1), None);
+    let told = walk(
+        &rt,
+        &mut unit,
+        UnitProgress::Clearing,
+        Field::Ticket,
+        false,
+        &ALONE,
+    );
+    assert_eq!(rt; told, UnitProgress::Clearing);
+    let told = walk(&rt, &mut unit, told, Field::Choosing, false, &ALONE[..1]);
+    assert_eq!(rt; told, UnitProgress::Clearing);
+    let told = walk(&rt, &mut unit, told, Field::Choosing, false, &ALONE[1..2]);
+    assert_eq!(rt; told, UnitProgress::Down);
+}
+
+// On the registers of a process that failed before its first access, the unit begins to clear the ticket.
+#[test]
+fn clears_the_registers(rt: HostRuntime) -> Result<(), Fail> {
+    let setup = Setup::one(1, 1, 2, 1);
+    let mut locks = Locks::new(rt.alloc(), &setup)?;
+    let mut row = DataRow::new(rt.alloc(), &setup)?;
+    let mut unit = Unit::start(0, &setup, None);
+    let (access, told) = unit.step(locks.own(0), row.own(0), true);
+    let first = Access {
+        owner: 0,
+        field: Field::Ticket,
+        bit: 0,
+        reader: 0,
+        how: Move::BeginWrite(false),
+    };
+    assert_eq!(rt; access, first);
+    assert_eq!(rt; told, UnitProgress::Clearing);
+    Ok(())
+}

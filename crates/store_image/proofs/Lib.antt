@@ -1,0 +1,7 @@
+pub mod ImageBytes
+pub mod Puts
+pub mod ReadBytes
+pub mod Readings
+pub mod Rows
+pub mod SlotBytes
+pub mod SlotSearch

@@ -1,0 +1,4 @@
+pub mod Image
+pub mod Placing
+pub mod Reading
+pub mod Slots

@@ -1,0 +1,12 @@
+//! Worked runs, as tests that cross crates: of worlds under events, of what drives these, and of replayed
+//! scenarios.
+#![tactic(auto)]
+
+#[cfg(test)]
+mod flicks;
+#[cfg(test)]
+mod replays;
+#[cfg(test)]
+mod runs;
+#[cfg(test)]
+mod scenarios;

@@ -1,0 +1,125 @@
+#!/usr/bin/env python3
+"""Proves the program `bakerystore` and all that it stands on, builds it, and runs it with the words given, as `replay -`.
+
+`rt run` in crates/bakerystore does the same, crate after crate; here crates that do not stand on one another are proved
+side by side. Each library has a room of its own, with copies of the sources that it needs and links to what was proved
+below it, since one run of rt keeps others from the crates that it stands on. What it leaves there goes to crates/NAME/out,
+where rt looks for it; what stands there already, and is of these sources, is not proved again.
+"""
+
+import os
+import pathlib
+import shutil
+import subprocess
+import sys
+import tempfile
+import time
+from concurrent.futures import FIRST_COMPLETED, ThreadPoolExecutor, wait
+
+TOP = pathlib.Path(__file__).resolve().parent.parent
+PROGRAM = "bakerystore"
+CORES = len(os.sched_getaffinity(0))
+
+
+def tell(text):
+    """Tells how far it is, beside what the program prints."""
+    print(text, file=sys.stderr, flush=True)
+
+
+def lines():
+    """The line of crates.txt of each crate of the repository."""
+    told = [line.partition("#")[0] for line in (TOP / "crates.txt").read_text().splitlines()]
+    return {line.split(":")[0].split()[0]: line for line in told if ":" in line}
+
+
+def libraries():
+    """Each crate of the repository with those of its crates that its line names."""
+    told = lines()
+    return {name: [it for it in line.partition(":")[2].split() if it in told] for name, line in told.items()}
+
+
+def all_below(stands_on):
+    """For each crate those that it stands on, directly or not."""
+    found = {}
+
+    def below(name):
+        if name not in found:
+            found[name] = set(stands_on[name]).union(*map(below, stands_on[name]))
+        return found[name]
+
+    for name in stands_on:
+        below(name)
+    return found
+
+
+def room_for(name, under, rooms):
+    """A folder with the sources of a crate and of those under it, and with what was proved of these."""
+    room, told = pathlib.Path(rooms) / name, lines()
+    for crate in [name, *under]:
+        source, copy = TOP / "crates" / crate, room / "crates" / crate
+        for part in ["src", "specs", "proofs"]:
+            if (source / part).is_dir():
+                shutil.copytree(source / part, copy / part)
+        if (source / "out" / "rlib").is_dir():
+            shutil.copytree(source / "out" / "rlib", copy / "out" / "rlib", copy_function=os.link)
+    (room / "crates.txt").write_text("".join(f"{told[it]}\n" for it in [name, *under]))
+    return room / "crates" / name
+
+
+def prove(name, under, rooms, jobs):
+    """Proves a library, and takes what it leaves into the repository; answers whether it is proved, and what rt printed."""
+    begun = time.time()
+    room = room_for(name, under, rooms)
+    ran = subprocess.run(
+        ["rt", "lib", "--jobs", str(jobs)],
+        cwd=room,
+        stdin=subprocess.DEVNULL,
+        stdout=subprocess.PIPE,
+        stderr=subprocess.STDOUT,
+        text=True,
+    )
+    if ran.returncode == 0:
+        for part in sorted((room / "out").iterdir()):
+            to = TOP / "crates" / name / "out" / part.name
+            shutil.rmtree(to, ignore_errors=True)
+            to.parent.mkdir(exist_ok=True)
+            shutil.move(part, to)
+    shutil.rmtree(room.parent.parent, ignore_errors=True)
+    tell(f"{'proved' if ran.returncode == 0 else 'NOT PROVED'}: {name}, {time.time() - begun:.0f} s")
+    return ran.returncode == 0, ran.stdout
+
+
+def prove_all(below, rooms):
+    """Proves the libraries below the program, each once those that it stands on are proved; whether all are."""
+    left, proved, running = set(below[PROGRAM]), set(), {}
+    with ThreadPoolExecutor(CORES) as pool:
+        while left or running:
+            # those that most others wait for come first
+            ready = [it for it in sorted(left) if proved.issuperset(below[it])]
+            ready.sort(key=lambda it: -sum(it in below[other] for other in left))
+            idle = CORES - sum(jobs for _, jobs in running.values())
+            for at, name in enumerate(ready[: max(idle, 0)]):
+                jobs = max(1, idle // (len(ready) - at))
+                idle -= jobs
+                left.remove(name)
+                running[pool.submit(prove, name, below[name], rooms, jobs)] = name, jobs
+            for done in wait(running, return_when=FIRST_COMPLETED).done:
+                name, _ = running.pop(done)
+                is_proved, printed = done.result()
+                if not is_proved:
+                    tell(printed)
+                    return False
+                proved.add(name)
+    return True
+
+
+def main():
+    # (on the same disk as the repository, so that what was proved is linked and not copied)
+    with tempfile.TemporaryDirectory(prefix="prove-", dir=TOP / ".git") as rooms:
+        if not prove_all(all_below(libraries()), rooms):
+            sys.exit(1)
+    tell("proved: all libraries; now the program")
+    sys.exit(subprocess.run(["rt", "run", "--jobs", str(CORES), "--", *sys.argv[1:]], cwd=TOP / "crates" / PROGRAM).returncode)
+
+
+main()
