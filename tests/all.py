@@ -10,7 +10,7 @@ import subprocess
 import sys
 
 TOP = pathlib.Path(__file__).resolve().parent.parent
-RUNS = [["rt", "ci"], *([sys.executable, f"tests/{name}.py"] for name in ["worked", "cut_file", "readme"])]
+RUNS = [["rt", "ci"], *([sys.executable, f"tests/{name}.py"] for name in ["worked", "cut_file", "words", "readme"])]
 COUNTS = re.compile(r"(\d+) passed, (\d+) failed")
 
 

@@ -26,7 +26,7 @@ WANT_OF_MEMORY = re.compile(r"out of memory\n|line \d+: memory\n")
 TEST_WANTS_MEMORY = re.compile(r"\b(AllocError|Memory)\b")
 # tests that take memory of their own where what they assert does not tell it
 LEFT_OUT = re.compile(
-    r"bakerystore_tests .*|store_tests_tests (scenarios::writes_outputs|printing::"
+    r"store_tests_tests (scenarios::writes_outputs|printing::"
     r"(bounds_the_lines_of_bits_files|reads_cut_files|tells_faults_of_bits_files))"
 )
 

@@ -1,18 +1,11 @@
 //! Runs the files of a world of processes. Without words it is `plain -`.
 #![tactic(auto)]
 
-mod bits;
-mod plain;
-mod statuses;
-#[cfg(test)]
-mod tests;
 mod words;
 
-use bits::run_bits;
-use plain::run_plain;
+use engines::{run_bits, run_plain};
 use replayer::replay;
-use scenario::{Fault, FromRead, IntoWrite};
-use statuses::{ended, fault_status};
+use scenario::{Fault, FromRead, IntoWrite, ended, fault_status};
 use std::alloc::{AllocError, Global};
 use std::env::{self, Env};
 use std::fs::{File, Files};

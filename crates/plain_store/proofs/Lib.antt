@@ -1,7 +1,10 @@
+-- Names and texts
 pub mod Ascii
-pub mod Changes
-pub mod GoodSetups
-pub mod Numbers
-pub mod OpeningPairs
+-- Pairs and numbers of a store
 pub mod Places
+pub mod Changes
+pub mod Numbers
 pub mod StoreLines
+-- Setups and openings
+pub mod OpeningPairs
+pub mod GoodSetups

@@ -2,17 +2,13 @@
 //! whole read, or as many as its word says. Then it tells on standard error how long they took.
 #![tactic(auto)]
 
-mod drive;
-#[cfg(test)]
-mod tests;
-#[cfg(test)]
-mod torn;
+mod times;
 
 use anyhow::Result;
-use drive::{read_times, write_times};
 use safe_number::{ReadRun, Register};
 use std::env;
 use std::time::Instant;
+use times::{read_times, write_times};
 
 fn main(rt: HostRuntime) -> Result<()> {
     let word = env::args(&rt)?.nth(1);

@@ -117,73 +117,6 @@ fn lone_write(rt: HostRuntime) -> Result<(), Fail> {
     Ok(())
 }
 
-// Two doorways overlap, and both take the ticket 1: process 0 goes first, process 1 waits for its ticket.
-#[test]
-fn tie(rt: HostRuntime) -> Result<(), Fail> {
-    let setup = Setup::one(2, 2, 2, 1);
-    let mut memory = Memory::new(rt.alloc())?;
-    let mut first = Door::new(rt.alloc(), 0, &setup)?;
-    let mut second = Door::new(rt.alloc(), 1, &setup)?;
-    first.start();
-    second.start();
-    let told = walk(&rt, &mut memory, &mut first, START, 8, false);
-    let other = walk(&rt, &mut memory, &mut second, START, 8, false);
-    let told = walk(&rt, &mut memory, &mut first, told, 11, false);
-    assert_eq!(rt; told, DoorProgress::Doorway);
-    let told = walk(&rt, &mut memory, &mut first, told, 1, false);
-    assert_eq!(rt; told, DoorProgress::Waiting(1));
-    let other = walk(&rt, &mut memory, &mut second, other, 11, false);
-    assert_eq!(rt; other, DoorProgress::Doorway);
-    let other = walk(&rt, &mut memory, &mut second, other, 1 + 6, false);
-    assert_eq!(rt; other, DoorProgress::Waiting(1));
-    let told = walk(&rt, &mut memory, &mut first, told, 5, false);
-    assert_eq!(rt; told, DoorProgress::Waiting(1));
-    let told = walk(&rt, &mut memory, &mut first, told, 1, false);
-    assert_eq!(rt; told, DoorProgress::Inside(1));
-    let other = walk(&rt, &mut memory, &mut second, other, 4, false);
-    assert_eq!(rt; other, DoorProgress::Waiting(1));
-    Ok(())
-}
-
-// A read of process 0's choosing lasts from one call of it into the next, and ends with the flick 0 while
-// the bit is 1: process 1 is let by, and the new call has to wait for it with the ticket 2.
-#[test]
-fn slow_read(rt: HostRuntime) -> Result<(), Fail> {
-    let setup = Setup::one(2, 2, 2, 1);
-    let mut memory = Memory::new(rt.alloc())?;
-    let mut first = Door::new(rt.alloc(), 0, &setup)?;
-    let mut second = Door::new(rt.alloc(), 1, &setup)?;
-    first.start();
-    second.start();
-    let told = walk(&rt, &mut memory, &mut first, START, 8, false);
-    let other = walk(&rt, &mut memory, &mut second, START, 20, false);
-    assert_eq!(rt; other, DoorProgress::Waiting(1));
-    let other = walk(&rt, &mut memory, &mut second, other, 1, false);
-    let told = walk(&rt, &mut memory, &mut first, told, 12, false);
-    assert_eq!(rt; told, DoorProgress::Waiting(1));
-    let told = walk(&rt, &mut memory, &mut first, told, 6, false);
-    assert_eq!(rt; told, DoorProgress::Inside(1));
-    let mut leaving = Leaving::new(0, &setup);
-    let progress = leave(&rt, &mut memory, &mut leaving, Progress::Going, 8);
-    assert_eq!(rt; progress, Progress::Done);
-    first.start();
-    let told = walk(&rt, &mut memory, &mut first, START, 4, false);
-    let other = walk(&rt, &mut memory, &mut second, other, 1 + 3, false);
-    assert_eq!(rt; other, DoorProgress::Waiting(1));
-    let other = walk(&rt, &mut memory, &mut second, other, 1, false);
-    assert_eq!(rt; other, DoorProgress::Inside(1));
-    let told = walk(&rt, &mut memory, &mut first, told, 16, false);
-    assert_eq!(rt; told, DoorProgress::Waiting(2));
-    let told = walk(&rt, &mut memory, &mut first, told, 6, false);
-    assert_eq!(rt; told, DoorProgress::Waiting(2));
-    let mut leaving = Leaving::new(1, &setup);
-    let progress = leave(&rt, &mut memory, &mut leaving, Progress::Going, 8);
-    assert_eq!(rt; progress, Progress::Done);
-    let told = walk(&rt, &mut memory, &mut first, told, 4, false);
-    assert_eq!(rt; told, DoorProgress::Inside(2));
-    Ok(())
-}
-
 // With one bit the ticket 1 is the greatest: while process 0 has it, the doorway of process 1 ends without.
 #[test]
 fn tickets_full(rt: HostRuntime) -> Result<(), Fail> {
@@ -201,34 +134,6 @@ fn tickets_full(rt: HostRuntime) -> Result<(), Fail> {
     assert_eq!(rt; other, DoorProgress::Full { process: 0 });
     let told = walk(&rt, &mut memory, &mut first, told, 4, false);
     assert_eq!(rt; told, DoorProgress::Inside(1));
-    Ok(())
-}
-
-// Nobody ever has the ticket 3, but a read of it that overlaps the clearing of the ticket 1 gives it.
-#[test]
-fn flickering_ticket(rt: HostRuntime) -> Result<(), Fail> {
-    let setup = Setup::one(2, 2, 2, 1);
-    let mut memory = Memory::new(rt.alloc())?;
-    let mut first = Door::new(rt.alloc(), 0, &setup)?;
-    let mut second = Door::new(rt.alloc(), 1, &setup)?;
-    first.start();
-    let told = walk(&rt, &mut memory, &mut first, START, 20, false);
-    assert_eq!(rt; told, DoorProgress::Waiting(1));
-    let mut leaving = Leaving::new(0, &setup);
-    second.start();
-    let other = walk(&rt, &mut memory, &mut second, START, 4, false);
-    let progress = leave(&rt, &mut memory, &mut leaving, Progress::Going, 3);
-    assert_eq!(rt; progress, Progress::Going);
-    let other = walk(&rt, &mut memory, &mut second, other, 2, true);
-    let progress = leave(&rt, &mut memory, &mut leaving, progress, 4);
-    let other = walk(&rt, &mut memory, &mut second, other, 2, true);
-    let other = walk(&rt, &mut memory, &mut second, other, 3, false);
-    assert_eq!(rt; other, DoorProgress::Doorway);
-    let other = walk(&rt, &mut memory, &mut second, other, 1, false);
-    assert_eq!(rt; other, DoorProgress::Full { process: 0 });
-    assert_eq!(rt; progress, Progress::Going);
-    let progress = leave(&rt, &mut memory, &mut leaving, progress, 1);
-    assert_eq!(rt; progress, Progress::Done);
     Ok(())
 }
 

@@ -9,6 +9,8 @@ mod copies;
 #[cfg(test)]
 mod doors;
 #[cfg(test)]
+mod drives;
+#[cfg(test)]
 mod locks;
 #[cfg(test)]
 mod memory;

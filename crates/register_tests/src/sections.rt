@@ -137,45 +137,6 @@ fn tells_what_is_pending(rt: HostRuntime) -> Result<(), Fail> {
     Ok(())
 }
 
-// With one stamp bit the second change has no stamp.
-#[test]
-fn the_greatest_stamp(rt: HostRuntime) -> Result<(), Fail> {
-    let mut memory = Memory::new(rt.alloc())?;
-    let mut section = Section::new(rt.alloc(), 0, &Setup::one(1, 2, 1, 1))?;
-    section.start(write(5)?, 0);
-    assert_eq!(rt;
-        run(&rt, &mut section, &mut memory, 1000),
-        taken(Reply::Done, 0, 744)
-    );
-    section.start(write(6)?, 0);
-    let refused = Ran {
-        progress: SectionProgress::NoStamp,
-        accesses: 372,
-    };
-    assert_eq!(rt; run(&rt, &mut section, &mut memory, 1000), refused);
-    Ok(())
-}
-
-// In version 2 the images hold the call numbers, by which a later call learns of an earlier one.
-#[test]
-fn asks_for_the_last_change(rt: HostRuntime) -> Result<(), Fail> {
-    let mut setup = Setup::one(1, 2, 2, 1);
-    setup.version = 2;
-    let mut memory = Memory::new(rt.alloc())?;
-    let mut section = Section::new(rt.alloc(), 0, &setup)?;
-    section.start(write(6)?, 1);
-    assert_eq!(rt;
-        run(&rt, &mut section, &mut memory, 1000),
-        taken(Reply::Done, 0, 812)
-    );
-    section.start(Command::Ask, 2);
-    assert_eq!(rt;
-        run(&rt, &mut section, &mut memory, 1000),
-        taken(Reply::Last(1), 1, 406)
-    );
-    Ok(())
-}
-
 // Bytes that are no image count as the empty store: the last byte of a counter's slot has to be 0.
 #[test]
 fn bytes_that_are_no_image(rt: HostRuntime) -> Result<(), Fail> {

@@ -93,45 +93,6 @@ fn torn_bit(rt: &impl Abort, field: Field, bit: u16, write: CopyWrite) -> TornBi
     }
 }
 
-// The commit bit is torn between its two copies, and both are settled at the value that was being written:
-// 4 accesses, then 8 for the ticket and 4 for the choosing bit.
-#[test]
-fn torn_commit_settled_new(rt: HostRuntime) {
-    let mut write = CopyWrite::new(true);
-    let _ = write.advance(2);
-    let _ = write.advance(2);
-    let torn = torn_bit(&rt, Field::Commit, 0, write);
-    let mut unit = Unit::start(0, &Setup::one(2, 2, 2, 1), Some(torn));
-    let settling = [
-        (0, 0, Move::BeginWrite(true)),
-        (0, 0, Move::EndWrite),
-        (0, 1, Move::BeginWrite(true)),
-    ];
-    let told = walk(
-        &rt,
-        &mut unit,
-        UnitProgress::Settling,
-        Field::Commit,
-        true,
-        &settling,
-    );
-    assert_eq!(rt; told, UnitProgress::Settling);
-    let last = [(0, 1, Move::EndWrite)];
-    let told = walk(&rt, &mut unit, told, Field::Commit, false, &last);
-    assert_eq!(rt; told, UnitProgress::Clearing);
-    let told = walk(&rt, &mut unit, told, Field::Ticket, true, &TICKET_OF_TWO);
-    assert_eq!(rt; told, UnitProgress::Clearing);
-    let told = walk(
-        &rt,
-        &mut unit,
-        told,
-        Field::Choosing,
-        true,
-        &CHOOSING_OF_TWO,
-    );
-    assert_eq!(rt; told, UnitProgress::Down);
-}
-
 // The second copy of the commit bit is open, and both are settled at the old value: the first by begin and
 // end of a write, the second by one access.
 #[test]
@@ -166,30 +127,6 @@ fn torn_commit_settled_old(rt: HostRuntime) {
         true,
         &CHOOSING_OF_TWO,
     );
-    assert_eq!(rt; told, UnitProgress::Down);
-}
-
-// Alone, and cut within bit 50 of an image: one access settles it, then come 4 for the ticket and 2 for the
-// choosing bit.
-#[test]
-fn failure_within_an_image(rt: HostRuntime) {
-    let mut write = CopyWrite::new(false);
-    let _ = write.advance(1);
-    let torn = torn_bit(&rt, Field::Image0, 50, write);
-    let mut unit = Unit::start(0, &Setup::one(1, 2, 2, 1), Some(torn));
-    let settling = [(50, 0, Move::Settle(true))];
-    let told = walk(
-        &rt,
-        &mut unit,
-        UnitProgress::Settling,
-        Field::Image0,
-        true,
-        &settling,
-    );
-    assert_eq!(rt; told, UnitProgress::Clearing);
-    let told = walk(&rt, &mut unit, told, Field::Ticket, true, &ALONE[..4]);
-    assert_eq!(rt; told, UnitProgress::Clearing);
-    let told = walk(&rt, &mut unit, told, Field::Choosing, true, &ALONE[..2]);
     assert_eq!(rt; told, UnitProgress::Down);
 }
 

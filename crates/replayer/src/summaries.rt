@@ -2,6 +2,7 @@ ghost use Rattle.std.specs.Prelude.{◌≡◌, ◌^◌, ◌-◌, ◌<◌};
 ghost use Rattle.replayer.specs.Summaries.{counted};
 
 use crate::told::Told;
+use scenario::{DONE, Ending};
 
 /// The three numbers that a replay ends with.
 #[derive(Clone, Copy, Debug, PartialEq, Eq)]
@@ -37,5 +38,14 @@ impl Summary {
             Told::Refused { .. } => self.refused += 1,
             Told::Tired(_) | Told::Shown(_) => {}
         }
+    }
+}
+
+/// A replay that ended well is done, whatever its numbers are.
+impl Ending for Summary {
+    ghost status_of_end = { λ _. 0 };
+
+    fn status(&self) -> u8 {
+        DONE
     }
 }

@@ -1,22 +1,26 @@
+-- Lists of any kind
 pub mod Appending
-pub mod BitsSaid
 pub mod Collected
-pub mod CutTexts
-pub mod Ends
-pub mod EngineEnds
-pub mod Good
-pub mod HeadingLists
-pub mod LineSpelled
-pub mod Numerals
-pub mod OneSpelling
 pub mod Passing
 pub mod Places
+-- Lines of a text, and what is read of them
+pub mod Ends
+pub mod Said
+pub mod ScriptSaid
+pub mod BitsSaid
+pub mod TextSaid
+pub mod Good
+pub mod HeadingLists
+-- What is printed, and read again
+pub mod Numerals
 pub mod Printed
 pub mod Printout
 pub mod ReadBack
-pub mod Said
-pub mod ScriptSaid
 pub mod ShortLines
 pub mod Spaced
 pub mod Spelled
-pub mod TextSaid
+pub mod LineSpelled
+pub mod OneSpelling
+-- Long texts, and how engines end
+pub mod CutTexts
+pub mod EngineEnds

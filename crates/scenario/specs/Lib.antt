@@ -13,5 +13,6 @@ pub mod Scripts
 pub mod Setting
 pub mod Spelling
 pub mod Statements
+pub mod Statuses
 pub mod Streams
 pub mod Words

@@ -16,6 +16,7 @@ mod scenarios;
 mod sound;
 mod spelling;
 mod statements;
+mod statuses;
 mod streams;
 mod words;
 
@@ -29,4 +30,5 @@ pub use scenarios::Scenario;
 pub use spelling::{
     files_are_spelled_in_one_way, lines_are_spelled_in_one_way, printed_scenarios_are_read_again,
 };
+pub use statuses::{DONE, Ending, ended, fault_status};
 pub use streams::{Failed, FromRead, INPUT_LIMIT, IntoWrite, Sink, Source, read_input, write_all};

@@ -73,7 +73,7 @@ fn readers_refuse_what_is_no_image(rt: HostRuntime) -> Result<(), Fail> {
 }
 
 /// The calls of a store of one slot, with the reply to each, and whether it changes the pairs.
-fn calls() -> Result<[(Command, Reply, bool); 10], Fail> {
+fn calls() -> Result<[(Command, Reply, bool); 11], Fail> {
     let a = Name::new(b"a")?;
     let b = Name::new(b"b")?;
     let most = Value::Count(i64::MAX);
@@ -84,13 +84,14 @@ fn calls() -> Result<[(Command, Reply, bool); 10], Fail> {
         (Command::Add(a, 1), Reply::NoName, false),
         (Command::Write(a, most), Reply::Done, true),
         (Command::Add(a, 1), Reply::Overflow, false),
+        (Command::Add(a, 0), Reply::Sum(i64::MAX), false),
         (Command::Read(a), Reply::Value(most), false),
         (Command::Write(b, x), Reply::StoreFull, false),
         (Command::Cas(b, one, two), Reply::NoName, false),
         (Command::Cas(a, one, two), Reply::Kept(most), false),
         (Command::Cas(a, most, hi), Reply::Swapped, true),
         (Command::Add(a, 1), Reply::NotCounter, false),
-        (Command::Ask, Reply::Last(8), false),
+        (Command::Ask, Reply::Last(9), false),
     ])
 }
 
@@ -108,7 +109,7 @@ fn replies_are_right<S: Store>(rt: &impl Abort, store: &mut S) -> Result<(), Fai
     assert_eq!(rt; store.entry(0), Some((Name::new(b"a")?, hi)));
     assert_eq!(rt; store.entry(1), None);
     assert_eq!(rt; store.last(0), 0);
-    assert_eq!(rt; store.last(1), 8);
+    assert_eq!(rt; store.last(1), 9);
     Ok(())
 }
 

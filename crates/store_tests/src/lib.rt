@@ -1,7 +1,9 @@
-//! Tests of the one-thread store, its image and the scenario files, in a crate of their own, so that those
-//! layers are proved once. The streams that fail at a chosen call serve the tests of the engines too.
+//! Tests of the one-thread store, its image, the scenario files and the engines `plain` and `bits`, in a crate of
+//! their own, so that those layers are proved once; and streams that fail at a chosen call.
 #![tactic(auto)]
 
+#[cfg(test)]
+mod engine_runs;
 #[cfg(test)]
 mod failing;
 #[cfg(test)]

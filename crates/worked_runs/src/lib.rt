@@ -1,4 +1,4 @@
-//! Worked runs, as tests that cross crates: of worlds under events, of what drives these, and of replayed
+//! Tests that cross crates, on worked runs: of worlds under events, of what drives these, and of replayed
 //! scenarios.
 #![tactic(auto)]
 

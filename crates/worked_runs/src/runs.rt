@@ -1,8 +1,4 @@
-//! The worked runs of a world: each a list of lines, and what they show.
-mod failures;
+//! Worlds under events.
+mod events;
 mod growths;
-mod locks;
-mod scripts;
-mod stores;
 mod walks;
-mod wanders;

@@ -1,5 +1,5 @@
 use Rattle.std.proofs.Common.{false}
-use Rattle.register_bench.proofs.Steps.{new_written, new_idle}
+use Rattle.register_drive.proofs.Steps.{new_written, new_idle}
 use Rattle.register_bench.proofs.main.Goals as goal
 
 pub write_times-requires-clause-written : goal.write_times-requires-clause-written

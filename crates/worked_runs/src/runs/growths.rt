@@ -1,12 +1,19 @@
 //! Want of memory: what is refused changes nothing, and succeeds at the next try. The test passes with ample
 //! memory, and where any one growth is refused.
-use super::scripts::{a, write};
-use plain_store::{Name, Setup, Store, Value};
+use plain_store::{Command, Name, Setup, Store, Value};
 use record::{Event, Refusal, Stage, Taken};
 use std::alloc::AllocError;
 use std::process::Abort;
 use std::test::Fail;
 use world::World;
+
+fn a() -> Name {
+    Name::new(b"a").unwrap()
+}
+
+fn write(count: i64) -> Command {
+    Command::Write(a(), Value::Count(count))
+}
 
 /// What a world of three processes tells.
 #[derive(Clone, Copy, Debug, PartialEq, Eq)]

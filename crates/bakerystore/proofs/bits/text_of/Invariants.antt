@@ -1,9 +1,0 @@
-use Rattle.std.proofs.Common.{◌≡◌, ◌++◌, drop}
-use Rattle.std.specs.String.{string_bytes}
-use Rattle.bakerystore.specs.BitCells.{cell_text_from}
-use Rattle.bakerystore.specs.Bits.{bits_printed}
-use Rattle.bakerystore.proofs.bits.text_of.Given as goal
-
--- the text so far and that of the lines to come are the whole text
-abbrev pub invariant-loop-line : goal.invariant-loop-line
-invariant-loop-line l = string_bytes l.text ++ cell_text_from l.bit (drop l.line-index l.lines) ≡ bits_printed l.lines

@@ -1,4 +1,0 @@
-pub mod BitCells
-pub mod Bits
-pub mod Plain
-pub mod Statuses

@@ -1,0 +1,20 @@
+use Rattle.std.proofs.Common.{◌≡◌, ◌++◌, ◌+◌, ap, ◌∙◌, drop, rules, arith, length}
+use Rattle.std.specs.String.{string_bytes}
+use Rattle.engines.specs.Plain.{text_from, line_text, run_after, Run}
+use Rattle.engines.proofs.Lists.{text_more, counts_kept, place_next}
+use Rattle.engines.proofs.plain.text_of.Goals as goal
+
+-- one more line
+pub loop-line-preserved : goal.loop-line-preserved
+loop-line-preserved c =
+    let setup = c.args.scenario.now.setup in
+    let lines = c.args.scenario.now.lines.items in
+    let told : string_bytes c.push_str.new.self ≡ string_bytes c.loop-line.text ++ line_text c.args.scenario.now.setup c.loop-line.run c.line-item.result = search rules in
+    let run : c.line.new.self ≡ run_after c.args.scenario.now.setup c.loop-line.run c.line-item.result = search rules in
+    record {
+      told = ap (λ bytes. bytes ++ text_from setup c.line.new.self (drop (c.loop-line.line-index + 1) lines)) told
+          ∙ ap (λ (r : Run). (string_bytes c.loop-line.text ++ line_text setup c.loop-line.run c.line-item.result) ++ text_from setup r (drop (c.loop-line.line-index + 1) lines)) run
+          ∙ text_more _ setup c.loop-line.run lines c.loop-line.line-index c.line-item.result (omega arith) (rw c.deref-line-items.ensures.value at c.line-item.is) ∙ c.loop-line.invariant.told;
+      known = ap (λ (r : Run). length r.counts) run ∙ counts_kept setup c.loop-line.run c.line-item.result ∙ c.loop-line.invariant.known;
+      few = omega (arith, ap (λ (r : Run). r.place) run, place_next setup c.loop-line.run c.line-item.result, c.loop-line.invariant.few);
+    }

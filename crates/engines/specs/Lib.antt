@@ -1,0 +1,3 @@
+pub mod BitCells
+pub mod Bits
+pub mod Plain

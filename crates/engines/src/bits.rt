@@ -1,0 +1,84 @@
+//! The command `bits`: the calls of a file on one safe bit, in order.
+ghost use Rattle.std.specs.Prelude.{◌≡◌, ◌^◌, ◌-◌, ◌<◌, true, IfOk, Ok};
+ghost use Rattle.std.specs.String.{string_bytes};
+ghost use Rattle.scenario.specs.Engines.{Ran};
+ghost use Rattle.engines.specs.BitCells.{can_take, made, made_text, bit_after, bit_line_text};
+ghost use Rattle.engines.specs.Bits.{bits_printed, bits_text};
+
+use safe_bit::SafeBit;
+use scenario::{BitLine, Fault, Sink, Source, read_bits, read_input, write_all};
+use std::alloc::{AllocError, Global};
+
+/// Whether the line's call may be made on the bit now.
+fn may_make(bit: &SafeBit, line: BitLine) -> bool
+    ensures { result ≡ can_take bit.now line }
+{
+    match line {
+        BitLine::Write(_) => !bit.writing(),
+        BitLine::End | BitLine::Settle(_) => bit.writing(),
+        BitLine::Read => !bit.reading(),
+        BitLine::Value(_) | BitLine::Drop => bit.reading(),
+    }
+}
+
+/// Makes the line's call, and answers what is printed.
+fn make(bit: &mut SafeBit, line: BitLine) -> &'static str
+    requires { can_take bit.old line ≡ true }
+    ensures text { result.now ≡ made_text bit.old line }
+    ensures after { bit.new ≡ made bit.old line }
+{
+    match line {
+        BitLine::Write(value) => bit.begin_write(value),
+        BitLine::End => bit.end_write(),
+        BitLine::Settle(value) => bit.settle(value),
+        BitLine::Read => bit.begin_read(),
+        BitLine::Value(flick) => return if bit.end_read(flick) { "1\n" } else { "0\n" },
+        BitLine::Drop => bit.drop_read(),
+    }
+    ""
+}
+
+/// Does a line, and answers what is printed: a call that is not in its turn is refused.
+fn do_line(bit: &mut SafeBit, line: BitLine) -> &'static str
+    ensures text { result.now ≡ bit_line_text bit.old line }
+    ensures after { bit.new ≡ bit_after bit.old line }
+{
+    if may_make(bit, line) {
+        make(bit, line)
+    } else {
+        "refused\n"
+    }
+}
+
+/// What the lines of a file print.
+#[tactic(auto, using(crate::proofs::BitLists::bits_text_more, crate::proofs::BitRule::printed_by_rule))]
+fn text_of(alloc: Global, lines: &[BitLine]) -> Result<String, AllocError>
+    ensures { IfOk result (λ text. string_bytes text ≡ bits_printed lines.now) }
+{
+    let mut bit = SafeBit::new(false);
+    let mut text = String::new(alloc);
+    for line in lines {
+        text.push_str(do_line(&mut bit, *line))?;
+    }
+    Ok(text)
+}
+
+/// Reads a whole bits file, and then writes a line for each read that ended and each call that was refused.
+/// A fault of a line, or of reading, is told before a byte is written; where writing fails, or memory is wanting,
+/// a front of the text may have been written.
+pub fn run_bits<R: Source, W: Sink>(
+    alloc: Global,
+    input: &mut R,
+    output: &mut W,
+) -> Result<(), Fault>
+    requires reads { R.failures input.old < 2 ^ 64 - 1 }
+    requires writes { W.failures output.old < 2 ^ 64 - 1 }
+    ensures { Ran bits_text result
+        (record { to_come = R.to_come input.old; taken = W.taken output.old; read_failures = R.failures input.old; write_failures = W.failures output.old })
+        (record { to_come = R.to_come input.new; taken = W.taken output.new; read_failures = R.failures input.new; write_failures = W.failures output.new }) }
+{
+    let file = read_input(alloc, input)?;
+    let lines = read_bits(alloc, file.as_slice())?;
+    let text = text_of(alloc, lines.as_slice())?;
+    write_all(output, text.as_bytes())
+}

@@ -1,0 +1,162 @@
+//! The command `plain`: the calls of a file on one store, in order.
+ghost use Rattle.std.specs.Prelude.{◌≡◌, ◌^◌, ◌-◌, ◌<◌, ◌≤◌, length, IfOk, OnOk, Ok};
+ghost use Rattle.std.specs.String.{string_bytes};
+ghost use Rattle.plain_store.specs.Setups.{checked};
+ghost use Rattle.plain_store.specs.Shown.{reply_text};
+ghost use Rattle.scenario.specs.Engines.{Ran};
+ghost use Rattle.engines.specs.Plain.{line_text, run_after, text_from, run_at_start, plain_text, call_text, called, applied_text, applied, caller_of, counted, reply_line as line_of_reply};
+
+use plain_store::{Caller, Command, PlainStore, Reply, Setup, Store, opened, show_line};
+use scenario::{Fault, Line, Scenario, Sink, Source, read_input, read_scenario, write_all};
+use std::alloc::{AllocError, Global};
+use std::marker::Model;
+
+/// A run of `plain`: the store, and the calls that were applied, in all and of each process.
+#[derive(Drop)]
+struct Plain {
+    store: PlainStore,
+    place: u64,
+    counts: Vec<u16>,
+}
+
+impl Model for Plain {
+    ghost use Rattle.std.specs.Prelude.{ℕ, ◌≤◌, slice_index};
+    ghost use Rattle.engines.specs.Plain.{Run};
+
+    ghost Value = { Run };
+
+    ghost view = { λ p. record { store = p.store; place = p.place; counts = p.counts.items } };
+
+    ghost invariant = { λ p. (k : ℕ) → slice_index p.counts.items k ≤ p.place };
+}
+
+impl Plain {
+    fn new(alloc: Global, setup: &Setup) -> Result<Plain, AllocError>
+        requires { checked setup.now ≡ Ok tt }
+        ensures { IfOk result (λ run. run ≡ run_at_start setup.now) }
+    {
+        let empty = PlainStore::new(alloc, setup.slots, setup.callers());
+        Ok(Plain {
+            store: opened(empty, setup)?,
+            place: 0,
+            counts: vec![in alloc; 0; usize::from(setup.processes)]?,
+        })
+    }
+
+    /// Does a line, and answers what is printed.
+    fn line(&mut self, alloc: Global, setup: &Setup, line: &Line) -> Result<String, AllocError>
+        requires known { length self.old.counts ≡ setup.now.processes }
+        requires few { self.old.place < 2 ^ 16 - 1 }
+        ensures text { IfOk result (λ text. string_bytes text ≡ line_text setup.now self.old line.now) }
+        ensures ok { OnOk result (self.new ≡ run_after setup.now self.old line.now) }
+    {
+        match line {
+            Line::Call(process, command) => self.call(alloc, setup, *process, command),
+            Line::Show => show_line(alloc, &self.store),
+            _ => Ok(String::new(alloc)),
+        }
+    }
+
+    fn call(
+        &mut self,
+        alloc: Global,
+        setup: &Setup,
+        process: u8,
+        command: &Command,
+    ) -> Result<String, AllocError>
+        requires known { length self.old.counts ≡ setup.now.processes }
+        requires few { self.old.place < 2 ^ 16 - 1 }
+        ensures text { IfOk result (λ text. string_bytes text ≡ call_text setup.now self.old process command.now) }
+        ensures ok { OnOk result (self.new ≡ called setup.now self.old process command.now) }
+    {
+        if process < setup.processes {
+            self.apply(alloc, setup, process, command)
+        } else {
+            format!(in alloc; "- {process} refused no-process\n")
+        }
+    }
+
+    fn apply(
+        &mut self,
+        alloc: Global,
+        setup: &Setup,
+        process: u8,
+        command: &Command,
+    ) -> Result<String, AllocError>
+        requires known { process < length self.old.counts }
+        requires few { self.old.place < 2 ^ 16 - 1 }
+        ensures text { IfOk result (λ text. string_bytes text ≡ applied_text setup.now self.old process command.now) }
+        ensures ok { OnOk result (self.new ≡ applied setup.now self.old process command.now) }
+    {
+        let caller = self.caller(setup, process);
+        let reply = self.store.apply(command, caller)?;
+        let place = self.place;
+        self.count(process);
+        reply_line(alloc, place, process, &reply)
+    }
+
+    /// Who makes the process's next call.
+    fn caller(&self, setup: &Setup, process: u8) -> Caller
+        requires known { process < length self.now.counts }
+        requires few { self.now.place < 2 ^ 16 - 1 }
+        ensures { result ≡ caller_of setup.now self.now process }
+    {
+        let number = if setup.version == 1 {
+            0
+        } else {
+            self.counts[usize::from(process)] + 1
+        };
+        Caller { process, number }
+    }
+
+    fn count(&mut self, process: u8)
+        requires known { process < length self.old.counts }
+        requires few { self.old.place < 2 ^ 16 - 1 }
+        ensures { self.new ≡ counted self.old process }
+    {
+        self.place += 1;
+        self.counts[usize::from(process)] += 1;
+    }
+}
+
+/// The line that is printed for a call.
+#[tactic(auto, using(crate::proofs::Lists::reply_line_is))]
+fn reply_line(alloc: Global, place: u64, process: u8, reply: &Reply) -> Result<String, AllocError>
+    ensures { IfOk result (λ line. string_bytes line ≡ line_of_reply place process (reply_text reply.now)) }
+{
+    format!(in alloc; "{place} {process} {reply}\n")
+}
+
+/// What a scenario prints.
+#[tactic(auto, using(crate::proofs::Lists::text_more, crate::proofs::Lists::counts_kept, crate::proofs::Lists::place_next))]
+fn text_of(alloc: Global, scenario: &Scenario) -> Result<String, AllocError>
+    ensures { IfOk result (λ text. string_bytes text ≡ text_from scenario.now.setup (run_at_start scenario.now.setup) scenario.now.lines.items) }
+{
+    let mut run = Plain::new(alloc, &scenario.setup)?;
+    let mut text = String::new(alloc);
+    for line in &scenario.lines {
+        let printed = run.line(alloc, &scenario.setup, line)?;
+        text.push_str(printed.as_str())?;
+    }
+    Ok(text)
+}
+
+/// Reads a whole scenario file, and then writes a line for each call and each `show`; other lines do nothing.
+/// A fault of a line, or of reading, is told before a byte is written; where writing fails, or memory is wanting,
+/// a front of the text may have been written.
+pub fn run_plain<R: Source, W: Sink>(
+    alloc: Global,
+    input: &mut R,
+    output: &mut W,
+) -> Result<(), Fault>
+    requires reads { R.failures input.old < 2 ^ 64 - 1 }
+    requires writes { W.failures output.old < 2 ^ 64 - 1 }
+    ensures { Ran plain_text result
+        (record { to_come = R.to_come input.old; taken = W.taken output.old; read_failures = R.failures input.old; write_failures = W.failures output.old })
+        (record { to_come = R.to_come input.new; taken = W.taken output.new; read_failures = R.failures input.new; write_failures = W.failures output.new }) }
+{
+    let file = read_input(alloc, input)?;
+    let scenario = read_scenario(alloc, file.as_slice())?;
+    let text = text_of(alloc, &scenario)?;
+    write_all(output, text.as_bytes())
+}

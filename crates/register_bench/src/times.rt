@@ -1,0 +1,46 @@
+//! Whole writes and reads, again and again.
+ghost use Rattle.std.specs.Prelude.{◌≡◌, ℕ, Bool, ◌≤◌, ◌*◌, length, OnSome};
+ghost use Rattle.reader_copies.specs.Row.{IsRow};
+ghost use Rattle.reader_copies.specs.Written.{IsWritten};
+ghost use Rattle.register_drive.specs.Idle.{IsIdle};
+
+use register_drive::{read_all, write_all};
+use safe_number::{ReadRun, Register};
+
+/// Writes a value again and again, and answers how many accesses that took.
+pub fn write_times(register: &mut Register, value: &[u8], times: u32) -> Option<u64>
+    requires shape { IsRow register.old 1728 }
+    requires value { 1728 ≤ 8 * length value.now }
+    requires written { (old : ℕ → Bool) × IsWritten register.old old }
+    requires idle { IsIdle register.old 0 }
+    ensures shape { IsRow register.new 1728 }
+    ensures readers { length register.new ≡ length register.old }
+    ensures written { OnSome result ((old : ℕ → Bool) × IsWritten register.new old) }
+    ensures idle { IsIdle register.new 0 }
+{
+    let mut total: u64 = 0;
+    for _ in 0..times {
+        let Some(steps) = write_all(register, 1728, value, 0) else {
+            return None;
+        };
+        total = total.wrapping_add(steps);
+    }
+    Some(total)
+}
+
+/// Reads a value again and again, and answers how many accesses that took.
+pub fn read_times(register: &mut Register, run: &mut ReadRun, times: u32) -> Option<u64>
+    requires shape { IsRow register.old 1728 }
+    requires room { 1728 ≤ run.old.room }
+    requires written { (old : ℕ → Bool) × IsWritten register.old old }
+    requires idle { IsIdle register.old 0 }
+{
+    let mut total: u64 = 0;
+    for _ in 0..times {
+        let Some(steps) = read_all(register, 1728, 0, run) else {
+            return None;
+        };
+        total = total.wrapping_add(steps);
+    }
+    Some(total)
+}

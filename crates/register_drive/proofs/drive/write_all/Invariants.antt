@@ -1,0 +1,7 @@
+use Rattle.std.proofs.Common.{◌≡◌, ℕ, ◌<◌, Bool, length}
+use Rattle.safe_number.specs.Written.{IsWriting}
+use Rattle.register_drive.specs.Idle.{IsIdle}
+use Rattle.register_drive.proofs.drive.write_all.Given as goal
+
+abbrev pub invariant-loop-k : goal.invariant-loop-k
+invariant-loop-k l = ((old : ℕ → Bool) × IsWriting l.register old l.value l.run) × (l.run.bit < l.run.width) × (l.run.width ≡ l.fn.width) × IsIdle l.register l.reader × (length l.register ≡ length l.initial.register)

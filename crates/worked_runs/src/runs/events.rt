@@ -1,0 +1,101 @@
+//! Worlds that are driven by single events.
+use crate::scenarios::SCENARIOS;
+use bstr::ByteSlice;
+use plain_store::{Command, Name, Setup};
+use record::{Event, Refusal};
+use replayer::{events_of, replay};
+use scenario::read_scenario;
+use std::alloc::Global;
+use std::test::Fail;
+use store_tests::{Paper, Tape};
+use world::World;
+
+/// The marks that a replay of a file prints: its lines that begin with the number of an event.
+fn marks_of_replay(alloc: Global, file: &str) -> Result<Vec<u8>, Fail> {
+    let mut output = Paper::new(alloc)?;
+    replay(alloc, &mut Tape::new(file.as_bytes()), &mut output)?;
+    let mut marks = Vec::new(alloc);
+    for line in output.written.as_slice().lines() {
+        if line.first().is_some_and(|byte| byte.is_ascii_digit()) {
+            marks.extend_from_slice(line)?;
+            marks.push(b'\n')?;
+        }
+    }
+    Ok(marks)
+}
+
+/// The marks of a file's accepted events, made one by one.
+fn marks_of_events(alloc: Global, file: &str) -> Result<Vec<u8>, Fail> {
+    let scenario = read_scenario(alloc, file.as_bytes())?;
+    let events = events_of(alloc, &scenario)?;
+    let mut world = World::new(alloc, &scenario.setup)?;
+    let mut marks = Vec::new(alloc);
+    for (number, event) in events.iter().enumerate() {
+        let act = world.event(*event)?;
+        for mark in act.marks.as_slice() {
+            let line = format!(in alloc; "{number} {} {mark}\n", event.process())?;
+            marks.extend_from_slice(line.as_bytes())?;
+        }
+    }
+    Ok(marks)
+}
+
+// The accepted events of each worked run, made one by one, have the marks that its replay prints.
+#[test]
+fn single_events_make_the_marks_of_replays(rt: HostRuntime) -> Result<(), Fail> {
+    for file in SCENARIOS {
+        let marks = marks_of_events(rt.alloc(), file)?;
+        let printed = marks_of_replay(rt.alloc(), file)?;
+        assert!(rt; marks.as_slice() == printed.as_slice(), "{file}");
+    }
+    Ok(())
+}
+
+// What a world of two processes answers to each event, one after another.
+#[test]
+fn refuses_events(rt: HostRuntime) -> Result<(), Fail> {
+    let mut world = World::new(rt.alloc(), &Setup::one(2, 4, 4, 1))?;
+    let read = Command::Read(Name::new(b"a")?);
+    for (event, refusal) in [
+        (Event::Step(9, false), Some(Refusal::NoProcess)),
+        (Event::Call(0, read), None),
+        (Event::Call(0, read), Some(Refusal::Busy)),
+        (Event::Step(1, true), Some(Refusal::NotRunning)),
+        (Event::Withdraw(1), Some(Refusal::NotWaiting)),
+        (Event::Restart(1), Some(Refusal::NotDown)),
+        (Event::Fail(1), None),
+        (Event::Fail(1), Some(Refusal::AlreadyFailed)),
+        (Event::Call(1, read), Some(Refusal::IsDown)),
+    ] {
+        let refused = world.event(event).err();
+        assert!(rt; refused == refusal, "{event:?}");
+    }
+    Ok(())
+}
+
+/// What a process's call is refused for after 65,535 calls that failed before their first access.
+fn refused_after_calls(alloc: Global, version: u8) -> Result<Option<Refusal>, Fail> {
+    let mut setup = Setup::one(1, 1, 4, 1);
+    setup.version = version;
+    setup.check()?;
+    let read = Command::Read(Name::new(b"a")?);
+    let mut world = World::new(alloc, &setup)?;
+    for _ in 0..65_535 {
+        world.event(Event::Call(0, read))?;
+        world.event(Event::Fail(0))?;
+        for _ in 0..4 {
+            world.event(Event::Step(0, false))?;
+        }
+        world.event(Event::Restart(0))?;
+    }
+    Ok(world.event(Event::Call(0, read)).err())
+}
+
+// In version 2 a process makes 65,535 calls; in version 1 there is no such bound.
+#[test]
+fn calls_full(rt: HostRuntime) -> Result<(), Fail> {
+    let refusal = refused_after_calls(rt.alloc(), 2)?;
+    assert_eq!(rt; refusal, Some(Refusal::CallsFull));
+    assert_eq!(rt; refused_after_calls(rt.alloc(), 1)?, None);
+    Ok(())
+}

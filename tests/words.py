@@ -1,0 +1,61 @@
+#!/usr/bin/env python3
+"""Runs the proved program with words that ask for something and words that do not, and on streams that fail; compares the
+exit status and both streams. The program is the one that `rt ci` or `rt run` leaves in crates/bakerystore.
+"""
+
+import pathlib
+import subprocess
+import sys
+import tempfile
+
+PROGRAM = pathlib.Path(__file__).resolve().parent.parent / "crates" / "bakerystore" / "out" / "bakerystore"
+USAGE = "usage: bakerystore [plain|bits|replay FILE]  (FILE - is standard input; without words: plain -)\n"
+SCENARIO = "bakery 1\ncall 0 add a 1\n"
+PLAIN = (0, "0 0 no-name\n", "")
+REPLAY = (0, "0 0 call add a 1\nend events 1 taken 0 refused 0\n", "")
+
+# the words, standard input, and what is wanted: exit status, standard output, standard error
+CASES = [
+    ([], SCENARIO, PLAIN),
+    (["plain", "-"], SCENARIO, PLAIN),
+    (["plain", "a file"], "", PLAIN),
+    (["replay", "-"], SCENARIO, REPLAY),
+    (["bits", "-"], "bits 1\nend\n", (0, "refused\n", "")),
+    (["bits", "a file"], "", (1, "", "line 1: not-first\n")),
+    (["plain"], SCENARIO, (2, "", USAGE)),
+    (["plain", "a file", "-"], SCENARIO, (2, "", USAGE)),
+    (["frob", "-"], SCENARIO, (2, "", USAGE)),
+    (["Plain", "-"], SCENARIO, (2, "", USAGE)),
+    (["", "-"], SCENARIO, (2, "", USAGE)),
+    (["--help"], SCENARIO, (2, "", USAGE)),
+    (["plain", "no such file"], SCENARIO, (1, "", "read fault\n")),
+    (["plain", ""], SCENARIO, (1, "", "read fault\n")),
+    (["replay", "."], SCENARIO, (1, "", "read fault\n")),
+    (["plain", "-"], "", (1, "", "line 1: not-first\n")),
+    (["replay", "-"], "bakery 1\nprocesses 0\n", (1, "", "line 2: bad-setup\n")),
+]
+
+
+def main():
+    passed = failed = 0
+
+    def compare(what, ran, want):
+        nonlocal passed, failed
+        good = (ran.returncode, ran.stdout or "", ran.stderr) == want
+        passed, failed = passed + good, failed + (not good)
+        if not good:
+            print(f"{what}: {ran}, wanted {want}")
+
+    with tempfile.TemporaryDirectory() as folder:
+        (pathlib.Path(folder) / "a file").write_text(SCENARIO)
+        for words, text, want in CASES:
+            compare(words, subprocess.run([PROGRAM, *words], input=text, capture_output=True, text=True, cwd=folder), want)
+        with open("/dev/full", "w") as full:
+            for command in ["plain", "replay"]:
+                ran = subprocess.run([PROGRAM, command, "-"], input=SCENARIO, stdout=full, stderr=subprocess.PIPE, text=True)
+                compare(f"{command} to a full device", ran, (1, "", "write fault\n"))
+    print(f"{passed} passed, {failed} failed")
+    sys.exit(failed != 0)
+
+
+main()
