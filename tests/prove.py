@@ -89,17 +89,28 @@ def prove(name, under, rooms, jobs):
     return ran.returncode == 0, ran.stdout
 
 
+def work_behind(below):
+    """For each crate the functions of the longest chain of crates that begins with it, each standing on the one before."""
+    behind = {}
+    for name in sorted(below, key=lambda it: -len(below[it])):
+        functions = sum(it.read_bytes().count(b"fn ") for it in (TOP / "crates" / name / "src").rglob("*.rt"))
+        behind[name] = functions + max((behind[it] for it in behind if name in below[it]), default=0)
+    return behind
+
+
 def prove_all(below, rooms):
     """Proves the libraries below the program, each once those that it stands on are proved; whether all are."""
     left, proved, running = set(below[PROGRAM]), set(), {}
+    behind = work_behind({it: below[it] for it in [PROGRAM, *left]})
     with ThreadPoolExecutor(CORES) as pool:
         while left or running:
-            # those that most others wait for come first
-            ready = [it for it in sorted(left) if proved.issuperset(below[it])]
-            ready.sort(key=lambda it: -sum(it in below[other] for other in left))
+            # the crate that begins the longest chain gets two idle cores at least, and those that the others leave
+            ready = sorted((it for it in left if proved.issuperset(below[it])), key=lambda it: -behind[it])
             idle = CORES - sum(jobs for _, jobs in running.values())
-            for at, name in enumerate(ready[: max(idle, 0)]):
-                jobs = max(1, idle // (len(ready) - at))
+            for at, name in enumerate(ready):
+                if idle == 0:
+                    break
+                jobs = 1 if at else min(idle, max(2, idle + 1 - len(ready)))
                 idle -= jobs
                 left.remove(name)
                 running[pool.submit(prove, name, below[name], rooms, jobs)] = name, jobs
