@@ -5,7 +5,7 @@ ghost use Rattle.record.specs.Cuts.{torn_at, IsTornOf};
 ghost use Rattle.record.specs.Moves.{ended_with};
 ghost use Rattle.record.specs.Places.{place_of, place_after, stage_at, marks_of, value_of};
 ghost use Rattle.record.specs.Scripts.{Call};
-ghost use Rattle.bakery.specs.Doors.{door_at, new_door, IsDoorAfter, next_after, is_going, is_waiting, next_of, torn_of, IsNamed, progress_at, marks_told, MayDrop, dropped, goes_on, tells_wait};
+ghost use Rattle.bakery.specs.Doors.{door_at, new_door, IsDoorAfter, next_after, is_going, is_waiting, next_of, read_of, torn_of, IsNamed, progress_at, marks_told, MayDrop, dropped, goes_on, tells_wait};
 ghost use Rattle.bakery.specs.Locks.{lock_of, CanAccess, answered, locks_after};
 
 use crate::lock::Locks;
@@ -13,7 +13,7 @@ use crate::progress::DoorProgress;
 use crate::runs::{self, Runs};
 use crate::standing::Standing;
 use plain_store::Setup;
-use safe_number::{Access, TornBit, bits_of};
+use safe_number::{Access, Field, TornBit, bits_of};
 use std::alloc::{AllocError, Global};
 use std::marker::Model;
 
@@ -130,6 +130,35 @@ impl Door {
         (access, self.advance(value))
     }
 
+    /// The register that its next access reads, and whose it is; none, if that access is of a write.
+    #[inline]
+    pub fn reads(&self) -> Option<(u8, Field)>
+        ensures { result ≡ read_of self.now }
+    {
+        self.standing.read()
+    }
+
+    /// Stops, whatever memory serves the door: it is as a new one. An open read is left to that memory.
+    pub fn quit(&mut self)
+        ensures door { self.new ≡ new_door self.old.setup self.old.process }
+    {
+        self.standing = Standing::Away;
+        self.runs.begin(1);
+    }
+
+    /// Halts at the next access, whatever memory serves the door: it stops as [`quit`](Door::quit) does. It tells
+    /// the bit whose write has begun and has not ended on every copy, if there is one; that write stays open.
+    pub fn halt(&mut self) -> Option<TornBit>
+        requires going { is_going self.old ≡ true }
+        ensures torn { (c : Call) (accesses : List Access) → IsDoorAfter self.old c accesses → result ≡ torn_at c (place_of c accesses) }
+        ensures known { IfSome result (IsTornOf self.old.setup) }
+        ensures door { self.new ≡ new_door self.old.setup self.old.process }
+    {
+        let torn = self.torn();
+        self.quit();
+        torn
+    }
+
     /// Gives up waiting: the open read is dropped, and the door is as a new one. The ticket still stands;
     /// a [`Leaving`](crate::Leaving) clears it.
     pub fn withdraw(&mut self, locks: &mut Locks)
@@ -138,7 +167,8 @@ impl Door {
         ensures locks { locks.new ≡ dropped self.old locks.old }
         ensures door { self.new ≡ new_door self.old.setup self.old.process }
     {
-        self.stop(locks);
+        self.drop_read(locks);
+        self.quit();
     }
 
     /// Halts at the next access: an open read is dropped, and the door is as a new one. An open write stays
@@ -151,20 +181,8 @@ impl Door {
         ensures locks { locks.new ≡ dropped self.old locks.old }
         ensures door { self.new ≡ new_door self.old.setup self.old.process }
     {
-        let torn = self.torn();
-        self.stop(locks);
-        torn
-    }
-
-    /// Drops the open read, and is as new.
-    fn stop(&mut self, locks: &mut Locks)
-        requires { MayDrop self.old locks.old }
-        ensures locks { locks.new ≡ dropped self.old locks.old }
-        ensures door { self.new ≡ new_door self.old.setup self.old.process }
-    {
         self.drop_read(locks);
-        self.standing = Standing::Away;
-        self.runs.begin(1);
+        self.halt()
     }
 
     /// Drops the open read.
@@ -172,7 +190,7 @@ impl Door {
         requires { MayDrop self.now locks.old }
         ensures { locks.new ≡ dropped self.now locks.old }
     {
-        if let Some((owner, field)) = self.standing.read() {
+        if let Some((owner, field)) = self.reads() {
             locks.drop_read(owner, field, self.process);
         }
     }

@@ -64,6 +64,7 @@ impl Leaving {
         requires { is_leaving self.now ≡ true }
         ensures access { result ≡ next_of_leaving self.now }
         ensures program { (c : Call) (at : Place) → self.now ≡ leaving_at c at → result ≡ access_at c at.part at.run }
+        ensures named { (result.owner < self.now.processes) × (result.reader < self.now.processes) × (result.bit < self.now.ticket_bits) }
     {
         let next = runs::next(&self.run, &bits_of(0));
         Access::of(self.process, Field::Ticket, next)

@@ -3,11 +3,12 @@ ghost use Rattle.std.specs.Borrow.{sem};
 ghost use Rattle.safe_bit.specs.Cell.{read_answer};
 ghost use Rattle.reader_copies.specs.Row.{cell_at, new_row, without_reads, HasCell};
 ghost use Rattle.plain_store.specs.Setups.{checked};
-ghost use Rattle.bakery.specs.Locks.{new_lock, new_locks, row_in, with_row, made_by, CanAccess, lock_after, lock_of, locks_after, answer_to, locks_without_reads};
+ghost use Rattle.bakery.specs.Locks.{new_lock, new_locks, row_in, with_row, made_by, CanAccess, lock_after, lock_of, locks_after, answer_to, answered, locks_without_reads};
 ghost use Rattle.bakery.specs.Lending.{LendsLock};
 
 use plain_store::Setup;
 use reader_copies::Made;
+use safe_bit::Move;
 use safe_number::{Access, Field, NumberFault, Register};
 use std::alloc::{AllocError, Global};
 use std::marker::Model;
@@ -129,7 +130,7 @@ impl Locks {
 
     /// Makes one access, in its turn.
     #[inline]
-    pub(crate) fn apply(&mut self, access: Access)
+    pub fn apply(&mut self, access: Access)
         requires { CanAccess (lock_of self.old access.owner) access }
         ensures { self.new ≡ locks_after self.old access }
     {
@@ -145,8 +146,23 @@ impl Locks {
         self.locks[access.owner as usize].answer(access, flick)
     }
 
+    /// The access, a read's end with what the reader's copy answers.
+    #[inline]
+    pub fn answered(&self, access: Access, flick: bool) -> Access
+        requires { HasCell (row_in (lock_of self.now access.owner) access.field) access.bit access.reader }
+        ensures { result ≡ answered self.now flick access }
+    {
+        match access.how {
+            Move::EndRead(_) => Access {
+                how: Move::EndRead(self.answer(access, flick)),
+                ..access
+            },
+            _ => access,
+        }
+    }
+
     /// Drops the open read of a process's register by a reader.
-    pub(crate) fn drop_read(&mut self, owner: u8, field: Field, reader: u8)
+    pub fn drop_read(&mut self, owner: u8, field: Field, reader: u8)
         requires { reader < length (row_in (lock_of self.old owner) field) }
         ensures { self.new ≡ locks_without_reads self.old owner field reader }
     {

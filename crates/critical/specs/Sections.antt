@@ -1,5 +1,5 @@
 -- A section, the places of its process that it shows, and what it tells.
-use Rattle.std.specs.Prelude.{◌≡◌, ℕ, ◌+◌, ◌-◌, ◌<◌, ◌≤◌, Bool, true, false, cond, List, [], ◌∷◌, length}
+use Rattle.std.specs.Prelude.{◌≡◌, ℕ, ◌+◌, ◌-◌, ◌<◌, ◌≤◌, Bool, true, false, cond, List, [], ◌∷◌, length, Option, None, Some}
 use Rattle.safe_number.specs.declared.Access.{Access}
 use Rattle.safe_number.specs.declared.Field.{Field}
 use Rattle.safe_number.specs.declared.Field.TheVariants.{Commit}
@@ -96,6 +96,11 @@ pub record MayStep (section : Section) (row : DataRow) (flick : Bool) : Type 0 w
   pub place : Place
   pub is_shown : section ≡ section_at call place
   pub may : MayMake row (answered row flick (access_at call place.part place.run))
+
+-- the register that a number access of a part reads, and whose it is
+abbrev pub reads_in : Call → Part → Run → Option (ℕ × Field)
+reads_in c part (Writing w) = None
+reads_in c part (Reading bits begun) = Some (read_at c part)
 
 -- the registers once a process has failed in a number access: the open read of the register that it reads is dropped
 abbrev pub after_fail_in : Call → Part → Run → DataRow → DataRow

@@ -85,8 +85,8 @@ impl DataRow {
     }
 
     /// The access, a read's end with what the reader's copy answers.
-    #[inline]
-    pub(crate) fn answered(&self, access: Access, flick: bool) -> Access
+    #[inline(always)]
+    pub fn answered(&self, access: Access, flick: bool) -> Access
         requires { HasCopy self.now access }
         ensures { result ≡ answered self.now flick access }
     {
@@ -104,8 +104,8 @@ impl DataRow {
     }
 
     /// Makes one access, in its turn.
-    #[inline]
-    pub(crate) fn apply(&mut self, access: Access)
+    #[inline(always)]
+    pub fn apply(&mut self, access: Access)
         requires { MayMake self.old access }
         ensures { self.new ≡ after_access self.old access }
     {
@@ -159,7 +159,7 @@ impl DataRow {
     }
 
     /// Drops the open read that a reader has of a register of a process.
-    pub(crate) fn drop_read(&mut self, owner: u8, field: Field, reader: u8)
+    pub fn drop_read(&mut self, owner: u8, field: Field, reader: u8)
         requires owner { owner < length self.old.parts }
         requires reader { reader < length (register_at self.old owner field) }
         ensures { self.new ≡ without_reads_at self.old owner field reader }

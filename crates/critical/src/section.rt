@@ -7,8 +7,8 @@ ghost use Rattle.record.specs.Places.{Place, place_after, access_at, marks_of, v
 ghost use Rattle.record.specs.Registers.{image_bytes};
 ghost use Rattle.record.specs.Scripts.{Call};
 ghost use Rattle.critical.specs.Keeping.{IsRunOf, run_of, fresh_run, IsStanding};
-ghost use Rattle.critical.specs.Registers.{after_access, answered, FitsSetup};
-ghost use Rattle.critical.specs.Sections.{is_going, section_at, inside_place, new_section, started, ended, goes_on, progress_at, marks_told, after_fail, bits_within, GoesOnWithin, IsInRange, MayStep};
+ghost use Rattle.critical.specs.Registers.{after_access, answered, is_data, FitsSetup};
+ghost use Rattle.critical.specs.Sections.{is_going, section_at, inside_place, new_section, started, ended, goes_on, progress_at, marks_told, reads_in, after_fail, bits_within, GoesOnWithin, IsInRange, MayStep};
 
 use crate::change::{Change, Written};
 use crate::data_row::DataRow;
@@ -233,6 +233,33 @@ impl Section {
         }
     }
 
+    /// The register that its next access reads, and whose it is; none, if that access is of a write.
+    #[inline]
+    pub fn reads(&self) -> Option<(u8, Field)>
+        ensures place { (c : Call) (at : Place) → self.now ≡ section_at c at → is_going self.now ≡ true → result ≡ reads_in c at.part at.run }
+        ensures there { IfSome result (λ register. (register.0 < self.now.call.setup.processes) × (is_data register.1 ≡ true)) }
+    {
+        match &self.standing {
+            Standing::Reads { part, versions } => Some(standing::register_asked(part, versions)),
+            Standing::Writes { .. } | Standing::Done => None,
+        }
+    }
+
+    /// Halts at the next access, whatever memory serves the section: the bit whose write was cut is told, if there
+    /// is one. The section does nothing until it starts anew. An open read is left to that memory.
+    pub fn halt(&mut self) -> Option<TornBit>
+        ensures torn { (c : Call) (at : Place) → self.old ≡ section_at c at → is_going self.old ≡ true → result ≡ torn_at c at }
+        ensures known { IfSome result (IsTornOf self.old.call.setup) }
+        ensures section { self.new ≡ ended self.old }
+    {
+        let torn = match &self.standing {
+            Standing::Writes { part, change } => torn_bit(change.field(*part), &self.writing),
+            Standing::Reads { .. } | Standing::Done => None,
+        };
+        self.standing = Standing::Done;
+        torn
+    }
+
     /// The process has failed: its open read is dropped, and the bit whose write was cut is told, if there is
     /// one. The section does nothing until it starts anew.
     pub fn fail(&mut self, row: &mut DataRow) -> Option<TornBit>
@@ -242,17 +269,10 @@ impl Section {
         ensures registers { (c : Call) (at : Place) → self.old ≡ section_at c at → is_going self.old ≡ true → row.new ≡ after_fail c at row.old }
         ensures section { self.new ≡ ended self.old }
     {
-        let torn = match &self.standing {
-            Standing::Reads { part, versions } => {
-                let (owner, field) = standing::register_asked(part, versions);
-                row.drop_read(owner, field, self.call.process);
-                None
-            }
-            Standing::Writes { part, change } => torn_bit(change.field(*part), &self.writing),
-            Standing::Done => None,
-        };
-        self.standing = Standing::Done;
-        torn
+        if let Some((owner, field)) = self.reads() {
+            row.drop_read(owner, field, self.call.process);
+        }
+        self.halt()
     }
 }
 

@@ -29,8 +29,8 @@ use Rattle.record.proofs.OpenSteps.{place_at}
 use Rattle.record.proofs.Turns.{and_false}
 use Rattle.record.proofs.Width.{IsGood}
 use Rattle.laws.proofs.Always.{inv_of}
-use Rattle.laws.specs.Doings.{Doing, Runs, Closes, call, doing, does_after}
-use Rattle.laws.proofs.Doings.{is_inside, is_inside_at, Step}
+use Rattle.laws.specs.Doings.{Doing, Runs, Closes, call, doing, does_after, is_inside, is_inside_at}
+use Rattle.laws.proofs.Doings.{Step}
 use Rattle.laws.proofs.Frame.{Does, at_rest, lying, running, leaving, settling, may_fail, doing-goes, doing-other}
 use Rattle.laws.proofs.FrameCuts.{left, LeftRun, LeftIn}
 use Rattle.laws.proofs.FrameEvents.{does_all}

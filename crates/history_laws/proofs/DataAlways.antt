@@ -16,8 +16,7 @@ use Rattle.record.specs.Places.{Place, access_at, is_fresh, marks_of, place_afte
 use Rattle.record.specs.Records.{entry_of, past_of, placed}
 use Rattle.record.proofs.Width.{IsGood, is_good}
 use Rattle.laws.proofs.Always.{inv_of}
-use Rattle.laws.specs.Doings.{Doing, Rests, Lies, Runs, Closes, call, doing, runs}
-use Rattle.laws.proofs.Doings.{is_inside, is_inside_at}
+use Rattle.laws.specs.Doings.{Doing, Rests, Lies, Runs, Closes, call, doing, runs, is_inside, is_inside_at}
 use Rattle.laws.proofs.Frame.{Happens, a_call, a_withdrawal, a_failure, a_restart, a_step, a_closing}
 use Rattle.laws.proofs.FrameEvents.{accepted}
 use Rattle.history_laws.proofs.Cutting.{failure_keeps}

@@ -19,8 +19,8 @@ use Rattle.record.specs.Records.{entry_of, past_of, process_of}
 use Rattle.record.specs.Registers.{others, processes}
 use Rattle.record.specs.Scripts.{Call}
 use Rattle.record.proofs.Width.{IsGood}
-use Rattle.laws.specs.Doings.{Doing, Rests, Runs, call, runs, closes, doing}
-use Rattle.laws.proofs.Doings.{is_inside_at, IsCut, at_rest, between, within, leaving, clearing, Step, calls, withdraws, fails, restarts, steps, closes_on}
+use Rattle.laws.specs.Doings.{Doing, Rests, Runs, call, runs, closes, doing, is_inside_at}
+use Rattle.laws.proofs.Doings.{IsCut, at_rest, between, within, leaving, clearing, Step, calls, withdraws, fails, restarts, steps, closes_on}
 use Rattle.laws.proofs.Invariant.{Wires, wires, Touches, touches}
 use Rattle.laws.proofs.FrameSteps.{step_of}
 use Rattle.laws.proofs.Alone.{SettlesInside, ClosesInside, closes_inside}

@@ -26,8 +26,7 @@ use Rattle.record.proofs.Width.{IsGood}
 use Rattle.laws.proofs.Alone.{version-at}
 use Rattle.laws.proofs.Always.{inv_of}
 use Rattle.laws.proofs.AtPlaces.{AtPlace, Stepping, plain-stepping}
-use Rattle.laws.specs.Doings.{Runs, call, doing}
-use Rattle.laws.proofs.Doings.{is_inside, is_inside_at}
+use Rattle.laws.specs.Doings.{Runs, call, doing, is_inside, is_inside_at}
 use Rattle.laws.proofs.Frame.{own-own}
 use Rattle.laws.proofs.FrameEvents.{accepted}
 use Rattle.laws.proofs.FrameWires.{answer-untouched}

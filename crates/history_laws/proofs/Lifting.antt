@@ -18,8 +18,7 @@ use Rattle.record.specs.Parts.{Part, AsksCommit, AsksStamp, AsksImage, WritesIma
 use Rattle.record.specs.Places.{Run, is_fresh}
 use Rattle.record.specs.Program.{stamp_field, image_field, new_image, max_of}
 use Rattle.record.specs.Scripts.{Call}
-use Rattle.laws.specs.Doings.{Doing, Rests, Lies, Runs, Closes, call, doing}
-use Rattle.laws.proofs.Doings.{is_inside, is_inside_at}
+use Rattle.laws.specs.Doings.{Doing, Rests, Lies, Runs, Closes, call, doing, is_inside, is_inside_at}
 use Rattle.laws.proofs.Invariant.{Wire, Wires, wires, Touches, touches, Closed, Inv}
 use Rattle.laws.proofs.Frame.{doing-other}
 use Rattle.laws.proofs.Theorems.{together}

@@ -30,8 +30,7 @@ use Rattle.record.proofs.TurnRecords.{opens_all}
 use Rattle.record.proofs.Width.{IsGood}
 use Rattle.record.proofs.Writer.{each_own, open-own}
 use Rattle.laws.proofs.Alone.{ClosesInside, SettlesInside, closes_inside, version-written}
-use Rattle.laws.specs.Doings.{Doing, Rests, Lies, Runs, Closes, call, doing}
-use Rattle.laws.proofs.Doings.{is_inside, is_inside_at}
+use Rattle.laws.specs.Doings.{Doing, Rests, Lies, Runs, Closes, call, doing, is_inside, is_inside_at}
 use Rattle.laws.proofs.Frame.{Does, at_rest, lying, running, leaving, settling}
 use Rattle.laws.proofs.FrameCells.{field-same, on-copy}
 use Rattle.laws.proofs.FrameEvents.{does_all}

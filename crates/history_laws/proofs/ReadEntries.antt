@@ -23,8 +23,7 @@ use Rattle.record.proofs.Singles.{is_write}
 use Rattle.record.proofs.Width.{IsGood}
 use Rattle.laws.proofs.Always.{inv_of}
 use Rattle.laws.proofs.Alone.{closes_inside}
-use Rattle.laws.specs.Doings.{Runs, call, doing, runs}
-use Rattle.laws.proofs.Doings.{is_inside, is_inside_at}
+use Rattle.laws.specs.Doings.{Runs, call, doing, runs, is_inside, is_inside_at}
 use Rattle.laws.proofs.FrameSteps.{step_of}
 use Rattle.laws.proofs.FrameWires.{answer-untouched, wires-read}
 use Rattle.laws.proofs.Invariant.{Stands, StandsRun, Touches, Wires, touches, wires}

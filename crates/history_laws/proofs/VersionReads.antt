@@ -34,8 +34,7 @@ use Rattle.record.proofs.Width.{IsGood}
 use Rattle.laws.proofs.Alone.{touched_inside, version-at}
 use Rattle.laws.proofs.Always.{inv_of}
 use Rattle.laws.proofs.AtPlaces.{Stepping}
-use Rattle.laws.specs.Doings.{Doing, Rests, Lies, Runs, Closes, call, closes, doing, runs}
-use Rattle.laws.proofs.Doings.{is_inside}
+use Rattle.laws.specs.Doings.{Doing, Rests, Lies, Runs, Closes, call, closes, doing, runs, is_inside}
 use Rattle.laws.proofs.Frame.{Happens, a_call, a_withdrawal, a_failure, a_restart, a_step, a_closing, doing-other}
 use Rattle.laws.proofs.FrameCells.{EntryBy, marks_only, makes}
 use Rattle.laws.proofs.FrameEvents.{accepted}

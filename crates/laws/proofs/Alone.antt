@@ -22,8 +22,8 @@ use Rattle.record.specs.Unit.{is_commit}
 use Rattle.record.proofs.Singles.{is_write, is_write-true}
 use Rattle.record.proofs.Width.{IsGood}
 use Rattle.safe_number.specs.Runs.{new_write}
-use Rattle.laws.specs.Doings.{Doing, Rests, Lies, Runs, Closes, call, runs, closes, doing}
-use Rattle.laws.proofs.Doings.{IsCut, at_rest, between, within, leaving, clearing, Step, calls, withdraws, fails, restarts, steps, closes_on, is_inside, is_inside_at}
+use Rattle.laws.specs.Doings.{Doing, Rests, Lies, Runs, Closes, call, runs, closes, doing, is_inside, is_inside_at}
+use Rattle.laws.proofs.Doings.{IsCut, at_rest, between, within, leaving, clearing, Step, calls, withdraws, fails, restarts, steps, closes_on}
 use Rattle.laws.proofs.Notes.{Notes, notes}
 use Rattle.laws.proofs.Invariant.{Stands, StandsAt, IsWait, wires}
 use Rattle.laws.proofs.Frame.{doing-other}

@@ -14,8 +14,7 @@ use Rattle.record.specs.Entries.{Past}
 use Rattle.record.specs.Places.{write_moved}
 use Rattle.record.specs.Scripts.{Call, Next}
 use Rattle.laws.proofs.FrameInside.{moved-unfresh}
-use Rattle.laws.specs.Doings.{Lies, call, closes}
-use Rattle.laws.proofs.Doings.{is_inside_closing}
+use Rattle.laws.specs.Doings.{Lies, call, closes, is_inside_closing}
 use Rattle.laws.proofs.Notes.{Notes, broken, field_of, breaks_announced, breaks_ticket}
 use Rattle.laws.proofs.Invariant.{Wires, Touches, StandsSettling, StandsClosing, Moves}
 use Rattle.laws.proofs.Owner.{not_so}

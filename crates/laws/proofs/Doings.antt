@@ -1,5 +1,5 @@
 -- Of what a process is doing: whether it is inside, its stage, and what one accepted event makes of it.
-use Rattle.std.specs.Prelude.{◌≡◌, ℕ, Bool, true, false, cond, ◌&&◌, List, None, Some}
+use Rattle.std.specs.Prelude.{◌≡◌, ℕ, Bool, false, cond, List, None, Some}
 use Rattle.reader_copies.specs.Runs as copies
 use Rattle.safe_number.specs.declared.Access.{Access}
 use Rattle.safe_number.specs.declared.Field.TheVariants.{Ticket}
@@ -9,49 +9,15 @@ use Rattle.plain_store.specs.declared.Reply.{Reply}
 use Rattle.plain_store.specs.declared.Setup.{Setup}
 use Rattle.record.specs.declared.stages.Stage.{Stage}
 use Rattle.record.specs.declared.stages.Stage.TheVariants as stage
-use Rattle.record.specs.Closings.{Closing, Withdraws, Settles, Frees, Lowers, Quit, Ended, is_unwritten, freeing, withdrawing, closing_next, closing_after, closing_stage}
+use Rattle.record.specs.Closings.{Closing, Withdraws, Settles, is_unwritten, freeing, withdrawing, closing_next, closing_after, closing_stage}
 use Rattle.record.specs.Entries.{Entry, Past}
 use Rattle.record.specs.Moves.{valued}
-use Rattle.record.specs.Parts.{Part, Raises, Asks, TakesTicket, Waits, AsksCommit, AsksStamp, AsksImage, WritesImage, WritesStamp, WritesCommit, Clears, Over, Refuses, is_read, is_over, written_at}
-use Rattle.record.specs.Parts as part
+use Rattle.record.specs.Parts.{Raises, Waits, is_read, is_over, written_at}
 use Rattle.record.specs.Places.{Place, Run, is_fresh, enter, access_at, place_after, stage_at, value_of}
 use Rattle.record.specs.Program.{Wait}
 use Rattle.record.specs.Scripts.{Call, Next}
 use Rattle.record.specs.Unit.{is_commit}
-use Rattle.laws.specs.Doings.{Doing, Rests, Lies, Runs, Closes, call, runs, closes}
-
--- p is inside at a part; fresh: nothing of it was made
-abbrev pub is_inside_at : Part → Bool → Bool
-is_inside_at Raises fresh = false
-is_inside_at (Asks j js ts) fresh = false
-is_inside_at (TakesTicket t) fresh = false
-is_inside_at (part.Lowers t) fresh = false
-is_inside_at (Refuses f) fresh = false
-is_inside_at (Waits t w ws) fresh = false
-is_inside_at (AsksCommit k ks vs) fresh = true
-is_inside_at (AsksStamp k ks vs b) fresh = true
-is_inside_at (AsksImage vs) fresh = true
-is_inside_at (WritesImage vs st) fresh = true
-is_inside_at (WritesStamp vs st) fresh = true
-is_inside_at (WritesCommit vs st) fresh = true
-is_inside_at (Clears a) fresh = fresh
-is_inside_at Over fresh = false
-
--- p is inside, in a closing
-abbrev pub is_inside_closing : Closing → Bool
-is_inside_closing (Withdraws w) = false
-is_inside_closing (Settles f bit begun taken is t) = is
-is_inside_closing (Frees is w) = is && is_unwritten w
-is_inside_closing (Lowers w) = false
-is_inside_closing Quit = false
-is_inside_closing Ended = false
-
--- p is inside
-abbrev pub is_inside : Doing → Bool
-is_inside Rests = false
-is_inside Lies = false
-is_inside (Runs command number at) = is_inside_at at.part (is_fresh at.run)
-is_inside (Closes command number at) = is_inside_closing at
+use Rattle.laws.specs.Doings.{Doing, Rests, Lies, Runs, Closes, call, runs, closes, is_inside_at}
 
 -- the stage of p
 abbrev pub stage_of : Doing → Stage

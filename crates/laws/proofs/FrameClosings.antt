@@ -1,5 +1,5 @@
 -- A step of a process that withdrew, and of a memory unit, is what the look-backs say.
-use Rattle.std.proofs.Common.{◌≡◌, ℕ, ◌==◌, Bool, true, false, cond, List, [], ◌∷◌, Some, length, map, refl, sym, ap, ◌∙◌, true≢false}
+use Rattle.std.proofs.Common.{◌≡◌, ℕ, ◌==◌, Bool, true, false, cond, List, ◌∷◌, Some, length, map, refl, sym, ap, ◌∙◌, true≢false}
 use Rattle.std.specs.Prelude.{fold, option_map}
 use Rattle.std.specs.List.{list_any}
 use Rattle.safe_bit.specs.SafeRule.{read_value}
@@ -19,9 +19,9 @@ use Rattle.record.specs.Registers.{opening_bit}
 use Rattle.record.specs.Scripts.{Call, Next}
 use Rattle.record.specs.Stages.{stage, stage_after}
 use Rattle.record.specs.Unit.{value_written}
-use Rattle.record.proofs.Accepted.{before-plain, no_failed}
+use Rattle.record.proofs.Accepted.{before-plain}
 use Rattle.record.proofs.ClosingScripts.{closing-stages}
-use Rattle.record.proofs.ClosingStanding.{withdrawn_stands, unit_stands, told-again, flick-free, chosen-after, IsChosen, is_unit, keeps-kind, failing-kind}
+use Rattle.record.proofs.ClosingStanding.{withdrawn_stands, unit_stands, told-again, flick-free, is_unit, keeps-kind, failing-kind}
 use Rattle.record.proofs.Local.{start-plain, since-plain, call-plain, command-plain, calls-plain, option_map-some}
 use Rattle.record.proofs.OpenSteps.{leaving_at, failing_at, closing-plain, closing-same}
 use Rattle.record.proofs.Staging.{stage-placed, no_start-placed, no_start}

@@ -1,6 +1,5 @@
 -- What the writes of a process have left unfinished, by what it is doing: so what its memory unit begins with where it fails.
-use Rattle.std.proofs.Common.{◌≡◌, ◌≢◌, ℕ, ◌+◌, ◌*◌, ◌/◌, ◌%◌, ◌<◌, ◌==◌, ◌&&◌, Bool, true, false, cond, not, List, [], ◌∷◌, Option, Some, None, length, refl, sym, ap, subst, ◌∙◌, arith, true≢false, inl, inr, eqb-true, eq-eqb, ne_eqb}
-use Rattle.std.proofs.lemmas.Bool.{cases_eq, eqb-false}
+use Rattle.std.proofs.Common.{◌≡◌, ℕ, ◌+◌, ◌*◌, ◌%◌, ◌<◌, ◌==◌, Bool, true, false, cond, List, [], ◌∷◌, Option, Some, None, length, refl, sym, ap, subst, ◌∙◌, arith, true≢false, eqb-true}
 use Rattle.std.specs.Prelude.{is_none}
 use Rattle.safe_bit.specs.declared.Move.{Move}
 use Rattle.safe_bit.specs.declared.Move.TheVariants.{BeginWrite, EndWrite, BeginRead, EndRead, Settle}
@@ -19,7 +18,7 @@ use Rattle.record.specs.Places.{Place, Run, Writing, Reading, bit_written, next_
 use Rattle.record.specs.Registers.{width}
 use Rattle.record.specs.Scripts.{Call, Next}
 use Rattle.record.specs.Stages.{inside}
-use Rattle.record.specs.Unit.{last_write, unfinished, is_begin}
+use Rattle.record.specs.Unit.{last_write, unfinished}
 use Rattle.record.proofs.Closing.{ticket_width, further}
 use Rattle.record.proofs.Cursors.{Goes}
 use Rattle.record.proofs.PlaceTurns.{access_in}

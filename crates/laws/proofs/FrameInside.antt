@@ -31,8 +31,8 @@ use Rattle.record.proofs.Standing.{running_stands}
 use Rattle.record.proofs.Turns.{and_false, and_true}
 use Rattle.record.proofs.Width.{IsGood}
 use Rattle.record.proofs.CutRecords.{inside-own}
-use Rattle.laws.specs.Doings.{Doing, Rests, Runs, call, runs, closes, doing}
-use Rattle.laws.proofs.Doings.{is_inside, is_inside_at, is_inside_closing, stage_of}
+use Rattle.laws.specs.Doings.{Doing, Rests, Runs, call, runs, closes, doing, is_inside, is_inside_at, is_inside_closing}
+use Rattle.laws.proofs.Doings.{stage_of}
 use Rattle.laws.proofs.Frame.{Does, at_rest, lying, running, leaving, settling, Happens, a_call, a_withdrawal, a_failure, a_restart, a_step, a_closing, doing-other}
 use Rattle.laws.proofs.FrameEvents.{does_all, Accepted, accepted}
 

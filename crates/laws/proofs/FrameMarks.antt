@@ -26,8 +26,7 @@ use Rattle.record.proofs.OpenSteps.{closing-plain}
 use Rattle.record.proofs.Staging.{no_called, no_start-marks}
 use Rattle.record.proofs.Turns.{and_false}
 use Rattle.record.proofs.Width.{IsGood}
-use Rattle.laws.specs.Doings.{Doing, Rests, Runs, call, runs, doing}
-use Rattle.laws.proofs.Doings.{is_inside, is_inside_at}
+use Rattle.laws.specs.Doings.{Doing, Rests, Runs, call, runs, doing, is_inside, is_inside_at}
 use Rattle.laws.proofs.Frame.{Happens, a_call, a_withdrawal, a_failure, a_restart, a_step, a_closing}
 use Rattle.laws.proofs.FrameEvents.{accepted}
 use Rattle.laws.proofs.FrameInside.{enter-fresh, inside-runs}

@@ -31,8 +31,8 @@ use Rattle.record.proofs.Turns.{and_false}
 use Rattle.record.proofs.Width.{IsGood}
 use Rattle.record.proofs.Opens.{last-none}
 use Rattle.record.proofs.CutRecords.{inside-own}
-use Rattle.laws.specs.Doings.{Doing, Rests, Lies, Runs, Closes, call, doing}
-use Rattle.laws.proofs.Doings.{is_inside, is_inside_at, IsCut, Step, calls, withdraws, fails, restarts, steps, closes_on}
+use Rattle.laws.specs.Doings.{Doing, Rests, Lies, Runs, Closes, call, doing, is_inside, is_inside_at}
+use Rattle.laws.proofs.Doings.{IsCut, Step, calls, withdraws, fails, restarts, steps, closes_on}
 use Rattle.laws.proofs.Doings as doings
 use Rattle.laws.proofs.Frame.{may_fail, Happens, a_call, a_withdrawal, a_failure, a_restart, a_step, a_closing, doing-other, own-own, own-other}
 use Rattle.laws.proofs.FrameCells.{ByProcess, EntryBy, marks_only, makes}

@@ -15,8 +15,7 @@ use Rattle.record.specs.Places.{Run, Writing, Reading, is_fresh, bit_written}
 use Rattle.record.specs.Program.{Wait, greatest}
 use Rattle.record.specs.Registers.{others, width}
 use Rattle.record.specs.Scripts.{Call}
-use Rattle.laws.specs.Doings.{Doing, Rests, Lies, Runs, Closes, call, doing}
-use Rattle.laws.proofs.Doings.{is_inside}
+use Rattle.laws.specs.Doings.{Doing, Rests, Lies, Runs, Closes, call, doing, is_inside}
 use Rattle.laws.proofs.Notes.{Notes, notes}
 
 -- Registers, as a past has made them.

@@ -6,7 +6,9 @@ pub mod FrameInside
 pub mod FrameMarks
 pub mod FrameEvents
 pub mod FrameSteps
+pub mod Steps
 pub mod FrameCuts
+pub mod Cuts
 pub mod FrameDoorways
 pub mod DoorwayParts
 pub mod DoorwayEnds

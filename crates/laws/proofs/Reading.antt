@@ -12,8 +12,7 @@ use Rattle.record.specs.Parts.{Part, read_at}
 use Rattle.record.specs.Places.{Reading, is_fresh}
 use Rattle.record.specs.Registers.{width}
 use Rattle.laws.proofs.Bits.{AreBitsOf, number_read, one_more_bit}
-use Rattle.laws.specs.Doings.{Doing, Runs, call, doing}
-use Rattle.laws.proofs.Doings.{is_inside_at}
+use Rattle.laws.specs.Doings.{Doing, Runs, call, doing, is_inside_at}
 use Rattle.laws.proofs.Invariant.{CleanChoosing, CleanRun, CleanTicket, Closed, Inv, Moves, Own, Pair, StandsAt, Touches, next_time, ticket_of, touches, wires}
 use Rattle.laws.proofs.Moving.{past_later}
 use Rattle.laws.proofs.Notes.{notes}

@@ -14,8 +14,7 @@ use Rattle.record.specs.Registers.{width}
 use Rattle.record.specs.Scripts.{Call}
 use Rattle.record.proofs.Ties.{written-width}
 use Rattle.record.proofs.Width.{IsGood, width-pos}
-use Rattle.laws.specs.Doings.{Doing, Rests, Runs, call, runs, doing}
-use Rattle.laws.proofs.Doings.{is_inside, is_inside_at}
+use Rattle.laws.specs.Doings.{Doing, Rests, Runs, call, runs, doing, is_inside, is_inside_at}
 use Rattle.laws.proofs.FrameInside.{enter-fresh}
 use Rattle.laws.proofs.Notes.{Notes, notes, turned}
 use Rattle.laws.proofs.Invariant.{Wires, wires, Touches, touches, IsPast, Whole, Senior, Before, Written, StandsRun, StandsAt, Stands, DoesKnow, CleanWait, CleanRun, Clean, Pair, Inv, Moves, next_time}

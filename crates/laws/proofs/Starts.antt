@@ -1,5 +1,5 @@
 -- Calls, withdrawals, failures and restarts: entries with no access. Nothing that p shows changes; it goes on elsewhere.
-use Rattle.std.proofs.Common.{◌≡◌, ℕ, ◌&&◌, Bool, true, false, refl, sym, ap, subst, ◌∙◌}
+use Rattle.std.proofs.Common.{◌≡◌, ℕ, Bool, true, false, refl, sym, ap, subst, ◌∙◌}
 use Rattle.std.proofs.lemmas.Bool.{false_from_ne_true}
 use Rattle.std.specs.Prelude.{not}
 use Rattle.plain_store.specs.declared.Command.{Command}
@@ -12,8 +12,8 @@ use Rattle.record.specs.Program.{image_field, stamp_field, version_of}
 use Rattle.record.specs.Scripts.{Call}
 use Rattle.record.proofs.Width.{IsGood}
 use Rattle.record.proofs.Turns.{and_true}
-use Rattle.laws.specs.Doings.{Doing, Rests, Runs, Closes, call}
-use Rattle.laws.proofs.Doings.{is_inside, is_inside_at, is_inside_closing, IsCut, at_rest, between, within, leaving, clearing}
+use Rattle.laws.specs.Doings.{Doing, Rests, Runs, Closes, call, is_inside, is_inside_at, is_inside_closing}
+use Rattle.laws.proofs.Doings.{IsCut, at_rest, between, within, leaving, clearing}
 use Rattle.laws.proofs.Notes.{Notes, turned}
 use Rattle.laws.proofs.Invariant.{Wires, Touches, StandsAt, StandsSettling, StandsClosing, Stands, Moves, next_time}
 use Rattle.laws.proofs.Owner.{not_so}

@@ -11,8 +11,8 @@ use Rattle.record.specs.Places.{Run, Writing, Reading, enter, access_at, place_a
 use Rattle.record.specs.Program.{Wait}
 use Rattle.record.specs.Scripts.{Call, Next}
 use Rattle.record.proofs.Width.{IsGood}
-use Rattle.laws.specs.Doings.{Doing, Rests, Lies, Runs, Closes, call, runs, closes, doing}
-use Rattle.laws.proofs.Doings.{is_inside, IsCut}
+use Rattle.laws.specs.Doings.{Doing, Rests, Lies, Runs, Closes, call, runs, closes, doing, is_inside}
+use Rattle.laws.proofs.Doings.{IsCut}
 use Rattle.laws.proofs.Notes.{notes, notes_after}
 use Rattle.laws.proofs.Invariant.{wires, touches, Stands, Inv, Moves, next_time}
 use Rattle.laws.proofs.Frame.{notes-goes}

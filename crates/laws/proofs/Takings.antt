@@ -25,8 +25,7 @@ use Rattle.record.specs.Stages.{inside}
 use Rattle.record.specs.Unit.{is_commit}
 use Rattle.record.proofs.Width.{IsGood}
 use Rattle.laws.specs.LockLaws.{is_taken}
-use Rattle.laws.specs.Doings.{Doing, Closes, call, doing}
-use Rattle.laws.proofs.Doings.{is_inside, is_inside_at}
+use Rattle.laws.specs.Doings.{Doing, Closes, call, doing, is_inside, is_inside_at}
 use Rattle.laws.proofs.Frame.{Happens, a_call, a_withdrawal, a_failure, a_restart, a_step, a_closing}
 use Rattle.laws.proofs.FrameEvents.{accepted}
 use Rattle.laws.proofs.FrameInside.{inside-is}

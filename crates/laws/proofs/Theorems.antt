@@ -21,8 +21,8 @@ use Rattle.record.specs.Registers.{processes}
 use Rattle.record.specs.Scripts.{Call}
 use Rattle.record.specs.Stages.{inside, stage}
 use Rattle.record.proofs.Width.{IsGood}
-use Rattle.laws.specs.Doings.{Doing, Rests, Lies, Runs, Closes, call, doing}
-use Rattle.laws.proofs.Doings.{is_inside, is_inside_at, stage_of}
+use Rattle.laws.specs.Doings.{Doing, Rests, Lies, Runs, Closes, call, doing, is_inside, is_inside_at}
+use Rattle.laws.proofs.Doings.{stage_of}
 use Rattle.laws.proofs.Notes.{Notes, notes, notes_after}
 use Rattle.laws.proofs.Invariant.{Inv, Passed, Stands, StandsAt, InWaiting, wires}
 use Rattle.laws.proofs.Frame.{Happens, a_call, a_withdrawal, a_failure, a_restart, a_step, a_closing, notes-other, notes-goes}

@@ -13,8 +13,7 @@ use Rattle.record.specs.Places.{Writing, is_fresh, write_moved}
 use Rattle.record.specs.Program.{version_of}
 use Rattle.record.specs.Scripts.{Call}
 use Rattle.laws.proofs.FrameInside.{moved-unfresh}
-use Rattle.laws.specs.Doings.{Runs, call}
-use Rattle.laws.proofs.Doings.{is_inside_at}
+use Rattle.laws.specs.Doings.{Runs, call, is_inside_at}
 use Rattle.laws.proofs.Notes.{Notes, notes, noted}
 use Rattle.laws.proofs.Invariant.{Wires, Touches, StandsAt, CleanRun, Moves, next_time}
 use Rattle.laws.proofs.Owner.{not_so}

@@ -16,8 +16,7 @@ use Rattle.record.specs.Program.{greatest, reply}
 use Rattle.record.specs.Registers.{others}
 use Rattle.record.specs.Scripts.{Call}
 use Rattle.record.proofs.Width.{IsGood}
-use Rattle.laws.specs.Doings.{Rests, Runs, call, runs}
-use Rattle.laws.proofs.Doings.{is_inside_at}
+use Rattle.laws.specs.Doings.{Rests, Runs, call, runs, is_inside_at}
 use Rattle.laws.proofs.Notes.{Notes, noted}
 use Rattle.laws.proofs.Invariant.{Wires, Touches, Closed, bit, ticket_of, Asked, IsInDoorway, StandsAt, Inv, Moves, next_time}
 use Rattle.laws.proofs.Others.{each_other}

@@ -1,15 +1,16 @@
 -- What each process is doing, as its entries tell: it rests, it lies down, it is at a place of its call, or at a place of a closing.
-use Rattle.std.specs.Prelude.{ℕ, ◌==◌, cond, [], ◌∷◌, Option, None, Some}
+use Rattle.std.specs.Prelude.{ℕ, Bool, true, false, ◌==◌, ◌&&◌, cond, [], ◌∷◌, Option, None, Some}
 use Rattle.safe_number.specs.declared.Access.{Access}
 use Rattle.plain_store.specs.declared.Command.{Command}
 use Rattle.plain_store.specs.declared.Setup.{Setup}
 use Rattle.record.specs.declared.marks.Mark.{Mark}
 use Rattle.record.specs.declared.marks.Mark.TheVariants.{Called, Failed, Withdrew}
 use Rattle.record.specs.Calls.{last_call, last_command, call_number}
-use Rattle.record.specs.Closings.{Closing, Withdraws, Settles, Frees, Lowers, Quit, Ended, withdrawing, failing, closing_after}
+use Rattle.record.specs.Closings.{Closing, Withdraws, Settles, Frees, Lowers, Quit, Ended, withdrawing, failing, closing_after, is_unwritten}
 use Rattle.record.specs.Entries.{Entry, Past, own}
-use Rattle.record.specs.Parts.{Raises, is_over}
-use Rattle.record.specs.Places.{Place, enter, place_after, value_of}
+use Rattle.record.specs.Parts.{Part, Raises, Asks, TakesTicket, Refuses, Waits, AsksCommit, AsksStamp, AsksImage, WritesImage, WritesStamp, WritesCommit, Clears, Over, is_over}
+use Rattle.record.specs.Parts as part
+use Rattle.record.specs.Places.{Place, enter, is_fresh, place_after, value_of}
 use Rattle.record.specs.Records.{start_in}
 use Rattle.record.specs.Scripts.{Call}
 use Rattle.record.specs.Unit.{value_written}
@@ -57,3 +58,36 @@ does_after s p mine e _ d = goes_on s p e e.access d
 abbrev pub doing : Setup → ℕ → Past → Doing
 doing s p [] = Rests
 doing s p (e ∷ past) = cond (e.process == p) (does_after s p (own p past) e (start_in e.marks) (doing s p past)) (doing s p past)
+
+-- p is inside at a part; fresh: nothing of it was made
+abbrev pub is_inside_at : Part → Bool → Bool
+is_inside_at Raises fresh = false
+is_inside_at (Asks j js ts) fresh = false
+is_inside_at (TakesTicket t) fresh = false
+is_inside_at (part.Lowers t) fresh = false
+is_inside_at (Refuses f) fresh = false
+is_inside_at (Waits t w ws) fresh = false
+is_inside_at (AsksCommit k ks vs) fresh = true
+is_inside_at (AsksStamp k ks vs b) fresh = true
+is_inside_at (AsksImage vs) fresh = true
+is_inside_at (WritesImage vs st) fresh = true
+is_inside_at (WritesStamp vs st) fresh = true
+is_inside_at (WritesCommit vs st) fresh = true
+is_inside_at (Clears a) fresh = fresh
+is_inside_at Over fresh = false
+
+-- p is inside, in a closing
+abbrev pub is_inside_closing : Closing → Bool
+is_inside_closing (Withdraws w) = false
+is_inside_closing (Settles f bit begun taken is t) = is
+is_inside_closing (Frees is w) = is && is_unwritten w
+is_inside_closing (Lowers w) = false
+is_inside_closing Quit = false
+is_inside_closing Ended = false
+
+-- p is inside
+abbrev pub is_inside : Doing → Bool
+is_inside Rests = false
+is_inside Lies = false
+is_inside (Runs command number at) = is_inside_at at.part (is_fresh at.run)
+is_inside (Closes command number at) = is_inside_closing at

@@ -1,3 +1,4 @@
 pub mod Doings
 pub mod Held
 pub mod LockLaws
+pub mod Steps

@@ -15,11 +15,11 @@ use Rattle.scenario.specs.declared.lines.Line.TheVariants as line
 use Rattle.world.specs.Events.{Adds, GoesOn, IsRefused, entry_with}
 use Rattle.world.specs.Flicks.{FlickState, flick_of, after_flick}
 use Rattle.world.specs.Shows.{Shows, WorldState}
-use Rattle.world.specs.Telling.{act_of, marks_told}
+use Rattle.process.specs.Telling.{act_of, marks_told}
 use Rattle.world.specs.Walks.{Walks}
-use Rattle.world.specs.declared.told.Stepped.{Stepped}
-use Rattle.world.specs.declared.told.Told.{Told as Leads}
-use Rattle.world.specs.declared.told.Told.TheVariants as step
+use Rattle.process.specs.declared.told.Stepped.{Stepped}
+use Rattle.process.specs.declared.told.Told.{Told as Leads}
+use Rattle.process.specs.declared.told.Told.TheVariants as step
 use Rattle.replayer.specs.Courses.{CourseState, Follows, IsQuiet, Makes, MakesQuietly, MakesTurns, QuietTurns, course}
 use Rattle.replayer.specs.Happenings.{Happening, Tries, tried}
 use Rattle.replayer.specs.Runs.{Run, may_step, next_step, past_in, stepped}

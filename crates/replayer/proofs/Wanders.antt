@@ -15,8 +15,8 @@ use Rattle.scenario.specs.declared.lines.Line.TheVariants as line
 use Rattle.world.specs.Events.{Adds, GoesOn, IsRefused}
 use Rattle.world.specs.Flicks.{FlickState, flick_of, after_flick, pick_of, after_pick}
 use Rattle.world.specs.Shows.{Shows, WorldState}
-use Rattle.world.specs.Telling.{act_of}
-use Rattle.world.specs.declared.told.Stepped.{Stepped}
+use Rattle.process.specs.Telling.{act_of}
+use Rattle.process.specs.declared.told.Stepped.{Stepped}
 use Rattle.replayer.specs.Courses.{CourseState, Follows, Makes, MakesQuietly, MakesTurns, course}
 use Rattle.replayer.specs.Happenings.{tried}
 use Rattle.replayer.specs.Runs.{Run, after_pick_in, has_step, movers, next_step, past_in}

@@ -11,10 +11,10 @@ use Rattle.record.specs.declared.refusals.Refusal.{Refusal}
 use Rattle.record.specs.declared.refusals.Refusal.TheVariants.{NoProcess}
 use Rattle.record.specs.Entries.{Past}
 use Rattle.record.specs.Records.{entry_of, placed, process_of, refused}
-use Rattle.world.specs.Telling.{marks_told}
-use Rattle.world.specs.declared.told.Stepped.{Stepped}
-use Rattle.world.specs.declared.told.Told.{Told as Leads}
-use Rattle.world.specs.declared.told.Told.TheVariants as step
+use Rattle.process.specs.Telling.{marks_told}
+use Rattle.process.specs.declared.told.Stepped.{Stepped}
+use Rattle.process.specs.declared.told.Told.{Told as Leads}
+use Rattle.process.specs.declared.told.Told.TheVariants as step
 use Rattle.replayer.specs.Happenings.{Happening, Tries, Lacks, Tires, Looks}
 use Rattle.replayer.specs.Texts.{mark_line, newest_store, refusal_line, store_text, turns_line}
 use Rattle.replayer.specs.declared.told.Made.{Made}

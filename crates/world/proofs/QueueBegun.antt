@@ -20,9 +20,9 @@ use Rattle.record.specs.Records.{entry_of, past_of}
 use Rattle.record.specs.Scripts.{Call}
 use Rattle.record.proofs.Width.{IsGood}
 use Rattle.reader_copies.specs.Runs as copies
-use Rattle.laws.specs.Doings.{Doing, Rests, Runs, Closes, call, runs, closes, doing}
+use Rattle.laws.specs.Doings.{Doing, Rests, Runs, Closes, call, runs, closes, doing, is_inside_at}
 use Rattle.laws.proofs.AtPlaces.{AtPlace}
-use Rattle.laws.proofs.Doings.{is_inside_at, IsCut, Step, at_rest, between, within, leaving, clearing, calls, withdraws, fails, restarts, steps, closes_on}
+use Rattle.laws.proofs.Doings.{IsCut, Step, at_rest, between, within, leaving, clearing, calls, withdraws, fails, restarts, steps, closes_on}
 use Rattle.laws.proofs.DoorwayParts.{has_begun}
 use Rattle.laws.proofs.Frame.{Happens, a_call, a_withdrawal, a_failure, a_restart, a_step, a_closing, doing-other}
 use Rattle.laws.proofs.FrameDoorways.{begins_at, begins_with, begins-is}
@@ -30,8 +30,8 @@ use Rattle.laws.proofs.FrameEvents.{accepted}
 use Rattle.laws.proofs.FrameMarks.{is_raising, is_resting, is_running, called-is}
 use Rattle.laws.proofs.FrameSteps.{step_of}
 use Rattle.laws.proofs.Numbers.{NumbersAt, numbers, number-own}
-use Rattle.world.specs.Seats.{kept_at, kept_in}
-use Rattle.world.specs.Steps.{is_at_door}
+use Rattle.process.specs.Processes.{kept_at, kept_in}
+use Rattle.process.specs.Steps.{is_at_door}
 
 -- Looking up.
 

@@ -1,10 +1,8 @@
 -- The list of those ahead is read off what is kept of a process.
-use Rattle.std.proofs.Common.{◌≡◌, ℕ, ◌≤◌, ◌==◌, ◌&&◌, if◌then◌else◌, Bool, true, false, List, [], Ok, sym, ap, ◌∙◌, arith}
-use Rattle.std.proofs.lemmas.Bool.Decides.{nat_tests}
-use Rattle.std.specs.Int.{is_in_range}
+use Rattle.std.proofs.Common.{◌≡◌, ℕ, ◌≤◌, ◌&&◌, true, false, List, [], Ok, sym, ap, ◌∙◌, arith}
 use Rattle.plain_store.specs.declared.Setup.{Setup}
 use Rattle.plain_store.specs.Setups.{checked}
-use Rattle.plain_store.proofs.GoodSetups.{good-checked, few-processes}
+use Rattle.plain_store.proofs.GoodSetups.{few-processes}
 use Rattle.record.specs.declared.events.Event.{Event}
 use Rattle.record.specs.Doorways.{doorway_begin, doorway_end, is_before, is_queued, is_waiting_stage, is_ahead, ahead}
 use Rattle.record.specs.Entries.{Past}

@@ -24,7 +24,7 @@ use Rattle.laws.proofs.FrameCells.{OnCopy, itself, on-copy}
 use Rattle.laws.proofs.HeldCells.{held-entry, held_answers}
 use Rattle.laws.proofs.HeldThere.{access_there}
 use Rattle.laws.proofs.HeldTurns.{comes_in_turn}
-use Rattle.world.specs.Steps.{CanMake, answered, locks_made, versions_made}
+use Rattle.process.specs.Registers.{CanMake, answered, locks_made, versions_made}
 use Rattle.world.proofs.RowsCells.{cell-is, copy-there, data-register, lock-register, locks_at, many-parts, row_at}
 use Rattle.world.proofs.RowsChange.{SameBut, locks-changed, locks-same, register-moved, row-changed, row-same}
 

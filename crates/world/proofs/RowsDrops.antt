@@ -1,5 +1,5 @@
 -- Where a process fails or withdraws, the registers with its open read dropped are those after the entry.
-use Rattle.std.proofs.Common.{◌≡◌, ◌≢◌, ℕ, ◌<◌, ◌==◌, ◌&&◌, Bool, true, false, cond, not, List, [], ◌∷◌, Option, Some, None, Ok, map, get_or, refl, sym, ap, ◌∙◌, eqb-true, eq-eqb, ne_eqb}
+use Rattle.std.proofs.Common.{◌≡◌, ◌≢◌, ℕ, ◌<◌, ◌==◌, ◌&&◌, Bool, true, false, cond, List, [], ◌∷◌, Option, Some, None, Ok, map, get_or, refl, sym, ap, ◌∙◌, eqb-true, eq-eqb, ne_eqb}
 use Rattle.std.proofs.lemmas.Bool.{eqb-false}
 use Rattle.std.proofs.lemmas.Simd.{map-map}
 use Rattle.std.specs.List.{range_with_len}
@@ -34,7 +34,7 @@ use Rattle.laws.proofs.HeldCells.{held-marks}
 use Rattle.laws.proofs.HeldOwners.{OwnersAt, OwnersThere, owner-there, owners_there}
 use Rattle.laws.proofs.HeldReads.{open_read, reads_are, reads_now}
 use Rattle.world.specs.Shows.{locks_from}
-use Rattle.world.specs.Steps.{dropped_locks, dropped_versions}
+use Rattle.world.specs.Drops.{dropped_locks, dropped_versions, locks_without, versions_without}
 use Rattle.world.proofs.RowsCells.{copies-are, data-register, lock-register, locks_at, row_at}
 use Rattle.world.proofs.RowsChange.{SameBut, locks-changed, locks-same, reader-changed, row-changed, row-same}
 
@@ -105,9 +105,9 @@ run-locks : (s : Setup) (now before : Access → Cell) (p : ℕ) (command : Comm
     LeftRun (call s p command number) torn part run → OwnersThere s.processes part → dropped_locks s p (Runs command number (record { part = part; run = run })) (locks_from before s) ≡ locks_from now s
 run-locks s now before p command number part (Writing w) torn x l owners =
     let register : ℕ × Field = read_at (call s p command number) part in
-    ap (λ b. cond (b && not (is_data register.1)) (locks_without_reads (locks_from before s) register.0 register.1 p) (locks_from before s)) l.0
+    ap (λ b. locks_without (cond b (Some register) None) p (locks_from before s)) l.0
     ∙ sym (ap (λ cells. locks_from cells s) (unwritten s now before p command number part w x))
-run-locks s now before p command number part (Reading bits begun) torn x l owners = ap (λ b. cond (b && not (is_data f)) (locks_without_reads (locks_from before s) o f p) (locks_from before s)) l.0 ∙ sym (go (is_data f) refl)
+run-locks s now before p command number part (Reading bits begun) torn x l owners = ap (λ b. locks_without (cond b (Some (o, f)) None) p (locks_from before s)) l.0 ∙ sym (go (is_data f) refl)
   where
     o : ℕ
     o = (read_at (call s p command number) part).0
@@ -124,7 +124,7 @@ run-locks s now before p command number part (Reading bits begun) torn x l owner
     there : o < s.processes
     there = owner-there (call s p command number) s.processes part l.0 owners
 
-    go : (b : Bool) → is_data f ≡ b → locks_from now s ≡ cond (not b) (locks_without_reads (locks_from before s) o f p) (locks_from before s)
+    go : (b : Bool) → is_data f ≡ b → locks_from now s ≡ cond b (locks_from before s) (locks_without_reads (locks_from before s) o f p)
     go true v = locks-same now before s o f v same
     go false v = locks-changed now before s o f (without_reads (row_in (lock_of (locks_from before s) o) f) p) there v same
         (read-dropped s now before p d o f x ∙ ap (λ register. without_reads register p) (sym (lock-register before s o f there v)))
@@ -133,9 +133,9 @@ run-versions : (s : Setup) (now before : Access → Cell) (p : ℕ) (command : C
     LeftRun (call s p command number) torn part run → OwnersThere s.processes part → dropped_versions s p (Runs command number (record { part = part; run = run })) (row_from before s) ≡ row_from now s
 run-versions s now before p command number part (Writing w) torn x l owners =
     let register : ℕ × Field = read_at (call s p command number) part in
-    ap (λ b. cond (b && is_data register.1) (without_reads_at (row_from before s) register.0 register.1 p) (row_from before s)) l.0
+    ap (λ b. versions_without (cond b (Some register) None) p (row_from before s)) l.0
     ∙ sym (ap (λ cells. row_from cells s) (unwritten s now before p command number part w x))
-run-versions s now before p command number part (Reading bits begun) torn x l owners = ap (λ b. cond (b && is_data f) (without_reads_at (row_from before s) o f p) (row_from before s)) l.0 ∙ sym (go (is_data f) refl)
+run-versions s now before p command number part (Reading bits begun) torn x l owners = ap (λ b. versions_without (cond b (Some (o, f)) None) p (row_from before s)) l.0 ∙ sym (go (is_data f) refl)
   where
     o : ℕ
     o = (read_at (call s p command number) part).0

@@ -1,6 +1,5 @@
 -- The registers as they open, that an entry which only marks leaves them, and that they are those of the setup.
-use Rattle.std.proofs.Common.{◌≡◌, ℕ, zero, suc, ◌+◌, ◌==◌, ◌&&◌, false, cond, [], ◌∷◌, None, Ok, length, map, replicate, refl, sym, ap, subst, ◌∙◌, arith}
-use Rattle.std.specs.List.{range_with_len}
+use Rattle.std.proofs.Common.{◌≡◌, ℕ, zero, suc, ◌==◌, ◌&&◌, false, cond, [], ◌∷◌, None, Ok, length, map, refl, sym, ap, subst, ◌∙◌, arith}
 use Rattle.safe_bit.specs.Cell.{Cell, without_read}
 use Rattle.reader_copies.specs.Row.{IsRow}
 use Rattle.safe_number.specs.declared.Access.{Access}
@@ -16,7 +15,7 @@ use Rattle.critical.proofs.Opening.{zero-register, const-range}
 use Rattle.laws.specs.Held.{cell_held, drops}
 use Rattle.laws.proofs.HeldCells.{held-marks}
 use Rattle.world.specs.Shows.{lock_from, locks_from}
-use Rattle.world.specs.Steps.{AreOf}
+use Rattle.world.specs.Drops.{AreOf}
 use Rattle.world.proofs.RowsCells.{data-register, lock-register, locks_at, many-parts, readers-are, row_at, width-is}
 
 -- An entry that only marks.

@@ -1,14 +1,12 @@
 -- What a world keeps after an event: the facts that its methods show, of the fields that they leave.
-use Rattle.std.proofs.Common.{◌≡◌, ℕ, ◌+◌, ◌<◌, ◌≤◌, Bool, true, false, cond, List, ◌∷◌, Some, None, length, map, sym, ap, subst, ◌∙◌, arith}
-use Rattle.std.proofs.Common.{◌==◌, ◌&&◌, eq-eqb}
+use Rattle.std.proofs.Common.{◌≡◌, ℕ, ◌+◌, ◌<◌, ◌≤◌, Bool, true, false, cond, List, ◌∷◌, Some, None, length, map, sym, ap, subst, ◌∙◌, arith, ◌==◌, ◌&&◌, eq-eqb}
 use Rattle.std.proofs.lemmas.Bool.Decides.{nat_tests}
 use Rattle.std.specs.Prelude.{nat_le, slice_index_or, slice_set}
 use Rattle.record.specs.Calls.{calls_in}
 use Rattle.record.specs.Entries.{own}
-use Rattle.world.specs.Seats.{seat_of}
+use Rattle.world.specs.Seats.{Seat, with_kept}
 use Rattle.safe_number.specs.declared.Access.{Access}
 use Rattle.plain_store.specs.declared.Command.{Command}
-use Rattle.plain_store.specs.declared.Reply.{Reply}
 use Rattle.plain_store.specs.declared.Setup.{Setup}
 use Rattle.record.specs.declared.events.Event.{Event}
 use Rattle.record.specs.declared.events.Event.TheVariants as event
@@ -22,18 +20,20 @@ use Rattle.record.specs.Records.{entry_of, past_of, process_of}
 use Rattle.bakery.specs.Locks.{LockRows}
 use Rattle.critical.specs.Registers.{DataRow}
 use Rattle.laws.specs.Doings.{Doing, Runs, call, doing}
-use Rattle.world.specs.declared.told.Told.{Told}
+use Rattle.process.specs.declared.told.Told.{Told}
 use Rattle.world.specs.Changes.{is_pending, next_number, pending, pending_in, told, waiting_in, with_taken}
 use Rattle.world.specs.Events.{GoesOn, IsRefused, KeepsWorld}
-use Rattle.world.specs.Seats.{Seat, kept_at, stage_kept}
-use Rattle.world.specs.Seats as kept
+use Rattle.process.specs.Processes.{kept_at, stage_kept}
+use Rattle.process.specs.Processes as kept
 use Rattle.world.specs.Shows.{Shows, WorldState}
-use Rattle.world.specs.Steps.{AreOf, IsAt, MayStep, dropped_locks, dropped_versions, kept_failing, kept_withdrawing, locks_made, may_fail, may_step, versions_made}
-use Rattle.world.specs.Telling.{marks_told}
-use Rattle.world.proofs.WorldGoes.{StepGoes, may-go, room-taken, step-goes, step-room, stepped_entry}
+use Rattle.world.specs.Drops.{AreOf, dropped_locks, dropped_versions}
+use Rattle.process.specs.Steps.{IsAt, kept_failing, kept_withdrawing, may_fail, may_step}
+use Rattle.process.specs.Registers.{MayStep, locks_made, versions_made}
+use Rattle.process.specs.Telling.{marks_told}
+use Rattle.world.proofs.WorldGoes.{StepGoes, may-go, step-goes, step-room, stepped_entry}
 use Rattle.world.proofs.WorldGoesMarked.{are-of, call-goes, fail-goes, fail-keeps, may-fail, may-step, restart-goes, seat-at, seat-does, set-room, waits-at, withdraw-goes}
 use Rattle.world.proofs.WorldOpen.{is-allowed, opened}
-use Rattle.world.proofs.WorldPending.{pending-most, pending-set}
+use Rattle.world.proofs.WorldPending.{pending-set}
 use Rattle.world.proofs.WorldShows.{SeatSteps, world_with}
 
 -- an index of a seat, and what is known there: the world keeps its invariant, and the event is not refused
@@ -54,12 +54,12 @@ inside-at : (w : WorldState) (capacity : ℕ) (what : Event) (i : ℕ) (seat : S
 inside-at w capacity what i seat u = (index-in w capacity what u.keeps u.ok).0
 
 -- A restart.
-pub restart-on : (w : WorldState) (capacity : ℕ) (p i : ℕ) (seat then : Seat) → IsUsed w capacity (event.Restart p) i seat → then ≡ record seat { kept = kept.Rests } →
+pub restart-on : (w : WorldState) (capacity : ℕ) (p i : ℕ) (seat then : Seat) → IsUsed w capacity (event.Restart p) i seat → then ≡ with_kept kept.Rests seat →
     GoesOn w (event.Restart p) (world_with w.setup w.locks w.versions (slice_set w.seats i then) w.history)
 restart-on w capacity p i seat then u is events shows = subst (λ i. Shows (world_with w.setup w.locks w.versions (slice_set w.seats i then) w.history) (event.Restart p ∷ events)) (sym u.index)
     (restart-goes w events p shows u.ok seat seat then (at-own w capacity (event.Restart p) i seat u) is).shows
 
-pub restart-keeps : (w : WorldState) (capacity : ℕ) (p i : ℕ) (seat then : Seat) → IsUsed w capacity (event.Restart p) i seat → then ≡ record seat { kept = kept.Rests } →
+pub restart-keeps : (w : WorldState) (capacity : ℕ) (p i : ℕ) (seat then : Seat) → IsUsed w capacity (event.Restart p) i seat → then ≡ with_kept kept.Rests seat →
     KeepsWorld (world_with w.setup w.locks w.versions (slice_set w.seats i then) w.history) capacity
 restart-keeps w capacity p i seat then u is = record {
   events = event.Restart p ∷ u.keeps.events;
@@ -75,34 +75,36 @@ restart-keeps w capacity p i seat then u is = record {
         omega (arith, room, set, none)
 
 -- A withdrawal.
-pub withdraw-on : (w : WorldState) (capacity : ℕ) (p i : ℕ) (seat then : Seat) (locks : List LockRows) → IsUsed w capacity (event.Withdraw p) i seat → then ≡ record seat { kept = kept_withdrawing seat.setup seat.process } →
-    ((x : Doing) → IsAt seat x → locks ≡ dropped_locks seat.setup seat.process x w.locks) → GoesOn w (event.Withdraw p) (world_with w.setup locks w.versions (map (told p true false) (slice_set w.seats i then)) w.history)
-withdraw-on w capacity p i seat then locks u is dropped events shows = subst (λ i. Shows (world_with w.setup locks w.versions (map (told p true false) (slice_set w.seats i then)) w.history) (event.Withdraw p ∷ events)) (sym u.index)
-    (withdraw-goes w events p shows u.ok seat seat then (at-own w capacity (event.Withdraw p) i seat u) locks is dropped).shows
+pub withdraw-on : (w : WorldState) (capacity : ℕ) (p i : ℕ) (seat then : Seat) (locks : List LockRows) (row : DataRow) → IsUsed w capacity (event.Withdraw p) i seat → then ≡ with_kept (kept_withdrawing seat.process.setup seat.process.process) seat →
+    ((x : Doing) → IsAt seat.process x → locks ≡ dropped_locks seat.process.setup seat.process.process x w.locks) → ((x : Doing) → IsAt seat.process x → row ≡ dropped_versions seat.process.setup seat.process.process x w.versions) →
+    GoesOn w (event.Withdraw p) (world_with w.setup locks row (map (told p true false) (slice_set w.seats i then)) w.history)
+withdraw-on w capacity p i seat then locks row u is dropped cleared events shows = subst (λ i. Shows (world_with w.setup locks row (map (told p true false) (slice_set w.seats i then)) w.history) (event.Withdraw p ∷ events)) (sym u.index)
+    (withdraw-goes w events p shows u.ok seat seat then (at-own w capacity (event.Withdraw p) i seat u) locks row is dropped cleared).shows
 
-pub withdraw-keeps : (w : WorldState) (capacity : ℕ) (p i : ℕ) (seat then : Seat) (locks : List LockRows) → IsUsed w capacity (event.Withdraw p) i seat → then ≡ record seat { kept = kept_withdrawing seat.setup seat.process } →
-    ((x : Doing) → IsAt seat x → locks ≡ dropped_locks seat.setup seat.process x w.locks) → KeepsWorld (world_with w.setup locks w.versions (map (told p true false) (slice_set w.seats i then)) w.history) capacity
-withdraw-keeps w capacity p i seat then locks u is dropped = record {
+pub withdraw-keeps : (w : WorldState) (capacity : ℕ) (p i : ℕ) (seat then : Seat) (locks : List LockRows) (row : DataRow) → IsUsed w capacity (event.Withdraw p) i seat → then ≡ with_kept (kept_withdrawing seat.process.setup seat.process.process) seat →
+    ((x : Doing) → IsAt seat.process x → locks ≡ dropped_locks seat.process.setup seat.process.process x w.locks) → ((x : Doing) → IsAt seat.process x → row ≡ dropped_versions seat.process.setup seat.process.process x w.versions) →
+    KeepsWorld (world_with w.setup locks row (map (told p true false) (slice_set w.seats i then)) w.history) capacity
+withdraw-keeps w capacity p i seat then locks row u is dropped cleared = record {
   events = event.Withdraw p ∷ u.keeps.events;
-  shows = withdraw-on w capacity p i seat then locks u is dropped u.keeps.events u.keeps.shows;
+  shows = withdraw-on w capacity p i seat then locks row u is dropped cleared u.keeps.events u.keeps.shows;
   room = subst (λ i. length w.history + pending_in (map (told p true false) (slice_set w.seats i then)) ≤ capacity) (sym u.index)
-      (set-room w capacity p seat seat then true false u.keeps.room (inside-at w capacity (event.Withdraw p) i seat u) (at-own w capacity (event.Withdraw p) i seat u) (λ h. ap (λ (x : Seat). is_pending x.kept) is));
+      (set-room w capacity p seat seat then true false u.keeps.room (inside-at w capacity (event.Withdraw p) i seat u) (at-own w capacity (event.Withdraw p) i seat u) (λ h. ap (λ (x : Seat). is_pending x.process.kept) is));
 }
 
 -- A failure.
 pub record IsCutSeat (w : WorldState) (seat then : Seat) (locks : List LockRows) (row : DataRow) : Type 0 where
-  pub seat_then : (x : Doing) → IsAt seat x → then ≡ record seat { kept = kept_failing seat.setup seat.process x }
-  pub locks_then : (x : Doing) → IsAt seat x → locks ≡ dropped_locks seat.setup seat.process x w.locks
-  pub row_then : (x : Doing) → IsAt seat x → row ≡ dropped_versions seat.setup seat.process x w.versions
+  pub seat_then : (x : Doing) → IsAt seat.process x → then ≡ with_kept (kept_failing seat.process.setup seat.process.process x) seat
+  pub locks_then : (x : Doing) → IsAt seat.process x → locks ≡ dropped_locks seat.process.setup seat.process.process x w.locks
+  pub row_then : (x : Doing) → IsAt seat.process x → row ≡ dropped_versions seat.process.setup seat.process.process x w.versions
 
-pub fail-on : (w : WorldState) (capacity : ℕ) (p i : ℕ) (seat then : Seat) (locks : List LockRows) (row : DataRow) (waited : Bool) → IsUsed w capacity (event.Fail p) i seat → IsCutSeat w seat then locks row → waited ≡ is_waiting_stage (stage_kept seat.kept) →
+pub fail-on : (w : WorldState) (capacity : ℕ) (p i : ℕ) (seat then : Seat) (locks : List LockRows) (row : DataRow) (waited : Bool) → IsUsed w capacity (event.Fail p) i seat → IsCutSeat w seat then locks row → waited ≡ is_waiting_stage (stage_kept seat.process.kept) →
     GoesOn w (event.Fail p) (world_with w.setup locks row (map (told p waited false) (slice_set w.seats i then)) w.history)
 fail-on w capacity p i seat then locks row waited u cut waits events shows =
     subst (λ b. Shows (world_with w.setup locks row (map (told p b false) (slice_set w.seats i then)) w.history) (event.Fail p ∷ events)) (sym waits)
-    (subst (λ i. Shows (world_with w.setup locks row (map (told p (is_waiting_stage (stage_kept seat.kept)) false) (slice_set w.seats i then)) w.history) (event.Fail p ∷ events)) (sym u.index)
+    (subst (λ i. Shows (world_with w.setup locks row (map (told p (is_waiting_stage (stage_kept seat.process.kept)) false) (slice_set w.seats i then)) w.history) (event.Fail p ∷ events)) (sym u.index)
     (fail-goes w events p shows u.ok seat seat then (at-own w capacity (event.Fail p) i seat u) locks row cut.seat_then cut.locks_then cut.row_then).shows)
 
-pub fail-ends : (w : WorldState) (capacity : ℕ) (p i : ℕ) (seat then : Seat) (locks : List LockRows) (row : DataRow) (waited : Bool) → IsUsed w capacity (event.Fail p) i seat → IsCutSeat w seat then locks row → waited ≡ is_waiting_stage (stage_kept seat.kept) →
+pub fail-ends : (w : WorldState) (capacity : ℕ) (p i : ℕ) (seat then : Seat) (locks : List LockRows) (row : DataRow) (waited : Bool) → IsUsed w capacity (event.Fail p) i seat → IsCutSeat w seat then locks row → waited ≡ is_waiting_stage (stage_kept seat.process.kept) →
     KeepsWorld (world_with w.setup locks row (map (told p waited false) (slice_set w.seats i then)) w.history) capacity
 fail-ends w capacity p i seat then locks row waited u cut waits = record {
   events = event.Fail p ∷ u.keeps.events;
@@ -115,44 +117,38 @@ fail-ends w capacity p i seat then locks row waited u cut waits = record {
     x : Doing
     x = doing w.setup p (past_of w.setup u.keeps.events)
 
-    does : IsAt seat x
+    does : IsAt seat.process x
     does = seat-does w u.keeps.events (event.Fail p) seat u.keeps.shows u.ok seat (at-own w capacity (event.Fail p) i seat u)
 
 -- what a failure and a withdrawal ask of the seat
-pub used-does : (w : WorldState) (capacity : ℕ) (what : Event) (i : ℕ) (seat : Seat) → IsUsed w capacity what i seat → (x : Doing) × IsAt seat x
+pub used-does : (w : WorldState) (capacity : ℕ) (what : Event) (i : ℕ) (seat : Seat) → IsUsed w capacity what i seat → (x : Doing) × IsAt seat.process x
 used-does w capacity what i seat u = (doing w.setup (process_of what) (past_of w.setup u.keeps.events), seat-does w u.keeps.events what seat u.keeps.shows u.ok seat (at-own w capacity what i seat u))
 
-pub used-registers : (w : WorldState) (capacity : ℕ) (what : Event) (i : ℕ) (seat : Seat) → IsUsed w capacity what i seat → AreOf seat.setup w.locks w.versions
+pub used-registers : (w : WorldState) (capacity : ℕ) (what : Event) (i : ℕ) (seat : Seat) → IsUsed w capacity what i seat → AreOf seat.process.setup w.locks w.versions
 used-registers w capacity what i seat u = are-of w u.keeps.events what seat u.keeps.shows u.ok seat (at-own w capacity what i seat u)
 
-pub used-fails : (w : WorldState) (capacity : ℕ) (p i : ℕ) (seat : Seat) → IsUsed w capacity (event.Fail p) i seat → may_fail seat.kept ≡ true
+pub used-fails : (w : WorldState) (capacity : ℕ) (p i : ℕ) (seat : Seat) → IsUsed w capacity (event.Fail p) i seat → may_fail seat.process.kept ≡ true
 used-fails w capacity p i seat u = may-fail w u.keeps.events p seat u.keeps.shows u.ok seat (at-own w capacity (event.Fail p) i seat u)
 
-pub used-turns : (w : WorldState) (capacity : ℕ) (p i : ℕ) (flick : Bool) (seat : Seat) → IsUsed w capacity (event.Step p flick) i seat → may_step seat.kept ≡ true
+pub used-turns : (w : WorldState) (capacity : ℕ) (p i : ℕ) (flick : Bool) (seat : Seat) → IsUsed w capacity (event.Step p flick) i seat → may_step seat.process.kept ≡ true
 used-turns w capacity p i flick seat u = may-step w u.keeps.events p flick seat u.keeps.shows u.ok seat (at-own w capacity (event.Step p flick) i seat u)
 
-pub used-waits : (w : WorldState) (capacity : ℕ) (p i : ℕ) (seat : Seat) → IsUsed w capacity (event.Withdraw p) i seat → stage_kept seat.kept ≡ stages.Waiting
+pub used-waits : (w : WorldState) (capacity : ℕ) (p i : ℕ) (seat : Seat) → IsUsed w capacity (event.Withdraw p) i seat → stage_kept seat.process.kept ≡ stages.Waiting
 used-waits w capacity p i seat u = waits-at w u.keeps.events p seat u.keeps.shows u.ok seat (at-own w capacity (event.Withdraw p) i seat u)
 
 -- A step.
-pub used-steps : (w : WorldState) (capacity : ℕ) (p i : ℕ) (flick : Bool) (seat : Seat) → IsUsed w capacity (event.Step p flick) i seat → MayStep seat w.locks w.versions flick
-used-steps w capacity p i flick seat u = subst (λ seat. MayStep seat w.locks w.versions flick) (sym (at-own w capacity (event.Step p flick) i seat u)) (may-go w u.keeps.events p flick seat u.keeps.shows u.ok)
+pub used-steps : (w : WorldState) (capacity : ℕ) (p i : ℕ) (flick : Bool) (seat : Seat) → IsUsed w capacity (event.Step p flick) i seat → MayStep seat.process w.locks w.versions flick
+used-steps w capacity p i flick seat u = subst (λ (seat : Seat). MayStep seat.process w.locks w.versions flick) (sym (at-own w capacity (event.Step p flick) i seat u)) (may-go w u.keeps.events p flick seat u.keeps.shows u.ok)
 
 step-at : (w : WorldState) (capacity : ℕ) (p i : ℕ) (flick : Bool) (seat : Seat) (a : Access) (t : Told) (then : Seat) → IsUsed w capacity (event.Step p flick) i seat → SeatSteps w.locks w.versions flick seat a t then →
     (events : List Event) → Shows w events → StepGoes w events p flick seat a t then
 step-at w capacity p i flick seat a t then u steps events shows = step-goes w events p flick shows u.ok seat seat (at-own w capacity (event.Step p flick) i seat u) a t then steps
 
-pub step-pushes : (w : WorldState) (capacity : ℕ) (p i : ℕ) (flick : Bool) (seat : Seat) (a : Access) (t : Told) (then : Seat) → IsUsed w capacity (event.Step p flick) i seat → SeatSteps w.locks w.versions flick seat a t then →
-    (r : Reply) → reply_taken (marks_told t) ≡ Some r → length w.history < capacity
-step-pushes w capacity p i flick seat a t then u steps r h =
-    room-taken w capacity p seat seat then u.keeps.room (inside-at w capacity (event.Step p flick) i seat u) (at-own w capacity (event.Step p flick) i seat u)
-    ((step-at w capacity p i flick seat a t then u steps u.keeps.events u.keeps.shows).taking r h)
-
 -- the world that a step leaves
 abbrev pub stepped_world : WorldState → ℕ → ℕ → Seat → Access → Told → Seat → WorldState
 stepped_world w p i seat a t then = world_with w.setup (locks_made w.locks a) (versions_made w.versions a)
-    (map (told p (is_waiting_stage (stage_kept seat.kept)) (is_waiting_stage (stage_kept then.kept))) (slice_set w.seats i then))
-    (with_taken w.history p then.command then.number (reply_taken (marks_told t)))
+    (map (told p (is_waiting_stage (stage_kept seat.process.kept)) (is_waiting_stage (stage_kept then.process.kept))) (slice_set w.seats i then))
+    (with_taken w.history p then.process.command then.process.number (reply_taken (marks_told t)))
 
 pub step-on : (w : WorldState) (capacity : ℕ) (p i : ℕ) (flick : Bool) (seat : Seat) (a : Access) (t : Told) (then : Seat) → IsUsed w capacity (event.Step p flick) i seat → SeatSteps w.locks w.versions flick seat a t then →
     GoesOn w (event.Step p flick) (stepped_world w p i seat a t then)
@@ -169,7 +165,7 @@ step-ends w capacity p i flick seat a t then u steps more grown = record {
   events = event.Step p flick ∷ u.keeps.events;
   shows = step-on w capacity p i flick seat a t then u steps u.keeps.events u.keeps.shows;
   room = subst (λ i. length (stepped_world w p i seat a t then).history + pending_in (stepped_world w p i seat a t then).seats ≤ more) (sym u.index) (wider _ (step-room w capacity p seat seat then
-      (is_waiting_stage (stage_kept seat.kept)) (is_waiting_stage (stage_kept then.kept)) (reply_taken (marks_told t)) u.keeps.room
+      (is_waiting_stage (stage_kept seat.process.kept)) (is_waiting_stage (stage_kept then.process.kept)) (reply_taken (marks_told t)) u.keeps.room
       (inside-at w capacity (event.Step p flick) i seat u) (at-own w capacity (event.Step p flick) i seat u) goes.taking goes.keeping));
 }
   where
@@ -181,30 +177,19 @@ step-ends w capacity p i flick seat a t then u steps more grown = record {
 
 -- A call.
 abbrev pub called_then : Seat → Command → ℕ → List Bool → Seat
-called_then seat command number waiting = record seat { kept = kept_at seat.setup seat.process (Runs command number (enter (call seat.setup seat.process command number) Raises)); command = command; number = number; begun = false; before = waiting }
+called_then seat command number waiting = record { process = record seat.process { kept = kept_at seat.process.setup seat.process.process (Runs command number (enter (call seat.process.setup seat.process.process command number) Raises)); command = command; number = number }; begun = false; before = waiting }
 
-pub call-on : (w : WorldState) (capacity : ℕ) (p i : ℕ) (command : Command) (seat then : Seat) (number : ℕ) → IsUsed w capacity (event.Call p command) i seat → is_command command ≡ true → number ≡ next_number w.setup seat.number →
+pub call-on : (w : WorldState) (capacity : ℕ) (p i : ℕ) (command : Command) (seat then : Seat) (number : ℕ) → IsUsed w capacity (event.Call p command) i seat → is_command command ≡ true → number ≡ next_number w.setup seat.process.number →
     then ≡ called_then seat command number (waiting_in w.seats) → GoesOn w (event.Call p command) (world_with w.setup w.locks w.versions (slice_set w.seats i then) w.history)
 call-on w capacity p i command seat then number u given counted is events shows = subst (λ i. Shows (world_with w.setup w.locks w.versions (slice_set w.seats i then) w.history) (event.Call p command ∷ events)) (sym u.index)
     (call-goes w events p command shows u.ok given seat seat then (at-own w capacity (event.Call p command) i seat u) number counted is).shows
-
-pub call-ends : (w : WorldState) (capacity : ℕ) (p i : ℕ) (command : Command) (seat then : Seat) (number : ℕ) → IsUsed w capacity (event.Call p command) i seat → is_command command ≡ true → number ≡ next_number w.setup seat.number →
-    then ≡ called_then seat command number (waiting_in w.seats) → (more : ℕ) → length w.history + length w.seats ≤ more → KeepsWorld (world_with w.setup w.locks w.versions (slice_set w.seats i then) w.history) more
-call-ends w capacity p i command seat then number u given counted is more room = record {
-  events = event.Call p command ∷ u.keeps.events;
-  shows = call-on w capacity p i command seat then number u given counted is u.keeps.events u.keeps.shows;
-  room =
-      let most = pending-most (slice_set w.seats i then) in
-      let same = Rattle.std.proofs.lemmas.List.length-set w.seats i then in
-      omega (arith, room, most, same);
-}
 
 few-calls : (n : ℕ) → nat_le 65535 n ≡ false → n < 65535
 few-calls n h = grind (arith, nat_tests)
 
 -- in version 2 its number fits
-pub call-counts : (w : WorldState) (capacity : ℕ) (p i : ℕ) (command : Command) (seat : Seat) → IsUsed w capacity (event.Call p command) i seat → w.setup.version ≡ 2 → seat.number < 65535
-call-counts w capacity p i command seat u two = few-calls seat.number (ap (nat_le 65535) number ∙ sym (ap (λ b. b && nat_le 65535 (calls_in (own p (past_of s u.keeps.events)))) version) ∙ counted)
+pub call-counts : (w : WorldState) (capacity : ℕ) (p i : ℕ) (command : Command) (seat : Seat) → IsUsed w capacity (event.Call p command) i seat → w.setup.version ≡ 2 → seat.process.number < 65535
+call-counts w capacity p i command seat u two = few-calls seat.process.number (ap (nat_le 65535) number ∙ sym (ap (λ b. b && nat_le 65535 (calls_in (own p (past_of s u.keeps.events)))) version) ∙ counted)
   where
     s : Setup
     s = w.setup
@@ -212,8 +197,8 @@ call-counts w capacity p i command seat u two = few-calls seat.number (ap (nat_l
     version : (s.version == 2) ≡ true
     version = eq-eqb s.version 2 two
 
-    number : seat.number ≡ calls_in (own p (past_of s u.keeps.events))
-    number = ap (λ (x : Seat). x.number) (seat-at w u.keeps.events (event.Call p command) seat u.keeps.shows u.ok seat (at-own w capacity (event.Call p command) i seat u))
+    number : seat.process.number ≡ calls_in (own p (past_of s u.keeps.events))
+    number = ap (λ (x : Seat). x.process.number) (seat-at w u.keeps.events (event.Call p command) seat u.keeps.shows u.ok seat (at-own w capacity (event.Call p command) i seat u))
         ∙ ap (λ b. cond b (calls_in (own p (past_of s u.keeps.events))) 0) version
 
     counted : ((s.version == 2) && nat_le 65535 (calls_in (own p (past_of s u.keeps.events)))) ≡ false

@@ -1,9 +1,7 @@
 -- The world after an event without an access: a call, a failure, a withdrawal, a restart.
-use Rattle.std.proofs.Common.{◌≡◌, ℕ, suc, ◌+◌, ◌==◌, ◌&&◌, Bool, true, false, cond, List, ◌∷◌, Option, Some, None, map, refl, sym, ap, subst, ◌∙◌, arith, eq-eqb}
+use Rattle.std.proofs.Common.{◌≡◌, ℕ, suc, ◌+◌, ◌==◌, Bool, true, false, cond, List, ◌∷◌, Option, Some, None, map, refl, sym, ap, ◌∙◌, arith, eq-eqb}
 use Rattle.std.specs.Prelude.{Ok, fold, is_some, nat_lt, slice_set}
 use Rattle.std.specs.List.{range_with_len}
-use Rattle.safe_number.specs.declared.Field.{Field}
-use Rattle.safe_number.specs.declared.Field.TheVariants.{Choosing, Ticket, Commit, Stamp0, Stamp1, Image0, Image1}
 use Rattle.plain_store.specs.declared.Command.{Command}
 use Rattle.plain_store.specs.declared.Setup.{Setup}
 use Rattle.plain_store.specs.Setups.{checked}
@@ -16,34 +14,31 @@ use Rattle.record.specs.Doorways.{doorway_begin, is_waiting_stage}
 use Rattle.record.specs.Entries.{Entry, Past, own, has, is_called}
 use Rattle.record.specs.Histories.{history}
 use Rattle.record.specs.Parts.{Raises}
-use Rattle.record.specs.Parts as part
-use Rattle.record.specs.Places.{enter, place_of}
+use Rattle.record.specs.Places.{enter}
 use Rattle.record.specs.Records.{added, entry_of, past_of, refused, refused_at}
 use Rattle.record.specs.Registers.{processes}
-use Rattle.record.specs.Scripts.{Call}
 use Rattle.record.specs.Stages.{stage, stage_after}
 use Rattle.record.proofs.Width.{IsGood, is_good}
-use Rattle.bakery.proofs.Passage.{on-the-way}
-use Rattle.bakery.proofs.Reached as reached
-use Rattle.critical.specs.Registers.{DataRow, is_data}
 use Rattle.laws.specs.Doings.{Runs, call, doing}
 use Rattle.laws.proofs.Doings.{stage_of}
 use Rattle.laws.proofs.Frame.{own-own}
 use Rattle.laws.proofs.FrameInside.{stage-is}
 use Rattle.laws.proofs.FrameSteps.{doing-above}
-use Rattle.laws.proofs.Theorems.{WaitsAt, waiter, less, not_less}
+use Rattle.laws.proofs.Theorems.{less, not_less}
 use Rattle.world.specs.Changes.{next_number, told, waiting_in, waits_in}
-use Rattle.world.specs.Seats.{Kept, Seat, seat_of, kept_at, stage_kept, waiting_before}
-use Rattle.world.specs.Seats as kept
+use Rattle.world.specs.Seats.{Seat, seat_of, with_kept}
+use Rattle.process.specs.Processes.{Kept, kept_at, stage_kept}
+use Rattle.process.specs.Processes as kept
 use Rattle.world.specs.Shows.{world_of}
-use Rattle.world.specs.Steps.{IsReached, dropped_locks, dropped_versions, kept_failing, kept_withdrawing}
+use Rattle.world.specs.Drops.{dropped_locks, dropped_versions}
+use Rattle.process.specs.Steps.{kept_failing, kept_withdrawing}
 use Rattle.world.proofs.QueueAfter.{before-called}
 use Rattle.world.proofs.QueueBegun.{begun-after}
 use Rattle.world.proofs.RowsCells.{locks_at, row_at}
 use Rattle.world.proofs.RowsDrops.{locks-dropped, versions-dropped}
 use Rattle.world.proofs.RowsKept.{locks-stay, versions-stay}
-use Rattle.world.proofs.WorldCuts.{marked_as, failing-kept, withdrawing-kept, restarted-kept, calling-kept}
-use Rattle.world.proofs.WorldDoing.{is-at, stage-seat}
+use Rattle.process.proofs.Marked.{marked_as, failing-kept, withdrawing-kept, restarted-kept, calling-kept}
+use Rattle.process.proofs.Stages.{stage-process}
 use Rattle.world.proofs.WorldLists.{get-mapped, get-beyond, map-same}
 use Rattle.world.proofs.WorldSeats.{waited, own-seat, all-seats, begun-kept}
 use Rattle.world.proofs.WorldShows.{world_with, history-then}
@@ -60,18 +55,18 @@ waited-own past p e h = ap (λ b. is_waiting_stage (cond b (fold stage_after (st
 
 seats-marked : (s : Setup) → checked s ≡ Ok tt → (events : List Event) (what : Event) (p : ℕ) (mark : Mark) → let past : Past = past_of s events in entry_of s past what ≡ Some (marked_as p mark) → has is_called (marked_as p mark) ≡ false →
     (k : Kept) → k ≡ kept_at s p (doing s p (marked_as p mark ∷ past)) → (waits : Bool) → waited (marked_as p mark ∷ past) p ≡ waits →
-    map (told p (waited past p) waits) (slice_set (map (seat_of s past) (processes s)) p (record (seat_of s past p) { kept = k })) ≡ map (seat_of s (marked_as p mark ∷ past)) (processes s)
+    map (told p (waited past p) waits) (slice_set (map (seat_of s past) (processes s)) p (with_kept k (seat_of s past p))) ≡ map (seat_of s (marked_as p mark ∷ past)) (processes s)
 seats-marked s good events what p mark h called k is waits then =
     let past : Past = past_of s events in
     let e : Entry = marked_as p mark in
-    ap (λ b. map (told p (waited past p) b) (slice_set (map (seat_of s past) (processes s)) p (record (seat_of s past p) { kept = k }))) (sym then)
-    ∙ all-seats s good events what e h (record (seat_of s past p) { kept = k })
+    ap (λ b. map (told p (waited past p) b) (slice_set (map (seat_of s past) (processes s)) p (with_kept k (seat_of s past p)))) (sym then)
+    ∙ all-seats s good events what e h (with_kept k (seat_of s past p))
     (own-seat s good events what e h called k (is_some (doorway_begin p past)) is (begun-kept s (is_good s good) events what e h refl called))
 
 -- A failure.
 pub fail_shows : (s : Setup) → checked s ≡ Ok tt → (events : List Event) (p : ℕ) → let past : Past = past_of s events in refused s past (event.Fail p) ≡ None → refused_at (event.Fail p) (stage p past) ≡ None →
     world_with s (dropped_locks s p (doing s p past) (locks_at s past)) (dropped_versions s p (doing s p past) (row_at s past))
-    (map (told p (waited past p) false) (slice_set (map (seat_of s past) (processes s)) p (record (seat_of s past p) { kept = kept_failing s p (doing s p past) }))) (history s past) ≡ world_of s (marked_as p Failed ∷ past)
+    (map (told p (waited past p) false) (slice_set (map (seat_of s past) (processes s)) p (with_kept (kept_failing s p (doing s p past)) (seat_of s past p)))) (history s past) ≡ world_of s (marked_as p Failed ∷ past)
 fail_shows s good events p ok at = λ i. world_with s
     (locks-dropped s good events (event.Fail p) (marked_as p Failed) is refl refl i)
     (versions-dropped s good events (event.Fail p) (marked_as p Failed) is refl refl i)
@@ -86,47 +81,13 @@ fail_shows s good events p ok at = λ i. world_with s
 
 -- A withdrawal.
 
--- who waits reads no register of the versions
-waits-field : (c : Call) (t : ℕ) (w : ℕ × Field) (ws : List (ℕ × Field)) → reached.IsReached c (part.Waits t w ws) → is_data w.1 ≡ false
-waits-field c t (j, Choosing) ws r = refl
-waits-field c t (j, Ticket) ws r = refl
-waits-field c t (j, Commit) ws r = absurd r
-waits-field c t (j, Stamp0) ws r = absurd r
-waits-field c t (j, Stamp1) ws r = absurd r
-waits-field c t (j, Image0) ws r = absurd r
-waits-field c t (j, Image1) ws r = absurd r
-
-pub waiting-leaves : (s : Setup) → IsGood s → (events : List Event) (p : ℕ) (row : DataRow) → let past : Past = past_of s events in is_waiting_stage (stage p past) ≡ true → dropped_versions s p (doing s p past) row ≡ row
-waiting-leaves s g events p row h = ap (λ d. dropped_versions s p d row) at.does ∙ ap (λ x. dropped x) at.part_is ∙ ap (λ b. cond b (Rattle.critical.specs.Registers.without_reads_at row at.wait.0 at.wait.1 p) row) field
-  where
-    past : Past
-    past = past_of s events
-
-    at : WaitsAt (doing s p past)
-    at = waiter s g events p h
-
-    c : Call
-    c = call s p at.command at.number
-
-    dropped : part.Part → DataRow
-    dropped x = cond (part.is_read x && is_data (part.read_at c x).1) (Rattle.critical.specs.Registers.without_reads_at row (part.read_at c x).0 (part.read_at c x).1 p) row
-
-    there : IsReached s p (Runs at.command at.number at.at)
-    there = subst (IsReached s p) at.does (is-at s g events p).reached
-
-    on : reached.IsReached c at.at.part
-    on = subst (λ (y : Rattle.record.specs.Places.Place). reached.IsReached c y.part) (sym there.1) (on-the-way c there.0).reached
-
-    field : is_data at.wait.1 ≡ false
-    field = waits-field c at.ticket at.wait at.waits (subst (reached.IsReached c) at.part_is on)
-
 pub withdraw_shows : (s : Setup) → checked s ≡ Ok tt → (events : List Event) (p : ℕ) → let past : Past = past_of s events in refused s past (event.Withdraw p) ≡ None → waited past p ≡ true →
-    world_with s (dropped_locks s p (doing s p past) (locks_at s past)) (row_at s past)
-    (map (told p true false) (slice_set (map (seat_of s past) (processes s)) p (record (seat_of s past p) { kept = kept_withdrawing s p }))) (history s past) ≡ world_of s (marked_as p Withdrew ∷ past)
+    world_with s (dropped_locks s p (doing s p past) (locks_at s past)) (dropped_versions s p (doing s p past) (row_at s past))
+    (map (told p true false) (slice_set (map (seat_of s past) (processes s)) p (with_kept (kept_withdrawing s p) (seat_of s past p)))) (history s past) ≡ world_of s (marked_as p Withdrew ∷ past)
 withdraw_shows s good events p ok waits = λ i. world_with s
     (locks-dropped s good events (event.Withdraw p) (marked_as p Withdrew) is refl refl i)
-    ((sym (waiting-leaves s (is_good s good) events p (row_at s past) waits) ∙ versions-dropped s good events (event.Withdraw p) (marked_as p Withdrew) is refl refl) i)
-    ((ap (λ b. map (told p b false) (slice_set (map (seat_of s past) (processes s)) p (record (seat_of s past p) { kept = kept_withdrawing s p }))) (sym waits)
+    (versions-dropped s good events (event.Withdraw p) (marked_as p Withdrew) is refl refl i)
+    ((ap (λ b. map (told p b false) (slice_set (map (seat_of s past) (processes s)) p (with_kept (kept_withdrawing s p) (seat_of s past p)))) (sym waits)
     ∙ seats-marked s good events (event.Withdraw p) p Withdrew is refl (kept_withdrawing s p) (sym (withdrawing-kept s past p)) false (waited-own past p (marked_as p Withdrew) refl)) i)
     (sym (history-then s past (marked_as p Withdrew)) i)
   where
@@ -142,7 +103,7 @@ told-none p seats = map-same (told p false false) seats (λ seat. refl)
 
 -- A restart.
 pub restart_shows : (s : Setup) → checked s ≡ Ok tt → (events : List Event) (p : ℕ) → let past : Past = past_of s events in refused s past (event.Restart p) ≡ None → waited past p ≡ false →
-    world_with s (locks_at s past) (row_at s past) (slice_set (map (seat_of s past) (processes s)) p (record (seat_of s past p) { kept = kept.Rests })) (history s past) ≡ world_of s (marked_as p Restarted ∷ past)
+    world_with s (locks_at s past) (row_at s past) (slice_set (map (seat_of s past) (processes s)) p (with_kept kept.Rests (seat_of s past p))) (history s past) ≡ world_of s (marked_as p Restarted ∷ past)
 restart_shows s good events p ok waits = λ i. world_with s
     (sym (locks-stay s past (marked_as p Restarted) refl refl) i)
     (sym (versions-stay s past (marked_as p Restarted) refl refl) i)
@@ -154,7 +115,7 @@ restart_shows s good events p ok waits = λ i. world_with s
     past = past_of s events
 
     seats : List Seat
-    seats = slice_set (map (seat_of s past) (processes s)) p (record (seat_of s past p) { kept = kept.Rests })
+    seats = slice_set (map (seat_of s past) (processes s)) p (with_kept kept.Rests (seat_of s past p))
 
     is : entry_of s past (event.Restart p) ≡ Some (marked_as p Restarted)
     is = entry-added s past (event.Restart p) ok
@@ -169,10 +130,10 @@ waits-is s g events j = go (nat_lt j s.processes) refl
     past = past_of s events
 
     by : Option Seat → Bool
-    by o = elim o [ None ↦ false | Some seat ↦ is_waiting_stage (stage_kept seat.kept) ]
+    by o = elim o [ None ↦ false | Some seat ↦ is_waiting_stage (stage_kept seat.process.kept) ]
 
     go : (b : Bool) → nat_lt j s.processes ≡ b → waits_in (map (seat_of s past) (processes s)) j ≡ waited past j
-    go true l = ap by (get-mapped (seat_of s past) 0 s.processes j j (less j s.processes l) (omega arith)) ∙ ap is_waiting_stage (stage-seat s g events j)
+    go true l = ap by (get-mapped (seat_of s past) 0 s.processes j j (less j s.processes l) (omega arith)) ∙ ap is_waiting_stage (stage-process s g events j)
     go false l = ap by (get-beyond (seat_of s past) 0 s.processes j (not_less j s.processes l))
         ∙ sym (ap is_waiting_stage (stage-is s g events j ∙ ap stage_of (doing-above s g events j (not_less j s.processes l))))
 
@@ -190,7 +151,7 @@ next-is s mine e h = go (s.version == 2) ∙ sym (ap (λ b. cond (s.version == 2
 abbrev pub called_seat : Setup → Past → ℕ → Command → List Bool → Seat
 called_seat s past p command waiting =
     let number : ℕ = next_number s (call_number s (own p past)) in
-    record { setup = s; process = p; kept = kept_at s p (Runs command number (enter (call s p command number) Raises)); command = command; number = number; begun = false; before = waiting }
+    record { process = record { setup = s; process = p; kept = kept_at s p (Runs command number (enter (call s p command number) Raises)); command = command; number = number }; begun = false; before = waiting }
 
 pub call_shows : (s : Setup) → checked s ≡ Ok tt → (events : List Event) (p : ℕ) (command : Command) → let past : Past = past_of s events in refused s past (event.Call p command) ≡ None → waited past p ≡ false →
     world_with s (locks_at s past) (row_at s past) (slice_set (map (seat_of s past) (processes s)) p (called_seat s past p command (waiting_in (map (seat_of s past) (processes s))))) (history s past) ≡ world_of s (marked_as p (Called command) ∷ past)
@@ -229,11 +190,13 @@ call_shows s good events p command ok waits = λ i. world_with s
 
     own_is : seat ≡ seat_of s (e ∷ past) p
     own_is = λ i. let own-seat : Seat = record {
-      setup = s;
-      process = p;
-      kept = (ap (λ n. kept_at s p (Runs command n (enter (call s p command n) Raises))) (next-is s (own p past) e refl) ∙ sym (calling-kept s past p command)) i;
-      command = ap last_command (sym mine) i;
-      number = number i;
+      process = record {
+        setup = s;
+        process = p;
+        kept = (ap (λ n. kept_at s p (Runs command n (enter (call s p command n) Raises))) (next-is s (own p past) e refl) ∙ sym (calling-kept s past p command)) i;
+        command = ap last_command (sym mine) i;
+        number = number i;
+      };
       begun = sym (begun-after s g events (event.Call p command) e is) i;
       before = (waiting-is s g events ∙ sym (before-called s g events (event.Call p command) e is refl)) i;
     } in own-seat

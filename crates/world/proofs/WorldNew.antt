@@ -20,10 +20,11 @@ use Rattle.record.proofs.Width.{is_good}
 use Rattle.bakery.specs.Locks.{LockRows, new_locks}
 use Rattle.critical.specs.Registers.{DataRow, opening_cell, row_from}
 use Rattle.world.specs.Changes.{pending_in}
-use Rattle.world.specs.Seats.{Seat, seat_of, stage_kept}
+use Rattle.world.specs.Seats.{Seat, seat_of}
+use Rattle.process.specs.Processes.{stage_kept}
 use Rattle.world.specs.Shows.{Shows, WorldState}
 use Rattle.world.proofs.RowsKept.{locks-open, versions-open}
-use Rattle.world.proofs.WorldDoing.{stage-seat}
+use Rattle.process.proofs.Stages.{stage-process}
 use Rattle.world.proofs.WorldOpen.{IsOpen, is-open}
 use Rattle.world.proofs.WorldShows.{world_with}
 
@@ -64,21 +65,21 @@ pub at-seat : (w : WorldState) (events : List Event) (what : Event) → Shows w 
 at-seat w events what shows inside = let many = many-seats w events shows in is-open w events (process_of what) shows (omega (arith, many, inside))
 
 -- at its stage
-pub refused-there : (w : WorldState) (events : List Event) (what : Event) (r : Refusal) (seat d : Seat) → Shows w events → process_of what < length w.seats → seat ≡ slice_index_or w.seats (process_of what) d → refused_at what (stage_kept seat.kept) ≡ Some r →
+pub refused-there : (w : WorldState) (events : List Event) (what : Event) (r : Refusal) (seat d : Seat) → Shows w events → process_of what < length w.seats → seat ≡ slice_index_or w.seats (process_of what) d → refused_at what (stage_kept seat.process.kept) ≡ Some r →
     refused w.setup (past_of w.setup events) what ≡ Some r
 refused-there w events what r seat d shows inside is h =
     let s : Setup = w.setup in
     let past : Past = past_of s events in
     let many = many-seats w events shows in
     let o : IsOpen w events (process_of what) = at-seat w events what shows inside in
-    let st : stage_kept seat.kept ≡ stage (process_of what) past = ap (λ (x : Seat). stage_kept x.kept) (is ∙ o.seat d) ∙ stage-seat s (is_good s shows.good) events (process_of what) in
+    let st : stage_kept seat.process.kept ≡ stage (process_of what) past = ap (λ (x : Seat). stage_kept x.process.kept) (is ∙ o.seat d) ∙ stage-process s (is_good s shows.good) events (process_of what) in
     refused-by s past what true (Some r) (calls_full s past what) (is-below (process_of what) s.processes (omega (arith, many, inside))) (ap (refused_at what) (sym st) ∙ h) refl
 
 -- or only for the number of its calls
-pub refused-full : (w : WorldState) (events : List Event) (what : Event) (full : Bool) (seat d : Seat) → Shows w events → process_of what < length w.seats → seat ≡ slice_index_or w.seats (process_of what) d → refused_at what (stage_kept seat.kept) ≡ None →
-    (is_call what && (w.setup.version == 2) && nat_le 65535 seat.number) ≡ full → refused w.setup (past_of w.setup events) what ≡ cond full (Some CallsFull) None
+pub refused-full : (w : WorldState) (events : List Event) (what : Event) (full : Bool) (seat d : Seat) → Shows w events → process_of what < length w.seats → seat ≡ slice_index_or w.seats (process_of what) d → refused_at what (stage_kept seat.process.kept) ≡ None →
+    (is_call what && (w.setup.version == 2) && nat_le 65535 seat.process.number) ≡ full → refused w.setup (past_of w.setup events) what ≡ cond full (Some CallsFull) None
 refused-full w events what full seat d shows inside is h k =
-    refused-by s past what true None full (is-below p s.processes (omega (arith, many, inside))) (ap (refused_at what) (sym st) ∙ h) (sym (by (is_call what) (s.version == 2)) ∙ ap (λ (x : Seat). is_call what && (s.version == 2) && nat_le 65535 x.number) (sym seat_is) ∙ k)
+    refused-by s past what true None full (is-below p s.processes (omega (arith, many, inside))) (ap (refused_at what) (sym st) ∙ h) (sym (by (is_call what) (s.version == 2)) ∙ ap (λ (x : Seat). is_call what && (s.version == 2) && nat_le 65535 x.process.number) (sym seat_is) ∙ k)
   where
     s : Setup
     s = w.setup
@@ -98,8 +99,8 @@ refused-full w events what full seat d shows inside is h k =
     seat_is : seat ≡ seat_of s past p
     seat_is = is ∙ o.seat d
 
-    st : stage_kept seat.kept ≡ stage p past
-    st = ap (λ (x : Seat). stage_kept x.kept) seat_is ∙ stage-seat s (is_good s shows.good) events p
+    st : stage_kept seat.process.kept ≡ stage p past
+    st = ap (λ (x : Seat). stage_kept x.process.kept) seat_is ∙ stage-process s (is_good s shows.good) events p
 
     by : (b v : Bool) → (b && v && nat_le 65535 (cond v (calls_in (own p past)) 0)) ≡ (b && v && nat_le 65535 (calls_in (own p past)))
     by true true = refl
@@ -107,7 +108,7 @@ refused-full w events what full seat d shows inside is h k =
     by false v = refl
 
 -- a step, by the stage alone
-pub refused-step : (w : WorldState) (events : List Event) (p : ℕ) (flick : Bool) (r : Option Refusal) (seat d : Seat) → Shows w events → p < length w.seats → seat ≡ slice_index_or w.seats p d → refused_at (Step p flick) (stage_kept seat.kept) ≡ r →
+pub refused-step : (w : WorldState) (events : List Event) (p : ℕ) (flick : Bool) (r : Option Refusal) (seat d : Seat) → Shows w events → p < length w.seats → seat ≡ slice_index_or w.seats p d → refused_at (Step p flick) (stage_kept seat.process.kept) ≡ r →
     refused w.setup (past_of w.setup events) (Step p flick) ≡ r
 refused-step w events p flick (Some r) seat d shows inside is h = refused-there w events (Step p flick) r seat d shows inside is h
 refused-step w events p flick None seat d shows inside is h = refused-full w events (Step p flick) false seat d shows inside is h refl

@@ -18,10 +18,11 @@ use Rattle.record.proofs.Width.{is_good}
 use Rattle.critical.proofs.Widths.{ranges}
 use Rattle.laws.proofs.Theorems.{less}
 use Rattle.world.specs.Events.{IsRefused}
-use Rattle.world.specs.Seats.{Seat, seat_of, stage_kept}
+use Rattle.world.specs.Seats.{Seat, seat_of}
+use Rattle.process.specs.Processes.{stage_kept}
 use Rattle.world.specs.Shows.{Shows, WorldState}
 use Rattle.world.proofs.RowsCells.{locks_at, row_at}
-use Rattle.world.proofs.WorldDoing.{stage-seat}
+use Rattle.process.proofs.Stages.{stage-process}
 use Rattle.world.proofs.WorldSeats.{waited}
 
 -- an event that is not refused is one of a process that there is, at a stage that allows it, and no call too many
@@ -52,7 +53,7 @@ pub record IsOpen (w : WorldState) (events : List Event) (p : ℕ) : Type 0 wher
   pub seats : w.seats ≡ map (seat_of w.setup (past_of w.setup events)) (processes w.setup)
   pub taken : w.history ≡ history w.setup (past_of w.setup events)
   pub seat : (d : Seat) → slice_index_or w.seats p d ≡ seat_of w.setup (past_of w.setup events) p
-  pub waits : (d : Seat) → is_waiting_stage (stage_kept (slice_index_or w.seats p d).kept) ≡ waited (past_of w.setup events) p
+  pub waits : (d : Seat) → is_waiting_stage (stage_kept (slice_index_or w.seats p d).process.kept) ≡ waited (past_of w.setup events) p
 
 pub is-open : (w : WorldState) (events : List Event) (p : ℕ) → Shows w events → p < w.setup.processes → IsOpen w events p
 is-open w events p shows below = record {
@@ -66,7 +67,7 @@ is-open w events p shows below = record {
   seats = seats;
   taken = ap (λ (w : WorldState). w.history) shows.shown;
   seat = seat;
-  waits = λ d. ap (λ (x : Seat). is_waiting_stage (stage_kept x.kept)) (seat d) ∙ ap is_waiting_stage (stage-seat s (is_good s shows.good) events p);
+  waits = λ d. ap (λ (x : Seat). is_waiting_stage (stage_kept x.process.kept)) (seat d) ∙ ap is_waiting_stage (stage-process s (is_good s shows.good) events p);
 }
   where
     s : Setup

@@ -18,15 +18,17 @@ use Rattle.record.specs.Histories.{reply_taken}
 use Rattle.record.specs.Parts as part
 use Rattle.record.specs.Parts.{Part, is_over, first_marks, last_marks, part_after, to_g}
 use Rattle.record.specs.Places.{Place, enter, is_fresh, is_last, bits_with, run_after, place_after, write_moved}
-use Rattle.record.specs.Program.{Wait, entered_if_none, lets_by, max_of, newest_stamp, reply, store_read, waits_of}
+use Rattle.record.specs.Program.{entered_if_none, lets_by, max_of, newest_stamp, reply, store_read, waits_of}
 use Rattle.record.specs.Scripts.{Call, Next}
 use Rattle.record.specs.Unit.{is_commit}
 use Rattle.reader_copies.specs.Runs as copies
 use Rattle.safe_number.specs.Runs.{new_write}
-use Rattle.laws.specs.Doings.{Doing, Rests, Lies, Runs, Closes, call, runs, closes}
+use Rattle.laws.specs.Doings.{Doing, Rests, Lies, Runs, Closes, call, runs, closes, is_inside}
 use Rattle.world.specs.Changes.{is_pending, pending, pending_in, told}
-use Rattle.world.specs.Seats.{Seat, kept_at, kept_in, kept_closing, inside_kept}
-use Rattle.world.specs.Steps.{marks_with, does_then, kept_failing}
+use Rattle.world.specs.Seats.{Seat}
+use Rattle.process.specs.Processes.{kept_at, kept_in, kept_closing}
+use Rattle.process.specs.Steps.{kept_failing}
+use Rattle.laws.specs.Steps.{marks_with, does_then}
 use Rattle.history_laws.proofs.Outside.{entered-none}
 
 -- a call at this part may still be taken
@@ -249,10 +251,10 @@ fails-pending s p Rests h = refl
 fails-pending s p Lies h = refl
 fails-pending s p (Runs command number at) h =
     let c : Call = call s p command number in
-    cut-pending s p c (torn_at c at) (begun_at c at) (pending_at c at.part) (inside_kept (kept_at s p (Runs command number at))) (done-change c at.part (sym (pending-in c at at.part) ∙ h))
+    cut-pending s p c (torn_at c at) (begun_at c at) (pending_at c at.part) (is_inside (Runs command number at)) (done-change c at.part (sym (pending-in c at at.part) ∙ h))
 fails-pending s p (Closes command number at) h =
     let c : Call = call s p command number in
-    cut-pending s p c (Rattle.record.specs.Cuts.torn_closing at) (Rattle.record.specs.Failures.begun_closing c at) None (inside_kept (kept_at s p (Closes command number at))) refl
+    cut-pending s p c (Rattle.record.specs.Cuts.torn_closing at) (Rattle.record.specs.Failures.begun_closing c at) None (is_inside (Closes command number at)) refl
 
 -- How many calls are pending.
 
@@ -274,7 +276,7 @@ pending-set (x ∷ xs) (suc p) seat d l = added (pending x) (pending_in (slice_s
 
 pub pending-most : (seats : List Seat) → pending_in seats ≤ length seats
 pending-most [] = omega arith
-pending-most (seat ∷ seats) = let more = pending-most seats in go (is_pending seat.kept) more
+pending-most (seat ∷ seats) = let more = pending-most seats in go (is_pending seat.process.kept) more
   where
     go : (b : Bool) → pending_in seats ≤ length seats → cond b 1 0 + pending_in seats ≤ length (seat ∷ seats)
     go true l = omega (arith, l)

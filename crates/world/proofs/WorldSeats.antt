@@ -22,10 +22,11 @@ use Rattle.laws.proofs.Frame.{own-other, own-own, doing-other}
 use Rattle.laws.proofs.FrameEvents.{accepted}
 use Rattle.laws.proofs.Theorems.{not_ahead_of_itself}
 use Rattle.critical.proofs.Widths.{ranges}
-use Rattle.world.specs.Seats.{Kept, Seat, seat_of, kept_at, waiting_before}
+use Rattle.world.specs.Seats.{Seat, seat_of, waiting_before, with_kept}
+use Rattle.process.specs.Processes.{Kept, kept_at}
 use Rattle.world.specs.Changes.{told, before_told}
 use Rattle.world.proofs.WorldLists.{map-changed}
-use Rattle.world.specs.Steps.{is_at_door}
+use Rattle.process.specs.Steps.{is_at_door}
 use Rattle.world.proofs.QueueAfter.{before-done, before-waits, before-kept}
 use Rattle.world.proofs.QueueBegun.{begun-after, begun-others}
 
@@ -35,7 +36,7 @@ waited past p = is_waiting_stage (stage p past)
 
 -- the seat of a process with these parts
 abbrev seat_with : Setup → ℕ → Kept → Command → ℕ → Bool → List Bool → Seat
-seat_with s p kept command number begun before = record { setup = s; process = p; kept = kept; command = command; number = number; begun = begun; before = before }
+seat_with s p kept command number begun before = record { process = record { setup = s; process = p; kept = kept; command = command; number = number }; begun = begun; before = before }
 
 -- what the seat of q is told of the others is what it then has, as its doorway stood
 abbrev pub IsTold : Past → ℕ → Entry → ℕ → Type 0
@@ -145,7 +146,7 @@ begun-before s g good events what e h called was is = begun ∙ sym (begun-after
 pub own-seat : (s : Setup) → checked s ≡ Ok tt → (events : List Event) (what : Event) (e : Entry) → entry_of s (past_of s events) what ≡ Some e → has is_called e ≡ false →
     (kept : Kept) (begun : Bool) → let past : Past = past_of s events in let p : ℕ = e.process in
     kept ≡ kept_at s p (doing s p (e ∷ past)) → begun ≡ is_some (doorway_begin p (e ∷ past)) →
-    told p (waited past p) (waited (e ∷ past) p) (record (seat_of s past p) { kept = kept; begun = begun }) ≡ seat_of s (e ∷ past) p
+    told p (waited past p) (waited (e ∷ past) p) (record (with_kept kept (seat_of s past p)) { begun = begun }) ≡ seat_of s (e ∷ past) p
 own-seat s good events what e h called kept begun is_kept is_begun = λ i. seat_with s p (is_kept i)
     ((sym (command-kept e (own p past) called) ∙ ap last_command (sym (own-own p e past refl))) i)
     ((sym (number-kept s e (own p past) called) ∙ ap (call_number s) (sym (own-own p e past refl))) i)

@@ -25,17 +25,20 @@ use Rattle.critical.specs.Registers.{DataRow}
 use Rattle.laws.specs.Doings.{Doing, doing}
 use Rattle.laws.specs.Held.{IsThere}
 use Rattle.laws.proofs.HeldThere.{access_there}
-use Rattle.world.specs.declared.told.Told.{Told}
+use Rattle.process.specs.declared.told.Told.{Told}
 use Rattle.world.specs.Changes.{told, with_taken}
-use Rattle.world.specs.Seats.{Seat, seat_of, kept_at}
+use Rattle.world.specs.Seats.{Seat, seat_of, with_kept}
+use Rattle.process.specs.Processes.{kept_at, process_after}
 use Rattle.world.specs.Shows.{Shows, WorldState, world_of}
-use Rattle.world.specs.Steps.{CanMake, IsAt, MayStep, answered, does_then, is_at_door, locks_made, marks_with, next_of, versions_made}
-use Rattle.world.specs.Telling.{marks_told}
+use Rattle.process.specs.Registers.{CanMake, MayStep, answered, locks_made, versions_made}
+use Rattle.process.specs.Steps.{IsAt, is_at_door}
+use Rattle.laws.specs.Steps.{does_then, marks_with, next_of}
+use Rattle.process.specs.Telling.{marks_told}
 use Rattle.world.proofs.RowsCells.{locks_at, row_at}
 use Rattle.world.proofs.RowsAccess.{can_make, answers, locks-made, versions-made}
-use Rattle.world.proofs.WorldDoing.{is-at}
+use Rattle.process.proofs.Stages.{is-at}
 use Rattle.world.proofs.WorldSeats.{waited, own-seat, all-seats, begun-stepped}
-use Rattle.world.proofs.WorldSteps.{StepIs, step_is}
+use Rattle.laws.proofs.Steps.{StepIs, step_is}
 
 -- a world of these parts
 abbrev pub world_with : Setup → List LockRows → DataRow → List Seat → List Taken → WorldState
@@ -75,13 +78,13 @@ history-then s past e = go (reply_taken e.marks)
 
 -- the access of a seat's step, its marks, and the seat then
 pub record SeatSteps (locks : List LockRows) (row : DataRow) (flick : Bool) (seat : Seat) (a : Access) (t : Told) (then : Seat) : Type 0 where
-  pub access : (d : Doing) (next : Access) → IsAt seat d → next_of seat.setup seat.process d flick ≡ Some next → a ≡ answered locks row flick next
-  pub seat_is : (d : Doing) → IsAt seat d → then ≡ record seat { kept = kept_at seat.setup seat.process (does_then seat.setup seat.process d flick (value_of a.how)); begun = seat.begun || is_at_door seat.kept }
-  pub marks : (d : Doing) → IsAt seat d → marks_told t ≡ marks_with seat.setup seat.process d flick (value_of a.how)
+  pub access : (d : Doing) (next : Access) → IsAt seat.process d → next_of seat.process.setup seat.process.process d flick ≡ Some next → a ≡ answered locks row flick next
+  pub seat_is : (d : Doing) → IsAt seat.process d → then ≡ record (with_kept (kept_at seat.process.setup seat.process.process (does_then seat.process.setup seat.process.process d flick (value_of a.how))) seat) { begun = seat.begun || is_at_door seat.process.kept }
+  pub marks : (d : Doing) → IsAt seat.process d → marks_told t ≡ marks_with seat.process.setup seat.process.process d flick (value_of a.how)
 
 -- a seat that shows a process may step
 pub may-step : (s : Setup) → checked s ≡ Ok tt → (events : List Event) (p : ℕ) (flick : Bool) (e : Entry) → entry_of s (past_of s events) (event.Step p flick) ≡ Some e →
-    MayStep (seat_of s (past_of s events) p) (locks_at s (past_of s events)) (row_at s (past_of s events)) flick
+    MayStep (process_after s (past_of s events) p) (locks_at s (past_of s events)) (row_at s (past_of s events)) flick
 may-step s good events p flick e h = record {
   doing = doing s p past;
   is_at = is-at s g events p;
@@ -109,7 +112,7 @@ pub record StepMade (s : Setup) (past : Past) (p : ℕ) (e : Entry) (a : Access)
   pub marks : e.marks ≡ map (placed (length (history s past))) (marks_told t)
   pub called : has is_called e ≡ false
   pub there : IsThere s a
-  pub seat_is : then ≡ record (seat_of s past p) { kept = kept_at s p (doing s p (e ∷ past)); begun = is_some (doorway_begin p past) || is_at_door (kept_at s p (doing s p past)) }
+  pub seat_is : then ≡ record (with_kept (kept_at s p (doing s p (e ∷ past))) (seat_of s past p)) { begun = is_some (doorway_begin p past) || is_at_door (kept_at s p (doing s p past)) }
 
 pub step-made : (s : Setup) → checked s ≡ Ok tt → (events : List Event) (p : ℕ) (flick : Bool) (e : Entry) → entry_of s (past_of s events) (event.Step p flick) ≡ Some e →
     (a : Access) (t : Told) (then : Seat) → let past : Past = past_of s events in SeatSteps (locks_at s past) (row_at s past) flick (seat_of s past p) a t then → StepMade s past p e a t then
@@ -120,7 +123,7 @@ step-made s good events p flick e h a t then steps = record {
   called = no_called e.marks is.plain;
   there = subst (IsThere s) (sym made) (access_there s g events (event.Step p flick) e h (valued s past flick is.next) is.access);
   seat_is = steps.seat_is (doing s p past) at
-      ∙ ap (λ d. let seat : Seat = record (seat_of s past p) { kept = kept_at s p d; begun = is_some (doorway_begin p past) || is_at_door (kept_at s p (doing s p past)) } in seat)
+      ∙ ap (λ d. let seat : Seat = record (with_kept (kept_at s p d) (seat_of s past p)) { begun = is_some (doorway_begin p past) || is_at_door (kept_at s p (doing s p past)) } in seat)
       (ap (λ (a : Access). does_then s p (doing s p past) flick (value_of a.how)) made ∙ sym is.does);
 }
   where
@@ -133,7 +136,7 @@ step-made s good events p flick e h a t then steps = record {
     is : StepIs s past p flick e
     is = step_is s g events p flick e h
 
-    at : IsAt (seat_of s past p) (doing s p past)
+    at : IsAt (process_after s past p) (doing s p past)
     at = is-at s g events p
 
     there : IsThere s is.next
@@ -162,7 +165,7 @@ step_shows s good events p flick e h a t then made = λ i. world_with s (locks i
     versions = versions-made s past e a made.access made.there
 
     Told-seats : ℕ → Type 0
-    Told-seats p = (then : Seat) → then ≡ record (seat_of s past p) { kept = kept_at s p (doing s p (e ∷ past)); begun = is_some (doorway_begin p past) || is_at_door (kept_at s p (doing s p past)) } →
+    Told-seats p = (then : Seat) → then ≡ record (with_kept (kept_at s p (doing s p (e ∷ past))) (seat_of s past p)) { begun = is_some (doorway_begin p past) || is_at_door (kept_at s p (doing s p past)) } →
         map (told p (waited past p) (waited (e ∷ past) p)) (slice_set (map (seat_of s past) (processes s)) p then) ≡ map (seat_of s (e ∷ past)) (processes s)
 
     at-own : Told-seats e.process

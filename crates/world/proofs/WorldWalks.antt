@@ -1,19 +1,21 @@
 -- A step within a number access at the data, and the world that it leaves.
 use Rattle.std.proofs.Common.{◌≡◌, ℕ, zero, suc, ◌+◌, ◌<◌, ◌≤◌, ◌||◌, Bool, true, false, List, [], ◌∷◌, None, length, map, refl, sym, ap, subst, ◌∙◌, arith}
 use Rattle.std.specs.Prelude.{slice_index_or, slice_set}
+use Rattle.record.specs.declared.events.Event.{Event}
 use Rattle.record.specs.declared.events.Event.TheVariants as event
 use Rattle.record.specs.Doorways.{is_waiting_stage}
-use Rattle.record.specs.Places.{value_of}
 use Rattle.record.specs.Records.{refused_at}
 use Rattle.critical.specs.Registers.{DataRow}
-use Rattle.world.specs.declared.told.Told.TheVariants.{Nothing}
-use Rattle.world.specs.Changes.{told}
-use Rattle.world.specs.Events.{GoesOn, KeepsWorld}
+use Rattle.process.specs.declared.told.Told.TheVariants.{Nothing}
+use Rattle.world.specs.Changes.{pending_in, told}
+use Rattle.world.specs.Events.{KeepsWorld}
 use Rattle.world.specs.Flicks.{FlickState}
-use Rattle.world.specs.Seats as kept
-use Rattle.world.specs.Seats.{Kept, Seat, kept_at, stage_kept}
-use Rattle.world.specs.Shows.{WorldState}
-use Rattle.world.specs.Steps.{MayStep, StepsWithin, bits_within, does_then, is_at_door}
+use Rattle.process.specs.Processes as kept
+use Rattle.world.specs.Seats.{Seat}
+use Rattle.process.specs.Processes.{Kept, kept_at, stage_kept}
+use Rattle.world.specs.Shows.{Shows, WorldState}
+use Rattle.process.specs.Registers.{MayStep, StepsWithin}
+use Rattle.process.specs.Steps.{bits_within, is_at_door}
 use Rattle.world.specs.Walks.{StepsQuietly, Walks, bits_within_at}
 use Rattle.world.proofs.WorldEnds.{IsUsed, step-adds, step-ends, step-on, stepped_world, used-steps}
 use Rattle.world.proofs.WorldNew.{refused-step}
@@ -41,66 +43,78 @@ or-false true c h = refl
 or-false false c h = h
 
 -- its step is not refused
-pub within-used : (w : WorldState) (capacity p i : ℕ) (flick : Bool) (seat : Seat) → KeepsWorld w capacity → i ≡ p → i < length w.seats → seat ≡ slice_index_or w.seats i seat → 0 < bits_within seat.kept →
+pub within-used : (w : WorldState) (capacity p i : ℕ) (flick : Bool) (seat : Seat) → KeepsWorld w capacity → i ≡ p → i < length w.seats → seat ≡ slice_index_or w.seats i seat → 0 < bits_within seat.process.kept →
     IsUsed w capacity (event.Step p flick) i seat
 within-used w capacity p i flick seat keeps index there seat_is h = record {
   keeps = keeps;
-  ok = λ events shows. refused-step w events p flick None seat seat shows (subst (λ i. i < length w.seats) index there) (seat_is ∙ ap (λ i. slice_index_or w.seats i seat) index) ((inside-is seat.kept h).turn p flick);
+  ok = λ events shows. refused-step w events p flick None seat seat shows (subst (λ i. i < length w.seats) index there) (seat_is ∙ ap (λ i. slice_index_or w.seats i seat) index) ((inside-is seat.process.kept h).turn p flick);
   index = index;
   seat_is = seat_is;
 }
 
 -- and may be made
-pub within-may : (w : WorldState) (capacity p i : ℕ) (flick : Bool) (seat : Seat) → KeepsWorld w capacity → i ≡ p → i < length w.seats → seat ≡ slice_index_or w.seats i seat → 0 < bits_within seat.kept →
-    MayStep seat w.locks w.versions flick
+pub within-may : (w : WorldState) (capacity p i : ℕ) (flick : Bool) (seat : Seat) → KeepsWorld w capacity → i ≡ p → i < length w.seats → seat ≡ slice_index_or w.seats i seat → 0 < bits_within seat.process.kept →
+    MayStep seat.process w.locks w.versions flick
 within-may w capacity p i flick seat keeps index there seat_is h = used-steps w capacity p i flick seat (within-used w capacity p i flick seat keeps index there seat_is h)
 
 -- the world after it
 abbrev pub walked_world : WorldState → ℕ → DataRow → Seat → WorldState
 walked_world w i row then = world_with w.setup w.locks row (slice_set w.seats i then) w.history
 
-pub record WalksOn (w : WorldState) (capacity p : ℕ) (flick : Bool) (new : WorldState) : Type 0 where
-  pub keeps : KeepsWorld new capacity
-  pub steps : StepsQuietly w p flick new
+-- the room that a world needs that shows events
+abbrev pub room_of : WorldState → ℕ
+room_of w = length w.history + pending_in w.seats
 
-pub walks-on : (w : WorldState) (capacity p i : ℕ) (flick : Bool) (seat : Seat) (row : DataRow) (then : Seat) → KeepsWorld w capacity → i ≡ p → i < length w.seats → seat ≡ slice_index_or w.seats i seat → 0 < bits_within seat.kept →
-    StepsWithin w.locks w.versions flick seat row then → WalksOn w capacity p flick (walked_world w i row then)
-walks-on w capacity p i flick seat row then keeps index there seat_is h e = record {
-  keeps = subst (λ w. KeepsWorld w capacity) same (step-ends w capacity p i flick seat e.access Nothing then u s capacity (omega arith));
-  steps = record {
-    access = e.access;
-    adds = λ events shows. step-adds w capacity p i flick seat e.access Nothing then u s events shows;
-    shows = subst (λ new. GoesOn w (event.Step p flick) new) same (step-on w capacity p i flick seat e.access Nothing then u s);
-    setup = refl;
-  };
+pub keeps_of : (w : WorldState) (events : List Event) → Shows w events → KeepsWorld w (room_of w)
+keeps_of w events shows = record { events = events; shows = shows; room = omega arith }
+
+-- what it makes of the seat, and of the world
+quiet-steps : (w : WorldState) (flick : Bool) (seat : Seat) (row : DataRow) (then : Seat) → 0 < bits_within seat.process.kept → then ≡ record seat { process = then.process } →
+    (e : StepsWithin w.locks w.versions flick seat.process row then.process) → SeatSteps w.locks w.versions flick seat e.access Nothing then
+quiet-steps w flick seat row then h stays e = record {
+  access = e.is_next;
+  seat_is = λ d at. stays ∙ (λ k. let x : Seat = record seat { process = e.then_is d at k; begun = sym (or-false seat.begun (is_at_door seat.process.kept) (inside-is seat.process.kept h).door) k } in x);
+  marks = λ d at. sym (e.marks d at);
 }
+
+quiet-world : (w : WorldState) (p i : ℕ) (flick : Bool) (seat : Seat) (row : DataRow) (then : Seat) → 0 < bits_within seat.process.kept →
+    (e : StepsWithin w.locks w.versions flick seat.process row then.process) → stepped_world w p i seat e.access Nothing then ≡ walked_world w i row then
+quiet-world w p i flick seat row then h e = λ k. world_with w.setup (e.locks_same k) (sym e.row_is k) (seats k) w.history
   where
-    is : IsInside seat.kept
-    is = inside-is seat.kept h
+    is : IsInside seat.process.kept
+    is = inside-is seat.process.kept h
 
-    u : IsUsed w capacity (event.Step p flick) i seat
-    u = within-used w capacity p i flick seat keeps index there seat_is h
-
-    s : SeatSteps w.locks w.versions flick seat e.access Nothing then
-    s = record {
-      access = e.is_next;
-      seat_is = λ d at. e.seat_is d at ∙ ap (λ b. let x : Seat = record seat { kept = kept_at seat.setup seat.process (does_then seat.setup seat.process d flick (value_of e.access.how)); begun = b } in x) (sym (or-false seat.begun (is_at_door seat.kept) is.door));
-      marks = λ d at. sym (e.marks d at);
-    }
-
-    seats : map (told p (is_waiting_stage (stage_kept seat.kept)) (is_waiting_stage (stage_kept then.kept))) (slice_set w.seats i then) ≡ slice_set w.seats i then
+    seats : map (told p (is_waiting_stage (stage_kept seat.process.kept)) (is_waiting_stage (stage_kept then.process.kept))) (slice_set w.seats i then) ≡ slice_set w.seats i then
     seats = (λ k. map (told p (is.waits k) (e.stays k)) (slice_set w.seats i then)) ∙ sym (told-none p false false (slice_set w.seats i then) refl)
 
-    same : stepped_world w p i seat e.access Nothing then ≡ walked_world w i row then
-    same = λ k. world_with w.setup (e.locks_same k) (sym e.row_is k) (seats k) w.history
+-- its step has no mark, and with any history the world goes on
+pub quiet-on : (w : WorldState) (p i : ℕ) (flick : Bool) (seat : Seat) (row : DataRow) (then : Seat) → i ≡ p → i < length w.seats → seat ≡ slice_index_or w.seats i seat → 0 < bits_within seat.process.kept →
+    then ≡ record seat { process = then.process } → StepsWithin w.locks w.versions flick seat.process row then.process → StepsQuietly w p flick (walked_world w i row then)
+quiet-on w p i flick seat row then index there seat_is h stays e = record {
+  access = e.access;
+  adds = λ events shows. step-adds w (room_of w) p i flick seat e.access Nothing then (used events shows) (quiet-steps w flick seat row then h stays e) events shows;
+  shows = λ events shows. subst (λ new. Shows new (event.Step p flick ∷ events)) (quiet-world w p i flick seat row then h e)
+      (step-on w (room_of w) p i flick seat e.access Nothing then (used events shows) (quiet-steps w flick seat row then h stays e) events shows);
+  setup = refl;
+}
+  where
+    used : (events : List Event) → Shows w events → IsUsed w (room_of w) (event.Step p flick) i seat
+    used events shows = within-used w (room_of w) p i flick seat (keeps_of w events shows) index there seat_is h
+
+-- and no more calls are pending
+pub quiet-ends : (w : WorldState) (capacity p i : ℕ) (flick : Bool) (seat : Seat) (row : DataRow) (then : Seat) → KeepsWorld w capacity → i ≡ p → i < length w.seats → seat ≡ slice_index_or w.seats i seat → 0 < bits_within seat.process.kept →
+    then ≡ record seat { process = then.process } → StepsWithin w.locks w.versions flick seat.process row then.process → KeepsWorld (walked_world w i row then) capacity
+quiet-ends w capacity p i flick seat row then keeps index there seat_is h stays e =
+    subst (λ w. KeepsWorld w capacity) (quiet-world w p i flick seat row then h e)
+    (step-ends w capacity p i flick seat e.access Nothing then (within-used w capacity p i flick seat keeps index there seat_is h) (quiet-steps w flick seat row then h stays e) capacity (omega arith))
 
 -- how many bits a process is before the last one, by its seat
-pub bits-at : (seats : List Seat) (i p : ℕ) (seat : Seat) → i ≡ p → i < length seats → seat ≡ slice_index_or seats i seat → bits_within_at seats p ≡ bits_within seat.kept
-bits-at seats i p seat index l is = subst (λ p. bits_within_at seats p ≡ bits_within seat.kept) index (there seats i l is)
+pub bits-at : (seats : List Seat) (i p : ℕ) (seat : Seat) → i ≡ p → i < length seats → seat ≡ slice_index_or seats i seat → bits_within_at seats p ≡ bits_within seat.process.kept
+bits-at seats i p seat index l is = subst (λ p. bits_within_at seats p ≡ bits_within seat.process.kept) index (there seats i l is)
   where
-    there : (seats : List Seat) (i : ℕ) → i < length seats → seat ≡ slice_index_or seats i seat → bits_within_at seats i ≡ bits_within seat.kept
+    there : (seats : List Seat) (i : ℕ) → i < length seats → seat ≡ slice_index_or seats i seat → bits_within_at seats i ≡ bits_within seat.process.kept
     there [] i l is = absurd (omega (arith, l))
-    there (x ∷ seats) zero l is = ap (λ (x : Seat). bits_within x.kept) (sym is)
+    there (x ∷ seats) zero l is = ap (λ (x : Seat). bits_within x.process.kept) (sym is)
     there (x ∷ seats) (suc i) l is = there seats i (omega (arith, l)) is
 
 -- where there is none, 0
@@ -119,10 +133,10 @@ bits-there seats i p index some = subst (λ p. p < length seats) (sym index) (th
     there (x ∷ seats) (suc p) some = let less = there seats p some in omega (arith, less)
 
 -- and of a seat that was put in its place
-pub bits-set : (seats : List Seat) (i p : ℕ) (then : Seat) → i ≡ p → i < length seats → bits_within_at (slice_set seats i then) p ≡ bits_within then.kept
-bits-set seats i p then index l = subst (λ p. bits_within_at (slice_set seats i then) p ≡ bits_within then.kept) index (there seats i l)
+pub bits-set : (seats : List Seat) (i p : ℕ) (then : Seat) → i ≡ p → i < length seats → bits_within_at (slice_set seats i then) p ≡ bits_within then.process.kept
+bits-set seats i p then index l = subst (λ p. bits_within_at (slice_set seats i then) p ≡ bits_within then.process.kept) index (there seats i l)
   where
-    there : (seats : List Seat) (i : ℕ) → i < length seats → bits_within_at (slice_set seats i then) i ≡ bits_within then.kept
+    there : (seats : List Seat) (i : ℕ) → i < length seats → bits_within_at (slice_set seats i then) i ≡ bits_within then.process.kept
     there [] i l = absurd (omega (arith, l))
     there (x ∷ seats) zero l = refl
     there (x ∷ seats) (suc i) l = there seats i (omega (arith, l))

@@ -6,7 +6,8 @@ use Rattle.plain_store.specs.declared.Reply.{Reply}
 use Rattle.plain_store.specs.declared.Setup.{Setup}
 use Rattle.record.specs.declared.history.Taken.{Taken}
 use Rattle.record.specs.Doorways.{is_waiting_stage}
-use Rattle.world.specs.Seats.{Kept, AtDoor, AtData, Settles, Seat, stage_kept}
+use Rattle.world.specs.Seats.{Seat}
+use Rattle.process.specs.Processes.{Kept, AtDoor, AtData, Settles, stage_kept}
 
 -- which processes are before a process, once p goes on to wait or not to wait; begun: the doorway of the process has begun
 abbrev pub before_told : (p : ℕ) (waited waits begun : Bool) → List Bool → List Bool
@@ -27,7 +28,7 @@ is_pending (Settles inside taken value unit) = is_some taken
 is_pending _ = false
 
 abbrev pub pending : Seat → ℕ
-pending seat = cond (is_pending seat.kept) 1 0
+pending seat = cond (is_pending seat.process.kept) 1 0
 
 -- how many calls may still be taken
 abbrev pub pending_in : List Seat → ℕ
@@ -36,7 +37,7 @@ pending_in (seat ∷ seats) = pending seat + pending_in seats
 
 -- a process waits, by its seat
 abbrev pub waits_in : List Seat → ℕ → Bool
-waits_in seats j = elim (slice_get seats j) [ None ↦ false | Some seat ↦ is_waiting_stage (stage_kept seat.kept) ]
+waits_in seats j = elim (slice_get seats j) [ None ↦ false | Some seat ↦ is_waiting_stage (stage_kept seat.process.kept) ]
 
 -- which of 16 processes wait
 abbrev pub waiting_in : List Seat → List Bool

@@ -6,7 +6,7 @@ use Rattle.world.specs.Events.{Adds, GoesOn}
 use Rattle.world.specs.Flicks.{FlickState, after_flick, flick_of}
 use Rattle.world.specs.Seats.{Seat}
 use Rattle.world.specs.Shows.{WorldState}
-use Rattle.world.specs.Steps.{bits_within}
+use Rattle.process.specs.Steps.{bits_within}
 
 -- a step by this flick that has no mark
 pub record StepsQuietly (old : WorldState) (p : ℕ) (flick : Bool) (new : WorldState) : Type 0 where
@@ -22,4 +22,4 @@ Walks old flicks p (suc n) new flicks_then = (w : WorldState) × (f : FlickState
 
 -- how many bits a process at the data has before the last one of its number access; 0, if there is no such process
 abbrev pub bits_within_at : List Seat → ℕ → ℕ
-bits_within_at seats p = elim (slice_get seats p) [ None ↦ 0 | Some seat ↦ bits_within seat.kept ]
+bits_within_at seats p = elim (slice_get seats p) [ None ↦ 0 | Some seat ↦ bits_within seat.process.kept ]

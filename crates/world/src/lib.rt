@@ -2,17 +2,19 @@
 //! turns.
 #![tactic(auto)]
 
+mod cores;
 mod flicks;
 mod queue;
 mod refusals;
+mod registers;
 mod seat;
 mod seats;
-mod told;
 mod world;
 
+pub use cores::Core;
 pub use flicks::{Flick, Flicks};
 pub use history_laws;
 pub use laws;
+pub use process::{Stepped, Told};
 pub use record::{Act, Event, Mark, Refusal, Stage, Taken};
-pub use told::{Stepped, Told};
 pub use world::World;

@@ -1,87 +1,45 @@
 //! What a world keeps of one process.
-ghost use Rattle.std.specs.Prelude.{◌≡◌, ℕ, ◌<◌, Bool, true, false, cond, None, Some, IfOk, Ok, []};
+ghost use Rattle.std.specs.Prelude.{◌≡◌, ◌<◌, ◌||◌, Bool, true, false, [], IfOk, List, Ok, Some};
 ghost use Rattle.plain_store.specs.Setups.{checked};
-ghost use Rattle.record.specs.Closings.{withdrawing};
-ghost use Rattle.record.specs.Doorways.{is_waiting_stage};
-ghost use Rattle.record.specs.Records.{refused_at};
-ghost use Rattle.record.specs.declared.Event.TheVariants.{Step};
-ghost use Rattle.record.specs.declared.Refusal.TheVariants.{NotRunning};
 ghost use Rattle.record.specs.Parts.{Raises};
-ghost use Rattle.record.specs.Places.{enter};
+ghost use Rattle.record.specs.Places.{enter, value_of};
 ghost use Rattle.record.specs.declared.Stage.TheVariants.{Waiting};
+ghost use Rattle.bakery.specs.Locks.{LockRows};
 ghost use Rattle.laws.specs.Doings.{Doing, Runs, call};
-ghost use Rattle.world.specs.Seats.{seat_of, stage_kept, inside_kept, kept_at, kept_closing};
-ghost use Rattle.world.specs.Seats as kept;
-ghost use Rattle.world.specs.Steps.{AreLocksOf, IsAt, dropped_locks, kept_withdrawing};
+ghost use Rattle.laws.specs.Steps.{does_then, marks_with, next_of};
+ghost use Rattle.process.specs.Processes.{kept_at, stage_kept};
+ghost use Rattle.process.specs.Processes as kept;
+ghost use Rattle.process.specs.Registers.{MayStep, StepsWithin, answered, locks_made, versions_made};
+ghost use Rattle.process.specs.Steps.{IsAt, bits_within, is_at_door, kept_failing, kept_withdrawing, may_fail, may_step};
+ghost use Rattle.process.specs.Telling.{marks_told};
 ghost use Rattle.world.specs.Changes.{told};
+ghost use Rattle.world.specs.Seats.{seat_of, with_kept};
+ghost use Rattle.world.specs.Drops.{AreOf, dropped_locks, dropped_versions};
 
-mod fails;
-mod steps;
-
-use bakery::{Door, Leaving, Locks};
-use critical::Section;
-use failure::Unit;
-use plain_store::{Answer, Command, Reply, Setup};
-use record::Stage;
+use crate::registers::{drop_read, ended, given, make};
+use bakery::Locks;
+use critical::DataRow;
+use plain_store::{Command, Setup};
+use process::{Process, Told};
+use safe_number::Access;
 use std::alloc::{AllocError, Global};
 use std::marker::Model;
 
-/// Which cursor of a process goes on, with what its next accesses may mark.
-#[derive(Drop)]
-pub(crate) enum Work {
-    Rests,
-    Lies,
-    /// The door: in the doorway, or waiting.
-    AtDoor {
-        waits: bool,
-    },
-    AtData,
-    /// The ticket is being cleared, and then the call is answered; `fresh`: nothing of that is made.
-    Leaves {
-        answer: Answer,
-        fresh: bool,
-        leaving: Leaving,
-    },
-    Withdraws(Leaving),
-    /// The unit settles the torn bit, at `value` once it has begun. A commit bit that is settled at the bit of
-    /// `taken` takes the command, with that reply.
-    Settles {
-        inside: bool,
-        taken: Option<(bool, Reply)>,
-        value: Option<bool>,
-        unit: Unit,
-    },
-    /// The unit clears the ticket and the choosing bit.
-    Frees {
-        inside: bool,
-        unit: Unit,
-    },
-}
-
-/// One process of a world: its cursors, its last call, whether that one's doorway has begun, and which of 16
-/// processes wait in a doorway before it.
+/// One process of a world, whether the doorway of its last call has begun, and which of 16 processes wait in a
+/// doorway before it.
 #[derive(Drop)]
 pub(crate) struct Seat {
-    setup: Setup,
-    process: u8,
-    door: Door,
-    section: Section,
-    work: Work,
-    command: Command,
-    number: u16,
+    process: Process,
     begun: bool,
     before: [bool; 16],
 }
 
 impl Model for Seat {
-    ghost use Rattle.world.specs.Keeping.{KeepsSeat, kept_shown};
     ghost use Rattle.world.specs.Seats.{Seat as Seen};
 
     ghost Value = { Seen };
 
-    ghost view = { λ s. record { setup = s.setup; process = s.process; kept = kept_shown s.work s.door s.section; command = s.command; number = s.number; begun = s.begun; before = s.before } };
-
-    ghost invariant = { λ s. KeepsSeat s.setup s.process s.work s.door s.section };
+    ghost view = { λ s. record { process = s.process; begun = s.begun; before = s.before } };
 }
 
 impl Seat {
@@ -92,102 +50,34 @@ impl Seat {
         ensures { IfOk result (λ seat. seat ≡ seat_of setup.now [] process) }
     {
         Ok(Seat {
-            setup: *setup,
-            process,
-            door: Door::new(alloc, process, setup)?,
-            section: Section::new(alloc, process, setup)?,
-            work: Work::Rests,
-            command: Command::Ask,
-            number: 0,
+            process: Process::new(alloc, process, setup)?,
             begun: false,
             before: [false; 16],
         })
     }
 
-    pub fn stage(&self) -> Stage
-        ensures { result ≡ stage_kept self.now.kept }
-    {
-        match &self.work {
-            Work::Rests => Stage::Idle,
-            Work::Lies => Stage::Down,
-            Work::AtDoor { waits } => {
-                if *waits {
-                    Stage::Waiting
-                } else {
-                    Stage::Doorway
-                }
-            }
-            Work::AtData => Stage::Inside,
-            Work::Leaves { fresh, .. } => {
-                if *fresh {
-                    Stage::Inside
-                } else {
-                    Stage::Leaving
-                }
-            }
-            Work::Withdraws(_) => Stage::Leaving,
-            Work::Settles { .. } | Work::Frees { .. } => Stage::Settling,
-        }
-    }
-
-    /// Whether it waits.
+    /// The process.
     #[inline]
-    pub fn is_waiting(&self) -> bool
-        ensures { result ≡ is_waiting_stage (stage_kept self.now.kept) }
+    pub fn process(&self) -> &Process
+        ensures { result.now ≡ self.now.process }
     {
-        match &self.work {
-            Work::AtDoor { waits } => *waits,
-            _ => false,
-        }
+        &self.process
     }
 
-    /// Whether it runs, or its memory unit settles; else its step is refused.
-    #[inline]
-    pub fn may_step(&self) -> bool
-        ensures { (process : ℕ) (flick : Bool) → refused_at (Step process flick) (stage_kept self.now.kept) ≡ cond result None (Some NotRunning) }
+    /// Which processes wait in a doorway before it.
+    pub fn before(&self) -> &[bool; 16]
+        ensures { result.now ≡ self.now.before }
     {
-        !matches!(&self.work, Work::Rests | Work::Lies)
+        &self.before
     }
 
-    pub fn is_inside(&self) -> bool
-        ensures { result ≡ inside_kept self.now.kept }
+    /// A call begins, before which these processes wait.
+    pub fn call(&mut self, command: Command, number: u16, before: [bool; 16])
+        ensures { self.new ≡ record { process = record self.old.process { kept = kept_at self.old.process.setup self.old.process.process (Runs command number (enter (call self.old.process.setup self.old.process.process command number) Raises)); command = command; number = number }; begun = false; before = before } }
     {
-        match &self.work {
-            Work::AtData => true,
-            Work::Leaves { fresh, .. } => *fresh,
-            Work::Settles { inside, .. } | Work::Frees { inside, .. } => *inside,
-            _ => false,
-        }
-    }
-
-    /// A call begins.
-    pub fn call(&mut self, command: Command, number: u16)
-        ensures { self.new ≡ record self.old { kept = kept_at self.old.setup self.old.process (Runs command number (enter (call self.old.setup self.old.process command number) Raises)); command = command; number = number; begun = false } }
-    {
-        self.door.start();
-        self.work = Work::AtDoor { waits: false };
-        self.command = command;
-        self.number = number;
+        self.process.call(command, number);
         self.begun = false;
-    }
-
-    /// The process gives up waiting: its open read is dropped, and it begins to clear its ticket.
-    pub fn withdraw(&mut self, locks: &mut Locks)
-        requires waiting { stage_kept self.old.kept ≡ Waiting }
-        requires at { (d : Doing) × IsAt self.old d }
-        requires locks { AreLocksOf self.old.setup locks.old }
-        ensures seat { self.new ≡ record self.old { kept = kept_withdrawing self.old.setup self.old.process } }
-        ensures locks { (d : Doing) → IsAt self.old d → locks.new ≡ dropped_locks self.old.setup self.old.process d locks.old }
-    {
-        self.door.withdraw(locks);
-        self.work = Work::Withdraws(Leaving::new(self.process, &self.setup));
-    }
-
-    /// A process that was down may call again.
-    pub fn restart(&mut self)
-        ensures { self.new ≡ record self.old { kept = kept.Rests } }
-    {
-        self.work = Work::Rests;
+        self.before = before;
     }
 
     /// It goes on to wait, or not to wait, and this process is told.
@@ -200,31 +90,83 @@ impl Seat {
         }
     }
 
-    /// These processes wait before it.
-    pub fn stands_behind(&mut self, before: [bool; 16])
-        ensures { self.new ≡ record self.old { before = before } }
+    /// A process that was down may call again.
+    pub fn restart(&mut self)
+        ensures { self.new ≡ with_kept kept.Rests self.old }
     {
-        self.before = before;
+        self.process.restart();
     }
 
-    /// Which processes wait in a doorway before it.
-    pub fn before(&self) -> &[bool; 16]
-        ensures { result.now ≡ self.now.before }
+    /// The process gives up waiting: its open read is dropped, and it begins to clear its ticket.
+    pub fn withdraw(&mut self, locks: &mut Locks, versions: &mut DataRow)
+        requires waiting { stage_kept self.old.process.kept ≡ Waiting }
+        requires at { (d : Doing) × IsAt self.old.process d }
+        requires registers { AreOf self.old.process.setup locks.old versions.old }
+        ensures seat { self.new ≡ with_kept (kept_withdrawing self.old.process.setup self.old.process.process) self.old }
+        ensures locks { (d : Doing) → IsAt self.old.process d → locks.new ≡ dropped_locks self.old.process.setup self.old.process.process d locks.old }
+        ensures versions { (d : Doing) → IsAt self.old.process d → versions.new ≡ dropped_versions self.old.process.setup self.old.process.process d versions.old }
     {
-        &self.before
+        drop_read(
+            locks,
+            versions,
+            self.process.reads(),
+            self.process.process(),
+        );
+        self.process.give_up();
     }
 
-    /// The command of its last call.
-    pub fn command(&self) -> Command
-        ensures { result ≡ self.now.command }
+    /// The process halts: its open read is dropped, and its memory unit takes over.
+    pub fn fail(&mut self, locks: &mut Locks, versions: &mut DataRow)
+        requires may { may_fail self.old.process.kept ≡ true }
+        requires at { (d : Doing) × IsAt self.old.process d }
+        requires registers { AreOf self.old.process.setup locks.old versions.old }
+        ensures seat { (d : Doing) → IsAt self.old.process d → self.new ≡ with_kept (kept_failing self.old.process.setup self.old.process.process d) self.old }
+        ensures locks { (d : Doing) → IsAt self.old.process d → locks.new ≡ dropped_locks self.old.process.setup self.old.process.process d locks.old }
+        ensures versions { (d : Doing) → IsAt self.old.process d → versions.new ≡ dropped_versions self.old.process.setup self.old.process.process d versions.old }
     {
-        self.command
+        drop_read(
+            locks,
+            versions,
+            self.process.reads(),
+            self.process.process(),
+        );
+        self.process.cut();
     }
 
-    /// The number of its last call.
-    pub fn number(&self) -> u16
-        ensures { result ≡ self.now.number }
+    /// Makes the next access on the registers, of the process or of its memory unit. At the data, where nearly all
+    /// accesses are, it goes to the versions with no look at what else there is.
+    #[inline]
+    pub fn step(&mut self, locks: &mut Locks, versions: &mut DataRow, flick: bool) -> (Access, Told)
+        requires goes { may_step self.old.process.kept ≡ true }
+        requires may { MayStep self.old.process locks.old versions.old flick }
+        ensures access { (d : Doing) (next : Access) → IsAt self.old.process d → next_of self.old.process.setup self.old.process.process d flick ≡ Some next → result.0 ≡ answered locks.old versions.old flick next }
+        ensures seat { (d : Doing) → IsAt self.old.process d → self.new ≡ record (with_kept (kept_at self.old.process.setup self.old.process.process (does_then self.old.process.setup self.old.process.process d flick (value_of result.0.how))) self.old) { begun = self.old.begun || is_at_door self.old.process.kept } }
+        ensures marks { (d : Doing) → IsAt self.old.process d → marks_told result.1 ≡ marks_with self.old.process.setup self.old.process.process d flick (value_of result.0.how) }
+        ensures locks { locks.new ≡ locks_made locks.old result.0 }
+        ensures versions { versions.new ≡ versions_made versions.old result.0 }
     {
-        self.number
+        self.begun = self.begun || self.process.is_at_door();
+        if self.process.is_at_data() {
+            let access = versions.answered(self.process.next_at_data(), flick);
+            versions.apply(access);
+            return (access, self.process.advance_at_data(given(access.how)));
+        }
+        let asked = self.process.next_elsewhere(flick);
+        let value = make(locks, versions, asked, flick);
+        (
+            ended(asked, value),
+            self.process.advance_elsewhere(flick, value),
+        )
+    }
+
+    /// Makes the next access, within a number access at the data.
+    #[inline]
+    pub fn step_within(&mut self, versions: &mut DataRow, flick: bool)
+        requires within { 0 < bits_within self.old.process.kept }
+        requires may { (rows : List LockRows) × MayStep self.old.process rows versions.old flick }
+        ensures seat { self.new ≡ record self.old { process = self.new.process } }
+        ensures within { (rows : List LockRows) → StepsWithin rows versions.old flick self.old.process versions.new self.new.process }
+    {
+        self.process.step_within(versions, flick);
     }
 }

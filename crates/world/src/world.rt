@@ -10,24 +10,21 @@ ghost use Rattle.record.specs.Histories.{history};
 ghost use Rattle.plain_store.specs.Commands.{is_command};
 ghost use Rattle.record.specs.Headline.{Headline};
 ghost use Rattle.record.specs.Records.{is_call, past_of, process_of, refused, refused_at};
-ghost use Rattle.world.specs.Changes.{next_number, told, waiting_in, waits_in, with_taken};
+ghost use Rattle.world.specs.Changes.{with_taken};
+ghost use Rattle.world.specs.Cores.{CoreRefuses, call_in, core_of};
+ghost use Rattle.plain_store.specs.declared.Reply.{Reply as Answered};
 ghost use Rattle.world.specs.Events.{Adds, GoesOn, IsRefused, IsTurnedAway, stage_in};
-ghost use Rattle.world.specs.Seats.{inside_kept, stage_kept};
+ghost use Rattle.process.specs.Processes.{inside_kept, stage_kept};
 ghost use Rattle.std.specs.List.{list_any};
 ghost use Rattle.record.specs.Newest.{newest};
 ghost use Rattle.world.specs.Shows.{Shows};
-ghost use Rattle.world.specs.Telling.{act_of};
+ghost use Rattle.process.specs.Telling.{act_of};
 ghost use Rattle.world.specs.Walks.{Walks, bits_within_at};
 
+use crate::cores::Core;
 use crate::flicks::Flicks;
-use crate::queue::listed;
-use crate::refusals::{is_full, number_after, refusal_at};
-use crate::seat::Seat;
-use crate::seats::{is_occupied, is_queued, take, tell, waiting, waits};
-use crate::told::{Stepped, Told, one};
-use bakery::Locks;
-use critical::DataRow;
-use plain_store::{Command, Name, Reply, Setup, Text, Value};
+use plain_store::{Command, Name, NestedTypes, Reply, Setup, Text, Value};
+use process::{Stepped, Told, one};
 use record::{Act, Event, Mark, Refusal, Stage, Taken};
 use safe_number::Access;
 use smallvec::SmallVec;
@@ -41,23 +38,21 @@ use store_image::Image;
 #[derive(Drop)]
 pub struct World {
     alloc: Global,
-    setup: Setup,
-    locks: Locks,
-    versions: DataRow,
-    seats: Vec<Seat>,
+    core: Core,
     history: Vec<Taken>,
 }
 
 impl Model for World {
     ghost use Rattle.std.specs.Vec.{vec_capacity};
+    ghost use Rattle.world.specs.Cores.{with_history};
     ghost use Rattle.world.specs.Events.{KeepsWorld};
     ghost use Rattle.world.specs.Shows.{WorldState};
 
     ghost Value = { WorldState };
 
-    ghost view = { λ w. record { setup = w.setup; locks = w.locks; versions = w.versions; seats = w.seats.items; history = w.history.items } };
+    ghost view = { λ w. with_history w.core w.history.items };
 
-    ghost invariant = { λ w. KeepsWorld (record { setup = w.setup; locks = w.locks; versions = w.versions; seats = w.seats.items; history = w.history.items }) (vec_capacity w.history) };
+    ghost invariant = { λ w. KeepsWorld (with_history w.core w.history.items) (vec_capacity w.history) };
 }
 
 impl World {
@@ -67,17 +62,9 @@ impl World {
         ensures setup { IfOk result (λ w. w.setup ≡ setup.now) }
         ensures shows { IfOk result (λ w. Shows w []) }
     {
-        setup.opening.pairs_are_sound();
-        let mut seats = Vec::new(alloc);
-        for process in 0..setup.processes {
-            seats.push(Seat::new(alloc, process, setup)?)?;
-        }
         Ok(World {
             alloc,
-            setup: *setup,
-            locks: Locks::new(alloc, setup)?,
-            versions: DataRow::new(alloc, setup)?,
-            seats,
+            core: Core::new(alloc, setup)?,
             history: Vec::new(alloc),
         })
     }
@@ -133,10 +120,13 @@ impl World {
         ensures setup { OnOk result (self.new.setup ≡ self.old.setup) }
         ensures through { (events : List Happening) → Shows self.old events → refused self.old.setup (past_of self.old.setup events) (Step process flick) ≡ None → IsOk result }
     {
-        if let Some(refusal) = self.step_refusal(process) {
-            return Err(refusal);
+        match self.core.step(process, flick, told) {
+            Ok(access) => {
+                take(&mut self.history, &self.core, process, told.reply());
+                Ok(access)
+            }
+            Err(refusal) => Err(refusal),
         }
-        Ok(self.make_step(process, flick, told))
     }
 
     /// Steps of a process while they are within a number access at the data, at most so many: each as `step` makes
@@ -148,28 +138,14 @@ impl World {
         ensures walks { Walks self.old flicks.old process result self.new flicks.new }
         ensures stops { result < most → bits_within_at self.new.seats process ≡ 0 }
     {
-        let mut made = 0;
-        'parts: while made < most {
-            let bits = self.bits_within(process);
-            if bits == 0 {
-                return made;
-            }
-            let steps = u32::from(bits).min(most - made);
-            self.walk_within(process, flicks, steps);
-            made += steps;
-        }
-        made
+        self.core.walk(process, flicks, most)
     }
 
     /// Where a process stands; none, if there is no such process.
     pub fn stage(&self, process: u8) -> Option<Stage>
         ensures { (events : List Happening) → Shows self.now events → result ≡ stage_in self.now.setup (past_of self.now.setup events) process }
     {
-        let at = usize::from(process);
-        if self.seats.len() <= at {
-            return None;
-        }
-        Some(self.seats[at].stage())
+        self.core.stage(process)
     }
 
     /// The commands taken, in their order.
@@ -184,65 +160,27 @@ impl World {
     pub fn ahead(&self, process: u8) -> SmallVec<u8, 16>
         ensures { (events : List Happening) → Shows self.now events → result.items ≡ ahead self.now.setup process (past_of self.now.setup events) }
     {
-        let at = usize::from(process);
-        if self.seats.len() <= at {
-            return SmallVec::new(self.alloc);
-        }
-        let seat = &self.seats[at];
-        if is_queued(seat) {
-            listed(self.alloc, seat.before())
-        } else {
-            SmallVec::new(self.alloc)
-        }
+        self.core.ahead(self.alloc, process)
     }
 
     /// The store after the history, off the registers; none while somebody is inside.
     pub fn newest(&self) -> Option<Image>
         ensures { (events : List Happening) → Shows self.now events → option_map image_of result ≡ newest self.now.setup (past_of self.now.setup events) }
     {
-        if is_occupied(&self.seats) {
-            return None;
-        }
-        Some(self.versions.newest())
+        self.core.newest()
     }
 
-    /// Why an event is refused, if it is.
+    /// Why an event is refused, if it is: with this history, and with each other.
     fn refusal(&self, event: &Event) -> Option<Refusal>
-        ensures { IsRefused self.now event.now result }
+        ensures here { IsRefused self.now event.now result }
+        ensures always { CoreRefuses (core_of self.now) event.now result }
     {
-        let at = usize::from(event.process());
-        if self.seats.len() <= at {
-            return Some(Refusal::NoProcess);
-        }
-        let seat = &self.seats[at];
-        if let Some(refusal) = refusal_at(event, seat.stage()) {
-            return Some(refusal);
-        }
-        if is_full(event, self.setup.version, seat.number()) {
-            return Some(Refusal::CallsFull);
-        }
-        None
-    }
-
-    /// Why a step of a process is refused, if it is: the same without an event.
-    #[inline]
-    fn step_refusal(&self, process: u8) -> Option<Refusal>
-        ensures { (flick : Bool) → IsRefused self.now (Step process flick) result }
-    {
-        let at = usize::from(process);
-        if self.seats.len() <= at {
-            return Some(Refusal::NoProcess);
-        }
-        if self.seats[at].may_step() {
-            None
-        } else {
-            Some(Refusal::NotRunning)
-        }
+        self.core.refusal(event)
     }
 
     /// A call begins, once the history has room for each call that may be taken.
     fn call(&mut self, process: u8, command: Command) -> Result<Act, Refusal>
-        requires accepted { IsRefused self.old (Call process command) None }
+        requires accepted { CoreRefuses (core_of self.old) (Call process command) None }
         requires given { is_command command ≡ true }
         ensures accepted { IfOk result (λ act. Adds self.old (Call process command) process act) }
         ensures shows { OnOk result (GoesOn self.old (Call process command) self.new) }
@@ -250,79 +188,24 @@ impl World {
         ensures unchanged { OnErr result (self.new ≡ self.old) }
         ensures setup { OnOk result (self.new.setup ≡ self.old.setup) }
     {
-        let Ok(()) = self.history.reserve(self.seats.len()) else {
+        let Ok(()) = self.history.reserve(self.core.processes()) else {
             return Err(Refusal::Memory);
         };
-        let waiting = waiting(&self.seats);
-        let seat = &mut self.seats[usize::from(process)];
-        let number = number_after(&self.setup, seat.number());
-        seat.call(command, number);
-        seat.stands_behind(waiting);
-        let marks = one(self.alloc, Mark::Called(seat.command()));
+        self.core.call(process, &command);
         Ok(Act {
             access: None,
-            marks,
+            marks: one(self.alloc, Mark::Called(command)),
         })
-    }
-
-    /// The next access of a process, or of its memory unit, and in `told` what it leads to. A command that is taken goes
-    /// into the history.
-    #[inline]
-    fn make_step(&mut self, process: u8, flick: bool, told: &mut Told) -> Access
-        requires { IsRefused self.old (Step process flick) None }
-        ensures accepted { Adds self.old (Step process flick) process (act_of (length self.old.history) (record { access = result; told = told.new })) }
-        ensures shows { GoesOn self.old (Step process flick) self.new }
-        ensures setup { self.new.setup ≡ self.old.setup }
-    {
-        let seat = &mut self.seats[usize::from(process)];
-        let waited = waits(seat);
-        let (access, leads) = seat.step(&mut self.locks, &mut self.versions, flick);
-        let now = waits(seat);
-        take(&mut self.history, process, seat, leads.reply());
-        tell(&mut self.seats, process, waited, now);
-        *told = leads;
-        access
-    }
-
-    /// How many bits a process at the data has before the last one of its number access; 0, if it is elsewhere, or there
-    /// is no such process.
-    #[inline]
-    fn bits_within(&self, process: u8) -> u16
-        ensures { result ≡ bits_within_at self.now.seats process }
-    {
-        let at = usize::from(process);
-        if self.seats.len() <= at {
-            return 0;
-        }
-        self.seats[at].bits_within()
-    }
-
-    /// So many steps of a process that has as many bits at least before the last one.
-    #[inline]
-    fn walk_within(&mut self, process: u8, flicks: &mut Flicks, steps: u32)
-        requires { steps ≤ bits_within_at self.old.seats process }
-        ensures { Walks self.old flicks.old process steps self.new flicks.new }
-    {
-        let at = usize::from(process);
-        let mut made = 0;
-        'steps: while made < steps {
-            let flick = flicks.flick();
-            self.seats[at].step_within(&mut self.versions, flick);
-            made += 1;
-        }
     }
 
     /// A process halts, and its memory unit takes over.
     fn fail(&mut self, process: u8) -> Act
-        requires { IsRefused self.old (Fail process) None }
+        requires { CoreRefuses (core_of self.old) (Fail process) None }
         ensures accepted { Adds self.old (Fail process) process result }
         ensures shows { GoesOn self.old (Fail process) self.new }
         ensures setup { self.new.setup ≡ self.old.setup }
     {
-        let seat = &mut self.seats[usize::from(process)];
-        let waited = waits(seat);
-        seat.fail(&mut self.locks, &mut self.versions);
-        tell(&mut self.seats, process, waited, false);
+        self.core.fail(process);
         Act {
             access: None,
             marks: one(self.alloc, Mark::Failed),
@@ -331,13 +214,12 @@ impl World {
 
     /// A process gives up waiting.
     fn withdraw(&mut self, process: u8) -> Act
-        requires { IsRefused self.old (Withdraw process) None }
+        requires { CoreRefuses (core_of self.old) (Withdraw process) None }
         ensures accepted { Adds self.old (Withdraw process) process result }
         ensures shows { GoesOn self.old (Withdraw process) self.new }
         ensures setup { self.new.setup ≡ self.old.setup }
     {
-        self.seats[usize::from(process)].withdraw(&mut self.locks);
-        tell(&mut self.seats, process, true, false);
+        self.core.withdraw(process);
         Act {
             access: None,
             marks: one(self.alloc, Mark::Withdrew),
@@ -346,15 +228,32 @@ impl World {
 
     /// A process that was down may call again.
     fn restart(&mut self, process: u8) -> Act
-        requires { IsRefused self.old (Restart process) None }
+        requires { CoreRefuses (core_of self.old) (Restart process) None }
         ensures accepted { Adds self.old (Restart process) process result }
         ensures shows { GoesOn self.old (Restart process) self.new }
         ensures setup { self.new.setup ≡ self.old.setup }
     {
-        self.seats[usize::from(process)].restart();
+        self.core.restart(process);
         Act {
             access: None,
             marks: one(self.alloc, Mark::Restarted),
         }
+    }
+}
+
+/// The command that a process takes, if it takes one, goes into the history, where there is room for it.
+fn take(history: &mut Vec<Taken>, core: &Core, process: u8, reply: Option<Reply>)
+    requires room { (r : Answered) → reply ≡ Some r → vec_len history.old < vec_capacity history.old }
+    requires there { process < length core.now.seats }
+    ensures items { history.new.items ≡ with_taken history.old.items process (call_in core.now.seats process).0 (call_in core.now.seats process).1 reply }
+    ensures capacity { vec_capacity history.old ≤ vec_capacity history.new }
+{
+    let _nested: NestedTypes = None;
+    let Some(reply) = reply else {
+        return;
+    };
+    match history.push(core.taken(process, reply)) {
+        Ok(()) => {}
+        Err(_) => unreachable!(),
     }
 }

@@ -1,7 +1,5 @@
 use Rattle.std.proofs.Common.{◌≡◌, ◌∙◌, sym, ap, subst}
 use Rattle.safe_number.specs.Accesses.{access_of}
-use Rattle.record.specs.Places.{Place}
-use Rattle.record.specs.Scripts.{Call}
 use Rattle.critical.specs.declared.standing.Standing.TheVariants as keeps
 use Rattle.critical.specs.Changes.{change_field}
 use Rattle.critical.specs.Keeping.{section_of, IsRunOf, IsWriteOf}

@@ -2,7 +2,7 @@ use Rattle.std.proofs.Common.{Some, ◌≡◌, ◌∙◌, ◌<◌, ℕ, List, ap
 use Rattle.plain_store.specs.declared.setups.Setup.{Setup}
 use Rattle.record.specs.declared.events.Event.TheVariants.{Step}
 use Rattle.world.specs.Events.{Adds, GoesOn, IsRefused}
-use Rattle.world.specs.Telling.{act_of}
+use Rattle.process.specs.Telling.{act_of}
 use Rattle.replayer.specs.Telling.{with_told}
 use Rattle.scenario.specs.declared.lines.Line.TheVariants.{Wander as WanderLine}
 use Rattle.replayer.specs.Courses.{CourseState, Follows, MakesTurns, course}

@@ -1,9 +1,22 @@
-use Rattle.std.proofs.Common.{sym, subst}
+use Rattle.std.proofs.Common.{sym, subst, None}
 use Rattle.std.specs.Prelude.{OnOk}
 use Rattle.history_laws.proofs.Headlines.{the_headline}
+use Rattle.world.specs.Cores.{CoreRefuses, core_of}
 use Rattle.world.specs.Events.{GoesOn}
 use Rattle.world.proofs.world.World.event.Goals as goal
 use Rattle.world.proofs.world.World.event.Goals.{in-Ok, in-Err}
+
+pub call-requires-clause-accepted : goal.call-requires-clause-accepted
+call-requires-clause-accepted c = subst (λ e. CoreRefuses (core_of c.args.self.now) e None) c.in-Call.is (subst (λ r. CoreRefuses (core_of c.args.self.now) c.args.event r) c.in_default.is c.refusal.ensures.always)
+
+pub fail-requires : goal.fail-requires
+fail-requires c = subst (λ e. CoreRefuses (core_of c.args.self.now) e None) c.in-Fail.is (subst (λ r. CoreRefuses (core_of c.args.self.now) c.args.event r) c.in_default.is c.refusal.ensures.always)
+
+pub withdraw-requires : goal.withdraw-requires
+withdraw-requires c = subst (λ e. CoreRefuses (core_of c.args.self.now) e None) c.in-Withdraw.is (subst (λ r. CoreRefuses (core_of c.args.self.now) c.args.event r) c.in_default.is c.refusal.ensures.always)
+
+pub restart-requires : goal.restart-requires
+restart-requires c = subst (λ e. CoreRefuses (core_of c.args.self.now) e None) c.in-Restart.is (subst (λ r. CoreRefuses (core_of c.args.self.now) c.args.event r) c.in_default.is c.refusal.ensures.always)
 
 pub returns-in-Call-clause-shows : goal.returns-in-Call-clause-shows
 returns-in-Call-clause-shows c = subst (λ e. OnOk c.call.result (GoesOn c.args.self.now e c.call.new.self)) (sym c.in-Call.is) c.call.ensures.shows

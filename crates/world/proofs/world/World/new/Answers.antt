@@ -1,33 +1,11 @@
-use Rattle.std.proofs.Common.{◌≡◌, length, ◌++◌, ◌∷◌, [], map, sym, ap, ◌∙◌, arith}
-use Rattle.std.specs.List.{range_with_len}
-use Rattle.std.proofs.lemmas.List.FromFn.{map-range_with_len_more}
-use Rattle.world.specs.Changes.{pending_in}
-use Rattle.world.specs.Seats.{seat_of}
-use Rattle.world.proofs.WorldNew.{new-shows, new-pending}
+use Rattle.std.proofs.Common.{[], sym, subst}
+use Rattle.world.specs.Cores.{with_history}
+use Rattle.world.specs.Shows.{Shows}
+use Rattle.world.proofs.WorldKeeps.{new_keeps}
 use Rattle.world.proofs.world.World.new.Goals as goal
 
-pub loop-process-preserved : goal.loop-process-preserved
-loop-process-preserved c =
-    let s = c.args.setup.now in
-    c.in_ok-push.ensures.items ∙ (λ i. c.loop-process.invariant i ++ c.in_ok-new.ensures i ∷ [])
-    ∙ sym (map-range_with_len_more (seat_of s []) 0 c.loop-process.process c.loop-process.process (omega arith))
-
 pub returns-clause-shows : goal.returns-clause-shows
-returns-clause-shows c =
-    let s = c.args.setup.now in
-    let all : c.loop-process.process ≡ s.processes = omega (arith, c.loop-process-test.false, c.loop-process.auto.process-end) in
-    new-shows s c.requires.good c.pairs_are_sound.ensures c.in_ok-new-2.field-0 c.in_ok-new-3.field-0 c.loop-process.seats.items c.new-4.result.items c.in_ok-new-2.ensures c.in_ok-new-3.ensures
-    (c.loop-process.invariant ∙ ap (λ n. map (seat_of s []) (range_with_len 0 n)) all) c.new-4.ensures.items
+returns-clause-shows c = subst (λ h. Shows (with_history c.in_ok-new.field-0 h) []) (sym c.new-2.ensures.items) c.in_ok-new.ensures.shows
 
 pub invariant_of-result : goal.invariant_of-result
-invariant_of-result c =
-    let s = c.args.setup.now in
-    let none = ap pending_in c.loop-process.invariant ∙ new-pending s 0 c.loop-process.process in
-    let empty = ap length c.new-4.ensures.items in
-    let all : c.loop-process.process ≡ s.processes = omega (arith, c.loop-process-test.false, c.loop-process.auto.process-end) in
-    record {
-      events = [];
-      shows = new-shows s c.requires.good c.pairs_are_sound.ensures c.in_ok-new-2.field-0 c.in_ok-new-3.field-0 c.loop-process.seats.items c.new-4.result.items c.in_ok-new-2.ensures c.in_ok-new-3.ensures
-          (c.loop-process.invariant ∙ ap (λ n. map (seat_of s []) (range_with_len 0 n)) all) c.new-4.ensures.items;
-      room = omega (arith, none, empty);
-    }
+invariant_of-result c = new_keeps c.in_ok-new.field-0 c.new-2.result.items _ c.new-2.ensures.items c.in_ok-new.ensures.shows

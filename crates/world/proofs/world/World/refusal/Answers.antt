@@ -1,53 +1,11 @@
-use Rattle.std.proofs.Common.{◌<◌, ◌≤◌, ◌==◌, ◌&&◌, length, slice_index_or, sym, ap, subst, ◌∙◌, arith, true, false}
-use Rattle.std.specs.Prelude.{nat_le}
-use Rattle.record.specs.Records.{is_call, past_of, process_of, refused, refused_at}
-use Rattle.world.specs.Shows.{Shows, WorldState}
-use Rattle.world.proofs.WorldNew.{refused-beyond, refused-there, refused-full}
-use Rattle.world.proofs.WorldShows.{world_with}
+use Rattle.std.proofs.Common.{subst}
+use Rattle.world.specs.Cores.{CoreRefuses, core_of}
+use Rattle.world.specs.Events.{IsRefused}
+use Rattle.world.specs.Shows.{WorldState}
 use Rattle.world.proofs.world.World.refusal.Goals as goal
 
-pub returns-then-len-at : goal.returns-then-len-at
-returns-then-len-at c =
-    let i = c.self.inside in
-    let w : WorldState = world_with i.setup i.locks i.versions i.seats.items i.history.items in
-    let what = c.args.event.now in
-    let own = c.from-at.ensures ∙ c.process.ensures in
-    let beyond : length i.seats.items ≤ process_of what = omega (arith, own, c.if-len-at.true, c.len.ensures, i.seats.ok.0) in
-    λ events shows. ap (λ (w : WorldState). refused w.setup (past_of w.setup events) what) (sym c.self.view_is) ∙ refused-beyond w events what (subst (λ w. Shows w events) (sym c.self.view_is) shows) beyond
+pub returns-clause-here : goal.returns-clause-here
+returns-clause-here c = subst (λ (w : WorldState). IsRefused w c.args.event.now c.refusal.result) c.self.view_is (c.refusal.ensures c.self.inside.history.items)
 
-pub returns-in-Some : goal.returns-in-Some
-returns-in-Some c =
-    let i = c.self.inside in
-    let w : WorldState = world_with i.setup i.locks i.versions i.seats.items i.history.items in
-    let what = c.args.event.now in
-    let own = c.from-at.ensures ∙ c.process.ensures in
-    let inside : process_of what < length i.seats.items = omega (arith, own, c.if-len-at.false, c.len.ensures, i.seats.ok.0) in
-    let seat = c.index-seat.result.now in
-    let is = c.index-seat.ensures ∙ ap (λ k. slice_index_or i.seats.items k seat) own in
-    λ events shows. ap (λ (w : WorldState). refused w.setup (past_of w.setup events) what) (sym c.self.view_is) ∙ refused-there w events what c.in-Some.refusal seat seat (subst (λ w. Shows w events) (sym c.self.view_is) shows) inside is (ap (refused_at what) (sym c.stage.ensures) ∙ sym c.refusal_at.ensures ∙ c.in-Some.is)
-
-pub returns-then-is_full : goal.returns-then-is_full
-returns-then-is_full c =
-    let i = c.self.inside in
-    let w : WorldState = world_with i.setup i.locks i.versions i.seats.items i.history.items in
-    let what = c.args.event.now in
-    let own = c.from-at.ensures ∙ c.process.ensures in
-    let inside : process_of what < length i.seats.items = omega (arith, own, c.if-len-at.false, c.len.ensures, i.seats.ok.0) in
-    let seat = c.index-seat.result.now in
-    let is = c.index-seat.ensures ∙ ap (λ k. slice_index_or i.seats.items k seat) own in
-    let none = ap (refused_at what) (sym c.stage.ensures) ∙ sym c.refusal_at.ensures ∙ c.in_default.is in
-    let full = ap (λ n. is_call what && (i.setup.version == 2) && nat_le 65535 n) (sym c.number.ensures) ∙ sym c.is_full.ensures ∙ c.if-is_full.true in
-    λ events shows. ap (λ (w : WorldState). refused w.setup (past_of w.setup events) what) (sym c.self.view_is) ∙ refused-full w events what true seat seat (subst (λ w. Shows w events) (sym c.self.view_is) shows) inside is none full
-
-pub returns : goal.returns
-returns c =
-    let i = c.self.inside in
-    let w : WorldState = world_with i.setup i.locks i.versions i.seats.items i.history.items in
-    let what = c.args.event.now in
-    let own = c.from-at.ensures ∙ c.process.ensures in
-    let inside : process_of what < length i.seats.items = omega (arith, own, c.if-len-at.false, c.len.ensures, i.seats.ok.0) in
-    let seat = c.index-seat.result.now in
-    let is = c.index-seat.ensures ∙ ap (λ k. slice_index_or i.seats.items k seat) own in
-    let none = ap (refused_at what) (sym c.stage.ensures) ∙ sym c.refusal_at.ensures ∙ c.in_default.is in
-    let full = ap (λ n. is_call what && (i.setup.version == 2) && nat_le 65535 n) (sym c.number.ensures) ∙ sym c.is_full.ensures ∙ c.if-is_full.false in
-    λ events shows. ap (λ (w : WorldState). refused w.setup (past_of w.setup events) what) (sym c.self.view_is) ∙ refused-full w events what false seat seat (subst (λ w. Shows w events) (sym c.self.view_is) shows) inside is none full
+pub returns-clause-always : goal.returns-clause-always
+returns-clause-always c = subst (λ (w : WorldState). CoreRefuses (core_of w) c.args.event.now c.refusal.result) c.self.view_is c.refusal.ensures

@@ -1,28 +1,21 @@
-use Rattle.std.proofs.Common.{sym, subst, arith, None}
+use Rattle.std.proofs.Common.{sym, subst, None, Some}
 use Rattle.record.specs.declared.events.Event.TheVariants.{Restart}
-use Rattle.world.specs.Events.{IsRefused}
-use Rattle.world.specs.Shows.{Shows, WorldState}
-use Rattle.world.proofs.WorldEnds.{index-in, restart-on, restart-keeps}
-use Rattle.world.proofs.WorldShows.{world_with}
+use Rattle.record.specs.Records.{past_of}
+use Rattle.world.specs.Cores.{CoreRefuses, core_of, with_history}
+use Rattle.world.specs.Events.{GoesOn, entry_with}
+use Rattle.world.specs.Shows.{WorldState}
+use Rattle.world.proofs.WorldKeeps.{added_by, fewer_keeps}
 use Rattle.world.proofs.world.World.restart.Goals as goal
 
-pub index_mut-requires : goal.index_mut-requires
-index_mut-requires c =
-    let i = c.self.inside in
-    let w : WorldState = world_with i.setup i.locks i.versions i.seats.items i.history.items in
-    let inside = (index-in w _ (Restart c.args.process) c.self.invariant (subst (λ w. IsRefused w (Restart c.args.process) None) (sym c.self.view_is) c.requires)).0 in
-    omega (arith, inside, c.from.ensures, i.seats.ok.0)
+pub restart-requires : goal.restart-requires
+restart-requires c = subst (λ (w : WorldState). CoreRefuses (core_of w) (Restart c.args.process) None) (sym c.self.view_is) c.requires
 
 pub invariant_of-self : goal.invariant_of-self
-invariant_of-self c =
-    let i = c.self.inside in
-    let w : WorldState = world_with i.setup i.locks i.versions i.seats.items i.history.items in
-    restart-keeps w _ c.args.process c.from.result c.index_mut.result.now c.restart.new.self
-    (record { keeps = c.self.invariant; ok = subst (λ w. IsRefused w (Restart c.args.process) None) (sym c.self.view_is) c.requires; index = c.from.ensures; seat_is = c.index_mut.ensures.value }) c.restart.ensures
+invariant_of-self c = fewer_keeps c.self.inside.core c.restart.new.self c.self.inside.history.items (Restart c.args.process) _ c.self.invariant c.restart.ensures.shows c.restart.ensures.pending
 
 pub returns-clause-shows : goal.returns-clause-shows
-returns-clause-shows c =
-    let i = c.self.inside in
-    let w : WorldState = world_with i.setup i.locks i.versions i.seats.items i.history.items in
-    λ events shows. restart-on w _ c.args.process c.from.result c.index_mut.result.now c.restart.new.self
-    (record { keeps = c.self.invariant; ok = subst (λ w. IsRefused w (Restart c.args.process) None) (sym c.self.view_is) c.requires; index = c.from.ensures; seat_is = c.index_mut.ensures.value }) c.restart.ensures events (subst (λ w. Shows w events) (sym c.self.view_is) shows)
+returns-clause-shows c = subst (λ (w : WorldState). GoesOn w (Restart c.args.process) (with_history c.restart.new.self c.self.inside.history.items)) c.self.view_is (c.restart.ensures.shows c.self.inside.history.items)
+
+pub returns-clause-accepted : goal.returns-clause-accepted
+returns-clause-accepted c = λ events shows. added_by c.args.self.now.setup (past_of c.args.self.now.setup events) (Restart c.args.process) _ (c.requires c.args.self.now.history events shows)
+    (λ i. Some (entry_with c.args.process (record { access = None; marks = sym c.one.ensures i })))

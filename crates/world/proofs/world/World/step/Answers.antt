@@ -1,5 +1,28 @@
-use Rattle.std.proofs.Common.{◌≡◌, Some, None, sym, ◌∙◌}
+use Rattle.std.proofs.Common.{◌≡◌, ◌∷◌, length, Some, None, sym, ap, subst, ◌∙◌}
+use Rattle.record.specs.declared.events.Event.TheVariants.{Step}
+use Rattle.process.specs.Telling.{act_of}
+use Rattle.world.specs.Changes.{with_taken}
+use Rattle.world.specs.Cores.{call_in, with_history}
+use Rattle.world.specs.Events.{Adds, GoesOn, IsRefused}
+use Rattle.world.specs.Shows.{Shows, WorldState}
 use Rattle.world.proofs.world.World.step.Goals as goal
 
-pub returns-in-Some-clause-through : goal.returns-in-Some-clause-through
-returns-in-Some-clause-through c = λ events shows none. let both : Some c.in-Some.refusal ≡ None = sym (c.step_refusal.ensures c.args.flick events shows ∙ c.in-Some.is) ∙ none in absurd (cc)
+pub returns-in-Ok-clause-accepted : goal.returns-in-Ok-clause-accepted
+returns-in-Ok-clause-accepted c = subst (λ (w : WorldState). Adds w (Step c.args.process c.args.flick) c.args.process (act_of (length w.history) (record { access = c.in-Ok.access; told = c.step.new.told }))) c.self.view_is (c.in-Ok.ensures.accepted c.self.inside.history.items)
+
+pub returns-in-Ok-clause-shows : goal.returns-in-Ok-clause-shows
+returns-in-Ok-clause-shows c =
+    let before = c.self.inside.history.items in
+    let last = call_in c.step.new.self.seats c.args.process in
+    let taken = c.take.ensures.items ∙ ap (with_taken before c.args.process last.0 last.1) c.reply.ensures in
+    subst (λ (w : WorldState). GoesOn w (Step c.args.process c.args.flick) (with_history c.step.new.self c.take.new.history.items)) c.self.view_is
+    (λ events shows. subst (λ h. Shows (with_history c.step.new.self h) (Step c.args.process c.args.flick ∷ events)) (sym taken) (c.in-Ok.ensures.shows.goes before events shows))
+
+pub returns-in-Err-clause-refused : goal.returns-in-Err-clause-refused
+returns-in-Err-clause-refused c = subst (λ (w : WorldState). IsRefused w (Step c.args.process c.args.flick) (Some c.in-Err.refusal)) c.self.view_is (c.in-Err.ensures.refused c.self.inside.history.items)
+
+pub returns-in-Err-clause-through : goal.returns-in-Err-clause-through
+returns-in-Err-clause-through c = λ events shows none.
+    let is : IsRefused c.args.self.now (Step c.args.process c.args.flick) (Some c.in-Err.refusal) = subst (λ (w : WorldState). IsRefused w (Step c.args.process c.args.flick) (Some c.in-Err.refusal)) c.self.view_is (c.in-Err.ensures.refused c.self.inside.history.items) in
+    let both : Some c.in-Err.refusal ≡ None = sym (is events shows) ∙ none in
+    absurd (cc)

@@ -1,0 +1,62 @@
+-- What a process does next: its next access, what that leads to, and what a failure leaves to its memory unit.
+use Rattle.std.specs.Prelude.{◌≡◌, ℕ, Bool, false, cond, List, [], Option, None, Some, option_map}
+use Rattle.safe_number.specs.declared.Access.{Access}
+use Rattle.safe_number.specs.declared.Field.{Field}
+use Rattle.plain_store.specs.declared.Command.{Command}
+use Rattle.plain_store.specs.declared.Command.TheVariants.{Ask}
+use Rattle.plain_store.specs.declared.Setup.{Setup}
+use Rattle.record.specs.declared.Mark.{Mark}
+use Rattle.record.specs.Closings.{Closing, freeing, closing_next, closing_after}
+use Rattle.record.specs.Failures.{cut_at, cut_closing}
+use Rattle.record.specs.Parts.{is_over, is_read, read_at}
+use Rattle.record.specs.Places.{access_at, marks_of, place_after, place_of}
+use Rattle.record.specs.Scripts.{Next}
+use Rattle.laws.specs.Doings.{Doing, Rests, Lies, Runs, Closes, call, runs, closes, is_inside}
+
+-- the next access of what a process does, a read's end with its value left open; none if it rests, or is down
+abbrev pub next_of : Setup → ℕ → Doing → Bool → Option Access
+next_of s p Rests flick = None
+next_of s p Lies flick = None
+next_of s p (Runs command number at) flick = Some (access_at (call s p command number) at.part at.run)
+next_of s p (Closes command number at) flick = option_map (λ (n : Next). n.access) (closing_next (call s p command number) at flick)
+
+-- its marks, where it has this value; the place of a command that is taken is left open here, as 0
+abbrev pub marks_with : Setup → ℕ → Doing → (flick value : Bool) → List Mark
+marks_with s p Rests flick value = []
+marks_with s p Lies flick value = []
+marks_with s p (Runs command number at) flick value = marks_of (call s p command number) at value
+marks_with s p (Closes command number at) flick value = elim (closing_next (call s p command number) at flick) [ None ↦ [] | Some n ↦ n.marks ]
+
+-- what is done then
+abbrev pub does_then : Setup → ℕ → Doing → (flick value : Bool) → Doing
+does_then s p Rests flick value = Rests
+does_then s p Lies flick value = Lies
+does_then s p (Runs command number at) flick value = runs command number (place_after (call s p command number) at value)
+does_then s p (Closes command number at) flick value = closes command number (closing_after (call s p command number) at flick)
+
+-- the register that it reads, and whose it is; none, if it reads none
+abbrev pub reads_of : Setup → ℕ → Doing → Option (ℕ × Field)
+reads_of s p (Runs command number at) = cond (is_read at.part) (Some (read_at (call s p command number) at.part)) None
+reads_of s p _ = None
+
+-- a place that a call comes to
+abbrev pub IsReached : Setup → ℕ → Doing → Type 0
+IsReached s p (Runs command number at) = (accesses : List Access) × (at ≡ place_of (call s p command number) accesses)
+IsReached s p _ = Unit {0}
+
+-- the command and the number that are kept are those of its call
+abbrev pub IsCallOf : Command → ℕ → Doing → Type 0
+IsCallOf command number (Runs called its at) = (command ≡ called) × (number ≡ its)
+IsCallOf command number _ = Unit {0}
+
+-- a call that is run has not come to its end
+abbrev pub IsLive : Doing → Type 0
+IsLive (Runs command number at) = is_over at.part ≡ false
+IsLive _ = Unit {0}
+
+-- the memory unit of a process that fails at what it does
+abbrev pub cut_of : Setup → ℕ → Doing → Closing
+cut_of s p Rests = freeing (call s p Ask 0) false
+cut_of s p Lies = freeing (call s p Ask 0) false
+cut_of s p (Runs command number at) = cut_at (call s p command number) at (is_inside (Runs command number at))
+cut_of s p (Closes command number at) = cut_closing (call s p command number) at (is_inside (Closes command number at))

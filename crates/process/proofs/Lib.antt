@@ -1,0 +1,16 @@
+-- What is kept of a process, of what it is doing
+pub mod Stages
+pub mod Marked
+-- One process, by what it is doing
+pub mod Doors
+pub mod AtDoor
+pub mod Steps
+pub mod Data
+pub mod DataWithin
+pub mod Clears
+pub mod Withdraws
+pub mod Units
+pub mod Fails
+pub mod Turns
+pub mod Named
+pub mod OpenReads

@@ -1,0 +1,6 @@
+pub mod Halts
+pub mod Keeping
+pub mod Processes
+pub mod Registers
+pub mod Steps
+pub mod Telling

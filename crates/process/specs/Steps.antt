@@ -1,0 +1,48 @@
+-- What a process that is kept goes on from, and what becomes of it.
+use Rattle.std.specs.Prelude.{◌≡◌, ℕ, Bool, true, false}
+use Rattle.plain_store.specs.declared.Command.TheVariants.{Ask}
+use Rattle.plain_store.specs.declared.Setup.{Setup}
+use Rattle.record.specs.Closings.{withdrawing}
+use Rattle.critical.specs.Sections as sections
+use Rattle.laws.specs.Doings.{Doing, call}
+use Rattle.laws.specs.Steps.{IsCallOf, IsLive, IsReached, cut_of}
+use Rattle.process.specs.Processes as kept
+use Rattle.process.specs.Processes.{Kept, ProcessState, kept_at, kept_closing}
+
+-- it keeps what the process is doing
+pub record IsAt (now : ProcessState) (d : Doing) : Type 0 where
+  pub kept : now.kept ≡ kept_at now.setup now.process d
+  pub call : IsCallOf now.command now.number d
+  pub reached : IsReached now.setup now.process d
+  pub live : IsLive d
+
+-- at the door
+abbrev pub is_at_door : Kept → Bool
+is_at_door (kept.AtDoor door) = true
+is_at_door _ = false
+
+-- at the data: how many bits its number access has come to or has before it, without its last one
+abbrev pub bits_within : Kept → ℕ
+bits_within (kept.AtData section) = sections.bits_within section
+bits_within _ = 0
+
+-- what is kept once the process gave up waiting
+abbrev pub kept_withdrawing : Setup → ℕ → Kept
+kept_withdrawing s p = kept_closing (call s p Ask 0) (withdrawing (call s p Ask 0))
+
+-- what is kept of the memory unit of one that fails at this
+abbrev pub kept_failing : Setup → ℕ → Doing → Kept
+kept_failing s p d = kept_closing (call s p Ask 0) (cut_of s p d)
+
+-- a process that may fail: it rests or runs
+abbrev pub may_fail : Kept → Bool
+may_fail kept.Lies = false
+may_fail (kept.Settles inside taken value unit) = false
+may_fail (kept.Frees inside unit) = false
+may_fail _ = true
+
+-- a process that may step: it runs, or its memory unit works
+abbrev pub may_step : Kept → Bool
+may_step kept.Rests = false
+may_step kept.Lies = false
+may_step _ = true

@@ -1,0 +1,26 @@
+-- What a step tells, and its marks.
+use Rattle.std.specs.Prelude.{ℕ, List, [], ◌∷◌, map, Some}
+use Rattle.record.specs.declared.Mark.{Mark}
+use Rattle.record.specs.declared.Mark.TheVariants as mark
+use Rattle.record.specs.Acts.{Act}
+use Rattle.record.specs.Records.{placed}
+use Rattle.process.specs.declared.told.Stepped.{Stepped}
+use Rattle.process.specs.declared.told.Told.{Told}
+use Rattle.process.specs.declared.told.Told.TheVariants.{Nothing, Waits, WaitsAndEnters, Enters, Took, Leaves, Answers, Settles, SettlesAndTakes, Lies}
+
+-- its marks; the place of a command that is taken is left open here, as 0
+abbrev pub marks_told : Told → List Mark
+marks_told Nothing = []
+marks_told (Waits ticket) = mark.Waiting ticket ∷ []
+marks_told (WaitsAndEnters ticket) = mark.Waiting ticket ∷ mark.Entered ∷ []
+marks_told Enters = mark.Entered ∷ []
+marks_told (Took reply) = mark.Taken 0 reply ∷ []
+marks_told Leaves = mark.Left ∷ []
+marks_told (Answers answer) = mark.Answered answer ∷ []
+marks_told (Settles value) = mark.Settled value ∷ []
+marks_told (SettlesAndTakes value reply) = mark.Settled value ∷ mark.Taken 0 reply ∷ []
+marks_told Lies = mark.Down ∷ []
+
+-- a step as an act, where a command that is taken gets this place
+abbrev pub act_of : ℕ → Stepped → Act
+act_of place stepped = record { access = Some stepped.access; marks = map (placed place) (marks_told stepped.told) }

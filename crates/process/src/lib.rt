@@ -1,0 +1,10 @@
+//! One process, whatever memory serves it: a cursor over the accesses of its calls and of its memory unit, which
+//! tells the next one and goes on by what that gave, and which is called, gives up waiting, fails and is restarted.
+//! It alone knows which of the cursors below follows which (Lamport's bakery, 1974).
+#![tactic(auto)]
+
+mod process;
+mod told;
+
+pub use process::Process;
+pub use told::{Stepped, Told, one};

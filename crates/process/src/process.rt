@@ -1,0 +1,223 @@
+ghost use Rattle.std.specs.Prelude.{◌≡◌, ◌<◌, Bool, [], IfOk, IfSome, Ok};
+ghost use Rattle.plain_store.specs.Setups.{checked};
+ghost use Rattle.record.specs.Doorways.{is_waiting_stage};
+ghost use Rattle.record.specs.Parts.{Raises};
+ghost use Rattle.record.specs.Places.{enter};
+ghost use Rattle.laws.specs.Doings.{Doing, Runs, call};
+ghost use Rattle.laws.specs.Steps.{reads_of};
+ghost use Rattle.process.specs.Keeping.{is_at_data};
+ghost use Rattle.process.specs.Processes.{inside_kept, kept_at, process_after, stage_kept};
+ghost use Rattle.process.specs.Processes as kept;
+ghost use Rattle.process.specs.Steps.{IsAt, is_at_door, may_step};
+
+mod advance;
+mod cut;
+mod within;
+
+use bakery::{Door, Leaving};
+use critical::Section;
+use failure::Unit;
+use plain_store::{Answer, Command, Reply, Setup};
+use record::Stage;
+use safe_number::Field;
+use std::alloc::{AllocError, Global};
+use std::marker::Model;
+
+/// Which cursor of a process goes on, with what its next accesses may mark.
+#[derive(Drop)]
+pub(crate) enum Work {
+    Rests,
+    Lies,
+    /// The door: in the doorway, or waiting.
+    AtDoor {
+        waits: bool,
+    },
+    AtData,
+    /// The ticket is being cleared, and then the call is answered; `fresh`: nothing of that is made.
+    Leaves {
+        answer: Answer,
+        fresh: bool,
+        leaving: Leaving,
+    },
+    Withdraws(Leaving),
+    /// The unit settles the torn bit, at `value` once it has begun. A commit bit that is settled at the bit of
+    /// `taken` takes the command, with that reply.
+    Settles {
+        inside: bool,
+        taken: Option<(bool, Reply)>,
+        value: Option<bool>,
+        unit: Unit,
+    },
+    /// The unit clears the ticket and the choosing bit.
+    Frees {
+        inside: bool,
+        unit: Unit,
+    },
+}
+
+/// One process: its cursors, and its last call. After `new` it takes no memory.
+#[derive(Drop)]
+pub struct Process {
+    setup: Setup,
+    process: u8,
+    door: Door,
+    section: Section,
+    work: Work,
+    command: Command,
+    number: u16,
+}
+
+impl Model for Process {
+    ghost use Rattle.process.specs.Keeping.{KeepsProcess, kept_shown};
+    ghost use Rattle.process.specs.Processes.{ProcessState};
+
+    ghost Value = { ProcessState };
+
+    ghost view = { λ q. record { setup = q.setup; process = q.process; kept = kept_shown q.work q.door q.section; command = q.command; number = q.number } };
+
+    ghost invariant = { λ q. KeepsProcess q.setup q.process q.work q.door q.section };
+}
+
+impl Process {
+    /// A process that has made no call. The one fault is want of memory.
+    pub fn new(alloc: Global, process: u8, setup: &Setup) -> Result<Process, AllocError>
+        requires good { checked setup.now ≡ Ok tt }
+        requires process { process < setup.now.processes }
+        ensures { IfOk result (λ now. now ≡ process_after setup.now [] process) }
+    {
+        Ok(Process {
+            setup: *setup,
+            process,
+            door: Door::new(alloc, process, setup)?,
+            section: Section::new(alloc, process, setup)?,
+            work: Work::Rests,
+            command: Command::Ask,
+            number: 0,
+        })
+    }
+
+    /// Which process it is.
+    pub fn process(&self) -> u8
+        ensures process { result ≡ self.now.process }
+        ensures there { result < self.now.setup.processes }
+    {
+        self.process
+    }
+
+    pub fn stage(&self) -> Stage
+        ensures { result ≡ stage_kept self.now.kept }
+    {
+        match &self.work {
+            Work::Rests => Stage::Idle,
+            Work::Lies => Stage::Down,
+            Work::AtDoor { waits } => {
+                if *waits {
+                    Stage::Waiting
+                } else {
+                    Stage::Doorway
+                }
+            }
+            Work::AtData => Stage::Inside,
+            Work::Leaves { fresh, .. } => {
+                if *fresh {
+                    Stage::Inside
+                } else {
+                    Stage::Leaving
+                }
+            }
+            Work::Withdraws(_) => Stage::Leaving,
+            Work::Settles { .. } | Work::Frees { .. } => Stage::Settling,
+        }
+    }
+
+    /// Whether it waits.
+    #[inline]
+    pub fn is_waiting(&self) -> bool
+        ensures { result ≡ is_waiting_stage (stage_kept self.now.kept) }
+    {
+        match &self.work {
+            Work::AtDoor { waits } => *waits,
+            _ => false,
+        }
+    }
+
+    /// Whether it is in its doorway or waits.
+    #[inline]
+    pub fn is_at_door(&self) -> bool
+        ensures { result ≡ is_at_door self.now.kept }
+    {
+        matches!(&self.work, Work::AtDoor { .. })
+    }
+
+    /// Whether it reads or writes the versions of the store: there a process has nearly all its accesses.
+    #[inline]
+    pub fn is_at_data(&self) -> bool
+        ensures { result ≡ is_at_data self.now.kept }
+    {
+        matches!(&self.work, Work::AtData)
+    }
+
+    /// Whether it is inside the critical section, or its memory unit stands in for it there.
+    pub fn is_inside(&self) -> bool
+        ensures { result ≡ inside_kept self.now.kept }
+    {
+        match &self.work {
+            Work::AtData => true,
+            Work::Leaves { fresh, .. } => *fresh,
+            Work::Settles { inside, .. } | Work::Frees { inside, .. } => *inside,
+            _ => false,
+        }
+    }
+
+    /// Whether it has a next access: it runs, or its memory unit settles.
+    #[inline]
+    pub fn goes(&self) -> bool
+        ensures { result ≡ may_step self.now.kept }
+    {
+        !matches!(&self.work, Work::Rests | Work::Lies)
+    }
+
+    /// The register that it reads, and whose it is; none, if it reads none. Where the process gives up waiting or
+    /// fails, its read of that register is dropped by whoever keeps the memory.
+    pub fn reads(&self) -> Option<(u8, Field)>
+        ensures register { (d : Doing) → IsAt self.now d → result ≡ reads_of self.now.setup self.now.process d }
+        ensures there { (d : Doing) → IsAt self.now d → IfSome result (λ register. register.0 < self.now.setup.processes) }
+    {
+        match &self.work {
+            Work::AtDoor { .. } => self.door.reads(),
+            Work::AtData => self.section.reads(),
+            _ => None,
+        }
+    }
+
+    /// A call begins.
+    pub fn call(&mut self, command: Command, number: u16)
+        ensures { self.new ≡ record self.old { kept = kept_at self.old.setup self.old.process (Runs command number (enter (call self.old.setup self.old.process command number) Raises)); command = command; number = number } }
+    {
+        self.door.start();
+        self.work = Work::AtDoor { waits: false };
+        self.command = command;
+        self.number = number;
+    }
+
+    /// A process that was down may call again.
+    pub fn restart(&mut self)
+        ensures { self.new ≡ record self.old { kept = kept.Rests } }
+    {
+        self.work = Work::Rests;
+    }
+
+    /// The command of its last call.
+    pub fn command(&self) -> Command
+        ensures { result ≡ self.now.command }
+    {
+        self.command
+    }
+
+    /// The number of its last call.
+    pub fn number(&self) -> u16
+        ensures { result ≡ self.now.number }
+    {
+        self.number
+    }
+}

@@ -1,0 +1,275 @@
+//! The next access of a process, and how it goes on by it.
+ghost use Rattle.std.specs.Prelude.{◌≡◌, true, false, Bool, Some};
+ghost use Rattle.critical.specs.Registers.{is_data};
+ghost use Rattle.laws.specs.Doings.{Doing};
+ghost use Rattle.laws.specs.Held.{IsThere};
+ghost use Rattle.laws.specs.Steps.{does_then, marks_with, next_of};
+ghost use Rattle.process.specs.Keeping.{is_at_data, is_clearing, is_door, is_unit_freeing, is_unit_settling, is_withdrawing, stage_waiting};
+ghost use Rattle.process.specs.Processes.{kept_at, stage_kept};
+ghost use Rattle.process.specs.Steps.{IsAt, is_at_door, may_step};
+ghost use Rattle.process.specs.Telling.{marks_told};
+ghost use Rattle.process.specs.declared.process.Work.TheVariants as works;
+
+use super::{Process, Work};
+use crate::told::{Told, answer_told, settled, told_at_data, told_at_door, told_left};
+use bakery::{DoorProgress, Leaving};
+use failure::UnitProgress;
+use plain_store::Answer;
+use reader_copies::Progress;
+use safe_number::Access;
+use std::mem;
+
+impl Process {
+    /// The next access, of the process or of its memory unit; the end of a read with its value left open.
+    #[inline]
+    pub fn next(&self, flick: bool) -> Access
+        requires goes { may_step self.now.kept ≡ true }
+        ensures access { (d : Doing) → IsAt self.now d → next_of self.now.setup self.now.process d flick ≡ Some result }
+        ensures there { IsThere self.now.setup result }
+    {
+        if self.is_at_data() {
+            self.next_at_data()
+        } else {
+            self.next_elsewhere(flick)
+        }
+    }
+
+    /// The same at the data, where it is to a register of the versions.
+    #[inline]
+    pub fn next_at_data(&self) -> Access
+        requires { is_at_data self.now.kept ≡ true }
+        ensures access { (d : Doing) (flick : Bool) → IsAt self.now d → next_of self.now.setup self.now.process d flick ≡ Some result }
+        ensures there { IsThere self.now.setup result }
+        ensures versions { (d : Doing) → IsAt self.now d → is_data result.field ≡ true }
+    {
+        self.section.next(false)
+    }
+
+    /// The same elsewhere than at the data.
+    #[inline]
+    pub fn next_elsewhere(&self, flick: bool) -> Access
+        requires goes { may_step self.now.kept ≡ true }
+        requires elsewhere { is_at_data self.now.kept ≡ false }
+        ensures access { (d : Doing) → IsAt self.now d → next_of self.now.setup self.now.process d flick ≡ Some result }
+        ensures there { IsThere self.now.setup result }
+    {
+        match &self.work {
+            Work::AtDoor { .. } => self.door.next(false),
+            Work::Leaves { leaving, .. } => leaving.next(),
+            Work::Withdraws(leaving) => leaving.next(),
+            Work::Settles { unit, .. } => unit.next(flick),
+            Work::Frees { unit, .. } => unit.next(flick),
+            Work::AtData | Work::Rests | Work::Lies => unreachable!(),
+        }
+    }
+
+    /// Goes on by that access, and tells what it leads to. The end of a read gives `value`.
+    #[inline]
+    pub fn advance(&mut self, flick: bool, value: bool) -> Told
+        requires goes { may_step self.old.kept ≡ true }
+        requires at { (d : Doing) × IsAt self.old d }
+        ensures process { (d : Doing) → IsAt self.old d → self.new ≡ record self.old { kept = kept_at self.old.setup self.old.process (does_then self.old.setup self.old.process d flick value) } }
+        ensures marks { (d : Doing) → IsAt self.old d → marks_told result ≡ marks_with self.old.setup self.old.process d flick value }
+    {
+        if self.is_at_data() {
+            self.advance_at_data(value)
+        } else {
+            self.advance_elsewhere(flick, value)
+        }
+    }
+
+    /// The same elsewhere than at the data.
+    #[inline]
+    pub fn advance_elsewhere(&mut self, flick: bool, value: bool) -> Told
+        requires goes { may_step self.old.kept ≡ true }
+        requires elsewhere { is_at_data self.old.kept ≡ false }
+        requires at { (d : Doing) × IsAt self.old d }
+        ensures process { (d : Doing) → IsAt self.old d → self.new ≡ record self.old { kept = kept_at self.old.setup self.old.process (does_then self.old.setup self.old.process d flick value) } }
+        ensures marks { (d : Doing) → IsAt self.old d → marks_told result ≡ marks_with self.old.setup self.old.process d flick value }
+    {
+        match &self.work {
+            Work::AtDoor { .. } => self.advance_door(value),
+            Work::Leaves { .. } => self.advance_leaves(),
+            Work::Withdraws(_) => self.advance_withdraws(),
+            Work::Settles { .. } => self.advance_settles(flick),
+            Work::Frees { .. } => self.advance_frees(flick),
+            Work::AtData | Work::Rests | Work::Lies => unreachable!(),
+        }
+    }
+
+    /// The same at the door.
+    #[inline]
+    fn advance_door(&mut self, value: bool) -> Told
+        requires at_door { is_at_door self.old.kept ≡ true }
+        requires at { (d : Doing) × IsAt self.old d }
+        ensures process { (flick : Bool) (d : Doing) → IsAt self.old d → self.new ≡ record self.old { kept = kept_at self.old.setup self.old.process (does_then self.old.setup self.old.process d flick value) } }
+        ensures marks { (flick : Bool) (d : Doing) → IsAt self.old d → marks_told result ≡ marks_with self.old.setup self.old.process d flick value }
+    {
+        let waits = self.waits();
+        let progress = self.door.advance(value);
+        match progress {
+            DoorProgress::Doorway => set_waits(&mut self.work, false),
+            DoorProgress::Waiting(_) => set_waits(&mut self.work, true),
+            DoorProgress::Inside(_) => {
+                self.work = Work::AtData;
+                self.section.start(self.command, self.number);
+            }
+            DoorProgress::Full { .. } => self.work = Work::Rests,
+        }
+        told_at_door(waits, progress)
+    }
+
+    /// The same at the data.
+    #[inline]
+    pub fn advance_at_data(&mut self, value: bool) -> Told
+        requires at_data { is_at_data self.old.kept ≡ true }
+        requires at { (d : Doing) × IsAt self.old d }
+        ensures process { (flick : Bool) (d : Doing) → IsAt self.old d → self.new ≡ record self.old { kept = kept_at self.old.setup self.old.process (does_then self.old.setup self.old.process d flick value) } }
+        ensures marks { (flick : Bool) (d : Doing) → IsAt self.old d → marks_told result ≡ marks_with self.old.setup self.old.process d flick value }
+    {
+        let progress = self.section.advance(value);
+        match answer_told(&progress) {
+            None => {}
+            Some(answer) => {
+                self.work = Work::Leaves {
+                    answer,
+                    fresh: true,
+                    leaving: Leaving::new(self.process, &self.setup),
+                };
+            }
+        }
+        told_at_data(&progress)
+    }
+
+    /// The same while the ticket is cleared before the answer.
+    #[inline]
+    fn advance_leaves(&mut self) -> Told
+        requires clears { is_clearing self.old.kept ≡ true }
+        requires at { (d : Doing) × IsAt self.old d }
+        ensures process { (flick value : Bool) (d : Doing) → IsAt self.old d → self.new ≡ record self.old { kept = kept_at self.old.setup self.old.process (does_then self.old.setup self.old.process d flick value) } }
+        ensures marks { (flick value : Bool) (d : Doing) → IsAt self.old d → marks_told result ≡ marks_with self.old.setup self.old.process d flick value }
+    {
+        match &mut self.work {
+            Work::Leaves {
+                answer,
+                fresh,
+                leaving,
+            } => match leaving.advance() {
+                Progress::Going => {
+                    let told = if *fresh { Told::Leaves } else { Told::Nothing };
+                    *fresh = false;
+                    told
+                }
+                Progress::Done => {
+                    let told = Told::Answers(*answer);
+                    self.work = Work::Rests;
+                    told
+                }
+            },
+            _ => unreachable!(),
+        }
+    }
+
+    /// The same of a process that gave up waiting.
+    #[inline]
+    fn advance_withdraws(&mut self) -> Told
+        requires withdraws { is_withdrawing self.old.kept ≡ true }
+        requires at { (d : Doing) × IsAt self.old d }
+        ensures process { (flick value : Bool) (d : Doing) → IsAt self.old d → self.new ≡ record self.old { kept = kept_at self.old.setup self.old.process (does_then self.old.setup self.old.process d flick value) } }
+        ensures marks { (flick value : Bool) (d : Doing) → IsAt self.old d → marks_told result ≡ marks_with self.old.setup self.old.process d flick value }
+    {
+        match &mut self.work {
+            Work::Withdraws(leaving) => match leaving.advance() {
+                Progress::Going => Told::Nothing,
+                Progress::Done => {
+                    self.work = Work::Rests;
+                    Told::Answers(Answer::Withdrawn)
+                }
+            },
+            _ => unreachable!(),
+        }
+    }
+
+    /// The same while the memory unit settles the torn bit.
+    #[inline]
+    fn advance_settles(&mut self, flick: bool) -> Told
+        requires settles { is_unit_settling self.old.kept ≡ true }
+        requires at { (d : Doing) × IsAt self.old d }
+        ensures process { (value : Bool) (d : Doing) → IsAt self.old d → self.new ≡ record self.old { kept = kept_at self.old.setup self.old.process (does_then self.old.setup self.old.process d flick value) } }
+        ensures marks { (value : Bool) (d : Doing) → IsAt self.old d → marks_told result ≡ marks_with self.old.setup self.old.process d flick value }
+    {
+        match mem::replace(&mut self.work, Work::Lies) {
+            Work::Settles {
+                inside,
+                taken,
+                value,
+                mut unit,
+            } => {
+                let at = value.unwrap_or(flick);
+                match unit.advance(flick) {
+                    UnitProgress::Settling => {
+                        self.work = Work::Settles {
+                            inside,
+                            taken,
+                            value: Some(at),
+                            unit,
+                        };
+                        Told::Nothing
+                    }
+                    _ => {
+                        self.work = Work::Frees { inside, unit };
+                        settled(at, taken)
+                    }
+                }
+            }
+            _ => unreachable!(),
+        }
+    }
+
+    /// The same while the memory unit clears the ticket and the choosing bit.
+    #[inline]
+    fn advance_frees(&mut self, flick: bool) -> Told
+        requires frees { is_unit_freeing self.old.kept ≡ true }
+        requires at { (d : Doing) × IsAt self.old d }
+        ensures process { (value : Bool) (d : Doing) → IsAt self.old d → self.new ≡ record self.old { kept = kept_at self.old.setup self.old.process (does_then self.old.setup self.old.process d flick value) } }
+        ensures marks { (value : Bool) (d : Doing) → IsAt self.old d → marks_told result ≡ marks_with self.old.setup self.old.process d flick value }
+    {
+        match &mut self.work {
+            Work::Frees { inside, unit } => match unit.advance(flick) {
+                UnitProgress::Down => {
+                    self.work = Work::Lies;
+                    Told::Lies
+                }
+                _ => {
+                    let told = told_left(*inside);
+                    *inside = false;
+                    told
+                }
+            },
+            _ => unreachable!(),
+        }
+    }
+
+    /// It waits at the door.
+    fn waits(&self) -> bool
+        requires { is_at_door self.now.kept ≡ true }
+        ensures { stage_kept self.now.kept ≡ stage_waiting result }
+    {
+        match &self.work {
+            Work::AtDoor { waits } => *waits,
+            _ => unreachable!(),
+        }
+    }
+}
+
+/// Whether the process at the door waits. The rest of the cursor stays in place.
+#[inline]
+fn set_waits(work: &mut Work, now: bool)
+    requires { is_door work.old ≡ true }
+    ensures { work.new ≡ works.AtDoor now }
+{
+    match work {
+        Work::AtDoor { waits } => *waits = now,
+        _ => unreachable!(),
+    }
+}

@@ -1,0 +1,149 @@
+//! Where a process gives up waiting, and where it fails.
+ghost use Rattle.std.specs.Prelude.{◌≡◌, true, false, IfSome, None};
+ghost use Rattle.record.specs.Cuts.{IsTornOf};
+ghost use Rattle.record.specs.declared.Stage.TheVariants.{Waiting};
+ghost use Rattle.laws.specs.Doings.{Doing};
+ghost use Rattle.process.specs.Halts.{kept_cut, taken_in};
+ghost use Rattle.process.specs.Keeping.{is_at_data, is_clearing, is_withdrawing};
+ghost use Rattle.process.specs.Processes.{inside_kept, stage_kept};
+ghost use Rattle.process.specs.Processes as kept;
+ghost use Rattle.process.specs.Steps.{IsAt, is_at_door, kept_failing, kept_withdrawing, may_fail};
+
+use super::{Process, Work};
+use bakery::Leaving;
+use failure::Unit;
+use plain_store::Reply;
+use safe_number::{Field, TornBit};
+
+impl Process {
+    /// The process gives up waiting, and begins to clear its ticket. An open read, if there is one, has to be dropped
+    /// by whoever keeps the memory.
+    pub fn give_up(&mut self)
+        requires waiting { stage_kept self.old.kept ≡ Waiting }
+        ensures process { self.new ≡ record self.old { kept = kept_withdrawing self.old.setup self.old.process } }
+    {
+        self.door.quit();
+        self.work = Work::Withdraws(Leaving::new(self.process, &self.setup));
+    }
+
+    /// The process halts, and its memory unit takes over. An open read, if there is one, has to be dropped by whoever
+    /// keeps the memory.
+    pub fn cut(&mut self)
+        requires may { may_fail self.old.kept ≡ true }
+        requires at { (d : Doing) × IsAt self.old d }
+        ensures process { (d : Doing) → IsAt self.old d → self.new ≡ record self.old { kept = kept_failing self.old.setup self.old.process d } }
+    {
+        let inside = self.is_inside();
+        let (torn, taken) = self.cut_off();
+        match torn {
+            Some(torn) => {
+                self.work = Work::Settles {
+                    inside,
+                    taken,
+                    value: None,
+                    unit: Unit::start(self.process, &self.setup, Some(torn)),
+                };
+            }
+            None => {
+                self.work = Work::Frees {
+                    inside,
+                    unit: Unit::start(self.process, &self.setup, None),
+                };
+            }
+        }
+    }
+
+    /// The process halts at its cursor and lies down. Answers the bit that is torn, and the new value of a commit bit
+    /// with the reply of the command that it takes.
+    fn cut_off(&mut self) -> (Option<TornBit>, Option<(bool, Reply)>)
+        requires may { may_fail self.old.kept ≡ true }
+        requires at { (d : Doing) × IsAt self.old d }
+        ensures process { self.new ≡ record self.old { kept = kept.Lies } }
+        ensures known { IfSome result.0 (IsTornOf self.old.setup) }
+        ensures cut { (d : Doing) → IsAt self.old d → kept_cut self.old.setup self.old.process result.0 result.1 (inside_kept self.old.kept) ≡ kept_failing self.old.setup self.old.process d }
+    {
+        match &self.work {
+            Work::Rests => {
+                self.work = Work::Lies;
+                (None, None)
+            }
+            Work::AtDoor { .. } => (self.cut_door(), None),
+            Work::AtData => self.cut_section(),
+            Work::Leaves { .. } => (self.cut_leaves(), None),
+            Work::Withdraws(_) => (self.cut_withdraws(), None),
+            Work::Lies | Work::Settles { .. } | Work::Frees { .. } => unreachable!(),
+        }
+    }
+
+    /// The same at the door.
+    fn cut_door(&mut self) -> Option<TornBit>
+        requires at_door { is_at_door self.old.kept ≡ true }
+        requires at { (d : Doing) × IsAt self.old d }
+        ensures process { self.new ≡ record self.old { kept = kept.Lies } }
+        ensures known { IfSome result (IsTornOf self.old.setup) }
+        ensures cut { (d : Doing) → IsAt self.old d → kept_cut self.old.setup self.old.process result None false ≡ kept_failing self.old.setup self.old.process d }
+    {
+        self.work = Work::Lies;
+        self.door.halt()
+    }
+
+    /// The same at the data.
+    fn cut_section(&mut self) -> (Option<TornBit>, Option<(bool, Reply)>)
+        requires at_data { is_at_data self.old.kept ≡ true }
+        ensures process { self.new ≡ record self.old { kept = kept.Lies } }
+        ensures known { IfSome result.0 (IsTornOf self.old.setup) }
+        ensures cut { (d : Doing) → IsAt self.old d → kept_cut self.old.setup self.old.process result.0 result.1 true ≡ kept_failing self.old.setup self.old.process d }
+    {
+        self.work = Work::Lies;
+        let pending = self.section.pending();
+        let torn = self.section.halt();
+        let taken = taken_with(&torn, pending);
+        (torn, taken)
+    }
+
+    /// The same while the ticket is cleared before the answer.
+    fn cut_leaves(&mut self) -> Option<TornBit>
+        requires clears { is_clearing self.old.kept ≡ true }
+        ensures process { self.new ≡ record self.old { kept = kept.Lies } }
+        ensures known { IfSome result (IsTornOf self.old.setup) }
+        ensures cut { (d : Doing) → IsAt self.old d → kept_cut self.old.setup self.old.process result None (inside_kept self.old.kept) ≡ kept_failing self.old.setup self.old.process d }
+    {
+        match &self.work {
+            Work::Leaves { leaving, .. } => {
+                let torn = leaving.fail();
+                self.work = Work::Lies;
+                torn
+            }
+            _ => unreachable!(),
+        }
+    }
+
+    /// The same of a process that gave up waiting.
+    fn cut_withdraws(&mut self) -> Option<TornBit>
+        requires withdraws { is_withdrawing self.old.kept ≡ true }
+        ensures process { self.new ≡ record self.old { kept = kept.Lies } }
+        ensures known { IfSome result (IsTornOf self.old.setup) }
+        ensures cut { (d : Doing) → IsAt self.old d → kept_cut self.old.setup self.old.process result None false ≡ kept_failing self.old.setup self.old.process d }
+    {
+        match &self.work {
+            Work::Withdraws(leaving) => {
+                let torn = leaving.fail();
+                self.work = Work::Lies;
+                torn
+            }
+            _ => unreachable!(),
+        }
+    }
+}
+
+/// The new value of a torn commit bit, with the reply of the change that is pending.
+fn taken_with(torn: &Option<TornBit>, pending: Option<(Reply, u32, bool)>) -> Option<(bool, Reply)>
+    ensures { result ≡ taken_in torn.now pending }
+{
+    let torn = torn.as_ref()?;
+    let (reply, _, commit) = pending?;
+    match torn.field {
+        Field::Commit => Some((commit, reply)),
+        _ => None,
+    }
+}

@@ -1,0 +1,158 @@
+ghost use Rattle.std.specs.Prelude.{◌≡◌, cond, [], ◌∷◌, map};
+ghost use Rattle.record.specs.Histories.{reply_taken};
+ghost use Rattle.record.specs.Records.{placed};
+ghost use Rattle.record.specs.declared.Mark.TheVariants.{Left};
+ghost use Rattle.bakery.specs.Doors as doors;
+ghost use Rattle.critical.specs.Sections as sections;
+ghost use Rattle.process.specs.Keeping.{answer_told, marks_settled, stage_waiting};
+ghost use Rattle.process.specs.Telling.{act_of, marks_told};
+
+use bakery::DoorProgress;
+use critical::SectionProgress;
+use plain_store::{Answer, Reply};
+use record::{Act, Mark};
+use safe_number::Access;
+use smallvec::SmallVec;
+use std::alloc::Global;
+
+/// What a step of a process, or of its memory unit, leads to.
+#[derive(Clone, Copy, Debug)]
+pub enum Told {
+    Nothing,
+    /// The doorway is finished, with this ticket.
+    Waits(u32),
+    /// It is finished, and there is nobody to wait for.
+    WaitsAndEnters(u32),
+    Enters,
+    Took(Reply),
+    Leaves,
+    Answers(Answer),
+    Settles(bool),
+    /// The torn commit bit is settled at its new value.
+    SettlesAndTakes(bool, Reply),
+    Lies,
+}
+
+impl Told {
+    /// The reply of a command that is taken.
+    pub fn reply(&self) -> Option<Reply>
+        ensures { result ≡ reply_taken (marks_told self.now) }
+    {
+        match *self {
+            Told::Took(reply) | Told::SettlesAndTakes(_, reply) => Some(reply),
+            _ => None,
+        }
+    }
+
+    /// The marks, where a command that is taken gets this place in the history. They take no memory.
+    pub fn marks(&self, alloc: Global, place: u64) -> SmallVec<Mark, 3>
+        ensures { result.items ≡ map (placed place) (marks_told self.now) }
+    {
+        match *self {
+            Told::Nothing => SmallVec::new(alloc),
+            Told::Waits(ticket) => one(alloc, Mark::Waiting(ticket)),
+            Told::WaitsAndEnters(ticket) => two(alloc, Mark::Waiting(ticket), Mark::Entered),
+            Told::Enters => one(alloc, Mark::Entered),
+            Told::Took(reply) => one(alloc, Mark::Taken(place, reply)),
+            Told::Leaves => one(alloc, Mark::Left),
+            Told::Answers(answer) => one(alloc, Mark::Answered(answer)),
+            Told::Settles(value) => one(alloc, Mark::Settled(value)),
+            Told::SettlesAndTakes(value, reply) => {
+                two(alloc, Mark::Settled(value), Mark::Taken(place, reply))
+            }
+            Told::Lies => one(alloc, Mark::Down),
+        }
+    }
+}
+
+/// What a step has made: its access, and what that leads to.
+#[derive(Clone, Copy, Debug)]
+pub struct Stepped {
+    pub access: Access,
+    pub told: Told,
+}
+
+impl Stepped {
+    /// The same as an act, where a command that is taken gets this place in the history. It takes no memory.
+    pub fn act(&self, alloc: Global, place: u64) -> Act
+        ensures { result ≡ act_of place self.now }
+    {
+        Act {
+            access: Some(self.access),
+            marks: self.told.marks(alloc, place),
+        }
+    }
+}
+
+/// One mark, in place.
+pub fn one(alloc: Global, mark: Mark) -> SmallVec<Mark, 3>
+    ensures { result.items ≡ mark ∷ [] }
+{
+    match SmallVec::from_array(alloc, [mark]) {
+        Ok(marks) => marks,
+        Err(_) => unreachable!(),
+    }
+}
+
+/// Two marks, in place.
+fn two(alloc: Global, first: Mark, second: Mark) -> SmallVec<Mark, 3>
+    ensures { result.items ≡ first ∷ second ∷ [] }
+{
+    match SmallVec::from_array(alloc, [first, second]) {
+        Ok(marks) => marks,
+        Err(_) => unreachable!(),
+    }
+}
+
+/// What the door's progress tells of a process that waited before, or did not.
+pub(crate) fn told_at_door(waits: bool, progress: DoorProgress) -> Told
+    ensures { marks_told result ≡ doors.marks_told (stage_waiting waits) progress }
+{
+    match progress {
+        DoorProgress::Doorway => Told::Nothing,
+        DoorProgress::Waiting(_) if waits => Told::Nothing,
+        DoorProgress::Waiting(ticket) => Told::Waits(ticket),
+        DoorProgress::Inside(_) if waits => Told::Enters,
+        DoorProgress::Inside(ticket) => Told::WaitsAndEnters(ticket),
+        DoorProgress::Full { .. } if waits => Told::Nothing,
+        DoorProgress::Full { process } => Told::Answers(Answer::TicketsFull { process }),
+    }
+}
+
+/// The answer that is to come once a section has told this.
+pub(crate) fn answer_told(progress: &SectionProgress) -> Option<Answer>
+    ensures { result ≡ answer_told progress.now }
+{
+    match progress {
+        SectionProgress::Reading | SectionProgress::Writing => None,
+        SectionProgress::Taken { reply, .. } => Some(Answer::Reply(*reply)),
+        SectionProgress::NoStamp => Some(Answer::StampsFull),
+    }
+}
+
+/// What a section's progress tells.
+pub(crate) fn told_at_data(progress: &SectionProgress) -> Told
+    ensures { marks_told result ≡ sections.marks_told progress.now }
+{
+    match progress {
+        SectionProgress::Taken { reply, .. } => Told::Took(*reply),
+        _ => Told::Nothing,
+    }
+}
+
+/// What the settling of the torn bit at a value leads to.
+pub(crate) fn settled(value: bool, taken: Option<(bool, Reply)>) -> Told
+    ensures { marks_told result ≡ marks_settled value taken }
+{
+    match taken {
+        Some((bit, reply)) if bit == value => Told::SettlesAndTakes(value, reply),
+        _ => Told::Settles(value),
+    }
+}
+
+/// What an access of the unit leads to that is the first one outside, or is not.
+pub(crate) fn told_left(inside: bool) -> Told
+    ensures { marks_told result ≡ cond inside (Left ∷ []) [] }
+{
+    if inside { Told::Leaves } else { Told::Nothing }
+}

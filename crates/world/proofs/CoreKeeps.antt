@@ -1,0 +1,83 @@
+-- A core that shows events with a history keeps, with it, what a world keeps.
+use Rattle.std.proofs.Common.{◌≡◌, ℕ, zero, suc, ◌+◌, ◌<◌, ◌≤◌, Bool, List, [], ◌∷◌, Option, None, Some, length, map, refl, sym, ap, subst, ◌∙◌, arith}
+use Rattle.std.specs.Prelude.{slice_index_or, slice_set}
+use Rattle.std.proofs.lemmas.List.{length-map, length-set, length_push}
+use Rattle.plain_store.specs.declared.Command.{Command}
+use Rattle.plain_store.specs.declared.Reply.{Reply}
+use Rattle.record.specs.declared.events.Event.{Event}
+use Rattle.record.specs.declared.history.Taken.{Taken}
+use Rattle.record.specs.declared.refusals.Refusal.{Refusal}
+use Rattle.record.specs.Records.{process_of}
+use Rattle.world.specs.Changes.{pending_in, told, with_taken}
+use Rattle.world.specs.Cores.{CoreRefuses, CoreState, CoreWalks, KeepsCore, call_in, with_history}
+use Rattle.world.specs.Events.{IsRefused}
+use Rattle.world.specs.Flicks.{FlickState}
+use Rattle.world.specs.Seats.{Seat}
+use Rattle.world.specs.Shows.{Shows, WorldState}
+use Rattle.world.proofs.WorldEnds.{IsUsed, index-in}
+use Rattle.world.proofs.WorldWalks.{keeps_of, room_of, walks-then}
+
+-- the world of a core, and what is known of it
+pub refused_of : (c d : CoreState) (taken : List Taken) (what : Event) (r : Option Refusal) → c ≡ d → CoreRefuses d what r → IsRefused (with_history c taken) what r
+refused_of c d taken what r is h = subst (λ (x : CoreState). IsRefused (with_history x taken) what r) (sym is) (h taken)
+
+pub shows_of : (c d : CoreState) (taken : List Taken) (events : List Event) → c ≡ d → Shows (with_history d taken) events → Shows (with_history c taken) events
+shows_of c d taken events is h = subst (λ (x : CoreState). Shows (with_history x taken) events) (sym is) h
+
+-- what a core keeps, with the history and the events that it shows
+pub keeps_core : (c : CoreState) (taken : List Taken) (events : List Event) → Shows (with_history c taken) events → KeepsCore c
+keeps_core c taken events shows = record { taken = taken; events = events; shows = shows }
+
+-- the process of an event that is not refused: there is one, below 16
+pub core_in : (c d : CoreState) (what : Event) → KeepsCore c → c ≡ d → CoreRefuses d what None → (process_of what < length c.seats) × (process_of what < 16)
+core_in c d what k is ok =
+    let w : WorldState = with_history c k.taken in
+    index-in w (room_of w) what (keeps_of w k.events k.shows) (refused_of c d k.taken what None is ok)
+
+-- and its seat is used, with each history with which the core shows something
+pub core_used : (c d : CoreState) (what : Event) (i : ℕ) (seat : Seat) (taken : List Taken) (events : List Event) → Shows (with_history c taken) events → c ≡ d → CoreRefuses d what None → i ≡ process_of what → seat ≡ slice_index_or c.seats i seat →
+    IsUsed (with_history c taken) (room_of (with_history c taken)) what i seat
+core_used c d what i seat taken events shows is ok index seat_is = record {
+  keeps = keeps_of (with_history c taken) events shows;
+  ok = refused_of c d taken what None is ok;
+  index = index;
+  seat_is = seat_is;
+}
+
+-- where a world keeps its room, no more calls are pending
+pub fewer_pending : (seats new : List Seat) (h : List Taken) (n : ℕ) → length h + pending_in new ≤ length h + pending_in seats → pending_in seats ≡ n → pending_in new ≤ n
+fewer_pending seats new h n room is = omega (arith, room, is)
+
+-- a command that is taken makes the history longer by one
+pub taken_length : (h : List Taken) (p : ℕ) (command : Command) (number : ℕ) (o : Option Reply) → length (with_taken h p command number o) ≡ length h + elim o as (λ _. ℕ) [ None ↦ 0 | Some r ↦ 1 ]
+taken_length h p command number None = omega arith
+taken_length h p command number (Some r) = length_push h (record { process = p; command = command; reply = r; number = number })
+
+-- the last call of a process whose seat was put in its place, and told
+pub call_set : (seats new : List Seat) (waited waits : Bool) (i p : ℕ) (then : Seat) → new ≡ map (told p waited waits) (slice_set seats i then) → i ≡ p → i < length seats → call_in new p ≡ (then.process.command, then.process.number)
+call_set seats new waited waits i p then is index l = ap (λ seats. call_in seats p) is ∙ subst (λ q. call_in (map (told p waited waits) (slice_set seats i then)) q ≡ (then.process.command, then.process.number)) index (there seats i l)
+  where
+    there : (seats : List Seat) (i : ℕ) → i < length seats → call_in (map (told p waited waits) (slice_set seats i then)) i ≡ (then.process.command, then.process.number)
+    there [] i l = absurd (omega (arith, l))
+    there (x ∷ seats) zero l = refl
+    there (x ∷ seats) (suc i) l = there seats i (omega (arith, l))
+
+pub there_set : (seats new : List Seat) (f : Seat → Seat) (i p : ℕ) (then : Seat) → new ≡ map f (slice_set seats i then) → p < length seats → p < length new
+there_set seats new f i p then is l =
+    let all = ap length is in
+    let mapped = length-map (slice_set seats i then) f in
+    let set = length-set seats i then in
+    omega (arith, all, mapped, set, l)
+
+-- no steps yet, and steps after steps
+pub core_stays : (c d : CoreState) (f : FlickState) (p : ℕ) → c ≡ d → CoreWalks d f p 0 c f
+core_stays c d f p is = record {
+  walks = λ taken. ((λ k. with_history (is k) taken), refl);
+  pending = let same = ap (λ (x : CoreState). pending_in x.seats) is in omega (arith, same);
+}
+
+pub core_walks : (n : ℕ) (old mid new : CoreState) (f g h : FlickState) (p made : ℕ) → CoreWalks old f p made mid g → CoreWalks mid g p n new h → CoreWalks old f p (made + n) new h
+core_walks n old mid new f g h p made first more = record {
+  walks = λ taken. walks-then n (with_history old taken) (with_history mid taken) (with_history new taken) f g h p made (first.walks taken) (more.walks taken);
+  pending = let a = first.pending in let b = more.pending in omega (arith, a, b);
+}

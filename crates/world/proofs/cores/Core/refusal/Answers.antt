@@ -1,0 +1,55 @@
+use Rattle.std.proofs.Common.{◌<◌, ◌≤◌, ◌==◌, ◌&&◌, length, slice_index_or, sym, ap, ◌∙◌, arith, true, false}
+use Rattle.std.specs.Prelude.{nat_le}
+use Rattle.record.specs.Records.{is_call, past_of, process_of, refused, refused_at}
+use Rattle.process.specs.Processes.{ProcessState, stage_kept}
+use Rattle.world.specs.Cores.{CoreState, with_history}
+use Rattle.world.specs.Shows.{WorldState}
+use Rattle.world.proofs.WorldNew.{refused-beyond, refused-there, refused-full}
+use Rattle.world.proofs.CoreKeeps.{shows_of}
+use Rattle.world.proofs.cores.Core.refusal.Goals as goal
+
+pub returns-then-len-at : goal.returns-then-len-at
+returns-then-len-at c =
+    let i = c.self.inside in
+    let core : CoreState = record { setup = i.setup; locks = i.locks; versions = i.versions; seats = i.seats.items } in
+    let what = c.args.event.now in
+    let own = c.from-at.ensures ∙ c.process.ensures in
+    let beyond : length i.seats.items ≤ process_of what = omega (arith, own, c.if-len-at.true, c.len.ensures, i.seats.ok.0) in
+    λ taken events shows. let w : WorldState = with_history core taken in ap (λ (w : CoreState). refused w.setup (past_of w.setup events) what) (sym c.self.view_is) ∙ refused-beyond w events what (shows_of core c.args.self.now taken events c.self.view_is shows) beyond
+
+pub returns-in-Some : goal.returns-in-Some
+returns-in-Some c =
+    let i = c.self.inside in
+    let core : CoreState = record { setup = i.setup; locks = i.locks; versions = i.versions; seats = i.seats.items } in
+    let what = c.args.event.now in
+    let own = c.from-at.ensures ∙ c.process.ensures in
+    let inside : process_of what < length i.seats.items = omega (arith, own, c.if-len-at.false, c.len.ensures, i.seats.ok.0) in
+    let seat = c.index.result.now in
+    let is = c.index.ensures ∙ ap (λ k. slice_index_or i.seats.items k seat) own in
+    λ taken events shows. let w : WorldState = with_history core taken in ap (λ (w : CoreState). refused w.setup (past_of w.setup events) what) (sym c.self.view_is) ∙ refused-there w events what c.in-Some.refusal seat seat (shows_of core c.args.self.now taken events c.self.view_is shows) inside is (ap (λ (now : ProcessState). refused_at what (stage_kept now.kept)) (sym c.process-process.ensures) ∙ ap (refused_at what) (sym c.stage.ensures) ∙ sym c.refusal_at.ensures ∙ c.in-Some.is)
+
+pub returns-then-is_full : goal.returns-then-is_full
+returns-then-is_full c =
+    let i = c.self.inside in
+    let core : CoreState = record { setup = i.setup; locks = i.locks; versions = i.versions; seats = i.seats.items } in
+    let what = c.args.event.now in
+    let own = c.from-at.ensures ∙ c.process.ensures in
+    let inside : process_of what < length i.seats.items = omega (arith, own, c.if-len-at.false, c.len.ensures, i.seats.ok.0) in
+    let seat = c.index.result.now in
+    let is = c.index.ensures ∙ ap (λ k. slice_index_or i.seats.items k seat) own in
+    let none = ap (λ (now : ProcessState). refused_at what (stage_kept now.kept)) (sym c.process-process.ensures) ∙ ap (refused_at what) (sym c.stage.ensures) ∙ sym c.refusal_at.ensures ∙ c.in_default.is in
+    let full = ap (λ (now : ProcessState). is_call what && (i.setup.version == 2) && nat_le 65535 now.number) (sym c.process-process.ensures) ∙ ap (λ n. is_call what && (i.setup.version == 2) && nat_le 65535 n) (sym c.number.ensures) ∙ sym c.is_full.ensures ∙ c.if-is_full.true in
+    λ taken events shows. let w : WorldState = with_history core taken in ap (λ (w : CoreState). refused w.setup (past_of w.setup events) what) (sym c.self.view_is) ∙ refused-full w events what true seat seat (shows_of core c.args.self.now taken events c.self.view_is shows) inside is none full
+
+pub returns : goal.returns
+returns c =
+    let i = c.self.inside in
+    let core : CoreState = record { setup = i.setup; locks = i.locks; versions = i.versions; seats = i.seats.items } in
+    let what = c.args.event.now in
+    let own = c.from-at.ensures ∙ c.process.ensures in
+    let inside : process_of what < length i.seats.items = omega (arith, own, c.if-len-at.false, c.len.ensures, i.seats.ok.0) in
+    let seat = c.index.result.now in
+    let is = c.index.ensures ∙ ap (λ k. slice_index_or i.seats.items k seat) own in
+    let none = ap (λ (now : ProcessState). refused_at what (stage_kept now.kept)) (sym c.process-process.ensures) ∙ ap (refused_at what) (sym c.stage.ensures) ∙ sym c.refusal_at.ensures ∙ c.in_default.is in
+    let full = ap (λ (now : ProcessState). is_call what && (i.setup.version == 2) && nat_le 65535 now.number) (sym c.process-process.ensures) ∙ ap (λ n. is_call what && (i.setup.version == 2) && nat_le 65535 n) (sym c.number.ensures) ∙ sym c.is_full.ensures ∙ c.if-is_full.false in
+    λ taken events shows. let w : WorldState = with_history core taken in ap (λ (w : CoreState). refused w.setup (past_of w.setup events) what) (sym c.self.view_is) ∙ refused-full w events what false seat seat (shows_of core c.args.self.now taken events c.self.view_is shows) inside is none full

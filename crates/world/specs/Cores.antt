@@ -1,0 +1,66 @@
+-- A world without its history: what it keeps, and what it shows with a history.
+use Rattle.std.specs.Prelude.{ℕ, ◌<◌, ◌≤◌, Bool, List, Option, None, Some, length, slice_get}
+use Rattle.plain_store.specs.declared.Command.{Command}
+use Rattle.plain_store.specs.declared.Command.TheVariants.{Ask}
+use Rattle.plain_store.specs.declared.Setup.{Setup}
+use Rattle.record.specs.declared.events.Event.{Event}
+use Rattle.record.specs.declared.events.Event.TheVariants.{Step}
+use Rattle.record.specs.declared.history.Taken.{Taken}
+use Rattle.record.specs.declared.refusals.Refusal.{Refusal}
+use Rattle.record.specs.Histories.{reply_taken}
+use Rattle.bakery.specs.Locks.{LockRows}
+use Rattle.critical.specs.Registers.{DataRow}
+use Rattle.process.specs.declared.told.Told.{Told}
+use Rattle.process.specs.Telling.{marks_told}
+use Rattle.world.specs.Changes.{pending_in, with_taken}
+use Rattle.world.specs.Events.{GoesOn, IsRefused}
+use Rattle.world.specs.Flicks.{FlickState}
+use Rattle.world.specs.Seats.{Seat}
+use Rattle.world.specs.Shows.{Shows, WorldState}
+use Rattle.world.specs.Walks.{Walks}
+
+-- the registers, and what is kept of each process: of fixed size
+pub record CoreState : Type 0 where
+  pub setup : Setup
+  pub locks : List LockRows
+  pub versions : DataRow
+  pub seats : List Seat
+
+-- the world that has this core and this history
+abbrev pub with_history : CoreState → List Taken → WorldState
+with_history c taken = record { setup = c.setup; locks = c.locks; versions = c.versions; seats = c.seats; history = taken }
+
+-- a world without its history
+abbrev pub core_of : WorldState → CoreState
+core_of w = record { setup = w.setup; locks = w.locks; versions = w.versions; seats = w.seats }
+
+-- what a core keeps: with some history it shows some events
+pub record KeepsCore (c : CoreState) : Type 0 where
+  pub taken : List Taken
+  pub events : List Event
+  pub shows : Shows (with_history c taken) events
+
+-- with each history: why an event is refused, and that the world then shows it
+abbrev pub CoreRefuses : CoreState → Event → Option Refusal → Type 0
+CoreRefuses c event refusal = (taken : List Taken) → IsRefused (with_history c taken) event refusal
+
+abbrev pub CoreGoesOn : CoreState → Event → CoreState → Type 0
+CoreGoesOn old event new = (taken : List Taken) → GoesOn (with_history old taken) event (with_history new taken)
+
+-- the command and the number of the last call of a process, by its seat
+abbrev pub call_in : List Seat → ℕ → Command × ℕ
+call_in seats p = elim (slice_get seats p) as (λ _. Command × ℕ) [ None ↦ (Ask, 0) | Some seat ↦ (seat.process.command, seat.process.number) ]
+
+-- a step of a process that there is: the world goes on, with the command in its history that the step takes
+pub record CoreSteps (old : CoreState) (p : ℕ) (flick : Bool) (told : Told) (new : CoreState) : Type 0 where
+  pub there : p < length new.seats
+  pub goes : (taken : List Taken) → GoesOn (with_history old taken) (Step p flick) (with_history new (with_taken taken p (call_in new.seats p).0 (call_in new.seats p).1 (reply_taken (marks_told told))))
+
+-- 1 if a step takes a command
+abbrev pub taking : Told → ℕ
+taking told = elim (reply_taken (marks_told told)) as (λ _. ℕ) [ None ↦ 0 | Some r ↦ 1 ]
+
+-- so many steps without a mark, with each history; no more calls are pending
+pub record CoreWalks (old : CoreState) (flicks : FlickState) (p n : ℕ) (new : CoreState) (flicks_then : FlickState) : Type 0 where
+  pub walks : (taken : List Taken) → Walks (with_history old taken) flicks p n (with_history new taken) flicks_then
+  pub pending : pending_in new.seats ≤ pending_in old.seats

@@ -1,0 +1,305 @@
+//! N processes over one set of registers, without a history.
+ghost use Rattle.std.specs.Prelude.{◌≡◌, ◌+◌, ◌<◌, ◌≤◌, Bool, true, List, length, None, Some, IfOk, IfErr, IsOk, OnErr, OnOk, Ok, [], option_map};
+ghost use Rattle.plain_store.specs.Setups.{checked};
+ghost use Rattle.plain_store.specs.Commands.{is_command};
+ghost use Rattle.store_image.specs.Image.{image_of};
+ghost use Rattle.record.specs.declared.Event.{Event as Happening};
+ghost use Rattle.record.specs.declared.Event.TheVariants.{Call, Step, Fail, Withdraw, Restart};
+ghost use Rattle.record.specs.declared.history.Taken.{Taken as Seen};
+ghost use Rattle.record.specs.Doorways.{ahead};
+ghost use Rattle.record.specs.Newest.{newest};
+ghost use Rattle.record.specs.Records.{past_of, refused};
+ghost use Rattle.process.specs.Telling.{act_of};
+ghost use Rattle.world.specs.Changes.{pending_in};
+ghost use Rattle.world.specs.Cores.{CoreGoesOn, CoreRefuses, CoreSteps, CoreWalks, call_in, taking, with_history};
+ghost use Rattle.world.specs.Events.{Adds, stage_in};
+ghost use Rattle.world.specs.Shows.{Shows};
+ghost use Rattle.world.specs.Walks.{bits_within_at};
+
+use crate::flicks::Flicks;
+use crate::queue::listed;
+use crate::refusals::{is_full, number_after, refusal_at};
+use crate::seat::Seat;
+use crate::seats::{is_occupied, is_queued, tell, waiting, waits};
+use bakery::Locks;
+use critical::DataRow;
+use plain_store::{Command, NestedTypes, Reply, Setup};
+use process::Told;
+use record::{Event, Refusal, Stage, Taken};
+use safe_number::Access;
+use smallvec::SmallVec;
+use std::alloc::{AllocError, Global};
+use std::marker::Model;
+use store_image::Image;
+
+/// N processes over one set of registers: a world without its history. Once made it takes no memory.
+///
+/// Contracts see what it keeps, and that with each history that makes it the world of a record it goes on as that
+/// world does.
+#[derive(Drop)]
+pub struct Core {
+    setup: Setup,
+    locks: Locks,
+    versions: DataRow,
+    seats: Vec<Seat>,
+}
+
+impl Model for Core {
+    ghost use Rattle.world.specs.Cores.{CoreState, KeepsCore};
+
+    ghost Value = { CoreState };
+
+    ghost view = { λ w. record { setup = w.setup; locks = w.locks; versions = w.versions; seats = w.seats.items } };
+
+    ghost invariant = { λ w. KeepsCore (record { setup = w.setup; locks = w.locks; versions = w.versions; seats = w.seats.items }) };
+}
+
+impl Core {
+    /// One in which nothing has happened. The one fault is want of memory.
+    pub fn new(alloc: Global, setup: &Setup) -> Result<Core, AllocError>
+        requires good { checked setup.now ≡ Ok tt }
+        ensures setup { IfOk result (λ c. c.setup ≡ setup.now) }
+        ensures shows { IfOk result (λ c. Shows (with_history c []) []) }
+    {
+        setup.opening.pairs_are_sound();
+        let mut seats = Vec::new(alloc);
+        for process in 0..setup.processes {
+            seats.push(Seat::new(alloc, process, setup)?)?;
+        }
+        Ok(Core {
+            setup: *setup,
+            locks: Locks::new(alloc, setup)?,
+            versions: DataRow::new(alloc, setup)?,
+            seats,
+        })
+    }
+
+    /// How many processes there are.
+    pub fn processes(&self) -> usize
+        ensures { result ≡ length self.now.seats }
+    {
+        self.seats.len()
+    }
+
+    /// Where a process stands; none, if there is no such process.
+    pub fn stage(&self, process: u8) -> Option<Stage>
+        ensures { (taken : List Seen) (events : List Happening) → Shows (with_history self.now taken) events → result ≡ stage_in self.now.setup (past_of self.now.setup events) process }
+    {
+        let at = usize::from(process);
+        if self.seats.len() <= at {
+            return None;
+        }
+        Some(self.seats[at].process().stage())
+    }
+
+    /// The processes that wait and whose doorways ended before that of this process began, ascending; none,
+    /// unless it is in its doorway or waiting.
+    pub fn ahead(&self, alloc: Global, process: u8) -> SmallVec<u8, 16>
+        ensures { (taken : List Seen) (events : List Happening) → Shows (with_history self.now taken) events → result.items ≡ ahead self.now.setup process (past_of self.now.setup events) }
+    {
+        let at = usize::from(process);
+        if self.seats.len() <= at {
+            return SmallVec::new(alloc);
+        }
+        let seat = &self.seats[at];
+        if is_queued(seat) {
+            listed(alloc, seat.before())
+        } else {
+            SmallVec::new(alloc)
+        }
+    }
+
+    /// The store after the history, off the registers; none while somebody is inside.
+    pub fn newest(&self) -> Option<Image>
+        ensures { (taken : List Seen) (events : List Happening) → Shows (with_history self.now taken) events → option_map image_of result ≡ newest self.now.setup (past_of self.now.setup events) }
+    {
+        if is_occupied(&self.seats) {
+            return None;
+        }
+        Some(self.versions.newest())
+    }
+
+    /// What a process takes, where its command is taken and this is the reply.
+    pub fn taken(&self, process: u8, reply: Reply) -> Taken
+        requires { process < length self.now.seats }
+        ensures { result ≡ record { process = process; command = (call_in self.now.seats process).0; reply = reply; number = (call_in self.now.seats process).1 } }
+    {
+        let _nested: NestedTypes = None;
+        let caller = self.seats[usize::from(process)].process();
+        Taken {
+            process,
+            command: caller.command(),
+            reply,
+            number: caller.number(),
+        }
+    }
+
+    /// Why an event is refused, if it is.
+    pub fn refusal(&self, event: &Event) -> Option<Refusal>
+        ensures { CoreRefuses self.now event.now result }
+    {
+        let at = usize::from(event.process());
+        if self.seats.len() <= at {
+            return Some(Refusal::NoProcess);
+        }
+        let process = self.seats[at].process();
+        if let Some(refusal) = refusal_at(event, process.stage()) {
+            return Some(refusal);
+        }
+        if is_full(event, self.setup.version, process.number()) {
+            return Some(Refusal::CallsFull);
+        }
+        None
+    }
+
+    /// One step of a process, or of its memory unit: its access, and in `told` what it leads to. The command that it
+    /// takes, if it takes one, is that of the process's last call. A step that is refused leaves `told` as it is.
+    #[inline]
+    pub fn step(&mut self, process: u8, flick: bool, told: &mut Told) -> Result<Access, Refusal>
+        ensures accepted { IfOk result (λ access. (taken : List Seen) → Adds (with_history self.old taken) (Step process flick) process (act_of (length taken) (record { access = access; told = told.new }))) }
+        ensures shows { OnOk result (CoreSteps self.old process flick told.new self.new) }
+        ensures pending { OnOk result (pending_in self.new.seats + taking told.new ≤ pending_in self.old.seats) }
+        ensures refused { IfErr result (λ refusal. CoreRefuses self.old (Step process flick) (Some refusal)) }
+        ensures unchanged { OnErr result (self.new ≡ self.old) }
+        ensures untold { OnErr result (told.new ≡ told.old) }
+        ensures setup { OnOk result (self.new.setup ≡ self.old.setup) }
+        ensures through { (taken : List Seen) (events : List Happening) → Shows (with_history self.old taken) events → refused self.old.setup (past_of self.old.setup events) (Step process flick) ≡ None → IsOk result }
+    {
+        if let Some(refusal) = self.step_refusal(process) {
+            return Err(refusal);
+        }
+        Ok(self.make_step(process, flick, told))
+    }
+
+    /// Why a step of a process is refused, if it is: the same without an event.
+    #[inline]
+    fn step_refusal(&self, process: u8) -> Option<Refusal>
+        ensures { (flick : Bool) → CoreRefuses self.now (Step process flick) result }
+    {
+        let at = usize::from(process);
+        if self.seats.len() <= at {
+            return Some(Refusal::NoProcess);
+        }
+        if self.seats[at].process().goes() {
+            None
+        } else {
+            Some(Refusal::NotRunning)
+        }
+    }
+
+    /// The next access of a process, or of its memory unit, and in `told` what it leads to.
+    #[inline]
+    fn make_step(&mut self, process: u8, flick: bool, told: &mut Told) -> Access
+        requires { CoreRefuses self.old (Step process flick) None }
+        ensures accepted { (taken : List Seen) → Adds (with_history self.old taken) (Step process flick) process (act_of (length taken) (record { access = result; told = told.new })) }
+        ensures shows { CoreSteps self.old process flick told.new self.new }
+        ensures pending { pending_in self.new.seats + taking told.new ≤ pending_in self.old.seats }
+        ensures setup { self.new.setup ≡ self.old.setup }
+    {
+        let seat = &mut self.seats[usize::from(process)];
+        let waited = waits(seat);
+        let (access, leads) = seat.step(&mut self.locks, &mut self.versions, flick);
+        let now = waits(seat);
+        tell(&mut self.seats, process, waited, now);
+        *told = leads;
+        access
+    }
+
+    /// Steps of a process while they are within a number access at the data, at most so many: each as `step` makes
+    /// it, by the flick that is next, and without a mark. It answers how many it has made, and stops where the next
+    /// access is of a last bit, at the door or of the memory unit, or where there is no such process.
+    #[inline]
+    pub fn walk(&mut self, process: u8, flicks: &mut Flicks, most: u32) -> u32
+        ensures most { result ≤ most }
+        ensures walks { CoreWalks self.old flicks.old process result self.new flicks.new }
+        ensures stops { result < most → bits_within_at self.new.seats process ≡ 0 }
+    {
+        let mut made = 0;
+        'parts: while made < most {
+            let bits = self.bits_within(process);
+            if bits == 0 {
+                return made;
+            }
+            let steps = u32::from(bits).min(most - made);
+            self.walk_within(process, flicks, steps);
+            made += steps;
+        }
+        made
+    }
+
+    /// How many bits a process at the data has before the last one of its number access; 0, if it is elsewhere, or there
+    /// is no such process.
+    #[inline]
+    fn bits_within(&self, process: u8) -> u16
+        ensures { result ≡ bits_within_at self.now.seats process }
+    {
+        let at = usize::from(process);
+        if self.seats.len() <= at {
+            return 0;
+        }
+        self.seats[at].process().bits_within()
+    }
+
+    /// So many steps of a process that has as many bits at least before the last one.
+    #[inline]
+    fn walk_within(&mut self, process: u8, flicks: &mut Flicks, steps: u32)
+        requires { steps ≤ bits_within_at self.old.seats process }
+        ensures { CoreWalks self.old flicks.old process steps self.new flicks.new }
+    {
+        let at = usize::from(process);
+        let mut made = 0;
+        'steps: while made < steps {
+            let flick = flicks.flick();
+            self.seats[at].step_within(&mut self.versions, flick);
+            made += 1;
+        }
+    }
+
+    /// A call begins.
+    pub fn call(&mut self, process: u8, command: &Command)
+        requires accepted { CoreRefuses self.old (Call process command.now) None }
+        requires given { is_command command.now ≡ true }
+        ensures shows { CoreGoesOn self.old (Call process command.now) self.new }
+        ensures pending { pending_in self.new.seats ≤ length self.old.seats }
+        ensures setup { self.new.setup ≡ self.old.setup }
+    {
+        let waiting = waiting(&self.seats);
+        let seat = &mut self.seats[usize::from(process)];
+        let number = number_after(&self.setup, seat.process().number());
+        seat.call(*command, number, waiting);
+    }
+
+    /// A process halts, and its memory unit takes over.
+    pub fn fail(&mut self, process: u8)
+        requires { CoreRefuses self.old (Fail process) None }
+        ensures shows { CoreGoesOn self.old (Fail process) self.new }
+        ensures pending { pending_in self.new.seats ≤ pending_in self.old.seats }
+        ensures setup { self.new.setup ≡ self.old.setup }
+    {
+        let seat = &mut self.seats[usize::from(process)];
+        let waited = waits(seat);
+        seat.fail(&mut self.locks, &mut self.versions);
+        tell(&mut self.seats, process, waited, false);
+    }
+
+    /// A process gives up waiting.
+    pub fn withdraw(&mut self, process: u8)
+        requires { CoreRefuses self.old (Withdraw process) None }
+        ensures shows { CoreGoesOn self.old (Withdraw process) self.new }
+        ensures pending { pending_in self.new.seats ≤ pending_in self.old.seats }
+        ensures setup { self.new.setup ≡ self.old.setup }
+    {
+        self.seats[usize::from(process)].withdraw(&mut self.locks, &mut self.versions);
+        tell(&mut self.seats, process, true, false);
+    }
+
+    /// A process that was down may call again.
+    pub fn restart(&mut self, process: u8)
+        requires { CoreRefuses self.old (Restart process) None }
+        ensures shows { CoreGoesOn self.old (Restart process) self.new }
+        ensures pending { pending_in self.new.seats ≤ pending_in self.old.seats }
+        ensures setup { self.new.setup ≡ self.old.setup }
+    {
+        self.seats[usize::from(process)].restart();
+    }
+}
