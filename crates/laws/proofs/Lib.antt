@@ -51,6 +51,7 @@ pub mod HeldOwners
 pub mod HeldReads
 pub mod HeldThere
 pub mod HeldTurns
+pub mod Ends
 pub mod SafeRecords
 -- The theorems
 pub mod Theorems

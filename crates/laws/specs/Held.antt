@@ -1,5 +1,6 @@
 -- What the registers hold after a past: the cell of each single-reader bit, where a process that fails or withdraws drops the read that it has open. And that each access may be made on them.
-use Rattle.std.specs.Prelude.{◌≡◌, ◌<◌, ◌==◌, Bool, true, false, ◌&&◌, ◌||◌, List, [], ◌∷◌, flat_map, cond, None, Some}
+use Rattle.std.specs.Prelude.{◌≡◌, ℕ, ◌<◌, ◌==◌, Bool, true, false, ◌&&◌, ◌||◌, List, [], ◌∷◌, flat_map, cond, None, Some}
+use Rattle.safe_bit.specs.declared.Move.TheVariants.{EndWrite}
 use Rattle.safe_bit.specs.Cell.{Cell, BitCall, Makes, Drops, cell_of_calls, read_answer, MayMove}
 use Rattle.safe_bit.specs.SafeRule.{read_value}
 use Rattle.safe_number.specs.declared.Access.{Access}
@@ -17,6 +18,8 @@ use Rattle.record.specs.Records.{last_start}
 use Rattle.record.specs.Registers.{opening_bit, width}
 use Rattle.record.specs.Scripts.{Call}
 use Rattle.record.specs.Stages.{stage}
+use Rattle.laws.specs.Doings.{doing}
+use Rattle.laws.specs.Steps.{being_written, next_of}
 
 -- the process gives up waiting
 abbrev pub is_withdrawn : Mark → Bool
@@ -63,3 +66,7 @@ OpenReadsAreOfThePlace = EachPast λ s past. (a : Access) → (cell_held s past 
     let here : Place = place_of c (accesses_of (since starts (own a.reader past))) in
     (command : Command) × (last_start (own a.reader past) ≡ Some (Called command)) × (is_running (stage a.reader past) ≡ true)
     × (is_read here.part ≡ true) × (read_at c here.part ≡ (a.owner, a.field))
+
+-- Where the next access of a process, or of its memory unit, ends a write, its bit has the value that is being written.
+abbrev pub WritesEndWithTheirValue : Type 0
+WritesEndWithTheirValue = EachPast λ s past. (p : ℕ) (flick : Bool) (a : Access) → next_of s p (doing s p past) flick ≡ Some a → a.how ≡ EndWrite → (cell_held s past a).value ≡ being_written s p (doing s p past)

@@ -1,15 +1,15 @@
 -- What a process does next: its next access, what that leads to, and what a failure leaves to its memory unit.
-use Rattle.std.specs.Prelude.{◌≡◌, ℕ, Bool, false, cond, List, [], Option, None, Some, option_map}
+use Rattle.std.specs.Prelude.{◌≡◌, ℕ, Bool, false, cond, List, [], ◌∷◌, Option, None, Some, option_map, unwrap_or}
 use Rattle.safe_number.specs.declared.Access.{Access}
 use Rattle.safe_number.specs.declared.Field.{Field}
 use Rattle.plain_store.specs.declared.Command.{Command}
 use Rattle.plain_store.specs.declared.Command.TheVariants.{Ask}
 use Rattle.plain_store.specs.declared.Setup.{Setup}
 use Rattle.record.specs.declared.Mark.{Mark}
-use Rattle.record.specs.Closings.{Closing, freeing, closing_next, closing_after}
+use Rattle.record.specs.Closings.{Closing, Withdraws, Settles, Frees, Lowers, Quit, Ended, freeing, closing_next, closing_after, no_ticket}
 use Rattle.record.specs.Failures.{cut_at, cut_closing}
-use Rattle.record.specs.Parts.{is_over, is_read, read_at}
-use Rattle.record.specs.Places.{access_at, marks_of, place_after, place_of}
+use Rattle.record.specs.Parts.{is_over, is_read, read_at, written_at}
+use Rattle.record.specs.Places.{Writing, Reading, access_at, bit_written, marks_of, place_after, place_of}
 use Rattle.record.specs.Scripts.{Next}
 use Rattle.laws.specs.Doings.{Doing, Rests, Lies, Runs, Closes, call, runs, closes, is_inside}
 
@@ -38,6 +38,18 @@ does_then s p (Closes command number at) flick value = closes command number (cl
 abbrev pub reads_of : Setup → ℕ → Doing → Option (ℕ × Field)
 reads_of s p (Runs command number at) = cond (is_read at.part) (Some (read_at (call s p command number) at.part)) None
 reads_of s p _ = None
+
+-- the value that is being written to the bit of the next access
+abbrev pub being_written : Setup → ℕ → Doing → Bool
+being_written s p Rests = false
+being_written s p Lies = false
+being_written s p (Runs command number at) = elim at.run [ Writing w ↦ (bit_written (written_at (call s p command number) at.part).1 w).value | Reading bits begun ↦ false ]
+being_written s p (Closes command number (Withdraws w)) = (bit_written (no_ticket (call s p command number)) w).value
+being_written s p (Closes command number (Settles field bit begun taken is t)) = unwrap_or t.value false
+being_written s p (Closes command number (Frees is w)) = (bit_written (no_ticket (call s p command number)) w).value
+being_written s p (Closes command number (Lowers w)) = (bit_written (false ∷ []) w).value
+being_written s p (Closes command number Quit) = false
+being_written s p (Closes command number Ended) = false
 
 -- a place that a call comes to
 abbrev pub IsReached : Setup → ℕ → Doing → Type 0
