@@ -73,7 +73,7 @@ fn readers_refuse_what_is_no_image(rt: HostRuntime) -> Result<(), Fail> {
 }
 
 /// The calls of a store of one slot, with the reply to each, and whether it changes the pairs.
-fn calls() -> Result<[(Command, Reply, bool); 11], Fail> {
+fn calls() -> Result<[(Command, Reply, bool); 10], Fail> {
     let a = Name::new(b"a")?;
     let b = Name::new(b"b")?;
     let most = Value::Count(i64::MAX);
@@ -91,12 +91,11 @@ fn calls() -> Result<[(Command, Reply, bool); 11], Fail> {
         (Command::Cas(a, one, two), Reply::Kept(most), false),
         (Command::Cas(a, most, hi), Reply::Swapped, true),
         (Command::Add(a, 1), Reply::NotCounter, false),
-        (Command::Ask, Reply::Last(9), false),
     ])
 }
 
-/// Makes the calls, numbered from 1, by the second of two callers.
-fn replies_are_right<S: Store>(rt: &impl Abort, store: &mut S) -> Result<(), Fail> {
+/// Makes the calls, numbered from 1, by process 1, whose last change then has this number.
+fn replies_are_right<S: Store>(rt: &impl Abort, store: &mut S, last: u16) -> Result<(), Fail> {
     let mut number = 0u16;
     for (command, reply, changes) in calls()? {
         number = number.wrapping_add(1);
@@ -104,19 +103,25 @@ fn replies_are_right<S: Store>(rt: &impl Abort, store: &mut S) -> Result<(), Fai
         assert_eq!(rt; store.would_change(&command), changes, "call {number}");
         assert_eq!(rt; store.apply(&command, caller)?, reply, "call {number}");
     }
+    let asked = Caller { process: 1, number: 11 };
+    assert_eq!(rt; store.apply(&Command::Ask, asked)?, Reply::Last(last));
     let hi = Value::Text(Text::new(b"hi")?);
     assert_eq!(rt; store.len(), 1);
     assert_eq!(rt; store.entry(0), Some((Name::new(b"a")?, hi)));
     assert_eq!(rt; store.entry(1), None);
-    assert_eq!(rt; store.last(0), 0);
-    assert_eq!(rt; store.last(1), 9);
+    for (process, number) in [(0, 0), (1, last), (2, 0)] {
+        assert_eq!(rt; store.last(process), number, "process {process}");
+    }
     Ok(())
 }
 
 #[test]
 fn both_stores_reply_alike(rt: HostRuntime) -> Result<(), Fail> {
-    replies_are_right(&rt, &mut PlainStore::new(rt.alloc(), 1, 2))?;
-    replies_are_right(&rt, &mut Image::empty(1, 2))
+    for (callers, last) in [(0, 0), (2, 9)] {
+        replies_are_right(&rt, &mut PlainStore::new(rt.alloc(), 1, callers), last)?;
+        replies_are_right(&rt, &mut Image::empty(1, callers), last)?;
+    }
+    Ok(())
 }
 
 fn are_zeros(bytes: &[u8]) -> bool {

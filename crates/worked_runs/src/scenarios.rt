@@ -4,7 +4,7 @@ const ASK_AFTER_LOST_CUT_CALL: &str =
     "bakery 2\nprocesses 1\ntickets 2\nstamps 2\nopen a c:5\ncall 0 write a c:6\nstep 0 819\n\
     fail 0\ngo 0 down\nrestart 0\ncall 0 ask\ngo 0 idle\nshow\n";
 
-const ASK_AFTER_TAKEN_CUT_CALL: &str =
+pub const ASK_AFTER_TAKEN_CUT_CALL: &str =
     "bakery 2\nprocesses 1\ntickets 2\nstamps 2\nopen a c:5\ncall 0 write a c:6\nstep 0 819\n\
     fail 0\nflick 1\ngo 0 down\nrestart 0\ncall 0 ask\ngo 0 idle\nshow\n";
 

@@ -1,8 +1,8 @@
 //! Worlds that are driven by single events.
-use crate::scenarios::SCENARIOS;
+use crate::scenarios::{ASK_AFTER_TAKEN_CUT_CALL, SCENARIOS};
 use bstr::ByteSlice;
-use plain_store::{Command, Name, Setup};
-use record::{Event, Refusal};
+use plain_store::{Command, Name, Reply, Setup, Value};
+use record::{Event, Refusal, Stage, Taken};
 use replayer::{events_of, replay};
 use scenario::read_scenario;
 use std::alloc::Global;
@@ -48,6 +48,53 @@ fn single_events_make_the_marks_of_replays(rt: HostRuntime) -> Result<(), Fail> 
         let printed = marks_of_replay(rt.alloc(), file)?;
         assert!(rt; marks.as_slice() == printed.as_slice(), "{file}");
     }
+    Ok(())
+}
+
+// The history of a world has the commands taken in their order, that of a call cut at its commit bit too, each with the
+// process, the reply and the number of its call.
+#[test]
+fn tells_its_history(rt: HostRuntime) -> Result<(), Fail> {
+    let write = Command::Write(Name::new(b"a")?, Value::Count(6));
+    let scenario = read_scenario(rt.alloc(), ASK_AFTER_TAKEN_CUT_CALL.as_bytes())?;
+    let mut world = World::new(rt.alloc(), &scenario.setup)?;
+    for event in &events_of(rt.alloc(), &scenario)? {
+        world.event(*event)?;
+    }
+    let history = [
+        Taken {
+            process: 0,
+            command: write,
+            reply: Reply::Done,
+            number: 1,
+        },
+        Taken {
+            process: 0,
+            command: Command::Ask,
+            reply: Reply::Last(1),
+            number: 2,
+        },
+    ];
+    assert_eq!(rt; world.history(), history.as_slice());
+    Ok(())
+}
+
+// Who finished its doorway before a call began is ahead of it, until it gives up waiting.
+#[test]
+fn tells_who_is_ahead(rt: HostRuntime) -> Result<(), Fail> {
+    let read = Command::Read(Name::new(b"a")?);
+    let mut world = World::new(rt.alloc(), &Setup::one(2, 2, 2, 1))?;
+    for process in 0..2 {
+        world.event(Event::Call(process, read))?;
+        for _ in 0..20 {
+            world.event(Event::Step(process, false))?;
+        }
+        assert_eq!(rt; world.stage(process), Some(Stage::Waiting));
+    }
+    assert_eq!(rt; world.ahead(0).as_slice(), [].as_slice());
+    assert_eq!(rt; world.ahead(1).as_slice(), [0].as_slice());
+    world.event(Event::Withdraw(0))?;
+    assert_eq!(rt; world.ahead(1).as_slice(), [].as_slice());
     Ok(())
 }
 
