@@ -1,7 +1,6 @@
 -- A step of a process that withdrew, and of a memory unit, is what the look-backs say.
-use Rattle.std.proofs.Common.{◌≡◌, ℕ, ◌==◌, Bool, true, false, cond, List, ◌∷◌, Some, length, map, refl, sym, ap, ◌∙◌, true≢false}
-use Rattle.std.specs.Prelude.{fold, option_map}
-use Rattle.std.specs.List.{list_any}
+use Rattle.std.proofs.Common.{◌≡◌, ℕ, ◌==◌, Bool, true, false, cond, List, ◌∷◌, Some, map, refl, sym, ap, ◌∙◌, true≢false}
+use Rattle.std.specs.Prelude.{fold}
 use Rattle.safe_bit.specs.SafeRule.{read_value}
 use Rattle.safe_number.specs.declared.Access.{Access}
 use Rattle.plain_store.specs.declared.Command.{Command}
@@ -10,23 +9,20 @@ use Rattle.record.specs.declared.events.Event.{Event}
 use Rattle.record.specs.declared.marks.Mark.TheVariants.{Failed, Withdrew}
 use Rattle.record.specs.declared.stages.Stage.TheVariants as stages
 use Rattle.record.specs.Calls.{last_call, last_command, call_number}
-use Rattle.record.specs.Closings.{Closing, Withdraws, Settles, Frees, Lowers, Quit, Ended, withdrawing, failing, closing_next, closing_after, closing_stage, closing_of, closing_entry}
+use Rattle.record.specs.Closings.{Closing, Withdraws, Settles, Frees, Lowers, Quit, Ended, withdrawing, failing, closing_next, closing_after, closing_stage}
 use Rattle.record.specs.Entries.{Entry, Past, own, has, since, before, starts, is_failed}
-use Rattle.record.specs.Histories.{history}
 use Rattle.record.specs.Moves.{moves_of}
 use Rattle.record.specs.Records.{last_start, past_of, stepped}
 use Rattle.record.specs.Registers.{opening_bit}
 use Rattle.record.specs.Scripts.{Call, Next}
 use Rattle.record.specs.Stages.{stage, stage_after}
 use Rattle.record.specs.Unit.{value_written}
-use Rattle.record.proofs.Accepted.{before-plain}
-use Rattle.record.proofs.ClosingScripts.{closing-stages}
-use Rattle.record.proofs.ClosingStanding.{withdrawn_stands, unit_stands, told-again, flick-free, is_unit, keeps-kind, failing-kind}
-use Rattle.record.proofs.Local.{start-plain, since-plain, call-plain, command-plain, calls-plain, option_map-some}
-use Rattle.record.proofs.OpenSteps.{leaving_at, failing_at, closing-plain, closing-same}
-use Rattle.record.proofs.Staging.{stage-placed, no_start-placed, no_start}
+use Rattle.record.proofs.ClosingStanding.{is_unit, keeps-kind, failing-kind}
+use Rattle.record.proofs.Local.{start-plain, command-plain, calls-plain}
+use Rattle.record.proofs.OpenSteps.{leaving_at, failing_at, closing-same}
+use Rattle.record.proofs.Staging.{no_start}
 use Rattle.record.proofs.Width.{IsGood}
-use Rattle.record.proofs.OpenRecords.{leaving-chosen, since_failed-plain}
+use Rattle.record.proofs.ClosingSteps.{ClosingStep, withdrawn-step, unit-step, leaving-then, failing-then}
 use Rattle.laws.specs.Doings.{Closes, call, closes, goes_on, does_after, doing}
 use Rattle.laws.proofs.Frame.{Does, at_rest, lying, leaving, settling, a_closing, Goes, then_doing}
 
@@ -43,7 +39,7 @@ pub leaving-goes : (s : Setup) → IsGood s → (events : List Event) (p : ℕ) 
     last_start mine ≡ Some Withdrew → stage p past ≡ stages.Leaving → doing s p past ≡ Closes (last_command mine) (call_number s mine) (leaving_at s p mine) →
     stepped s past p flick ≡ Some e → Goes s past p e (doing s p past) (then_doing s past p e)
 leaving-goes s g events p flick e b st does h = record {
-  happens = a_closing (last_command mine) (call_number s mine) at value n does told access (closing-same c at value (read_value (opening_bit s n.access) (moves_of n.access past) value) n told) (ap (λ (e : Entry). e.marks) (sym made.2)) d';
+  happens = a_closing (last_command mine) (call_number s mine) at value n does told access (closing-same c at value (read_value (opening_bit s n.access) (moves_of n.access past) value) n told) (ap (λ (e : Entry). e.marks) (sym step.is)) d';
   does = finish to refl (keeps-kind c (withdrawing c) (value ∷ fs));
 }
   where
@@ -62,26 +58,23 @@ leaving-goes s g events p flick e b st does h = record {
     at : Closing
     at = leaving_at s p mine
 
-    stands : (closing_stage at ≡ stages.Leaving) × ((flick : Bool) → stepped s past p flick ≡ option_map (closing_entry s past p flick) (closing_next c at flick))
-    stands = withdrawn_stands s g events p b st
-
-    made : (n : Next) × (closing_next c at flick ≡ Some n) × (closing_entry s past p flick n ≡ e)
-    made = option_map-some (closing_entry s past p flick) (closing_next c at flick) e (sym (stands.1 flick) ∙ h)
+    step : ClosingStep s past p flick e at
+    step = withdrawn-step s g events p flick e b st h
 
     n : Next
-    n = made.0
+    n = step.next
 
     access : e.access ≡ Some n.access
-    access = ap (λ (e : Entry). e.access) (sym made.2) ∙ ap Some (closing-same c at flick (read_value (opening_bit s n.access) (moves_of n.access past) flick) n made.1)
+    access = step.access
 
     plain : has starts e ≡ false
-    plain = ap (λ (e : Entry). list_any starts e.marks) (sym made.2) ∙ no_start-placed (length (history s past)) n.marks ∙ closing-plain c at flick n made.1
+    plain = step.plain
 
     value : Bool
     value = value_written e
 
     told : closing_next c at value ≡ Some n
-    told = flick-free c at (leaving-chosen c fs) value flick ∙ made.1
+    told = step.told
 
     to : Closing
     to = closing_after c at value
@@ -90,11 +83,10 @@ leaving-goes s g events p flick e b st does h = record {
     d' = then-closing s past p e (last_command mine) (call_number s mine) at n.access plain access does
 
     place : leaving_at s p (e ∷ mine) ≡ to
-    place = ap (λ d. closing_of d (withdrawing d) (map value_written (since starts (e ∷ mine)))) (call-plain s p e mine plain) ∙ ap (λ l. closing_of c (withdrawing c) (map value_written l)) (since-plain e mine plain)
+    place = leaving-then s p e mine plain
 
     at_stage : fold stage_after (stage p past) e.marks ≡ closing_stage to
-    at_stage = ap (λ (e : Entry). fold stage_after (stage p past) e.marks) (sym made.2) ∙ stage-placed (length (history s past)) (stage p past) n.marks
-        ∙ ap (λ u. fold stage_after u n.marks) (st ∙ sym stands.0) ∙ closing-stages c at value n told
+    at_stage = step.at_stage
 
     finish : (x : Closing) → to ≡ x → is_unit to ≡ false → Does s p (e ∷ mine) (fold stage_after (stage p past) e.marks) (then_doing s past p e)
     finish (Withdraws q) i k = leaving (start-plain e mine plain ∙ b) (at_stage ∙ ap closing_stage i)
@@ -113,7 +105,7 @@ pub settling-goes : (s : Setup) → IsGood s → (events : List Event) (p : ℕ)
     last_start mine ≡ Some Failed → stage p past ≡ stages.Settling → doing s p past ≡ Closes (last_command mine) (call_number s mine) (failing_at s p mine) →
     stepped s past p flick ≡ Some e → Goes s past p e (doing s p past) (then_doing s past p e)
 settling-goes s g events p flick e b st does h = record {
-  happens = a_closing (last_command mine) (call_number s mine) at value n does told access (closing-same c at value (read_value (opening_bit s n.access) (moves_of n.access past) value) n told) (ap (λ (e : Entry). e.marks) (sym made.2)) d';
+  happens = a_closing (last_command mine) (call_number s mine) at value n does told access (closing-same c at value (read_value (opening_bit s n.access) (moves_of n.access past) value) n told) (ap (λ (e : Entry). e.marks) (sym step.is)) d';
   does = finish to refl (keeps-kind c (failing c cut) (value ∷ fs) ∙ failing-kind c cut);
 }
   where
@@ -135,26 +127,23 @@ settling-goes s g events p flick e b st does h = record {
     at : Closing
     at = failing_at s p mine
 
-    stands : (closing_stage at ≡ stages.Settling) × ((flick : Bool) → stepped s past p flick ≡ option_map (closing_entry s past p flick) (closing_next c at flick))
-    stands = unit_stands s g events p b st
-
-    made : (n : Next) × (closing_next c at flick ≡ Some n) × (closing_entry s past p flick n ≡ e)
-    made = option_map-some (closing_entry s past p flick) (closing_next c at flick) e (sym (stands.1 flick) ∙ h)
+    step : ClosingStep s past p flick e at
+    step = unit-step s g events p flick e b st h
 
     n : Next
-    n = made.0
+    n = step.next
 
     access : e.access ≡ Some n.access
-    access = ap (λ (e : Entry). e.access) (sym made.2) ∙ ap Some (closing-same c at flick (read_value (opening_bit s n.access) (moves_of n.access past) flick) n made.1)
+    access = step.access
 
     plain : has starts e ≡ false
-    plain = ap (λ (e : Entry). list_any starts e.marks) (sym made.2) ∙ no_start-placed (length (history s past)) n.marks ∙ closing-plain c at flick n made.1
+    plain = step.plain
 
     value : Bool
     value = value_written e
 
     told : closing_next c at value ≡ Some n
-    told = ap (closing_next c at) (sym (ap value_written made.2)) ∙ told-again s past c cut fs flick n made.1
+    told = step.told
 
     to : Closing
     to = closing_after c at value
@@ -163,13 +152,10 @@ settling-goes s g events p flick e b st does h = record {
     d' = then-closing s past p e (last_command mine) (call_number s mine) at n.access plain access does
 
     place : failing_at s p (e ∷ mine) ≡ to
-    place = ap (λ d. closing_of d (failing d (before is_failed (e ∷ mine))) (map value_written (since is_failed (e ∷ mine)))) (call-plain s p e mine plain)
-        ∙ ap (λ q. closing_of c (failing c q) (map value_written (since is_failed (e ∷ mine)))) (before-plain e mine plain)
-        ∙ ap (λ l. closing_of c (failing c cut) (map value_written l)) (since_failed-plain e mine plain)
+    place = failing-then s p e mine plain
 
     at_stage : fold stage_after (stage p past) e.marks ≡ closing_stage to
-    at_stage = ap (λ (e : Entry). fold stage_after (stage p past) e.marks) (sym made.2) ∙ stage-placed (length (history s past)) (stage p past) n.marks
-        ∙ ap (λ u. fold stage_after u n.marks) (st ∙ sym stands.0) ∙ closing-stages c at value n told
+    at_stage = step.at_stage
 
     on : (x : Closing) → to ≡ x → closing_stage x ≡ stages.Settling → closes (last_command mine) (call_number s mine) x ≡ Closes (last_command mine) (call_number s mine) x →
         Does s p (e ∷ mine) (fold stage_after (stage p past) e.marks) (then_doing s past p e)

@@ -17,6 +17,7 @@ pub mod CutRecords
 -- Which copies are open, and whose turn it is
 pub mod Opens
 pub mod OpenSteps
+pub mod ClosingSteps
 pub mod OpenRecords
 pub mod Turns
 pub mod PlaceTurns

@@ -1,38 +1,28 @@
 -- In every record what is open is what the machines have open, and every write comes in its turn.
-use Rattle.std.proofs.Common.{◌≡◌, ℕ, ◌<◌, Bool, true, false, List, [], ◌∷◌, Some, length, map, refl, sym, ap, subst, ◌∙◌, true≢false, inl, inr}
-use Rattle.std.specs.Prelude.{◌⊎◌, fold, nat_lt}
-use Rattle.std.specs.List.{list_any}
-use Rattle.safe_bit.specs.SafeRule.{read_value}
+use Rattle.std.proofs.Common.{◌≡◌, ℕ, ◌<◌, Bool, true, false, List, ◌∷◌, Some, map, refl, sym, ap, subst, ◌∙◌, true≢false, inl, inr}
+use Rattle.std.specs.Prelude.{fold}
 use Rattle.safe_number.specs.declared.Access.{Access}
 use Rattle.plain_store.specs.declared.Setup.{Setup}
 use Rattle.record.specs.declared.events.Event.{Event}
 use Rattle.record.specs.declared.marks.Mark.TheVariants.{Failed, Withdrew}
 use Rattle.record.specs.declared.stages.Stage.TheVariants as stages
 use Rattle.record.specs.Calls.{last_call}
-use Rattle.record.specs.Closings.{Closing, Withdraws, Settles, Frees, Lowers, Quit, Ended, withdrawing, failing, closing_next, closing_after, closing_stage, closing_of, closing_entry}
+use Rattle.record.specs.Closings.{Closing, Withdraws, Settles, Frees, Lowers, Quit, Ended, withdrawing, failing, closing_next, closing_after, closing_stage}
 use Rattle.record.specs.Entries.{Entry, Past, own, has, since, before, starts, is_failed}
-use Rattle.record.specs.Histories.{history}
-use Rattle.record.specs.Moves.{moves_of}
 use Rattle.record.specs.Records.{last_start, past_of, stepped}
-use Rattle.record.specs.Registers.{opening_bit}
 use Rattle.record.specs.Scripts.{Call, Next}
 use Rattle.record.specs.Stages.{stage, stage_after}
 use Rattle.record.specs.Turns.{Leads, open_closing}
 use Rattle.record.specs.Unit.{last_write, value_written}
-use Rattle.record.proofs.Accepted.{before-plain, no_failed}
-use Rattle.record.proofs.ClosingScripts.{closing-stages, withdrawal-stays, unit-stays}
-use Rattle.record.proofs.ClosingStanding.{withdrawn_stands, unit_stands, told-again, flick-free, chosen-after, IsChosen, is_unit, keeps-kind, failing-kind}
-use Rattle.record.proofs.Local.{start-plain, since-plain, call-plain, option_map-some}
-use Rattle.record.proofs.OpenSteps.{Opens, closed, leaves, settles, Out, IsLate, CutsLate, torn_late, leaving_at, failing_at, turn-of, then-of, closing-plain, closing-same, closing-torn, withdrawal-begun, withdraws-writes, late-writes}
+use Rattle.record.proofs.Accepted.{before-plain}
+use Rattle.record.proofs.ClosingScripts.{withdrawal-stays, unit-stays}
+use Rattle.record.proofs.ClosingSteps.{ClosingStep, withdrawn-step, unit-step, leaving-then, failing-then}
+use Rattle.record.proofs.ClosingStanding.{is_unit, keeps-kind, failing-kind}
+use Rattle.record.proofs.Local.{start-plain, call-plain}
+use Rattle.record.proofs.OpenSteps.{Opens, closed, leaves, settles, Out, IsLate, CutsLate, torn_late, leaving_at, failing_at, turn-of, then-of, closing-torn, withdrawal-begun, withdraws-writes, late-writes}
 use Rattle.record.proofs.Opens.{opened, Torn}
 use Rattle.record.proofs.PlaceTurns.{withdrawal-leads, unit-leads}
-use Rattle.record.proofs.Staging.{stage-placed, no_start-placed}
 use Rattle.record.proofs.Width.{IsGood}
-
--- what was chosen stays chosen
-pub leaving-chosen : (c : Call) (fs : List Bool) → IsChosen (closing_of c (withdrawing c) fs)
-leaving-chosen c [] = tt
-leaving-chosen c (f ∷ fs) = chosen-after c (closing_of c (withdrawing c) fs) f
 
 -- a step of a process that withdrew
 pub withdrawn-out : (s : Setup) → IsGood s → (events : List Event) (p : ℕ) (flick : Bool) (e : Entry)
@@ -57,26 +47,23 @@ withdrawn-out s g events p flick e b st w t h = record { turns = turn-of mine e 
     at : Closing
     at = leaving_at s p mine
 
-    stands : (closing_stage at ≡ stages.Leaving) × ((flick : Bool) → stepped s past p flick ≡ Rattle.std.specs.Prelude.option_map (closing_entry s past p flick) (closing_next c at flick))
-    stands = withdrawn_stands s g events p b st
-
-    made : (n : Next) × (closing_next c at flick ≡ Some n) × (closing_entry s past p flick n ≡ e)
-    made = option_map-some (closing_entry s past p flick) (closing_next c at flick) e (sym (stands.1 flick) ∙ h)
+    step : ClosingStep s past p flick e at
+    step = withdrawn-step s g events p flick e b st h
 
     n : Next
-    n = made.0
+    n = step.next
 
     access : e.access ≡ Some n.access
-    access = ap (λ (e : Entry). e.access) (sym made.2) ∙ ap Some (closing-same c at flick (read_value (opening_bit s n.access) (moves_of n.access past) flick) n made.1)
+    access = step.access
 
     plain : has starts e ≡ false
-    plain = ap (λ (e : Entry). list_any starts e.marks) (sym made.2) ∙ no_start-placed (length (history s past)) n.marks ∙ closing-plain c at flick n made.1
+    plain = step.plain
 
     value : Bool
     value = value_written e
 
     told : closing_next c at value ≡ Some n
-    told = flick-free c at (leaving-chosen c fs) value flick ∙ made.1
+    told = step.told
 
     to : Closing
     to = closing_after c at value
@@ -88,7 +75,7 @@ withdrawn-out s g events p flick e b st w t h = record { turns = turn-of mine e 
     call = call-plain s p e mine plain
 
     place : leaving_at s p (e ∷ mine) ≡ to
-    place = ap (λ d. closing_of d (withdrawing d) (map value_written (since starts (e ∷ mine)))) call ∙ ap (λ l. closing_of c (withdrawing c) (map value_written l)) (since-plain e mine plain)
+    place = leaving-then s p e mine plain
 
     then : (a : Access) → opened (e ∷ mine) a ≡ open_closing c to a
     then = then-of mine e n.access (open_closing c at) (open_closing c to) access w lead
@@ -101,8 +88,7 @@ withdrawn-out s g events p flick e b st w t h = record { turns = turn-of mine e 
         (subst (CutsLate c (e ∷ mine)) (sym place) (record { torn = torn; begun = withdrawal-begun c mine e at value n (keeps-kind c (withdrawing c) fs) told access w t }))
 
     at_stage : fold stage_after (stage p past) e.marks ≡ closing_stage to
-    at_stage = ap (λ (e : Entry). fold stage_after (stage p past) e.marks) (sym made.2) ∙ stage-placed (length (history s past)) (stage p past) n.marks
-        ∙ ap (λ u. fold stage_after u n.marks) (st ∙ sym stands.0) ∙ closing-stages c at value n told
+    at_stage = step.at_stage
 
     finish : (x : Closing) → to ≡ x → is_unit to ≡ false → Opens s p (e ∷ mine) (fold stage_after (stage p past) e.marks)
     finish (Withdraws q) i k = leaves (start-plain e mine plain ∙ b) (at_stage ∙ ap closing_stage i) (λ a. then a ∙ sym (λ j. open_closing (call j) (place j) a)) cuts
@@ -111,9 +97,6 @@ withdrawn-out s g events p flick e b st w t h = record { turns = turn-of mine e 
     finish (Frees is q) i k = absurd (true≢false (sym (ap is_unit i) ∙ k))
     finish (Lowers q) i k = absurd (true≢false (sym (ap is_unit i) ∙ k))
     finish Ended i k = absurd (true≢false (sym (ap is_unit i) ∙ k))
-
-pub since_failed-plain : (e : Entry) (mine : Past) → has starts e ≡ false → since is_failed (e ∷ mine) ≡ e ∷ since is_failed mine
-since_failed-plain e mine h = ap (λ b. elim b as (λ _. Past) [ true ↦ [] | false ↦ e ∷ since is_failed mine ]) (no_failed e.marks h)
 
 -- a step of a memory unit
 pub unit-out : (s : Setup) → IsGood s → (events : List Event) (p : ℕ) (flick : Bool) (e : Entry)
@@ -142,26 +125,23 @@ unit-out s g events p flick e b st w r h = record { turns = turn-of mine e n.acc
     at : Closing
     at = failing_at s p mine
 
-    stands : (closing_stage at ≡ stages.Settling) × ((flick : Bool) → stepped s past p flick ≡ Rattle.std.specs.Prelude.option_map (closing_entry s past p flick) (closing_next c at flick))
-    stands = unit_stands s g events p b st
-
-    made : (n : Next) × (closing_next c at flick ≡ Some n) × (closing_entry s past p flick n ≡ e)
-    made = option_map-some (closing_entry s past p flick) (closing_next c at flick) e (sym (stands.1 flick) ∙ h)
+    step : ClosingStep s past p flick e at
+    step = unit-step s g events p flick e b st h
 
     n : Next
-    n = made.0
+    n = step.next
 
     access : e.access ≡ Some n.access
-    access = ap (λ (e : Entry). e.access) (sym made.2) ∙ ap Some (closing-same c at flick (read_value (opening_bit s n.access) (moves_of n.access past) flick) n made.1)
+    access = step.access
 
     plain : has starts e ≡ false
-    plain = ap (λ (e : Entry). list_any starts e.marks) (sym made.2) ∙ no_start-placed (length (history s past)) n.marks ∙ closing-plain c at flick n made.1
+    plain = step.plain
 
     value : Bool
     value = value_written e
 
     told : closing_next c at value ≡ Some n
-    told = ap (closing_next c at) (sym (ap value_written made.2)) ∙ told-again s past c cut fs flick n made.1
+    told = step.told
 
     to : Closing
     to = closing_after c at value
@@ -173,9 +153,7 @@ unit-out s g events p flick e b st w r h = record { turns = turn-of mine e n.acc
     call = call-plain s p e mine plain
 
     place : failing_at s p (e ∷ mine) ≡ to
-    place = ap (λ d. closing_of d (failing d (before is_failed (e ∷ mine))) (map value_written (since is_failed (e ∷ mine)))) call
-        ∙ ap (λ q. closing_of c (failing c q) (map value_written (since is_failed (e ∷ mine)))) (before-plain e mine plain)
-        ∙ ap (λ l. closing_of c (failing c cut) (map value_written l)) (since_failed-plain e mine plain)
+    place = failing-then s p e mine plain
 
     then : (a : Access) → opened (e ∷ mine) a ≡ open_closing c to a
     then = then-of mine e n.access (open_closing c at) (open_closing c to) access w lead
@@ -184,8 +162,7 @@ unit-out s g events p flick e b st w r h = record { turns = turn-of mine e n.acc
     torn l = closing-torn c mine e at _ value n (unit-stays c g cut fs value).fit told access w (late-writes c at value value n told l)
 
     at_stage : fold stage_after (stage p past) e.marks ≡ closing_stage to
-    at_stage = ap (λ (e : Entry). fold stage_after (stage p past) e.marks) (sym made.2) ∙ stage-placed (length (history s past)) (stage p past) n.marks
-        ∙ ap (λ u. fold stage_after u n.marks) (st ∙ sym stands.0) ∙ closing-stages c at value n told
+    at_stage = step.at_stage
 
     on : closing_stage to ≡ stages.Settling → Opens s p (e ∷ mine) (fold stage_after (stage p past) e.marks)
     on k = settles (start-plain e mine plain ∙ b) (at_stage ∙ k) (λ a. then a ∙ sym (λ j. open_closing (call j) (place j) a))
