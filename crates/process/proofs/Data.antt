@@ -16,11 +16,11 @@ use Rattle.record.specs.Scripts.{Call}
 use Rattle.record.proofs.Width.{IsGood}
 use Rattle.bakery.specs.Leavings.{LeavingState, is_leaving, leaving_at, new_leaving}
 use Rattle.bakery.specs.Locks as locks
-use Rattle.bakery.specs.Locks.{LockRows, locks_after}
+use Rattle.bakery.specs.Locks.{locks_after}
 use Rattle.bakery.proofs.Passage.{IsOfKind, on-the-way}
 use Rattle.critical.specs.declared.progress.SectionProgress.{SectionProgress}
 use Rattle.critical.specs.declared.progress.SectionProgress.TheVariants as progress
-use Rattle.critical.specs.Registers.{DataRow, MayMake, after_access, is_data}
+use Rattle.critical.specs.Registers.{MayMake, after_access, is_data}
 use Rattle.critical.specs.Registers as versions
 use Rattle.critical.specs.Sections as sections
 use Rattle.critical.specs.Sections.{Section, changes_at, goes, goes_on, is_going, progress_at, section_at, told}
@@ -33,7 +33,7 @@ use Rattle.process.specs.Keeping.{Goes, IsLeaving, answer_told, is_at_data, kept
 use Rattle.process.specs.Processes as kept
 use Rattle.process.specs.Processes.{ProcessState}
 use Rattle.process.specs.Processes.{Kept, kept_at, kept_in}
-use Rattle.process.specs.Registers.{CanMake, answered, locks_made, versions_made}
+use Rattle.process.specs.Registers.{CanMake, RegistersState, answered, made}
 use Rattle.process.specs.Steps.{IsAt}
 use Rattle.laws.specs.Steps.{IsCallOf, IsReached, does_then, next_of}
 
@@ -150,29 +150,29 @@ next_at c accesses = access_at c (place_of c accesses).part (place_of c accesses
 pub field-at : (c : Call) (accesses : List Access) → goes (standing_at c (place_of c accesses).part) ≡ true → is_data (next_at c accesses).field ≡ true
 field-at c accesses h = data-field c (place_of c accesses).part (place_of c accesses).run (on-the-way c accesses).kind h
 
-pub answered-at : (c : Call) (accesses : List Access) (rows : List LockRows) (row : DataRow) (flick : Bool) → goes (standing_at c (place_of c accesses).part) ≡ true → answered rows row flick (next_at c accesses) ≡ versions.answered row flick (next_at c accesses)
-answered-at c accesses rows row flick h = ap (λ b. cond b (versions.answered row flick (next_at c accesses)) (locks.answered rows flick (next_at c accesses))) (field-at c accesses h)
+pub answered-at : (c : Call) (accesses : List Access) (r : RegistersState) (flick : Bool) → goes (standing_at c (place_of c accesses).part) ≡ true → answered r flick (next_at c accesses) ≡ versions.answered r.versions flick (next_at c accesses)
+answered-at c accesses r flick h = ap (λ b. cond b (versions.answered r.versions flick (next_at c accesses)) (locks.answered r.locks flick (next_at c accesses))) (field-at c accesses h)
 
 pub next-is : (s : Setup) (p : ℕ) (command : Command) (number : ℕ) (section : Section) (d : Doing) (at : IsAtData s p command number section d) (flick : Bool) (next : Access) → next_of s p d flick ≡ Some next → next ≡ next_at (call s p command number) at.accesses
 next-is s p command number section d at flick next h =
     let f : Some next ≡ Some (next_at (call s p command number) at.accesses) = sym h ∙ ap (λ d. next_of s p d flick) at.is in cc
 
 -- the access of the section may be made
-pub data-turn : (s : Setup) (p : ℕ) (command : Command) (number : ℕ) (section : Section) (d : Doing) (at : IsAtData s p command number section d) (rows : List LockRows) (row : DataRow) (flick : Bool) (next : Access) → next_of s p d flick ≡ Some next →
-    CanMake rows row (answered rows row flick next) → sections.MayStep section row flick
-data-turn s p command number section d at rows row flick next h can =
+pub data-turn : (s : Setup) (p : ℕ) (command : Command) (number : ℕ) (section : Section) (d : Doing) (at : IsAtData s p command number section d) (r : RegistersState) (flick : Bool) (next : Access) → next_of s p d flick ≡ Some next →
+    CanMake r (answered r flick next) → sections.MayStep section r.versions flick
+data-turn s p command number section d at r flick next h can =
     let c : Call = call s p command number in
-    let a : Access = versions.answered row flick (next_at c at.accesses) in
-    let Q : Bool → Type 0 = λ b. elim b as (λ _. Type 0) [ true ↦ MayMake row a | false ↦ locks.CanAccess (locks.lock_of rows a.owner) a ] in
-    let made : CanMake rows row a = subst (CanMake rows row) (ap (answered rows row flick) (next-is s p command number section d at flick next h) ∙ answered-at c at.accesses rows row flick at.goes) can in
+    let a : Access = versions.answered r.versions flick (next_at c at.accesses) in
+    let Q : Bool → Type 0 = λ b. elim b as (λ _. Type 0) [ true ↦ MayMake r.versions a | false ↦ locks.CanAccess (locks.lock_of r.locks a.owner) a ] in
+    let made : CanMake r a = subst (CanMake r) (ap (answered r flick) (next-is s p command number section d at flick next h) ∙ answered-at c at.accesses r flick at.goes) can in
     record { call = c; place = place_of c at.accesses; is_shown = at.shown; may = subst Q (field-at c at.accesses at.goes) made }
 
 -- what is made of the registers
-pub versions-data : (c : Call) (accesses : List Access) (row : DataRow) (flick : Bool) (a : Access) → goes (standing_at c (place_of c accesses).part) ≡ true → a ≡ versions.answered row flick (next_at c accesses) → after_access row a ≡ versions_made row a
-versions-data c accesses row flick a h is = sym (ap (λ b. cond b (after_access row a) row) (ap (λ (a : Access). is_data a.field) is ∙ field-at c accesses h))
-
-pub locks-data : (c : Call) (accesses : List Access) (rows : List LockRows) (row : DataRow) (flick : Bool) (a : Access) → goes (standing_at c (place_of c accesses).part) ≡ true → a ≡ versions.answered row flick (next_at c accesses) → rows ≡ locks_made rows a
-locks-data c accesses rows row flick a h is = sym (ap (λ b. cond b rows (locks_after rows a)) (ap (λ (a : Access). is_data a.field) is ∙ field-at c accesses h))
+pub made-data : (c : Call) (accesses : List Access) (r : RegistersState) (flick : Bool) (a : Access) → goes (standing_at c (place_of c accesses).part) ≡ true → a ≡ versions.answered r.versions flick (next_at c accesses) →
+    (let with_versions : RegistersState = record r { versions = after_access r.versions a } in with_versions) ≡ made r a
+made-data c accesses r flick a h is =
+    let at_data : is_data a.field ≡ true = ap (λ (a : Access). is_data a.field) is ∙ field-at c accesses h in
+    λ i. record { locks = cond (sym at_data i) r.locks (locks_after r.locks a); versions = cond (sym at_data i) (after_access r.versions a) r.versions }
 
 -- a section that goes is kept
 kept-data : (s : Setup) (p : ℕ) (command : Command) (number : ℕ) (x : Part) (run : Run) → let c : Call = call s p command number in

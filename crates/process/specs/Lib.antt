@@ -1,3 +1,4 @@
+pub mod Drops
 pub mod Halts
 pub mod Keeping
 pub mod Processes

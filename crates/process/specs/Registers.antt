@@ -1,47 +1,60 @@
--- A process that is served by registers, those of the lock and those of the versions.
+-- The registers of all processes, those of the lock and those of the versions, and a process that is served by them.
 use Rattle.std.specs.Prelude.{◌≡◌, ◌+◌, ◌≤◌, Bool, true, false, cond, List, [], Some}
+use Rattle.reader_copies.specs.Row.{HasCell}
 use Rattle.safe_number.specs.declared.Access.{Access}
+use Rattle.plain_store.specs.declared.Setup.{Setup}
 use Rattle.record.specs.Doorways.{is_waiting_stage}
 use Rattle.record.specs.Places.{value_of}
 use Rattle.bakery.specs.Locks as locks
-use Rattle.bakery.specs.Locks.{LockRows, lock_of, locks_after}
+use Rattle.bakery.specs.Locks.{LockRows, lock_of, locks_after, new_locks, row_in}
 use Rattle.critical.specs.Registers as versions
-use Rattle.critical.specs.Registers.{DataRow, is_data, after_access}
+use Rattle.critical.specs.Registers.{DataRow, after_access, is_data, opening_cell, row_from}
 use Rattle.laws.specs.Doings.{Doing}
 use Rattle.laws.specs.Steps.{does_then, marks_with, next_of}
 use Rattle.process.specs.Processes.{ProcessState, kept_at, stage_kept}
 use Rattle.process.specs.Steps.{IsAt, bits_within}
 
--- an access may be made on the registers
-abbrev pub CanMake : List LockRows → DataRow → Access → Type 0
-CanMake lock_rows row a = elim (is_data a.field) [ true ↦ versions.MayMake row a | false ↦ locks.CanAccess (lock_of lock_rows a.owner) a ]
+pub record RegistersState : Type 0 where
+  pub locks : List LockRows
+  pub versions : DataRow
+
+-- as they open
+abbrev pub new_registers : Setup → RegistersState
+new_registers s = record { locks = new_locks s; versions = row_from (opening_cell s) s }
+
+-- the copy of an access is there
+abbrev pub HasCopy : RegistersState → Access → Type 0
+HasCopy r a = elim (is_data a.field) [ true ↦ versions.HasCopy r.versions a | false ↦ HasCell (row_in (lock_of r.locks a.owner) a.field) a.bit a.reader ]
+
+-- an access may be made on them
+abbrev pub CanMake : RegistersState → Access → Type 0
+CanMake r a = elim (is_data a.field) [ true ↦ versions.MayMake r.versions a | false ↦ locks.CanAccess (lock_of r.locks a.owner) a ]
 
 -- the access, a read's end with what its copy answers
-abbrev pub answered : List LockRows → DataRow → Bool → Access → Access
-answered lock_rows row flick a = cond (is_data a.field) (versions.answered row flick a) (locks.answered lock_rows flick a)
+abbrev pub answered : RegistersState → Bool → Access → Access
+answered r flick a = cond (is_data a.field) (versions.answered r.versions flick a) (locks.answered r.locks flick a)
 
 -- the registers after one access: its register goes on by it, and all others stay
-abbrev pub locks_made : List LockRows → Access → List LockRows
-locks_made lock_rows a = cond (is_data a.field) lock_rows (locks_after lock_rows a)
-
-abbrev pub versions_made : DataRow → Access → DataRow
-versions_made row a = cond (is_data a.field) (after_access row a) row
+abbrev pub made : RegistersState → Access → RegistersState
+made r a = record {
+  locks = cond (is_data a.field) r.locks (locks_after r.locks a);
+  versions = cond (is_data a.field) (after_access r.versions a) r.versions;
+}
 
 -- the process may step: it keeps what it is doing, and the access that comes next may be made on the registers
-pub record MayStep (now : ProcessState) (lock_rows : List LockRows) (row : DataRow) (flick : Bool) : Type 0 where
+pub record MayStep (now : ProcessState) (r : RegistersState) (flick : Bool) : Type 0 where
   pub doing : Doing
   pub is_at : IsAt now doing
   pub next : Access
   pub is_next : next_of now.setup now.process doing flick ≡ Some next
-  pub can : CanMake lock_rows row (answered lock_rows row flick next)
+  pub can : CanMake r (answered r flick next)
 
--- a step within a number access at the data, and what it leaves: it has no mark, and changes no register of the lock
-pub record StepsWithin (lock_rows : List LockRows) (row : DataRow) (flick : Bool) (now : ProcessState) (row_then : DataRow) (then : ProcessState) : Type 0 where
+-- a step within a number access at the data, and what it leaves: it has no mark
+pub record StepsWithin (r : RegistersState) (flick : Bool) (now : ProcessState) (r_then : RegistersState) (then : ProcessState) : Type 0 where
   pub access : Access
-  pub is_next : (d : Doing) (next : Access) → IsAt now d → next_of now.setup now.process d flick ≡ Some next → access ≡ answered lock_rows row flick next
+  pub is_next : (d : Doing) (next : Access) → IsAt now d → next_of now.setup now.process d flick ≡ Some next → access ≡ answered r flick next
   pub then_is : (d : Doing) → IsAt now d → then ≡ record now { kept = kept_at now.setup now.process (does_then now.setup now.process d flick (value_of access.how)) }
   pub stays : is_waiting_stage (stage_kept then.kept) ≡ false
   pub marks : (d : Doing) → IsAt now d → marks_with now.setup now.process d flick (value_of access.how) ≡ []
   pub fewer : bits_within now.kept ≤ bits_within then.kept + 1
-  pub locks_same : locks_made lock_rows access ≡ lock_rows
-  pub row_is : row_then ≡ versions_made row access
+  pub registers : r_then ≡ made r access

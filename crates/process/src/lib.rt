@@ -4,7 +4,9 @@
 #![tactic(auto)]
 
 mod process;
+mod registers;
 mod told;
 
 pub use process::Process;
+pub use registers::Registers;
 pub use told::{Stepped, Told, one};

@@ -12,7 +12,7 @@ ghost use Rattle.process.specs.Steps.{IsAt, is_at_door, may_step};
 
 mod advance;
 mod cut;
-mod within;
+mod served;
 
 use bakery::{Door, Leaving};
 use critical::Section;
@@ -151,7 +151,7 @@ impl Process {
 
     /// Whether it reads or writes the versions of the store: there a process has nearly all its accesses.
     #[inline]
-    pub fn is_at_data(&self) -> bool
+    fn is_at_data(&self) -> bool
         ensures { result ≡ is_at_data self.now.kept }
     {
         matches!(&self.work, Work::AtData)

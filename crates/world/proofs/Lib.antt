@@ -5,9 +5,6 @@ pub mod RowsChange
 pub mod RowsAccess
 pub mod RowsDrops
 pub mod RowsNewest
--- One seat
-pub mod SeatDrops
-pub mod SeatSteps
 -- Who waits before whom
 pub mod QueueBegun
 pub mod QueueAfter

@@ -24,8 +24,8 @@ use Rattle.laws.proofs.FrameCells.{OnCopy, itself, on-copy}
 use Rattle.laws.proofs.HeldCells.{held-entry, held_answers}
 use Rattle.laws.proofs.HeldThere.{access_there}
 use Rattle.laws.proofs.HeldTurns.{comes_in_turn}
-use Rattle.process.specs.Registers.{CanMake, answered, locks_made, versions_made}
-use Rattle.world.proofs.RowsCells.{cell-is, copy-there, data-register, lock-register, locks_at, many-parts, row_at}
+use Rattle.process.specs.Registers.{CanMake, answered, made}
+use Rattle.world.proofs.RowsCells.{cell-is, copy-there, data-register, lock-register, locks_at, many-parts, registers_at, row_at}
 use Rattle.world.proofs.RowsChange.{SameBut, locks-changed, locks-same, register-moved, row-changed, row-same}
 
 -- The access may be made.
@@ -37,7 +37,7 @@ register-can s past a there turn = record {
 }
 
 pub can_make : (s : Setup) → checked s ≡ Ok tt → (events : List Event) (event : Event) (e : Entry) (a : Access) → entry_of s (past_of s events) event ≡ Some e → e.access ≡ Some a →
-    CanMake (locks_at s (past_of s events)) (row_at s (past_of s events)) a
+    CanMake (registers_at s (past_of s events)) a
 can_make s ok events event e a is acc = go (is_data a.field) refl
   where
     past : Past
@@ -59,7 +59,7 @@ can_make s ok events event e a is acc = go (is_data a.field) refl
 -- The registers answer.
 
 pub answers : (s : Setup) → checked s ≡ Ok tt → (events : List Event) (flick : Bool) (a : Access) → IsThere s a →
-    answered (locks_at s (past_of s events)) (row_at s (past_of s events)) flick a ≡ valued s (past_of s events) flick a
+    answered (registers_at s (past_of s events)) flick a ≡ valued s (past_of s events) flick a
 answers s ok events flick a there = go (is_data a.field) refl
   where
     past : Past
@@ -77,22 +77,6 @@ answers s ok events flick a there = go (is_data a.field) refl
     go : (b : Bool) → is_data a.field ≡ b → cond b (versions.answered (row_at s past) flick a) (locks.answered (locks_at s past) flick a) ≡ valued s past flick a
     go true d = of_register (register_at (row_at s past) a.owner a.field) (data-register (cell_held s past) s a.owner a.field there.owner d)
     go false d = of_register (row_in (lock_of (locks_at s past) a.owner) a.field) (lock-register (cell_held s past) s a.owner a.field there.owner d)
-
--- The next access of a process, its value left open: the registers give the one that the entry makes, which may be made on them.
-pub can_answer : (s : Setup) → checked s ≡ Ok tt → (events : List Event) (event : Event) (e : Entry) (flick : Bool) (a : Access) → entry_of s (past_of s events) event ≡ Some e → e.access ≡ Some (valued s (past_of s events) flick a) →
-    let past : Past = past_of s events in
-    let gives : Access = answered (locks_at s past) (row_at s past) flick a in
-    (gives ≡ valued s past flick a) × CanMake (locks_at s past) (row_at s past) gives
-can_answer s ok events event e flick a is acc = (same, subst (CanMake (locks_at s past) (row_at s past)) (sym same) (can_make s ok events event e (valued s past flick a) is acc))
-  where
-    past : Past
-    past = past_of s events
-
-    made : IsThere s (valued s past flick a)
-    made = access_there s (is_good s ok) events event e is (valued s past flick a) acc
-
-    same : answered (locks_at s past) (row_at s past) flick a ≡ valued s past flick a
-    same = answers s ok events flick a (record { owner = made.owner; reader = made.reader; bit = made.bit })
 
 -- The registers after it.
 
@@ -118,7 +102,7 @@ register-made s past e x acc there =
     ∙ ap (λ c. cell_after c x.how) (sym (cell-is before s x.owner x.field x.reader x.bit there.reader there.bit)))
     (λ r k apart. cell-stays s past e x acc x.owner x.field r k (λ on. apart on.reader on.bit))
 
-pub locks-made : (s : Setup) (past : Past) (e : Entry) (a : Access) → e.access ≡ Some a → IsThere s a → locks_made (locks_at s past) a ≡ locks_at s (e ∷ past)
+locks-made : (s : Setup) (past : Past) (e : Entry) (a : Access) → e.access ≡ Some a → IsThere s a → (made (registers_at s past) a).locks ≡ locks_at s (e ∷ past)
 locks-made s past e a acc there = sym (go (is_data a.field) refl)
   where
     now : Access → Cell
@@ -132,7 +116,7 @@ locks-made s past e a acc there = sym (go (is_data a.field) refl)
     go false d = locks-changed now before s a.owner a.field (row_after (row_in (lock_of (locks_at s past) a.owner) a.field) a.bit (made_by a)) there.owner d (others-stay s past e a acc)
         (register-made s past e a acc there ∙ ap (λ register. row_after register a.bit (made_by a)) (sym (lock-register before s a.owner a.field there.owner d)))
 
-pub versions-made : (s : Setup) (past : Past) (e : Entry) (a : Access) → e.access ≡ Some a → IsThere s a → versions_made (row_at s past) a ≡ row_at s (e ∷ past)
+versions-made : (s : Setup) (past : Past) (e : Entry) (a : Access) → e.access ≡ Some a → IsThere s a → (made (registers_at s past) a).versions ≡ row_at s (e ∷ past)
 versions-made s past e a acc there = sym (go (is_data a.field) refl)
   where
     now : Access → Cell
@@ -145,3 +129,6 @@ versions-made s past e a acc there = sym (go (is_data a.field) refl)
     go true d = row-changed now before s a.owner a.field (row_after (register_at (row_at s past) a.owner a.field) a.bit (made_of a)) there.owner d (others-stay s past e a acc)
         (register-made s past e a acc there ∙ ap (λ register. row_after register a.bit (made_of a)) (sym (data-register before s a.owner a.field there.owner d)))
     go false d = row-same now before s a.owner a.field d (others-stay s past e a acc)
+
+pub registers-made : (s : Setup) (past : Past) (e : Entry) (a : Access) → e.access ≡ Some a → IsThere s a → made (registers_at s past) a ≡ registers_at s (e ∷ past)
+registers-made s past e a acc there = λ i. record { locks = locks-made s past e a acc there i; versions = versions-made s past e a acc there i }

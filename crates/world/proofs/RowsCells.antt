@@ -14,7 +14,8 @@ use Rattle.record.specs.Registers.{width}
 use Rattle.bakery.specs.Locks.{LockRows, lock_of, no_lock, row_in}
 use Rattle.critical.specs.Registers.{Data, DataRow, data_from, data_of, is_data, no_data, register_at, register_from, row_from}
 use Rattle.laws.specs.Held.{cell_held}
-use Rattle.world.specs.Shows.{lock_from, locks_from}
+use Rattle.process.specs.Registers.{RegistersState}
+use Rattle.world.specs.Shows.{lock_from, locks_from, registers_from}
 
 -- the registers of the lock after a past
 abbrev pub locks_at : Setup → Past → List LockRows
@@ -23,6 +24,10 @@ locks_at s past = locks_from (cell_held s past) s
 -- those of the versions
 abbrev pub row_at : Setup → Past → DataRow
 row_at s past = row_from (cell_held s past) s
+
+-- those of both
+abbrev pub registers_at : Setup → Past → RegistersState
+registers_at s past = registers_from (cell_held s past) s
 
 -- the copies that a reader has of the bits of a register
 abbrev pub copies_from : (Access → Cell) → Setup → ℕ → Field → ℕ → List Cell

@@ -3,7 +3,8 @@ use Rattle.std.proofs.Common.{◌≡◌, ◌≢◌, ℕ, ◌<◌, ◌==◌, ◌&
 use Rattle.std.proofs.lemmas.Bool.{eqb-false}
 use Rattle.std.proofs.lemmas.Simd.{map-map}
 use Rattle.std.specs.List.{range_with_len}
-use Rattle.safe_bit.specs.Cell.{Cell, without_read}
+use Rattle.safe_bit.specs.Cell.{Cell}
+use Rattle.safe_bit.specs.Cell as cell
 use Rattle.reader_copies.specs.Row.{without_reads}
 use Rattle.safe_number.specs.declared.Access.{Access}
 use Rattle.safe_number.specs.declared.Field.{Field}
@@ -33,23 +34,23 @@ use Rattle.laws.proofs.FrameSteps.{left-is}
 use Rattle.laws.proofs.HeldCells.{held-marks}
 use Rattle.laws.proofs.HeldOwners.{OwnersAt, OwnersThere, owner-there, owners_there}
 use Rattle.laws.proofs.HeldReads.{open_read, reads_are, reads_now}
-use Rattle.world.specs.Shows.{locks_from}
-use Rattle.world.specs.Drops.{dropped_locks, dropped_versions, locks_without, versions_without}
-use Rattle.world.proofs.RowsCells.{copies-are, data-register, lock-register, locks_at, row_at}
+use Rattle.process.specs.Drops.{dropped, without_read}
+use Rattle.world.specs.Shows.{locks_from, registers_from}
+use Rattle.world.proofs.RowsCells.{copies-are, data-register, lock-register, registers_at}
 use Rattle.world.proofs.RowsChange.{SameBut, locks-changed, locks-same, reader-changed, row-changed, row-same}
 
 -- A reader's copies of one register.
 
 -- to drop a read where none is open changes nothing
-without-none : (c : Cell) → c.reading ≡ false → without_read c ≡ c
+without-none : (c : Cell) → c.reading ≡ false → cell.without_read c ≡ c
 without-none c none = λ i. record { value = c.value; writing = c.writing; reading = sym none i; touched = c.touched }
 
 register-dropped : (now before : Access → Cell) (s : Setup) (o : ℕ) (f : Field) (p : ℕ) → p < s.processes → ((r k : ℕ) → r ≢ p → now (copy o f r k) ≡ before (copy o f r k)) →
-    ((k : ℕ) → now (copy o f p k) ≡ without_read (before (copy o f p k))) → register_from now s o f ≡ without_reads (register_from before s o f) p
+    ((k : ℕ) → now (copy o f p k) ≡ cell.without_read (before (copy o f p k))) → register_from now s o f ≡ without_reads (register_from before s o f) p
 register-dropped now before s o f p below kept gone =
     let held : ℕ → Cell = λ k. before (copy o f p k) in
-    reader-changed now before s o f p (map without_read (get_or (register_from before s o f) p [])) below
-    ((λ i. map (λ k. gone k i) (range_with_len 0 (width s f))) ∙ sym (map-map without_read held (range_with_len 0 (width s f))) ∙ ap (map without_read) (sym (copies-are before s o f p below)))
+    reader-changed now before s o f p (map cell.without_read (get_or (register_from before s o f) p [])) below
+    ((λ i. map (λ k. gone k i) (range_with_len 0 (width s f))) ∙ sym (map-map cell.without_read held (range_with_len 0 (width s f))) ∙ ap (map cell.without_read) (sym (copies-are before s o f p below)))
     kept
 
 -- The reads that are open.
@@ -71,7 +72,7 @@ open-elsewhere c part (Reading bits true) o f r k apart = go (same_bit (copy o f
 record Dropping (s : Setup) (now before : Access → Cell) (p : ℕ) (d : Doing) : Type 0 where
   pub below : p < s.processes
   pub others : (a : Access) → a.reader ≢ p → now a ≡ before a
-  pub own : (a : Access) → a.reader ≡ p → now a ≡ without_read (before a)
+  pub own : (a : Access) → a.reader ≡ p → now a ≡ cell.without_read (before a)
   pub reads : (a : Access) → a.reader ≡ p → (before a).reading ≡ reads_now s p a d
 
 -- a cell of which p has no read open stays
@@ -101,13 +102,15 @@ read-dropped s now before p d o f x = register-dropped now before s o f p x.belo
 unwritten : (s : Setup) (now before : Access → Cell) (p : ℕ) (command : Command) (number : ℕ) (part : Part) (w : NumberWrite) → Dropping s now before p (Runs command number (record { part = part; run = Writing w })) → now ≡ before
 unwritten s now before p command number part w x = none-open s now before p (Runs command number (record { part = part; run = Writing w })) x (λ a. refl)
 
-run-locks : (s : Setup) (now before : Access → Cell) (p : ℕ) (command : Command) (number : ℕ) (part : Part) (run : Run) (torn : Option Access) → Dropping s now before p (Runs command number (record { part = part; run = run })) →
-    LeftRun (call s p command number) torn part run → OwnersThere s.processes part → dropped_locks s p (Runs command number (record { part = part; run = run })) (locks_from before s) ≡ locks_from now s
-run-locks s now before p command number part (Writing w) torn x l owners =
+run-dropped : (s : Setup) (now before : Access → Cell) (p : ℕ) (command : Command) (number : ℕ) (part : Part) (run : Run) (torn : Option Access) → Dropping s now before p (Runs command number (record { part = part; run = run })) →
+    LeftRun (call s p command number) torn part run → OwnersThere s.processes part → dropped s p (Runs command number (record { part = part; run = run })) (registers_from before s) ≡ registers_from now s
+run-dropped s now before p command number part (Writing w) torn x l owners =
     let register : ℕ × Field = read_at (call s p command number) part in
-    ap (λ b. locks_without (cond b (Some register) None) p (locks_from before s)) l.0
-    ∙ sym (ap (λ cells. locks_from cells s) (unwritten s now before p command number part w x))
-run-locks s now before p command number part (Reading bits begun) torn x l owners = ap (λ b. locks_without (cond b (Some (o, f)) None) p (locks_from before s)) l.0 ∙ sym (go (is_data f) refl)
+    ap (λ b. without_read (cond b (Some register) None) p (registers_from before s)) l.0
+    ∙ sym (ap (λ cells. registers_from cells s) (unwritten s now before p command number part w x))
+run-dropped s now before p command number part (Reading bits begun) torn x l owners =
+    ap (λ b. without_read (cond b (Some (o, f)) None) p (registers_from before s)) l.0
+    ∙ sym (λ i. record { locks = locks (is_data f) refl i; versions = versions (is_data f) refl i })
   where
     o : ℕ
     o = (read_at (call s p command number) part).0
@@ -124,52 +127,23 @@ run-locks s now before p command number part (Reading bits begun) torn x l owner
     there : o < s.processes
     there = owner-there (call s p command number) s.processes part l.0 owners
 
-    go : (b : Bool) → is_data f ≡ b → locks_from now s ≡ cond b (locks_from before s) (locks_without_reads (locks_from before s) o f p)
-    go true v = locks-same now before s o f v same
-    go false v = locks-changed now before s o f (without_reads (row_in (lock_of (locks_from before s) o) f) p) there v same
+    locks : (b : Bool) → is_data f ≡ b → locks_from now s ≡ cond b (locks_from before s) (locks_without_reads (locks_from before s) o f p)
+    locks true v = locks-same now before s o f v same
+    locks false v = locks-changed now before s o f (without_reads (row_in (lock_of (locks_from before s) o) f) p) there v same
         (read-dropped s now before p d o f x ∙ ap (λ register. without_reads register p) (sym (lock-register before s o f there v)))
 
-run-versions : (s : Setup) (now before : Access → Cell) (p : ℕ) (command : Command) (number : ℕ) (part : Part) (run : Run) (torn : Option Access) → Dropping s now before p (Runs command number (record { part = part; run = run })) →
-    LeftRun (call s p command number) torn part run → OwnersThere s.processes part → dropped_versions s p (Runs command number (record { part = part; run = run })) (row_from before s) ≡ row_from now s
-run-versions s now before p command number part (Writing w) torn x l owners =
-    let register : ℕ × Field = read_at (call s p command number) part in
-    ap (λ b. versions_without (cond b (Some register) None) p (row_from before s)) l.0
-    ∙ sym (ap (λ cells. row_from cells s) (unwritten s now before p command number part w x))
-run-versions s now before p command number part (Reading bits begun) torn x l owners = ap (λ b. versions_without (cond b (Some (o, f)) None) p (row_from before s)) l.0 ∙ sym (go (is_data f) refl)
-  where
-    o : ℕ
-    o = (read_at (call s p command number) part).0
-
-    f : Field
-    f = (read_at (call s p command number) part).1
-
-    d : Doing
-    d = Runs command number (record { part = part; run = Reading bits begun })
-
-    same : SameBut now before o f
-    same = elsewhere s now before p command number (record { part = part; run = Reading bits begun }) x
-
-    there : o < s.processes
-    there = owner-there (call s p command number) s.processes part l.0 owners
-
-    go : (b : Bool) → is_data f ≡ b → row_from now s ≡ cond b (without_reads_at (row_from before s) o f p) (row_from before s)
-    go true v = row-changed now before s o f (without_reads (register_at (row_from before s) o f) p) there v same
+    versions : (b : Bool) → is_data f ≡ b → row_from now s ≡ cond b (without_reads_at (row_from before s) o f p) (row_from before s)
+    versions true v = row-changed now before s o f (without_reads (register_at (row_from before s) o f) p) there v same
         (read-dropped s now before p d o f x ∙ ap (λ register. without_reads register p) (sym (data-register before s o f there v)))
-    go false v = row-same now before s o f v same
+    versions false v = row-same now before s o f v same
 
 -- Whatever it is doing.
 
-drop-locks : (s : Setup) (now before : Access → Cell) (p : ℕ) (d : Doing) (torn : Option Access) → Dropping s now before p d → LeftIn s p torn d → AtPlace (OwnersAt s) d → dropped_locks s p d (locks_from before s) ≡ locks_from now s
-drop-locks s now before p Rests torn x l owners = sym (ap (λ cells. locks_from cells s) (none-open s now before p Rests x (λ a. refl)))
-drop-locks s now before p Lies torn x l owners = sym (ap (λ cells. locks_from cells s) (none-open s now before p Lies x (λ a. refl)))
-drop-locks s now before p (Closes command number at) torn x l owners = sym (ap (λ cells. locks_from cells s) (none-open s now before p (Closes command number at) x (λ a. refl)))
-drop-locks s now before p (Runs command number at) torn x l owners = run-locks s now before p command number at.part at.run torn x l owners
-
-drop-versions : (s : Setup) (now before : Access → Cell) (p : ℕ) (d : Doing) (torn : Option Access) → Dropping s now before p d → LeftIn s p torn d → AtPlace (OwnersAt s) d → dropped_versions s p d (row_from before s) ≡ row_from now s
-drop-versions s now before p Rests torn x l owners = sym (ap (λ cells. row_from cells s) (none-open s now before p Rests x (λ a. refl)))
-drop-versions s now before p Lies torn x l owners = sym (ap (λ cells. row_from cells s) (none-open s now before p Lies x (λ a. refl)))
-drop-versions s now before p (Closes command number at) torn x l owners = sym (ap (λ cells. row_from cells s) (none-open s now before p (Closes command number at) x (λ a. refl)))
-drop-versions s now before p (Runs command number at) torn x l owners = run-versions s now before p command number at.part at.run torn x l owners
+drop-registers : (s : Setup) (now before : Access → Cell) (p : ℕ) (d : Doing) (torn : Option Access) → Dropping s now before p d → LeftIn s p torn d → AtPlace (OwnersAt s) d → dropped s p d (registers_from before s) ≡ registers_from now s
+drop-registers s now before p Rests torn x l owners = sym (ap (λ cells. registers_from cells s) (none-open s now before p Rests x (λ a. refl)))
+drop-registers s now before p Lies torn x l owners = sym (ap (λ cells. registers_from cells s) (none-open s now before p Lies x (λ a. refl)))
+drop-registers s now before p (Closes command number at) torn x l owners = sym (ap (λ cells. registers_from cells s) (none-open s now before p (Closes command number at) x (λ a. refl)))
+drop-registers s now before p (Runs command number at) torn x l owners = run-dropped s now before p command number at.part at.run torn x l owners
 
 -- In every record.
 
@@ -186,18 +160,11 @@ entry-dropping s g events event e is none gone = record {
     past = past_of s events
 
     after : Access → Bool → Bool → Cell
-    after a falls mine = cond (falls && mine) (without_read (cell_held s past a)) (cell_held s past a)
+    after a falls mine = cond (falls && mine) (cell.without_read (cell_held s past a)) (cell_held s past a)
 
-pub locks-dropped : (s : Setup) → checked s ≡ Ok tt → (events : List Event) (event : Event) (e : Entry) → entry_of s (past_of s events) event ≡ Some e → e.access ≡ None → drops e ≡ true →
-    dropped_locks s e.process (doing s e.process (past_of s events)) (locks_at s (past_of s events)) ≡ locks_at s (e ∷ past_of s events)
-locks-dropped s ok events event e is none gone =
+pub registers-dropped : (s : Setup) → checked s ≡ Ok tt → (events : List Event) (event : Event) (e : Entry) → entry_of s (past_of s events) event ≡ Some e → e.access ≡ None → drops e ≡ true →
+    dropped s e.process (doing s e.process (past_of s events)) (registers_at s (past_of s events)) ≡ registers_at s (e ∷ past_of s events)
+registers-dropped s ok events event e is none gone =
     let past : Past = past_of s events in
     let g : IsGood s = is_good s ok in
-    drop-locks s (cell_held s (e ∷ past)) (cell_held s past) e.process (doing s e.process past) (left s (own e.process past)) (entry-dropping s g events event e is none gone) (left-is s g events e.process) (owners_there s g events e.process)
-
-pub versions-dropped : (s : Setup) → checked s ≡ Ok tt → (events : List Event) (event : Event) (e : Entry) → entry_of s (past_of s events) event ≡ Some e → e.access ≡ None → drops e ≡ true →
-    dropped_versions s e.process (doing s e.process (past_of s events)) (row_at s (past_of s events)) ≡ row_at s (e ∷ past_of s events)
-versions-dropped s ok events event e is none gone =
-    let past : Past = past_of s events in
-    let g : IsGood s = is_good s ok in
-    drop-versions s (cell_held s (e ∷ past)) (cell_held s past) e.process (doing s e.process past) (left s (own e.process past)) (entry-dropping s g events event e is none gone) (left-is s g events e.process) (owners_there s g events e.process)
+    drop-registers s (cell_held s (e ∷ past)) (cell_held s past) e.process (doing s e.process past) (left s (own e.process past)) (entry-dropping s g events event e is none gone) (left-is s g events e.process) (owners_there s g events e.process)

@@ -10,13 +10,13 @@ use Rattle.record.specs.Entries.{Entry, Past}
 use Rattle.record.specs.Registers.{processes, width}
 use Rattle.record.proofs.Width.{is_good}
 use Rattle.bakery.specs.Locks.{new_lock, new_locks}
-use Rattle.critical.specs.Registers.{opening_cell, row_from}
 use Rattle.critical.proofs.Opening.{zero-register, const-range}
 use Rattle.laws.specs.Held.{cell_held, drops}
 use Rattle.laws.proofs.HeldCells.{held-marks}
-use Rattle.world.specs.Shows.{lock_from, locks_from}
-use Rattle.world.specs.Drops.{AreOf}
-use Rattle.world.proofs.RowsCells.{data-register, lock-register, locks_at, many-parts, readers-are, row_at, width-is}
+use Rattle.process.specs.Drops.{AreOf}
+use Rattle.process.specs.Registers.{new_registers}
+use Rattle.world.specs.Shows.{lock_from, registers_from}
+use Rattle.world.proofs.RowsCells.{data-register, lock-register, locks_at, many-parts, readers-are, registers_at, row_at, width-is}
 
 -- An entry that only marks.
 
@@ -27,15 +27,12 @@ cells-stay s past e none keeps = λ i a. stays a i
     stays : (a : Access) → cell_held s (e ∷ past) a ≡ cell_held s past a
     stays a = held-marks s past e a none ∙ ap (λ b. cond (b && (e.process == a.reader)) (without_read (cell_held s past a)) (cell_held s past a)) keeps
 
-pub locks-stay : (s : Setup) (past : Past) (e : Entry) → e.access ≡ None → drops e ≡ false → locks_at s (e ∷ past) ≡ locks_at s past
-locks-stay s past e none keeps = ap (λ cells. locks_from cells s) (cells-stay s past e none keeps)
-
-pub versions-stay : (s : Setup) (past : Past) (e : Entry) → e.access ≡ None → drops e ≡ false → row_at s (e ∷ past) ≡ row_at s past
-versions-stay s past e none keeps = ap (λ cells. row_from cells s) (cells-stay s past e none keeps)
+pub registers-stay : (s : Setup) (past : Past) (e : Entry) → e.access ≡ None → drops e ≡ false → registers_at s (e ∷ past) ≡ registers_at s past
+registers-stay s past e none keeps = ap (λ cells. registers_from cells s) (cells-stay s past e none keeps)
 
 -- The registers of a setup.
 
-pub are_of : (s : Setup) → checked s ≡ Ok tt → (past : Past) → AreOf s (locks_at s past) (row_at s past)
+pub are_of : (s : Setup) → checked s ≡ Ok tt → (past : Past) → AreOf s (registers_at s past)
 are_of s ok past = record {
   locks = λ p f below d. ap length (lock-register cells s p f below d) ∙ readers-are cells s p f;
   versions = record {
@@ -57,8 +54,8 @@ lock-open : (s : Setup) (p : ℕ) → new_lock s ≡ lock_from (cell_held s []) 
 lock-open s zero = λ i. record { choosing = zero-register s 0 Choosing i; ticket = zero-register s 0 Ticket i }
 lock-open s (suc p) = λ i. record { choosing = zero-register s (suc p) Choosing i; ticket = zero-register s (suc p) Ticket i }
 
-pub locks-open : (s : Setup) → new_locks s ≡ locks_at s []
+locks-open : (s : Setup) → new_locks s ≡ locks_at s []
 locks-open s = const-range (new_lock s) 0 s.processes ∙ (λ i. map (λ p. lock-open s p i) (processes s))
 
-pub versions-open : (s : Setup) → row_from (opening_cell s) s ≡ row_at s []
-versions-open s = refl
+pub registers-open : (s : Setup) → new_registers s ≡ registers_at s []
+registers-open s = λ i. record { locks = locks-open s i; versions = row_at s [] }

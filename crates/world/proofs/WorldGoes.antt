@@ -25,10 +25,10 @@ use Rattle.world.specs.Seats.{Seat, seat_of}
 use Rattle.process.specs.Processes.{kept_at, stage_kept, process_after}
 use Rattle.world.specs.Shows.{Shows, WorldState}
 use Rattle.process.specs.Steps.{IsAt}
-use Rattle.process.specs.Registers.{MayStep, locks_made, versions_made}
+use Rattle.process.specs.Registers.{MayStep, made}
 use Rattle.laws.specs.Steps.{does_then, marks_with}
 use Rattle.process.specs.Telling.{marks_told}
-use Rattle.world.proofs.RowsCells.{locks_at, row_at}
+use Rattle.world.proofs.RowsCells.{registers_at}
 use Rattle.process.proofs.Stages.{stage-process}
 use Rattle.process.proofs.Stages.{is-at}
 use Rattle.world.proofs.WorldOpen.{IsOpen, opened}
@@ -41,29 +41,28 @@ abbrev pub stepped_entry : WorldState → ℕ → Access → Told → Entry
 stepped_entry w p a t = record { process = p; access = Some a; marks = map (placed (length w.history)) (marks_told t) }
 
 -- the seat at the index of a process may step
-pub may-go : (w : WorldState) (events : List Event) (p : ℕ) (flick : Bool) (d : Seat) → Shows w events → IsRefused w (event.Step p flick) None → MayStep (slice_index_or w.seats p d).process w.locks w.versions flick
+pub may-go : (w : WorldState) (events : List Event) (p : ℕ) (flick : Bool) (d : Seat) → Shows w events → IsRefused w (event.Step p flick) None → MayStep (slice_index_or w.seats p d).process w.registers flick
 may-go w events p flick d shows ok =
     let open_at : IsOpen w events p = opened w events (event.Step p flick) shows ok in
     let added = accepted_adds w.setup (is_good w.setup shows.good) events (event.Step p flick) (ok events shows) in
-    subst (λ (seat : Seat). MayStep seat.process w.locks w.versions flick) (sym (open_at.seat d))
-    (subst (λ locks. MayStep (process_after w.setup (past_of w.setup events) p) locks w.versions flick) (sym open_at.locks)
-    (subst (λ row. MayStep (process_after w.setup (past_of w.setup events) p) (locks_at w.setup (past_of w.setup events)) row flick) (sym open_at.row)
-    (may-step w.setup shows.good events p flick added.0 added.1)))
+    subst (λ (seat : Seat). MayStep seat.process w.registers flick) (sym (open_at.seat d))
+    (subst (λ registers. MayStep (process_after w.setup (past_of w.setup events) p) registers flick) (sym open_at.registers)
+    (may-step w.setup shows.good events p flick added.0 added.1))
 
 -- what the step of that seat makes
 pub record StepGoes (w : WorldState) (events : List Event) (p : ℕ) (flick : Bool) (seat : Seat) (a : Access) (t : Told) (then : Seat) : Type 0 where
   pub adds : entry_of w.setup (past_of w.setup events) (event.Step p flick) ≡ Some (stepped_entry w p a t)
-  pub shows : Shows (world_with w.setup (locks_made w.locks a) (versions_made w.versions a)
+  pub shows : Shows (world_with w.setup (made w.registers a)
       (map (told p (is_waiting_stage (stage_kept seat.process.kept)) (is_waiting_stage (stage_kept then.process.kept))) (slice_set w.seats p then))
       (with_taken w.history p then.process.command then.process.number (reply_taken (marks_told t)))) (event.Step p flick ∷ events)
   pub taking : (r : Reply) → reply_taken (marks_told t) ≡ Some r → (is_pending seat.process.kept ≡ true) × (is_pending then.process.kept ≡ false)
   pub keeping : is_pending seat.process.kept ≡ false → is_pending then.process.kept ≡ false
 
 pub step-goes : (w : WorldState) (events : List Event) (p : ℕ) (flick : Bool) → Shows w events → IsRefused w (event.Step p flick) None →
-    (seat : Seat) (d : Seat) → seat ≡ slice_index_or w.seats p d → (a : Access) (t : Told) (then : Seat) → SeatSteps w.locks w.versions flick seat a t then → StepGoes w events p flick seat a t then
+    (seat : Seat) (d : Seat) → seat ≡ slice_index_or w.seats p d → (a : Access) (t : Told) (then : Seat) → SeatSteps w.registers flick seat a t then → StepGoes w events p flick seat a t then
 step-goes w events p flick shows ok seat d is a t then steps = record {
   adds = added.1 ∙ ap Some entry_is;
-  shows = shows-on s shows.good events (event.Step p flick) e added.1 shows.given refl _ (parts ∙ step_shows s shows.good events p flick e added.1 a t then made);
+  shows = shows-on s shows.good events (event.Step p flick) e added.1 shows.given refl _ (parts ∙ step_shows s shows.good events p flick e added.1 a t then stepped);
   taking = λ r h.
       let k = takes s p (doing s p past) flick (value_of a.how) r (sym (ap reply_taken told_marks) ∙ h) in
       (ap (λ (x : Seat). is_pending x.process.kept) seat_is ∙ k.0, ap is_pending then_kept ∙ k.1);
@@ -91,13 +90,12 @@ step-goes w events p flick shows ok seat d is a t then steps = record {
     at : IsAt (process_after s past p) (doing s p past)
     at = is-at s (is_good s shows.good) events p
 
-    steps_at : SeatSteps (locks_at s past) (row_at s past) flick (seat_of s past p) a t then
-    steps_at = subst (λ row. SeatSteps (locks_at s past) row flick (seat_of s past p) a t then) open_at.row
-        (subst (λ locks. SeatSteps locks w.versions flick (seat_of s past p) a t then) open_at.locks
-        (subst (λ seat. SeatSteps w.locks w.versions flick seat a t then) seat_is steps))
+    steps_at : SeatSteps (registers_at s past) flick (seat_of s past p) a t then
+    steps_at = subst (λ registers. SeatSteps registers flick (seat_of s past p) a t then) open_at.registers
+        (subst (λ seat. SeatSteps w.registers flick seat a t then) seat_is steps)
 
-    made : StepMade s past p e a t then
-    made = step-made s shows.good events p flick e added.1 a t then steps_at
+    stepped : StepMade s past p e a t then
+    stepped = step-made s shows.good events p flick e added.1 a t then steps_at
 
     told_marks : marks_told t ≡ marks_with s p (doing s p past) flick (value_of a.how)
     told_marks = steps_at.marks (doing s p past) at
@@ -106,24 +104,24 @@ step-goes w events p flick shows ok seat d is a t then steps = record {
     then_kept = ap (λ (x : Seat). x.process.kept) (steps_at.seat_is (doing s p past) at)
 
     entry_is : e ≡ stepped_entry w p a t
-    entry_is = λ i. let made-entry : Entry = record { process = made.process i; access = made.access i; marks = (made.marks ∙ ap (λ taken. map (placed (length taken)) (marks_told t)) (sym open_at.taken)) i } in made-entry
+    entry_is = λ i. let made-entry : Entry = record { process = stepped.process i; access = stepped.access i; marks = (stepped.marks ∙ ap (λ taken. map (placed (length taken)) (marks_told t)) (sym open_at.taken)) i } in made-entry
 
     waited_is : is_waiting_stage (stage_kept seat.process.kept) ≡ waited past p
     waited_is = ap (λ (x : Seat). is_waiting_stage (stage_kept x.process.kept)) is ∙ open_at.waits d
 
     waits_is : is_waiting_stage (stage_kept then.process.kept) ≡ waited (e ∷ past) p
-    waits_is = ap (λ (x : Seat). is_waiting_stage (stage_kept x.process.kept)) made.seat_is
+    waits_is = ap (λ (x : Seat). is_waiting_stage (stage_kept x.process.kept)) stepped.seat_is
         ∙ ap (λ past. is_waiting_stage (stage_kept (kept_at s p (doing s p past)))) (sym (past-after s events (event.Step p flick) e added.1))
         ∙ ap is_waiting_stage (stage-process s (is_good s shows.good) (event.Step p flick ∷ events) p)
         ∙ ap (λ past. waited past p) (past-after s events (event.Step p flick) e added.1)
 
-    parts : world_with s (locks_made w.locks a) (versions_made w.versions a)
+    parts : world_with s (made w.registers a)
         (map (told p (is_waiting_stage (stage_kept seat.process.kept)) (is_waiting_stage (stage_kept then.process.kept))) (slice_set w.seats p then))
         (with_taken w.history p then.process.command then.process.number (reply_taken (marks_told t)))
-        ≡ world_with s (locks_made (locks_at s past) a) (versions_made (row_at s past) a) (map (told p (waited past p) (waited (e ∷ past) p)) (slice_set (map (seat_of s past) (processes s)) p then))
+        ≡ world_with s (made (registers_at s past) a) (map (told p (waited past p) (waited (e ∷ past) p)) (slice_set (map (seat_of s past) (processes s)) p then))
         (with_taken (history s past) p (last_command (own p past)) (call_number s (own p past)) (reply_taken (marks_told t)))
-    parts = λ i. world_with s (locks_made (open_at.locks i) a) (versions_made (open_at.row i) a) (map (told p (waited_is i) (waits_is i)) (slice_set (open_at.seats i) p then))
-        (with_taken (open_at.taken i) p (made.seat_is i).process.command (made.seat_is i).process.number (reply_taken (marks_told t)))
+    parts = λ i. world_with s (made (open_at.registers i) a) (map (told p (waited_is i) (waits_is i)) (slice_set (open_at.seats i) p then))
+        (with_taken (open_at.taken i) p (stepped.seat_is i).process.command (stepped.seat_is i).process.number (reply_taken (marks_told t)))
 
 -- The room of the history.
 

@@ -20,8 +20,6 @@ use Rattle.record.specs.Registers.{processes}
 use Rattle.record.specs.Stages.{stage}
 use Rattle.record.proofs.Width.{is_good}
 use Rattle.record.proofs.World.{refused-idle}
-use Rattle.bakery.specs.Locks.{LockRows}
-use Rattle.critical.specs.Registers.{DataRow}
 use Rattle.laws.specs.Doings.{Doing, Runs, call, doing}
 use Rattle.laws.proofs.FrameEvents.{is-waiting}
 use Rattle.world.specs.Changes.{is_pending, next_number, pending, pending_in, told, waiting_in}
@@ -31,8 +29,9 @@ use Rattle.process.specs.Processes.{kept_at, stage_kept}
 use Rattle.process.specs.Processes as kept
 use Rattle.world.specs.Shows.{Shows, WorldState}
 use Rattle.process.specs.Steps.{IsAt, kept_failing, kept_withdrawing, may_fail, may_step}
-use Rattle.world.specs.Drops.{AreOf, dropped_locks, dropped_versions}
-use Rattle.world.proofs.RowsCells.{locks_at, row_at}
+use Rattle.process.specs.Drops.{AreOf, dropped}
+use Rattle.process.specs.Registers.{RegistersState}
+use Rattle.world.proofs.RowsCells.{registers_at}
 use Rattle.world.proofs.RowsKept.{are_of}
 use Rattle.process.proofs.Marked.{marked_as}
 use Rattle.process.proofs.Turns.{steps-may}
@@ -70,13 +69,13 @@ stage-at w events what d shows ok seat is =
 
 -- the registers are those of the setup of the seat
 pub are-of : (w : WorldState) (events : List Event) (what : Event) (d : Seat) → Shows w events → IsRefused w what None → (seat : Seat) → seat ≡ slice_index_or w.seats (Rattle.record.specs.Records.process_of what) d →
-    AreOf seat.process.setup w.locks w.versions
+    AreOf seat.process.setup w.registers
 are-of w events what d shows ok seat is =
     let s : Setup = w.setup in
     let past : Past = past_of s events in
     let o = opened w events what shows ok in
-    subst (λ (x : Seat). AreOf x.process.setup w.locks w.versions) (sym (seat-at w events what d shows ok seat is))
-    (subst (λ locks. AreOf s locks w.versions) (sym o.locks) (subst (λ row. AreOf s (locks_at s past) row) (sym o.row) (are_of s shows.good past)))
+    subst (λ (x : Seat). AreOf x.process.setup w.registers) (sym (seat-at w events what d shows ok seat is))
+    (subst (AreOf s) (sym o.registers) (are_of s shows.good past))
 
 -- a seat whose step is not refused has a cursor that goes on
 pub may-step : (w : WorldState) (events : List Event) (p : ℕ) (flick : Bool) (d : Seat) → Shows w events → IsRefused w (event.Step p flick) None → (seat : Seat) → seat ≡ slice_index_or w.seats p d → may_step seat.process.kept ≡ true
@@ -88,15 +87,14 @@ may-step w events p flick d shows ok seat is =
 pub may-fail : (w : WorldState) (events : List Event) (p : ℕ) (d : Seat) → Shows w events → IsRefused w (event.Fail p) None → (seat : Seat) → seat ≡ slice_index_or w.seats p d → may_fail seat.process.kept ≡ true
 may-fail w events p d shows ok seat is = fails-kept p seat.process.kept (ap (refused_at (event.Fail p)) (stage-at w events (event.Fail p) d shows ok seat is) ∙ (is-allowed w.setup (past_of w.setup events) (event.Fail p) (ok events shows)).at)
 
-pub fail-goes : (w : WorldState) (events : List Event) (p : ℕ) → Shows w events → IsRefused w (event.Fail p) None → (seat d then : Seat) → seat ≡ slice_index_or w.seats p d → (locks : List LockRows) (row : DataRow) →
+pub fail-goes : (w : WorldState) (events : List Event) (p : ℕ) → Shows w events → IsRefused w (event.Fail p) None → (seat d then : Seat) → seat ≡ slice_index_or w.seats p d → (registers : RegistersState) →
     ((x : Doing) → IsAt seat.process x → then ≡ with_kept (kept_failing seat.process.setup seat.process.process x) seat) →
-    ((x : Doing) → IsAt seat.process x → locks ≡ dropped_locks seat.process.setup seat.process.process x w.locks) →
-    ((x : Doing) → IsAt seat.process x → row ≡ dropped_versions seat.process.setup seat.process.process x w.versions) →
-    MarkGoes w events (event.Fail p) p Failed (world_with w.setup locks row (map (told p (is_waiting_stage (stage_kept seat.process.kept)) false) (slice_set w.seats p then)) w.history)
-fail-goes w events p shows ok seat d then is locks row seat_then locks_then row_then = record {
+    ((x : Doing) → IsAt seat.process x → registers ≡ dropped seat.process.setup seat.process.process x w.registers) →
+    MarkGoes w events (event.Fail p) p Failed (world_with w.setup registers (map (told p (is_waiting_stage (stage_kept seat.process.kept)) false) (slice_set w.seats p then)) w.history)
+fail-goes w events p shows ok seat d then is registers seat_then registers_then = record {
   adds = added;
   shows = shows-on s shows.good events (event.Fail p) (marked_as p Failed) added shows.given refl _
-      ((λ i. world_with s (locks_are i) (row_is i) (map (told p (waited_is i) false) (slice_set (o.seats i) p (then_is i))) (o.taken i))
+      ((λ i. world_with s (registers_are i) (map (told p (waited_is i) false) (slice_set (o.seats i) p (then_is i))) (o.taken i))
       ∙ fail_shows s shows.good events p (ok events shows) (is-allowed s past (event.Fail p) (ok events shows)).at);
 }
   where
@@ -124,11 +122,8 @@ fail-goes w events p shows ok seat d then is locks row seat_then locks_then row_
     then_is : then ≡ with_kept (kept_failing s p x) (seat_of s past p)
     then_is = seat_then x at ∙ ap (λ (y : Seat). with_kept (kept_failing y.process.setup y.process.process x) y) seat_is
 
-    locks_are : locks ≡ dropped_locks s p x (locks_at s past)
-    locks_are = locks_then x at ∙ (λ i. dropped_locks (seat_is i).process.setup (seat_is i).process.process x (o.locks i))
-
-    row_is : row ≡ dropped_versions s p x (row_at s past)
-    row_is = row_then x at ∙ (λ i. dropped_versions (seat_is i).process.setup (seat_is i).process.process x (o.row i))
+    registers_are : registers ≡ dropped s p x (registers_at s past)
+    registers_are = registers_then x at ∙ (λ i. dropped (seat_is i).process.setup (seat_is i).process.process x (o.registers i))
 
     waited_is : is_waiting_stage (stage_kept seat.process.kept) ≡ waited past p
     waited_is = ap is_waiting_stage (stage-at w events (event.Fail p) d shows ok seat is)
@@ -142,14 +137,13 @@ fail-keeps seat then x at is h = ap (λ (y : Seat). is_pending y.process.kept) i
 pub waits-at : (w : WorldState) (events : List Event) (p : ℕ) (d : Seat) → Shows w events → IsRefused w (event.Withdraw p) None → (seat : Seat) → seat ≡ slice_index_or w.seats p d → stage_kept seat.process.kept ≡ stages.Waiting
 waits-at w events p d shows ok seat is = stage-at w events (event.Withdraw p) d shows ok seat is ∙ is-waiting p (stage p (past_of w.setup events)) (is-allowed w.setup (past_of w.setup events) (event.Withdraw p) (ok events shows)).at
 
-pub withdraw-goes : (w : WorldState) (events : List Event) (p : ℕ) → Shows w events → IsRefused w (event.Withdraw p) None → (seat d then : Seat) → seat ≡ slice_index_or w.seats p d → (locks : List LockRows) (row : DataRow) →
-    then ≡ with_kept (kept_withdrawing seat.process.setup seat.process.process) seat → ((x : Doing) → IsAt seat.process x → locks ≡ dropped_locks seat.process.setup seat.process.process x w.locks) →
-    ((x : Doing) → IsAt seat.process x → row ≡ dropped_versions seat.process.setup seat.process.process x w.versions) →
-    MarkGoes w events (event.Withdraw p) p Withdrew (world_with w.setup locks row (map (told p true false) (slice_set w.seats p then)) w.history)
-withdraw-goes w events p shows ok seat d then is locks row seat_then locks_then row_then = record {
+pub withdraw-goes : (w : WorldState) (events : List Event) (p : ℕ) → Shows w events → IsRefused w (event.Withdraw p) None → (seat d then : Seat) → seat ≡ slice_index_or w.seats p d → (registers : RegistersState) →
+    then ≡ with_kept (kept_withdrawing seat.process.setup seat.process.process) seat → ((x : Doing) → IsAt seat.process x → registers ≡ dropped seat.process.setup seat.process.process x w.registers) →
+    MarkGoes w events (event.Withdraw p) p Withdrew (world_with w.setup registers (map (told p true false) (slice_set w.seats p then)) w.history)
+withdraw-goes w events p shows ok seat d then is registers seat_then registers_then = record {
   adds = added;
   shows = shows-on s shows.good events (event.Withdraw p) (marked_as p Withdrew) added shows.given refl _
-      ((λ i. world_with s (locks_are i) (row_is i) (map (told p true false) (slice_set (o.seats i) p (then_is i))) (o.taken i))
+      ((λ i. world_with s (registers_are i) (map (told p true false) (slice_set (o.seats i) p (then_is i))) (o.taken i))
       ∙ withdraw_shows s shows.good events p (ok events shows) (ap is_waiting_stage (sym (stage-at w events (event.Withdraw p) d shows ok seat is) ∙ waits-at w events p d shows ok seat is)));
 }
   where
@@ -174,11 +168,8 @@ withdraw-goes w events p shows ok seat d then is locks row seat_then locks_then 
     at : IsAt seat.process (doing s p past)
     at = seat-does w events (event.Withdraw p) d shows ok seat is
 
-    locks_are : locks ≡ dropped_locks s p (doing s p past) (locks_at s past)
-    locks_are = locks_then (doing s p past) at ∙ (λ i. dropped_locks (seat_is i).process.setup (seat_is i).process.process (doing s p past) (o.locks i))
-
-    row_is : row ≡ dropped_versions s p (doing s p past) (row_at s past)
-    row_is = row_then (doing s p past) at ∙ (λ i. dropped_versions (seat_is i).process.setup (seat_is i).process.process (doing s p past) (o.row i))
+    registers_are : registers ≡ dropped s p (doing s p past) (registers_at s past)
+    registers_are = registers_then (doing s p past) at ∙ (λ i. dropped (seat_is i).process.setup (seat_is i).process.process (doing s p past) (o.registers i))
 
 -- A restart.
 
@@ -192,11 +183,11 @@ is-down p stages.Leaving h = refl
 is-down p stages.Settling h = refl
 
 pub restart-goes : (w : WorldState) (events : List Event) (p : ℕ) → Shows w events → IsRefused w (event.Restart p) None → (seat d then : Seat) → seat ≡ slice_index_or w.seats p d →
-    then ≡ with_kept kept.Rests seat → MarkGoes w events (event.Restart p) p Restarted (world_with w.setup w.locks w.versions (slice_set w.seats p then) w.history)
+    then ≡ with_kept kept.Rests seat → MarkGoes w events (event.Restart p) p Restarted (world_with w.setup w.registers (slice_set w.seats p then) w.history)
 restart-goes w events p shows ok seat d then is seat_then = record {
   adds = added;
   shows = shows-on s shows.good events (event.Restart p) (marked_as p Restarted) added shows.given refl _
-      ((λ i. world_with s (o.locks i) (o.row i) (slice_set (o.seats i) p (then_is i)) (o.taken i))
+      ((λ i. world_with s (o.registers i) (slice_set (o.seats i) p (then_is i)) (o.taken i))
       ∙ restart_shows s shows.good events p (ok events shows) (is-down p (stage p past) (is-allowed s past (event.Restart p) (ok events shows)).at));
 }
   where
@@ -220,11 +211,11 @@ restart-goes w events p shows ok seat d then is seat_then = record {
 pub call-goes : (w : WorldState) (events : List Event) (p : ℕ) (command : Command) → Shows w events → IsRefused w (event.Call p command) None → is_command command ≡ true → (seat d then : Seat) → seat ≡ slice_index_or w.seats p d →
     (number : ℕ) → number ≡ next_number w.setup seat.process.number →
     then ≡ record { process = record seat.process { kept = kept_at seat.process.setup seat.process.process (Runs command number (enter (call seat.process.setup seat.process.process command number) Raises)); command = command; number = number }; begun = false; before = waiting_in w.seats } →
-    MarkGoes w events (event.Call p command) p (Called command) (world_with w.setup w.locks w.versions (slice_set w.seats p then) w.history)
+    MarkGoes w events (event.Call p command) p (Called command) (world_with w.setup w.registers (slice_set w.seats p then) w.history)
 call-goes w events p command shows ok given seat d then is number number_is seat_then = record {
   adds = added;
   shows = shows-on s shows.good events (event.Call p command) (marked_as p (Called command)) added shows.given given _
-      ((λ i. world_with s (o.locks i) (o.row i) (slice_set (o.seats i) p (then_is i)) (o.taken i))
+      ((λ i. world_with s (o.registers i) (slice_set (o.seats i) p (then_is i)) (o.taken i))
       ∙ call_shows s shows.good events p command (ok events shows) (ap is_waiting_stage (refused-idle p command (stage p past) (is-allowed s past (event.Call p command) (ok events shows)).at)));
 }
   where

@@ -30,13 +30,13 @@ use Rattle.world.specs.Seats.{Seat, seat_of, with_kept}
 use Rattle.process.specs.Processes.{Kept, kept_at, stage_kept}
 use Rattle.process.specs.Processes as kept
 use Rattle.world.specs.Shows.{world_of}
-use Rattle.world.specs.Drops.{dropped_locks, dropped_versions}
+use Rattle.process.specs.Drops.{dropped}
 use Rattle.process.specs.Steps.{kept_failing, kept_withdrawing}
 use Rattle.world.proofs.QueueAfter.{before-called}
 use Rattle.world.proofs.QueueBegun.{begun-after}
-use Rattle.world.proofs.RowsCells.{locks_at, row_at}
-use Rattle.world.proofs.RowsDrops.{locks-dropped, versions-dropped}
-use Rattle.world.proofs.RowsKept.{locks-stay, versions-stay}
+use Rattle.world.proofs.RowsCells.{registers_at}
+use Rattle.world.proofs.RowsDrops.{registers-dropped}
+use Rattle.world.proofs.RowsKept.{registers-stay}
 use Rattle.process.proofs.Marked.{marked_as, failing-kept, withdrawing-kept, restarted-kept, calling-kept}
 use Rattle.process.proofs.Stages.{stage-process}
 use Rattle.world.proofs.WorldLists.{get-mapped, get-beyond, map-same}
@@ -65,11 +65,10 @@ seats-marked s good events what p mark h called k is waits then =
 
 -- A failure.
 pub fail_shows : (s : Setup) → checked s ≡ Ok tt → (events : List Event) (p : ℕ) → let past : Past = past_of s events in refused s past (event.Fail p) ≡ None → refused_at (event.Fail p) (stage p past) ≡ None →
-    world_with s (dropped_locks s p (doing s p past) (locks_at s past)) (dropped_versions s p (doing s p past) (row_at s past))
+    world_with s (dropped s p (doing s p past) (registers_at s past))
     (map (told p (waited past p) false) (slice_set (map (seat_of s past) (processes s)) p (with_kept (kept_failing s p (doing s p past)) (seat_of s past p)))) (history s past) ≡ world_of s (marked_as p Failed ∷ past)
 fail_shows s good events p ok at = λ i. world_with s
-    (locks-dropped s good events (event.Fail p) (marked_as p Failed) is refl refl i)
-    (versions-dropped s good events (event.Fail p) (marked_as p Failed) is refl refl i)
+    (registers-dropped s good events (event.Fail p) (marked_as p Failed) is refl refl i)
     (seats-marked s good events (event.Fail p) p Failed is refl (kept_failing s p (doing s p past)) (sym (failing-kept s (is_good s good) events p at)) false (waited-own past p (marked_as p Failed) refl) i)
     (sym (history-then s past (marked_as p Failed)) i)
   where
@@ -82,11 +81,10 @@ fail_shows s good events p ok at = λ i. world_with s
 -- A withdrawal.
 
 pub withdraw_shows : (s : Setup) → checked s ≡ Ok tt → (events : List Event) (p : ℕ) → let past : Past = past_of s events in refused s past (event.Withdraw p) ≡ None → waited past p ≡ true →
-    world_with s (dropped_locks s p (doing s p past) (locks_at s past)) (dropped_versions s p (doing s p past) (row_at s past))
+    world_with s (dropped s p (doing s p past) (registers_at s past))
     (map (told p true false) (slice_set (map (seat_of s past) (processes s)) p (with_kept (kept_withdrawing s p) (seat_of s past p)))) (history s past) ≡ world_of s (marked_as p Withdrew ∷ past)
 withdraw_shows s good events p ok waits = λ i. world_with s
-    (locks-dropped s good events (event.Withdraw p) (marked_as p Withdrew) is refl refl i)
-    (versions-dropped s good events (event.Withdraw p) (marked_as p Withdrew) is refl refl i)
+    (registers-dropped s good events (event.Withdraw p) (marked_as p Withdrew) is refl refl i)
     ((ap (λ b. map (told p b false) (slice_set (map (seat_of s past) (processes s)) p (with_kept (kept_withdrawing s p) (seat_of s past p)))) (sym waits)
     ∙ seats-marked s good events (event.Withdraw p) p Withdrew is refl (kept_withdrawing s p) (sym (withdrawing-kept s past p)) false (waited-own past p (marked_as p Withdrew) refl)) i)
     (sym (history-then s past (marked_as p Withdrew)) i)
@@ -103,10 +101,9 @@ told-none p seats = map-same (told p false false) seats (λ seat. refl)
 
 -- A restart.
 pub restart_shows : (s : Setup) → checked s ≡ Ok tt → (events : List Event) (p : ℕ) → let past : Past = past_of s events in refused s past (event.Restart p) ≡ None → waited past p ≡ false →
-    world_with s (locks_at s past) (row_at s past) (slice_set (map (seat_of s past) (processes s)) p (with_kept kept.Rests (seat_of s past p))) (history s past) ≡ world_of s (marked_as p Restarted ∷ past)
+    world_with s (registers_at s past) (slice_set (map (seat_of s past) (processes s)) p (with_kept kept.Rests (seat_of s past p))) (history s past) ≡ world_of s (marked_as p Restarted ∷ past)
 restart_shows s good events p ok waits = λ i. world_with s
-    (sym (locks-stay s past (marked_as p Restarted) refl refl) i)
-    (sym (versions-stay s past (marked_as p Restarted) refl refl) i)
+    (sym (registers-stay s past (marked_as p Restarted) refl refl) i)
     ((sym (told-none p seats) ∙ ap (λ b. map (told p b false) seats) (sym waits)
     ∙ seats-marked s good events (event.Restart p) p Restarted is refl kept.Rests (sym (restarted-kept s past p)) false (waited-own past p (marked_as p Restarted) refl)) i)
     (sym (history-then s past (marked_as p Restarted)) i)
@@ -154,10 +151,9 @@ called_seat s past p command waiting =
     record { process = record { setup = s; process = p; kept = kept_at s p (Runs command number (enter (call s p command number) Raises)); command = command; number = number }; begun = false; before = waiting }
 
 pub call_shows : (s : Setup) → checked s ≡ Ok tt → (events : List Event) (p : ℕ) (command : Command) → let past : Past = past_of s events in refused s past (event.Call p command) ≡ None → waited past p ≡ false →
-    world_with s (locks_at s past) (row_at s past) (slice_set (map (seat_of s past) (processes s)) p (called_seat s past p command (waiting_in (map (seat_of s past) (processes s))))) (history s past) ≡ world_of s (marked_as p (Called command) ∷ past)
+    world_with s (registers_at s past) (slice_set (map (seat_of s past) (processes s)) p (called_seat s past p command (waiting_in (map (seat_of s past) (processes s))))) (history s past) ≡ world_of s (marked_as p (Called command) ∷ past)
 call_shows s good events p command ok waits = λ i. world_with s
-    (sym (locks-stay s past e refl refl) i)
-    (sym (versions-stay s past e refl refl) i)
+    (sym (registers-stay s past e refl refl) i)
     ((sym (told-none p seats) ∙ (λ j. map (told p (sym waits j) (sym waits_not j)) seats) ∙ all-seats s good events (event.Call p command) e is seat ((λ j. told p (waits j) (waits_not j) seat) ∙ own_is)) i)
     (sym (history-then s past e) i)
   where

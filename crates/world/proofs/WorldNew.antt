@@ -17,23 +17,22 @@ use Rattle.record.specs.Records.{calls_full, is_call, past_of, process_of, refus
 use Rattle.record.specs.Registers.{processes}
 use Rattle.record.specs.Stages.{stage}
 use Rattle.record.proofs.Width.{is_good}
-use Rattle.bakery.specs.Locks.{LockRows, new_locks}
-use Rattle.critical.specs.Registers.{DataRow, opening_cell, row_from}
+use Rattle.process.specs.Registers.{RegistersState, new_registers}
 use Rattle.world.specs.Changes.{pending_in}
 use Rattle.world.specs.Seats.{Seat, seat_of}
 use Rattle.process.specs.Processes.{stage_kept}
 use Rattle.world.specs.Shows.{Shows, WorldState}
-use Rattle.world.proofs.RowsKept.{locks-open, versions-open}
+use Rattle.world.proofs.RowsKept.{registers-open}
 use Rattle.process.proofs.Stages.{stage-process}
 use Rattle.world.proofs.WorldOpen.{IsOpen, is-open}
 use Rattle.world.proofs.WorldShows.{world_with}
 
-pub new-shows : (s : Setup) → checked s ≡ Ok tt → are_pairs s.opening ≡ true → (locks : List LockRows) (row : DataRow) (seats : List Seat) (taken : List Taken) →
-    locks ≡ new_locks s → row ≡ row_from (opening_cell s) s → seats ≡ map (seat_of s []) (processes s) → taken ≡ [] → Shows (world_with s locks row seats taken) []
-new-shows s good given locks row seats taken locks_are row_is seats_are taken_is = record {
+pub new-shows : (s : Setup) → checked s ≡ Ok tt → are_pairs s.opening ≡ true → (registers : RegistersState) (seats : List Seat) (taken : List Taken) →
+    registers ≡ new_registers s → seats ≡ map (seat_of s []) (processes s) → taken ≡ [] → Shows (world_with s registers seats taken) []
+new-shows s good given registers seats taken registers_are seats_are taken_is = record {
   good = good;
   given = record { opening = given; commands = refl };
-  shown = λ i. world_with s ((locks_are ∙ locks-open s) i) ((row_is ∙ versions-open s) i) (seats_are i) (taken_is i);
+  shown = λ i. world_with s ((registers_are ∙ registers-open s) i) (seats_are i) (taken_is i);
 }
 
 -- no call is pending

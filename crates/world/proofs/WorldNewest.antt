@@ -54,26 +54,26 @@ newest-store s good events given none =
     let sound : IsStoreOf s store = (data_of s good events given).kept.sound in
     newest-is s good past ∙ ap (store_in s.slots (callers_of s)) (headline.newest s good events given none ∙ sym (bytes_read s store sound)) ∙ store_is_read (call s 0 Ask 0) store sound
 
-pub row-fits : (w : WorldState) (events : List Event) → Shows w events → FitsSetup w.versions.setup w.versions
+pub row-fits : (w : WorldState) (events : List Event) → Shows w events → FitsSetup w.registers.versions.setup w.registers.versions
 row-fits w events shows =
     let s : Setup = w.setup in
-    subst (λ (row : DataRow). FitsSetup row.setup row) (sym (ap (λ (w : WorldState). w.versions) shows.shown)) (are_of s shows.good (past_of s events)).versions
+    subst (λ (row : DataRow). FitsSetup row.setup row) (sym (ap (λ (w : WorldState). w.registers.versions) shows.shown)) (are_of s shows.good (past_of s events)).versions
 
-pub row-quiet : (w : WorldState) (events : List Event) → Shows w events → list_any (λ (seat : Seat). inside_kept seat.process.kept) w.seats ≡ false → IsQuiet w.versions
+pub row-quiet : (w : WorldState) (events : List Event) → Shows w events → list_any (λ (seat : Seat). inside_kept seat.process.kept) w.seats ≡ false → IsQuiet w.registers.versions
 row-quiet w events shows none =
     let s : Setup = w.setup in
     let past : Past = past_of s events in
-    subst IsQuiet (sym (ap (λ (w : WorldState). w.versions) shows.shown)) (quiet s past (headline.whole s shows.good events (sym (inside-seats w events shows) ∙ none)))
+    subst IsQuiet (sym (ap (λ (w : WorldState). w.registers.versions) shows.shown)) (quiet s past (headline.whole s shows.good events (sym (inside-seats w events shows) ∙ none)))
 
-pub world-newest : (w : WorldState) (events : List Event) → Shows w events → list_any (λ (seat : Seat). inside_kept seat.process.kept) w.seats ≡ false → newest_store w.versions ≡ store_after w.setup (history w.setup (past_of w.setup events))
+pub world-newest : (w : WorldState) (events : List Event) → Shows w events → list_any (λ (seat : Seat). inside_kept seat.process.kept) w.seats ≡ false → newest_store w.registers.versions ≡ store_after w.setup (history w.setup (past_of w.setup events))
 world-newest w events shows none =
-    ap newest_store (ap (λ (w : WorldState). w.versions) shows.shown) ∙ newest-store w.setup shows.good events shows.given (sym (inside-seats w events shows) ∙ none)
+    ap newest_store (ap (λ (w : WorldState). w.registers.versions) shows.shown) ∙ newest-store w.setup shows.good events shows.given (sym (inside-seats w events shows) ∙ none)
 
 -- what is asked for it: nothing while somebody is inside
 pub newest-inside : (w : WorldState) (events : List Event) → Shows w events → list_any (λ (seat : Seat). inside_kept seat.process.kept) w.seats ≡ true → None ≡ newest w.setup (past_of w.setup events)
 newest-inside w events shows h = ap (λ b. cond b None (Some (image_of (store_after w.setup (history w.setup (past_of w.setup events)))))) (sym (sym (inside-seats w events shows) ∙ h))
 
-pub newest-outside : (w : WorldState) (events : List Event) (store : Contents) → Shows w events → list_any (λ (seat : Seat). inside_kept seat.process.kept) w.seats ≡ false → store ≡ newest_store w.versions → Some (image_of store) ≡ newest w.setup (past_of w.setup events)
+pub newest-outside : (w : WorldState) (events : List Event) (store : Contents) → Shows w events → list_any (λ (seat : Seat). inside_kept seat.process.kept) w.seats ≡ false → store ≡ newest_store w.registers.versions → Some (image_of store) ≡ newest w.setup (past_of w.setup events)
 newest-outside w events store shows h is =
     ap (λ store. Some (image_of store)) (is ∙ world-newest w events shows h)
     ∙ ap (λ b. cond b None (Some (image_of (store_after w.setup (history w.setup (past_of w.setup events)))))) (sym (sym (inside-seats w events shows) ∙ h))

@@ -21,7 +21,7 @@ use Rattle.world.specs.Events.{IsRefused}
 use Rattle.world.specs.Seats.{Seat, seat_of}
 use Rattle.process.specs.Processes.{stage_kept}
 use Rattle.world.specs.Shows.{Shows, WorldState}
-use Rattle.world.proofs.RowsCells.{locks_at, row_at}
+use Rattle.world.proofs.RowsCells.{registers_at}
 use Rattle.process.proofs.Stages.{stage-process}
 use Rattle.world.proofs.WorldSeats.{waited}
 
@@ -48,8 +48,7 @@ pub record IsOpen (w : WorldState) (events : List Event) (p : ℕ) : Type 0 wher
   pub few : p < 16
   pub inside : p < length w.seats
   pub many : length w.seats ≡ w.setup.processes
-  pub locks : w.locks ≡ locks_at w.setup (past_of w.setup events)
-  pub row : w.versions ≡ row_at w.setup (past_of w.setup events)
+  pub registers : w.registers ≡ registers_at w.setup (past_of w.setup events)
   pub seats : w.seats ≡ map (seat_of w.setup (past_of w.setup events)) (processes w.setup)
   pub taken : w.history ≡ history w.setup (past_of w.setup events)
   pub seat : (d : Seat) → slice_index_or w.seats p d ≡ seat_of w.setup (past_of w.setup events) p
@@ -62,8 +61,7 @@ is-open w events p shows below = record {
   few = let r = (ranges s shows.good).few_processes in omega (arith, r, below);
   inside = omega (arith, many, below);
   many = many;
-  locks = ap (λ (w : WorldState). w.locks) shows.shown;
-  row = ap (λ (w : WorldState). w.versions) shows.shown;
+  registers = ap (λ (w : WorldState). w.registers) shows.shown;
   seats = seats;
   taken = ap (λ (w : WorldState). w.history) shows.shown;
   seat = seat;

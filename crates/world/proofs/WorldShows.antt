@@ -20,8 +20,6 @@ use Rattle.record.specs.Records.{entry_of, past_of, placed}
 use Rattle.record.specs.Registers.{processes}
 use Rattle.record.proofs.Width.{IsGood, is_good}
 use Rattle.record.proofs.Staging.{no_called}
-use Rattle.bakery.specs.Locks.{LockRows}
-use Rattle.critical.specs.Registers.{DataRow}
 use Rattle.laws.specs.Doings.{Doing, doing}
 use Rattle.laws.specs.Held.{IsThere}
 use Rattle.laws.proofs.HeldThere.{access_there}
@@ -30,19 +28,19 @@ use Rattle.world.specs.Changes.{told, with_taken}
 use Rattle.world.specs.Seats.{Seat, seat_of, with_kept}
 use Rattle.process.specs.Processes.{kept_at, process_after}
 use Rattle.world.specs.Shows.{Shows, WorldState, world_of}
-use Rattle.process.specs.Registers.{CanMake, MayStep, answered, locks_made, versions_made}
+use Rattle.process.specs.Registers.{CanMake, MayStep, RegistersState, answered, made}
 use Rattle.process.specs.Steps.{IsAt, is_at_door}
 use Rattle.laws.specs.Steps.{does_then, marks_with, next_of}
 use Rattle.process.specs.Telling.{marks_told}
-use Rattle.world.proofs.RowsCells.{locks_at, row_at}
-use Rattle.world.proofs.RowsAccess.{can_make, answers, locks-made, versions-made}
+use Rattle.world.proofs.RowsCells.{registers_at}
+use Rattle.world.proofs.RowsAccess.{can_make, answers, registers-made}
 use Rattle.process.proofs.Stages.{is-at}
 use Rattle.world.proofs.WorldSeats.{waited, own-seat, all-seats, begun-stepped}
 use Rattle.laws.proofs.Steps.{StepIs, step_is}
 
 -- a world of these parts
-abbrev pub world_with : Setup → List LockRows → DataRow → List Seat → List Taken → WorldState
-world_with s locks row seats taken = record { setup = s; locks = locks; versions = row; seats = seats; history = taken }
+abbrev pub world_with : Setup → RegistersState → List Seat → List Taken → WorldState
+world_with s registers seats taken = record { setup = s; registers = registers; seats = seats; history = taken }
 
 -- the past once an event has added its entry
 pub past-after : (s : Setup) (events : List Event) (what : Event) (e : Entry) → entry_of s (past_of s events) what ≡ Some e → past_of s (what ∷ events) ≡ e ∷ past_of s events
@@ -77,20 +75,20 @@ history-then s past e = go (reply_taken e.marks)
 -- A step.
 
 -- the access of a seat's step, its marks, and the seat then
-pub record SeatSteps (locks : List LockRows) (row : DataRow) (flick : Bool) (seat : Seat) (a : Access) (t : Told) (then : Seat) : Type 0 where
-  pub access : (d : Doing) (next : Access) → IsAt seat.process d → next_of seat.process.setup seat.process.process d flick ≡ Some next → a ≡ answered locks row flick next
+pub record SeatSteps (registers : RegistersState) (flick : Bool) (seat : Seat) (a : Access) (t : Told) (then : Seat) : Type 0 where
+  pub access : (d : Doing) (next : Access) → IsAt seat.process d → next_of seat.process.setup seat.process.process d flick ≡ Some next → a ≡ answered registers flick next
   pub seat_is : (d : Doing) → IsAt seat.process d → then ≡ record (with_kept (kept_at seat.process.setup seat.process.process (does_then seat.process.setup seat.process.process d flick (value_of a.how))) seat) { begun = seat.begun || is_at_door seat.process.kept }
   pub marks : (d : Doing) → IsAt seat.process d → marks_told t ≡ marks_with seat.process.setup seat.process.process d flick (value_of a.how)
 
 -- a seat that shows a process may step
 pub may-step : (s : Setup) → checked s ≡ Ok tt → (events : List Event) (p : ℕ) (flick : Bool) (e : Entry) → entry_of s (past_of s events) (event.Step p flick) ≡ Some e →
-    MayStep (process_after s (past_of s events) p) (locks_at s (past_of s events)) (row_at s (past_of s events)) flick
+    MayStep (process_after s (past_of s events) p) (registers_at s (past_of s events)) flick
 may-step s good events p flick e h = record {
   doing = doing s p past;
   is_at = is-at s g events p;
   next = is.next;
   is_next = is.is_next;
-  can = subst (CanMake (locks_at s past) (row_at s past)) (sym (answers s good events flick is.next there)) (can_make s good events (event.Step p flick) e (valued s past flick is.next) h is.access);
+  can = subst (CanMake (registers_at s past)) (sym (answers s good events flick is.next there)) (can_make s good events (event.Step p flick) e (valued s past flick is.next) h is.access);
 }
   where
     g : IsGood s
@@ -115,16 +113,16 @@ pub record StepMade (s : Setup) (past : Past) (p : ℕ) (e : Entry) (a : Access)
   pub seat_is : then ≡ record (with_kept (kept_at s p (doing s p (e ∷ past))) (seat_of s past p)) { begun = is_some (doorway_begin p past) || is_at_door (kept_at s p (doing s p past)) }
 
 pub step-made : (s : Setup) → checked s ≡ Ok tt → (events : List Event) (p : ℕ) (flick : Bool) (e : Entry) → entry_of s (past_of s events) (event.Step p flick) ≡ Some e →
-    (a : Access) (t : Told) (then : Seat) → let past : Past = past_of s events in SeatSteps (locks_at s past) (row_at s past) flick (seat_of s past p) a t then → StepMade s past p e a t then
+    (a : Access) (t : Told) (then : Seat) → let past : Past = past_of s events in SeatSteps (registers_at s past) flick (seat_of s past p) a t then → StepMade s past p e a t then
 step-made s good events p flick e h a t then steps = record {
   process = is.process;
-  access = is.access ∙ ap Some (sym made);
-  marks = is.marks ∙ ap (map (placed (length (history s past)))) (ap (λ (a : Access). marks_with s p (doing s p past) flick (value_of a.how)) (sym made) ∙ sym (steps.marks (doing s p past) at));
+  access = is.access ∙ ap Some (sym access);
+  marks = is.marks ∙ ap (map (placed (length (history s past)))) (ap (λ (a : Access). marks_with s p (doing s p past) flick (value_of a.how)) (sym access) ∙ sym (steps.marks (doing s p past) at));
   called = no_called e.marks is.plain;
-  there = subst (IsThere s) (sym made) (access_there s g events (event.Step p flick) e h (valued s past flick is.next) is.access);
+  there = subst (IsThere s) (sym access) (access_there s g events (event.Step p flick) e h (valued s past flick is.next) is.access);
   seat_is = steps.seat_is (doing s p past) at
       ∙ ap (λ d. let seat : Seat = record (with_kept (kept_at s p d) (seat_of s past p)) { begun = is_some (doorway_begin p past) || is_at_door (kept_at s p (doing s p past)) } in seat)
-      (ap (λ (a : Access). does_then s p (doing s p past) flick (value_of a.how)) made ∙ sym is.does);
+      (ap (λ (a : Access). does_then s p (doing s p past) flick (value_of a.how)) access ∙ sym is.does);
 }
   where
     g : IsGood s
@@ -142,15 +140,15 @@ step-made s good events p flick e h a t then steps = record {
     there : IsThere s is.next
     there = let x : IsThere s (valued s past flick is.next) = access_there s g events (event.Step p flick) e h (valued s past flick is.next) is.access in record { owner = x.owner; reader = x.reader; bit = x.bit }
 
-    made : a ≡ valued s past flick is.next
-    made = steps.access (doing s p past) is.next at is.is_next ∙ answers s good events flick is.next there
+    access : a ≡ valued s past flick is.next
+    access = steps.access (doing s p past) is.next at is.is_next ∙ answers s good events flick is.next there
 
 -- the world after a step
 pub step_shows : (s : Setup) → checked s ≡ Ok tt → (events : List Event) (p : ℕ) (flick : Bool) (e : Entry) → entry_of s (past_of s events) (event.Step p flick) ≡ Some e →
     (a : Access) (t : Told) (then : Seat) → let past : Past = past_of s events in StepMade s past p e a t then →
-    world_with s (locks_made (locks_at s past) a) (versions_made (row_at s past) a) (map (told p (waited past p) (waited (e ∷ past) p)) (slice_set (map (seat_of s past) (processes s)) p then))
+    world_with s (made (registers_at s past) a) (map (told p (waited past p) (waited (e ∷ past) p)) (slice_set (map (seat_of s past) (processes s)) p then))
     (with_taken (history s past) p (last_command (own p past)) (call_number s (own p past)) (reply_taken (marks_told t))) ≡ world_of s (e ∷ past)
-step_shows s good events p flick e h a t then made = λ i. world_with s (locks i) (versions i) (seats i) (taken i)
+step_shows s good events p flick e h a t then is = λ i. world_with s (registers i) (seats i) (taken i)
   where
     g : IsGood s
     g = is_good s good
@@ -158,25 +156,22 @@ step_shows s good events p flick e h a t then made = λ i. world_with s (locks i
     past : Past
     past = past_of s events
 
-    locks : locks_made (locks_at s past) a ≡ locks_at s (e ∷ past)
-    locks = locks-made s past e a made.access made.there
-
-    versions : versions_made (row_at s past) a ≡ row_at s (e ∷ past)
-    versions = versions-made s past e a made.access made.there
+    registers : made (registers_at s past) a ≡ registers_at s (e ∷ past)
+    registers = registers-made s past e a is.access is.there
 
     Told-seats : ℕ → Type 0
     Told-seats p = (then : Seat) → then ≡ record (with_kept (kept_at s p (doing s p (e ∷ past))) (seat_of s past p)) { begun = is_some (doorway_begin p past) || is_at_door (kept_at s p (doing s p past)) } →
         map (told p (waited past p) (waited (e ∷ past) p)) (slice_set (map (seat_of s past) (processes s)) p then) ≡ map (seat_of s (e ∷ past)) (processes s)
 
     at-own : Told-seats e.process
-    at-own then is = all-seats s good events (event.Step p flick) e h then
-        (ap (told e.process (waited past e.process) (waited (e ∷ past) e.process)) is
-        ∙ own-seat s good events (event.Step p flick) e h made.called (kept_at s e.process (doing s e.process (e ∷ past))) (is_some (doorway_begin e.process past) || is_at_door (kept_at s e.process (doing s e.process past))) refl
-        (begun-stepped s g events (event.Step p flick) e h (ap is_some made.access) made.called))
+    at-own then seat_is = all-seats s good events (event.Step p flick) e h then
+        (ap (told e.process (waited past e.process) (waited (e ∷ past) e.process)) seat_is
+        ∙ own-seat s good events (event.Step p flick) e h is.called (kept_at s e.process (doing s e.process (e ∷ past))) (is_some (doorway_begin e.process past) || is_at_door (kept_at s e.process (doing s e.process past))) refl
+        (begun-stepped s g events (event.Step p flick) e h (ap is_some is.access) is.called))
 
     seats : map (told p (waited past p) (waited (e ∷ past) p)) (slice_set (map (seat_of s past) (processes s)) p then) ≡ map (seat_of s (e ∷ past)) (processes s)
-    seats = subst Told-seats made.process at-own then made.seat_is
+    seats = subst Told-seats is.process at-own then is.seat_is
 
     taken : with_taken (history s past) p (last_command (own p past)) (call_number s (own p past)) (reply_taken (marks_told t)) ≡ history s (e ∷ past)
-    taken = sym (history-then s past e ∙ ap (with_taken (history s past) e.process (last_command (own e.process past)) (call_number s (own e.process past))) (ap reply_taken made.marks ∙ reply-placed (length (history s past)) (marks_told t))
-        ∙ ap (λ q. with_taken (history s past) q (last_command (own q past)) (call_number s (own q past)) (reply_taken (marks_told t))) made.process)
+    taken = sym (history-then s past e ∙ ap (with_taken (history s past) e.process (last_command (own e.process past)) (call_number s (own e.process past))) (ap reply_taken is.marks ∙ reply-placed (length (history s past)) (marks_told t))
+        ∙ ap (λ q. with_taken (history s past) q (last_command (own q past)) (call_number s (own q past)) (reply_taken (marks_told t))) is.process)

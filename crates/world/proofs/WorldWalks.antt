@@ -5,7 +5,6 @@ use Rattle.record.specs.declared.events.Event.{Event}
 use Rattle.record.specs.declared.events.Event.TheVariants as event
 use Rattle.record.specs.Doorways.{is_waiting_stage}
 use Rattle.record.specs.Records.{refused_at}
-use Rattle.critical.specs.Registers.{DataRow}
 use Rattle.process.specs.declared.told.Told.TheVariants.{Nothing}
 use Rattle.world.specs.Changes.{pending_in, told}
 use Rattle.world.specs.Events.{KeepsWorld}
@@ -14,7 +13,7 @@ use Rattle.process.specs.Processes as kept
 use Rattle.world.specs.Seats.{Seat}
 use Rattle.process.specs.Processes.{Kept, kept_at, stage_kept}
 use Rattle.world.specs.Shows.{Shows, WorldState}
-use Rattle.process.specs.Registers.{MayStep, StepsWithin}
+use Rattle.process.specs.Registers.{MayStep, RegistersState, StepsWithin}
 use Rattle.process.specs.Steps.{bits_within, is_at_door}
 use Rattle.world.specs.Walks.{StepsQuietly, Walks, bits_within_at}
 use Rattle.world.proofs.WorldEnds.{IsUsed, step-adds, step-ends, step-on, stepped_world, used-steps}
@@ -54,12 +53,12 @@ within-used w capacity p i flick seat keeps index there seat_is h = record {
 
 -- and may be made
 pub within-may : (w : WorldState) (capacity p i : ℕ) (flick : Bool) (seat : Seat) → KeepsWorld w capacity → i ≡ p → i < length w.seats → seat ≡ slice_index_or w.seats i seat → 0 < bits_within seat.process.kept →
-    MayStep seat.process w.locks w.versions flick
+    MayStep seat.process w.registers flick
 within-may w capacity p i flick seat keeps index there seat_is h = used-steps w capacity p i flick seat (within-used w capacity p i flick seat keeps index there seat_is h)
 
 -- the world after it
-abbrev pub walked_world : WorldState → ℕ → DataRow → Seat → WorldState
-walked_world w i row then = world_with w.setup w.locks row (slice_set w.seats i then) w.history
+abbrev pub walked_world : WorldState → ℕ → RegistersState → Seat → WorldState
+walked_world w i registers then = world_with w.setup registers (slice_set w.seats i then) w.history
 
 -- the room that a world needs that shows events
 abbrev pub room_of : WorldState → ℕ
@@ -69,17 +68,17 @@ pub keeps_of : (w : WorldState) (events : List Event) → Shows w events → Kee
 keeps_of w events shows = record { events = events; shows = shows; room = omega arith }
 
 -- what it makes of the seat, and of the world
-quiet-steps : (w : WorldState) (flick : Bool) (seat : Seat) (row : DataRow) (then : Seat) → 0 < bits_within seat.process.kept → then ≡ record seat { process = then.process } →
-    (e : StepsWithin w.locks w.versions flick seat.process row then.process) → SeatSteps w.locks w.versions flick seat e.access Nothing then
-quiet-steps w flick seat row then h stays e = record {
+quiet-steps : (w : WorldState) (flick : Bool) (seat : Seat) (registers : RegistersState) (then : Seat) → 0 < bits_within seat.process.kept → then ≡ record seat { process = then.process } →
+    (e : StepsWithin w.registers flick seat.process registers then.process) → SeatSteps w.registers flick seat e.access Nothing then
+quiet-steps w flick seat registers then h stays e = record {
   access = e.is_next;
   seat_is = λ d at. stays ∙ (λ k. let x : Seat = record seat { process = e.then_is d at k; begun = sym (or-false seat.begun (is_at_door seat.process.kept) (inside-is seat.process.kept h).door) k } in x);
   marks = λ d at. sym (e.marks d at);
 }
 
-quiet-world : (w : WorldState) (p i : ℕ) (flick : Bool) (seat : Seat) (row : DataRow) (then : Seat) → 0 < bits_within seat.process.kept →
-    (e : StepsWithin w.locks w.versions flick seat.process row then.process) → stepped_world w p i seat e.access Nothing then ≡ walked_world w i row then
-quiet-world w p i flick seat row then h e = λ k. world_with w.setup (e.locks_same k) (sym e.row_is k) (seats k) w.history
+quiet-world : (w : WorldState) (p i : ℕ) (flick : Bool) (seat : Seat) (registers : RegistersState) (then : Seat) → 0 < bits_within seat.process.kept →
+    (e : StepsWithin w.registers flick seat.process registers then.process) → stepped_world w p i seat e.access Nothing then ≡ walked_world w i registers then
+quiet-world w p i flick seat registers then h e = λ k. world_with w.setup (sym e.registers k) (seats k) w.history
   where
     is : IsInside seat.process.kept
     is = inside-is seat.process.kept h
@@ -88,13 +87,13 @@ quiet-world w p i flick seat row then h e = λ k. world_with w.setup (e.locks_sa
     seats = (λ k. map (told p (is.waits k) (e.stays k)) (slice_set w.seats i then)) ∙ sym (told-none p false false (slice_set w.seats i then) refl)
 
 -- its step has no mark, and with any history the world goes on
-pub quiet-on : (w : WorldState) (p i : ℕ) (flick : Bool) (seat : Seat) (row : DataRow) (then : Seat) → i ≡ p → i < length w.seats → seat ≡ slice_index_or w.seats i seat → 0 < bits_within seat.process.kept →
-    then ≡ record seat { process = then.process } → StepsWithin w.locks w.versions flick seat.process row then.process → StepsQuietly w p flick (walked_world w i row then)
-quiet-on w p i flick seat row then index there seat_is h stays e = record {
+pub quiet-on : (w : WorldState) (p i : ℕ) (flick : Bool) (seat : Seat) (registers : RegistersState) (then : Seat) → i ≡ p → i < length w.seats → seat ≡ slice_index_or w.seats i seat → 0 < bits_within seat.process.kept →
+    then ≡ record seat { process = then.process } → StepsWithin w.registers flick seat.process registers then.process → StepsQuietly w p flick (walked_world w i registers then)
+quiet-on w p i flick seat registers then index there seat_is h stays e = record {
   access = e.access;
-  adds = λ events shows. step-adds w (room_of w) p i flick seat e.access Nothing then (used events shows) (quiet-steps w flick seat row then h stays e) events shows;
-  shows = λ events shows. subst (λ new. Shows new (event.Step p flick ∷ events)) (quiet-world w p i flick seat row then h e)
-      (step-on w (room_of w) p i flick seat e.access Nothing then (used events shows) (quiet-steps w flick seat row then h stays e) events shows);
+  adds = λ events shows. step-adds w (room_of w) p i flick seat e.access Nothing then (used events shows) (quiet-steps w flick seat registers then h stays e) events shows;
+  shows = λ events shows. subst (λ new. Shows new (event.Step p flick ∷ events)) (quiet-world w p i flick seat registers then h e)
+      (step-on w (room_of w) p i flick seat e.access Nothing then (used events shows) (quiet-steps w flick seat registers then h stays e) events shows);
   setup = refl;
 }
   where
@@ -102,11 +101,11 @@ quiet-on w p i flick seat row then index there seat_is h stays e = record {
     used events shows = within-used w (room_of w) p i flick seat (keeps_of w events shows) index there seat_is h
 
 -- and no more calls are pending
-pub quiet-ends : (w : WorldState) (capacity p i : ℕ) (flick : Bool) (seat : Seat) (row : DataRow) (then : Seat) → KeepsWorld w capacity → i ≡ p → i < length w.seats → seat ≡ slice_index_or w.seats i seat → 0 < bits_within seat.process.kept →
-    then ≡ record seat { process = then.process } → StepsWithin w.locks w.versions flick seat.process row then.process → KeepsWorld (walked_world w i row then) capacity
-quiet-ends w capacity p i flick seat row then keeps index there seat_is h stays e =
-    subst (λ w. KeepsWorld w capacity) (quiet-world w p i flick seat row then h e)
-    (step-ends w capacity p i flick seat e.access Nothing then (within-used w capacity p i flick seat keeps index there seat_is h) (quiet-steps w flick seat row then h stays e) capacity (omega arith))
+pub quiet-ends : (w : WorldState) (capacity p i : ℕ) (flick : Bool) (seat : Seat) (registers : RegistersState) (then : Seat) → KeepsWorld w capacity → i ≡ p → i < length w.seats → seat ≡ slice_index_or w.seats i seat → 0 < bits_within seat.process.kept →
+    then ≡ record seat { process = then.process } → StepsWithin w.registers flick seat.process registers then.process → KeepsWorld (walked_world w i registers then) capacity
+quiet-ends w capacity p i flick seat registers then keeps index there seat_is h stays e =
+    subst (λ w. KeepsWorld w capacity) (quiet-world w p i flick seat registers then h e)
+    (step-ends w capacity p i flick seat e.access Nothing then (within-used w capacity p i flick seat keeps index there seat_is h) (quiet-steps w flick seat registers then h stays e) capacity (omega arith))
 
 -- how many bits a process is before the last one, by its seat
 pub bits-at : (seats : List Seat) (i p : ℕ) (seat : Seat) → i ≡ p → i < length seats → seat ≡ slice_index_or seats i seat → bits_within_at seats p ≡ bits_within seat.process.kept

@@ -8,9 +8,8 @@ use Rattle.record.specs.declared.events.Event.TheVariants.{Step}
 use Rattle.record.specs.declared.history.Taken.{Taken}
 use Rattle.record.specs.declared.refusals.Refusal.{Refusal}
 use Rattle.record.specs.Histories.{reply_taken}
-use Rattle.bakery.specs.Locks.{LockRows}
-use Rattle.critical.specs.Registers.{DataRow}
 use Rattle.process.specs.declared.told.Told.{Told}
+use Rattle.process.specs.Registers.{RegistersState}
 use Rattle.process.specs.Telling.{marks_told}
 use Rattle.world.specs.Changes.{pending_in, with_taken}
 use Rattle.world.specs.Events.{GoesOn, IsRefused}
@@ -22,17 +21,16 @@ use Rattle.world.specs.Walks.{Walks}
 -- the registers, and what is kept of each process: of fixed size
 pub record CoreState : Type 0 where
   pub setup : Setup
-  pub locks : List LockRows
-  pub versions : DataRow
+  pub registers : RegistersState
   pub seats : List Seat
 
 -- the world that has this core and this history
 abbrev pub with_history : CoreState → List Taken → WorldState
-with_history c taken = record { setup = c.setup; locks = c.locks; versions = c.versions; seats = c.seats; history = taken }
+with_history c taken = record { setup = c.setup; registers = c.registers; seats = c.seats; history = taken }
 
 -- a world without its history
 abbrev pub core_of : WorldState → CoreState
-core_of w = record { setup = w.setup; locks = w.locks; versions = w.versions; seats = w.seats }
+core_of w = record { setup = w.setup; registers = w.registers; seats = w.seats }
 
 -- what a core keeps: with some history it shows some events
 pub record KeepsCore (c : CoreState) : Type 0 where

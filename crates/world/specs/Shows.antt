@@ -13,15 +13,15 @@ use Rattle.record.specs.Histories.{history}
 use Rattle.record.specs.Records.{past_of}
 use Rattle.record.specs.Registers.{processes}
 use Rattle.bakery.specs.Locks.{LockRows}
-use Rattle.critical.specs.Registers.{DataRow, register_from, row_from}
+use Rattle.critical.specs.Registers.{register_from, row_from}
 use Rattle.laws.specs.Held.{cell_held}
+use Rattle.process.specs.Registers.{RegistersState}
 use Rattle.world.specs.Seats.{Seat, seat_of}
 
--- what a world keeps: the registers of the lock and of the versions, what it keeps of each process, and the history
+-- what a world keeps: the registers, what it keeps of each process, and the history
 pub record WorldState : Type 0 where
   pub setup : Setup
-  pub locks : List LockRows
-  pub versions : DataRow
+  pub registers : RegistersState
   pub seats : List Seat
   pub history : List Taken
 
@@ -33,12 +33,15 @@ lock_from cells s owner = record { choosing = register_from cells s owner Choosi
 abbrev pub locks_from : (Access → Cell) → Setup → List LockRows
 locks_from cells s = map (lock_from cells s) (processes s)
 
+-- the registers of all processes, with these cells
+abbrev pub registers_from : (Access → Cell) → Setup → RegistersState
+registers_from cells s = record { locks = locks_from cells s; versions = row_from cells s }
+
 -- what a world of this setup keeps after a past
 abbrev pub world_of : Setup → Past → WorldState
 world_of s past = record {
   setup = s;
-  locks = locks_from (cell_held s past) s;
-  versions = row_from (cell_held s past) s;
+  registers = registers_from (cell_held s past) s;
   seats = map (seat_of s past) (processes s);
   history = history s past;
 }

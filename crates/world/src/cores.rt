@@ -21,10 +21,8 @@ use crate::queue::listed;
 use crate::refusals::{is_full, number_after, refusal_at};
 use crate::seat::Seat;
 use crate::seats::{is_occupied, is_queued, tell, waiting, waits};
-use bakery::Locks;
-use critical::DataRow;
 use plain_store::{Command, NestedTypes, Reply, Setup};
-use process::Told;
+use process::{Registers, Told};
 use record::{Event, Refusal, Stage, Taken};
 use safe_number::Access;
 use smallvec::SmallVec;
@@ -39,8 +37,7 @@ use store_image::Image;
 #[derive(Drop)]
 pub struct Core {
     setup: Setup,
-    locks: Locks,
-    versions: DataRow,
+    registers: Registers,
     seats: Vec<Seat>,
 }
 
@@ -49,9 +46,9 @@ impl Model for Core {
 
     ghost Value = { CoreState };
 
-    ghost view = { λ w. record { setup = w.setup; locks = w.locks; versions = w.versions; seats = w.seats.items } };
+    ghost view = { λ w. record { setup = w.setup; registers = w.registers; seats = w.seats.items } };
 
-    ghost invariant = { λ w. KeepsCore (record { setup = w.setup; locks = w.locks; versions = w.versions; seats = w.seats.items }) };
+    ghost invariant = { λ w. KeepsCore (record { setup = w.setup; registers = w.registers; seats = w.seats.items }) };
 }
 
 impl Core {
@@ -68,8 +65,7 @@ impl Core {
         }
         Ok(Core {
             setup: *setup,
-            locks: Locks::new(alloc, setup)?,
-            versions: DataRow::new(alloc, setup)?,
+            registers: Registers::new(alloc, setup)?,
             seats,
         })
     }
@@ -116,7 +112,7 @@ impl Core {
         if is_occupied(&self.seats) {
             return None;
         }
-        Some(self.versions.newest())
+        Some(self.registers.newest())
     }
 
     /// What a process takes, where its command is taken and this is the reply.
@@ -198,7 +194,7 @@ impl Core {
     {
         let seat = &mut self.seats[usize::from(process)];
         let waited = waits(seat);
-        let (access, leads) = seat.step(&mut self.locks, &mut self.versions, flick);
+        let (access, leads) = seat.step(&mut self.registers, flick);
         let now = waits(seat);
         tell(&mut self.seats, process, waited, now);
         *told = leads;
@@ -250,7 +246,7 @@ impl Core {
         let mut made = 0;
         'steps: while made < steps {
             let flick = flicks.flick();
-            self.seats[at].step_within(&mut self.versions, flick);
+            self.seats[at].step_within(&mut self.registers, flick);
             made += 1;
         }
     }
@@ -278,7 +274,7 @@ impl Core {
     {
         let seat = &mut self.seats[usize::from(process)];
         let waited = waits(seat);
-        seat.fail(&mut self.locks, &mut self.versions);
+        seat.fail(&mut self.registers);
         tell(&mut self.seats, process, waited, false);
     }
 
@@ -289,7 +285,7 @@ impl Core {
         ensures pending { pending_in self.new.seats ≤ pending_in self.old.seats }
         ensures setup { self.new.setup ≡ self.old.setup }
     {
-        self.seats[usize::from(process)].withdraw(&mut self.locks, &mut self.versions);
+        self.seats[usize::from(process)].withdraw(&mut self.registers);
         tell(&mut self.seats, process, true, false);
     }
 

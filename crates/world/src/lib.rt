@@ -6,7 +6,6 @@ mod cores;
 mod flicks;
 mod queue;
 mod refusals;
-mod registers;
 mod seat;
 mod seats;
 mod world;

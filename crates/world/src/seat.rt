@@ -1,26 +1,22 @@
 //! What a world keeps of one process.
-ghost use Rattle.std.specs.Prelude.{◌≡◌, ◌<◌, ◌||◌, Bool, true, false, [], IfOk, List, Ok, Some};
+ghost use Rattle.std.specs.Prelude.{◌≡◌, ◌<◌, ◌||◌, Bool, true, false, [], IfOk, Ok, Some};
 ghost use Rattle.plain_store.specs.Setups.{checked};
 ghost use Rattle.record.specs.Parts.{Raises};
 ghost use Rattle.record.specs.Places.{enter, value_of};
 ghost use Rattle.record.specs.declared.Stage.TheVariants.{Waiting};
-ghost use Rattle.bakery.specs.Locks.{LockRows};
 ghost use Rattle.laws.specs.Doings.{Doing, Runs, call};
 ghost use Rattle.laws.specs.Steps.{does_then, marks_with, next_of};
+ghost use Rattle.process.specs.Drops.{AreOf, dropped};
 ghost use Rattle.process.specs.Processes.{kept_at, stage_kept};
 ghost use Rattle.process.specs.Processes as kept;
-ghost use Rattle.process.specs.Registers.{MayStep, StepsWithin, answered, locks_made, versions_made};
+ghost use Rattle.process.specs.Registers.{MayStep, StepsWithin, answered, made};
 ghost use Rattle.process.specs.Steps.{IsAt, bits_within, is_at_door, kept_failing, kept_withdrawing, may_fail, may_step};
 ghost use Rattle.process.specs.Telling.{marks_told};
 ghost use Rattle.world.specs.Changes.{told};
 ghost use Rattle.world.specs.Seats.{seat_of, with_kept};
-ghost use Rattle.world.specs.Drops.{AreOf, dropped_locks, dropped_versions};
 
-use crate::registers::{drop_read, ended, given, make};
-use bakery::Locks;
-use critical::DataRow;
 use plain_store::{Command, Setup};
-use process::{Process, Told};
+use process::{Process, Registers, Told};
 use safe_number::Access;
 use std::alloc::{AllocError, Global};
 use std::marker::Model;
@@ -98,75 +94,49 @@ impl Seat {
     }
 
     /// The process gives up waiting: its open read is dropped, and it begins to clear its ticket.
-    pub fn withdraw(&mut self, locks: &mut Locks, versions: &mut DataRow)
+    pub fn withdraw(&mut self, registers: &mut Registers)
         requires waiting { stage_kept self.old.process.kept ≡ Waiting }
         requires at { (d : Doing) × IsAt self.old.process d }
-        requires registers { AreOf self.old.process.setup locks.old versions.old }
+        requires registers { AreOf self.old.process.setup registers.old }
         ensures seat { self.new ≡ with_kept (kept_withdrawing self.old.process.setup self.old.process.process) self.old }
-        ensures locks { (d : Doing) → IsAt self.old.process d → locks.new ≡ dropped_locks self.old.process.setup self.old.process.process d locks.old }
-        ensures versions { (d : Doing) → IsAt self.old.process d → versions.new ≡ dropped_versions self.old.process.setup self.old.process.process d versions.old }
+        ensures registers { (d : Doing) → IsAt self.old.process d → registers.new ≡ dropped self.old.process.setup self.old.process.process d registers.old }
     {
-        drop_read(
-            locks,
-            versions,
-            self.process.reads(),
-            self.process.process(),
-        );
-        self.process.give_up();
+        self.process.withdraw(registers);
     }
 
     /// The process halts: its open read is dropped, and its memory unit takes over.
-    pub fn fail(&mut self, locks: &mut Locks, versions: &mut DataRow)
+    pub fn fail(&mut self, registers: &mut Registers)
         requires may { may_fail self.old.process.kept ≡ true }
         requires at { (d : Doing) × IsAt self.old.process d }
-        requires registers { AreOf self.old.process.setup locks.old versions.old }
+        requires registers { AreOf self.old.process.setup registers.old }
         ensures seat { (d : Doing) → IsAt self.old.process d → self.new ≡ with_kept (kept_failing self.old.process.setup self.old.process.process d) self.old }
-        ensures locks { (d : Doing) → IsAt self.old.process d → locks.new ≡ dropped_locks self.old.process.setup self.old.process.process d locks.old }
-        ensures versions { (d : Doing) → IsAt self.old.process d → versions.new ≡ dropped_versions self.old.process.setup self.old.process.process d versions.old }
+        ensures registers { (d : Doing) → IsAt self.old.process d → registers.new ≡ dropped self.old.process.setup self.old.process.process d registers.old }
     {
-        drop_read(
-            locks,
-            versions,
-            self.process.reads(),
-            self.process.process(),
-        );
-        self.process.cut();
+        self.process.fail(registers);
     }
 
-    /// Makes the next access on the registers, of the process or of its memory unit. At the data, where nearly all
-    /// accesses are, it goes to the versions with no look at what else there is.
+    /// Makes the next access on the registers, of the process or of its memory unit.
     #[inline]
-    pub fn step(&mut self, locks: &mut Locks, versions: &mut DataRow, flick: bool) -> (Access, Told)
+    pub fn step(&mut self, registers: &mut Registers, flick: bool) -> (Access, Told)
         requires goes { may_step self.old.process.kept ≡ true }
-        requires may { MayStep self.old.process locks.old versions.old flick }
-        ensures access { (d : Doing) (next : Access) → IsAt self.old.process d → next_of self.old.process.setup self.old.process.process d flick ≡ Some next → result.0 ≡ answered locks.old versions.old flick next }
+        requires may { MayStep self.old.process registers.old flick }
+        ensures access { (d : Doing) (next : Access) → IsAt self.old.process d → next_of self.old.process.setup self.old.process.process d flick ≡ Some next → result.0 ≡ answered registers.old flick next }
         ensures seat { (d : Doing) → IsAt self.old.process d → self.new ≡ record (with_kept (kept_at self.old.process.setup self.old.process.process (does_then self.old.process.setup self.old.process.process d flick (value_of result.0.how))) self.old) { begun = self.old.begun || is_at_door self.old.process.kept } }
         ensures marks { (d : Doing) → IsAt self.old.process d → marks_told result.1 ≡ marks_with self.old.process.setup self.old.process.process d flick (value_of result.0.how) }
-        ensures locks { locks.new ≡ locks_made locks.old result.0 }
-        ensures versions { versions.new ≡ versions_made versions.old result.0 }
+        ensures registers { registers.new ≡ made registers.old result.0 }
     {
         self.begun = self.begun || self.process.is_at_door();
-        if self.process.is_at_data() {
-            let access = versions.answered(self.process.next_at_data(), flick);
-            versions.apply(access);
-            return (access, self.process.advance_at_data(given(access.how)));
-        }
-        let asked = self.process.next_elsewhere(flick);
-        let value = make(locks, versions, asked, flick);
-        (
-            ended(asked, value),
-            self.process.advance_elsewhere(flick, value),
-        )
+        self.process.step(registers, flick)
     }
 
     /// Makes the next access, within a number access at the data.
     #[inline]
-    pub fn step_within(&mut self, versions: &mut DataRow, flick: bool)
+    pub fn step_within(&mut self, registers: &mut Registers, flick: bool)
         requires within { 0 < bits_within self.old.process.kept }
-        requires may { (rows : List LockRows) × MayStep self.old.process rows versions.old flick }
+        requires may { MayStep self.old.process registers.old flick }
         ensures seat { self.new ≡ record self.old { process = self.new.process } }
-        ensures within { (rows : List LockRows) → StepsWithin rows versions.old flick self.old.process versions.new self.new.process }
+        ensures within { StepsWithin registers.old flick self.old.process registers.new self.new.process }
     {
-        self.process.step_within(versions, flick);
+        self.process.step_within(registers, flick);
     }
 }

@@ -11,7 +11,7 @@ use Rattle.world.proofs.cores.Core.ahead.Goals as goal
 pub returns-then-len-at : goal.returns-then-len-at
 returns-then-len-at c =
     let i = c.self.inside in
-    let core : CoreState = record { setup = i.setup; locks = i.locks; versions = i.versions; seats = i.seats.items } in
+    let core : CoreState = record { setup = i.setup; registers = i.registers; seats = i.seats.items } in
     let p : ℕ = c.args.process in
     let beyond : length i.seats.items ≤ p = omega (arith, c.from-at.ensures, c.if-len-at.true, c.len.ensures, i.seats.ok.0) in
     λ taken events shows. let w : WorldState = with_history core taken in c.new.ensures.items ∙ ahead-beyond w events p (shows_of core c.args.self.now taken events c.self.view_is shows) beyond ∙ ap (λ (w : CoreState). ahead w.setup p (past_of w.setup events)) c.self.view_is
@@ -19,7 +19,7 @@ returns-then-len-at c =
 pub returns-then-is_queued : goal.returns-then-is_queued
 returns-then-is_queued c =
     let i = c.self.inside in
-    let core : CoreState = record { setup = i.setup; locks = i.locks; versions = i.versions; seats = i.seats.items } in
+    let core : CoreState = record { setup = i.setup; registers = i.registers; seats = i.seats.items } in
     let p : ℕ = c.args.process in
     let inside : p < length i.seats.items = omega (arith, c.from-at.ensures, c.if-len-at.false, c.len.ensures, i.seats.ok.0) in
     let seat = c.index-seat.result.now in
@@ -29,7 +29,7 @@ returns-then-is_queued c =
 pub returns-else-is_queued : goal.returns-else-is_queued
 returns-else-is_queued c =
     let i = c.self.inside in
-    let core : CoreState = record { setup = i.setup; locks = i.locks; versions = i.versions; seats = i.seats.items } in
+    let core : CoreState = record { setup = i.setup; registers = i.registers; seats = i.seats.items } in
     let p : ℕ = c.args.process in
     let inside : p < length i.seats.items = omega (arith, c.from-at.ensures, c.if-len-at.false, c.len.ensures, i.seats.ok.0) in
     let seat = c.index-seat.result.now in

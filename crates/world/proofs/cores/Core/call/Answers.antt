@@ -14,14 +14,14 @@ use Rattle.world.proofs.cores.Core.call.Goals as goal
 pub index_mut-seat-requires : goal.index_mut-seat-requires
 index_mut-seat-requires c =
     let i = c.self.inside in
-    let core : CoreState = record { setup = i.setup; locks = i.locks; versions = i.versions; seats = i.seats.items } in
+    let core : CoreState = record { setup = i.setup; registers = i.registers; seats = i.seats.items } in
     let inside = (core_in core c.args.self.now (Call c.args.process c.args.command.now) c.self.invariant c.self.view_is c.requires.accepted).0 in
     omega (arith, inside, c.from.ensures, i.seats.ok.0)
 
 pub number_after-number-requires : goal.number_after-number-requires
 number_after-number-requires c =
     let i = c.self.inside in
-    let core : CoreState = record { setup = i.setup; locks = i.locks; versions = i.versions; seats = i.seats.items } in
+    let core : CoreState = record { setup = i.setup; registers = i.registers; seats = i.seats.items } in
     let k : KeepsCore core = c.self.invariant in
     let w : WorldState = with_history core k.taken in
     let u : IsUsed w (room_of w) (Call c.args.process c.args.command.now) c.from.result c.index_mut-seat.result.now = core_used core c.args.self.now (Call c.args.process c.args.command.now) c.from.result c.index_mut-seat.result.now k.taken k.events k.shows c.self.view_is c.requires.accepted c.from.ensures c.index_mut-seat.ensures.value in
@@ -30,7 +30,7 @@ number_after-number-requires c =
 pub invariant_of-self : goal.invariant_of-self
 invariant_of-self c =
     let i = c.self.inside in
-    let core : CoreState = record { setup = i.setup; locks = i.locks; versions = i.versions; seats = i.seats.items } in
+    let core : CoreState = record { setup = i.setup; registers = i.registers; seats = i.seats.items } in
     let k : KeepsCore core = c.self.invariant in
     let w : WorldState = with_history core k.taken in
     let u : IsUsed w (room_of w) (Call c.args.process c.args.command.now) c.from.result c.index_mut-seat.result.now = core_used core c.args.self.now (Call c.args.process c.args.command.now) c.from.result c.index_mut-seat.result.now k.taken k.events k.shows c.self.view_is c.requires.accepted c.from.ensures c.index_mut-seat.ensures.value in
@@ -41,7 +41,7 @@ invariant_of-self c =
 pub returns-clause-shows : goal.returns-clause-shows
 returns-clause-shows c = λ taken events shows.
     let i = c.self.inside in
-    let core : CoreState = record { setup = i.setup; locks = i.locks; versions = i.versions; seats = i.seats.items } in
+    let core : CoreState = record { setup = i.setup; registers = i.registers; seats = i.seats.items } in
     let w : WorldState = with_history core taken in
     let sh : Shows w events = shows_of core c.args.self.now taken events c.self.view_is shows in
     let u : IsUsed w (room_of w) (Call c.args.process c.args.command.now) c.from.result c.index_mut-seat.result.now = core_used core c.args.self.now (Call c.args.process c.args.command.now) c.from.result c.index_mut-seat.result.now taken events sh c.self.view_is c.requires.accepted c.from.ensures c.index_mut-seat.ensures.value in
@@ -52,7 +52,7 @@ returns-clause-shows c = λ taken events shows.
 pub returns-clause-pending : goal.returns-clause-pending
 returns-clause-pending c =
     let i = c.self.inside in
-    let core : CoreState = record { setup = i.setup; locks = i.locks; versions = i.versions; seats = i.seats.items } in
+    let core : CoreState = record { setup = i.setup; registers = i.registers; seats = i.seats.items } in
     let most = pending-most (slice_set i.seats.items c.from.result c.call.new.self) in
     let same = length-set i.seats.items c.from.result c.call.new.self in
     let before = ap (λ (x : CoreState). length x.seats) c.self.view_is in

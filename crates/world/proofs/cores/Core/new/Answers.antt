@@ -15,7 +15,7 @@ pub returns-clause-shows : goal.returns-clause-shows
 returns-clause-shows c =
     let s = c.args.setup.now in
     let all : c.loop-process.process ≡ s.processes = omega (arith, c.loop-process-test.false, c.loop-process.auto.process-end) in
-    new-shows s c.requires.good c.pairs_are_sound.ensures c.in_ok-new-2.field-0 c.in_ok-new-3.field-0 c.loop-process.seats.items [] c.in_ok-new-2.ensures c.in_ok-new-3.ensures
+    new-shows s c.requires.good c.pairs_are_sound.ensures c.in_ok-new-2.field-0 c.loop-process.seats.items [] c.in_ok-new-2.ensures
     (c.loop-process.invariant ∙ ap (λ n. map (seat_of s []) (range_with_len 0 n)) all) refl
 
 pub invariant_of-result : goal.invariant_of-result
@@ -25,6 +25,6 @@ invariant_of-result c =
     record {
       taken = [];
       events = [];
-      shows = new-shows s c.requires.good c.pairs_are_sound.ensures c.in_ok-new-2.field-0 c.in_ok-new-3.field-0 c.loop-process.seats.items [] c.in_ok-new-2.ensures c.in_ok-new-3.ensures
+      shows = new-shows s c.requires.good c.pairs_are_sound.ensures c.in_ok-new-2.field-0 c.loop-process.seats.items [] c.in_ok-new-2.ensures
           (c.loop-process.invariant ∙ ap (λ n. map (seat_of s []) (range_with_len 0 n)) all) refl;
     }

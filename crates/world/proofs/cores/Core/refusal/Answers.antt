@@ -11,7 +11,7 @@ use Rattle.world.proofs.cores.Core.refusal.Goals as goal
 pub returns-then-len-at : goal.returns-then-len-at
 returns-then-len-at c =
     let i = c.self.inside in
-    let core : CoreState = record { setup = i.setup; locks = i.locks; versions = i.versions; seats = i.seats.items } in
+    let core : CoreState = record { setup = i.setup; registers = i.registers; seats = i.seats.items } in
     let what = c.args.event.now in
     let own = c.from-at.ensures ∙ c.process.ensures in
     let beyond : length i.seats.items ≤ process_of what = omega (arith, own, c.if-len-at.true, c.len.ensures, i.seats.ok.0) in
@@ -20,7 +20,7 @@ returns-then-len-at c =
 pub returns-in-Some : goal.returns-in-Some
 returns-in-Some c =
     let i = c.self.inside in
-    let core : CoreState = record { setup = i.setup; locks = i.locks; versions = i.versions; seats = i.seats.items } in
+    let core : CoreState = record { setup = i.setup; registers = i.registers; seats = i.seats.items } in
     let what = c.args.event.now in
     let own = c.from-at.ensures ∙ c.process.ensures in
     let inside : process_of what < length i.seats.items = omega (arith, own, c.if-len-at.false, c.len.ensures, i.seats.ok.0) in
@@ -31,7 +31,7 @@ returns-in-Some c =
 pub returns-then-is_full : goal.returns-then-is_full
 returns-then-is_full c =
     let i = c.self.inside in
-    let core : CoreState = record { setup = i.setup; locks = i.locks; versions = i.versions; seats = i.seats.items } in
+    let core : CoreState = record { setup = i.setup; registers = i.registers; seats = i.seats.items } in
     let what = c.args.event.now in
     let own = c.from-at.ensures ∙ c.process.ensures in
     let inside : process_of what < length i.seats.items = omega (arith, own, c.if-len-at.false, c.len.ensures, i.seats.ok.0) in
@@ -44,7 +44,7 @@ returns-then-is_full c =
 pub returns : goal.returns
 returns c =
     let i = c.self.inside in
-    let core : CoreState = record { setup = i.setup; locks = i.locks; versions = i.versions; seats = i.seats.items } in
+    let core : CoreState = record { setup = i.setup; registers = i.registers; seats = i.seats.items } in
     let what = c.args.event.now in
     let own = c.from-at.ensures ∙ c.process.ensures in
     let inside : process_of what < length i.seats.items = omega (arith, own, c.if-len-at.false, c.len.ensures, i.seats.ok.0) in

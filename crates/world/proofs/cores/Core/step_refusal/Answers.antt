@@ -14,7 +14,7 @@ use Rattle.world.proofs.cores.Core.step_refusal.Goals as goal
 pub returns-then-len-at : goal.returns-then-len-at
 returns-then-len-at c =
     let i = c.self.inside in
-    let core : CoreState = record { setup = i.setup; locks = i.locks; versions = i.versions; seats = i.seats.items } in
+    let core : CoreState = record { setup = i.setup; registers = i.registers; seats = i.seats.items } in
     let beyond : length i.seats.items ≤ c.args.process = omega (arith, c.from-at.ensures, c.if-len-at.true, c.len.ensures, i.seats.ok.0) in
     λ flick taken events shows. let w : WorldState = with_history core taken in ap (λ (w : CoreState). refused w.setup (past_of w.setup events) (Step c.args.process flick)) (sym c.self.view_is)
     ∙ refused-beyond w events (Step c.args.process flick) (shows_of core c.args.self.now taken events c.self.view_is shows) beyond
@@ -22,7 +22,7 @@ returns-then-len-at c =
 pub returns-then-goes : goal.returns-then-goes
 returns-then-goes c =
     let i = c.self.inside in
-    let core : CoreState = record { setup = i.setup; locks = i.locks; versions = i.versions; seats = i.seats.items } in
+    let core : CoreState = record { setup = i.setup; registers = i.registers; seats = i.seats.items } in
     let inside : c.args.process < length i.seats.items = omega (arith, c.from-at.ensures, c.if-len-at.false, c.len.ensures, i.seats.ok.0) in
     let seat = c.index.result.now in
     λ flick taken events shows. let w : WorldState = with_history core taken in ap (λ (w : CoreState). refused w.setup (past_of w.setup events) (Step c.args.process flick)) (sym c.self.view_is)
@@ -31,7 +31,7 @@ returns-then-goes c =
 pub returns-else-goes : goal.returns-else-goes
 returns-else-goes c =
     let i = c.self.inside in
-    let core : CoreState = record { setup = i.setup; locks = i.locks; versions = i.versions; seats = i.seats.items } in
+    let core : CoreState = record { setup = i.setup; registers = i.registers; seats = i.seats.items } in
     let inside : c.args.process < length i.seats.items = omega (arith, c.from-at.ensures, c.if-len-at.false, c.len.ensures, i.seats.ok.0) in
     let seat = c.index.result.now in
     λ flick taken events shows. let w : WorldState = with_history core taken in ap (λ (w : CoreState). refused w.setup (past_of w.setup events) (Step c.args.process flick)) (sym c.self.view_is)

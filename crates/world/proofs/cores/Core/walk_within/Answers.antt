@@ -29,32 +29,32 @@ step_within-requires-clause-within c =
 pub step_within-requires-clause-may : goal.step_within-requires-clause-may
 step_within-requires-clause-may c =
     let i = c.steps.self-inside in
-    let core : CoreState = record { setup = i.setup; locks = i.locks; versions = i.versions; seats = i.seats.items } in
+    let core : CoreState = record { setup = i.setup; registers = i.registers; seats = i.seats.items } in
     let k : KeepsCore core = c.steps.invariant.keeps in
     let w : WorldState = with_history core k.taken in
     let some : 0 < bits_within_at i.seats.items c.args.process = omega (arith, c.steps-test.true, c.steps.invariant.left) in
     let there = bits-there i.seats.items c.from-at.result c.args.process c.from-at.ensures some in
     let here = bits-at i.seats.items c.from-at.result c.args.process c.index_mut.result.now c.from-at.ensures there c.index_mut.ensures.value in
     let h : 0 < bits_within c.index_mut.result.now.process.kept = subst (λ n. 0 < n) here some in
-    (i.locks, within-may w (room_of w) c.args.process c.from-at.result c.flick-flick.result c.index_mut.result.now (keeps_of w k.events k.shows) c.from-at.ensures there c.index_mut.ensures.value h)
+    within-may w (room_of w) c.args.process c.from-at.result c.flick-flick.result c.index_mut.result.now (keeps_of w k.events k.shows) c.from-at.ensures there c.index_mut.ensures.value h
 
 pub steps-preserved : goal.steps-preserved
 steps-preserved c =
     let i = c.steps.self-inside in
-    let core : CoreState = record { setup = i.setup; locks = i.locks; versions = i.versions; seats = i.seats.items } in
+    let core : CoreState = record { setup = i.setup; registers = i.registers; seats = i.seats.items } in
     let k : KeepsCore core = c.steps.invariant.keeps in
     let w : WorldState = with_history core k.taken in
     let some : 0 < bits_within_at i.seats.items c.args.process = omega (arith, c.steps-test.true, c.steps.invariant.left) in
     let there = bits-there i.seats.items c.from-at.result c.args.process c.from-at.ensures some in
     let here = bits-at i.seats.items c.from-at.result c.args.process c.index_mut.result.now c.from-at.ensures there c.index_mut.ensures.value in
     let h : 0 < bits_within c.index_mut.result.now.process.kept = subst (λ n. 0 < n) here some in
-    let new : CoreState = record { setup = i.setup; locks = i.locks; versions = c.step_within.new.versions; seats = slice_set i.seats.items c.from-at.result c.step_within.new.self } in
-    let e = c.step_within.ensures.within i.locks in
+    let new : CoreState = record { setup = i.setup; registers = c.step_within.new.registers; seats = slice_set i.seats.items c.from-at.result c.step_within.new.self } in
+    let e = c.step_within.ensures.within in
     let quiet : (taken : List Taken) → StepsQuietly (with_history core taken) c.args.process c.flick-flick.result (with_history new taken) =
-    λ taken. quiet-on (with_history core taken) c.args.process c.from-at.result c.flick-flick.result c.index_mut.result.now c.step_within.new.versions c.step_within.new.self c.from-at.ensures there c.index_mut.ensures.value h c.step_within.ensures.seat e in
+    λ taken. quiet-on (with_history core taken) c.args.process c.from-at.result c.flick-flick.result c.index_mut.result.now c.step_within.new.registers c.step_within.new.self c.from-at.ensures there c.index_mut.ensures.value h c.step_within.ensures.seat e in
     let quietly : (taken : List Taken) → StepsQuietly (with_history core taken) c.args.process (flick_of c.steps.flicks) (with_history new taken) =
     λ taken. subst (λ flick. StepsQuietly (with_history core taken) c.args.process flick (with_history new taken)) c.flick-flick.ensures.flick (quiet taken) in
-    let room = (quiet-ends w (room_of w) c.args.process c.from-at.result c.flick-flick.result c.index_mut.result.now c.step_within.new.versions c.step_within.new.self (keeps_of w k.events k.shows) c.from-at.ensures there c.index_mut.ensures.value h c.step_within.ensures.seat e).room in
+    let room = (quiet-ends w (room_of w) c.args.process c.from-at.result c.flick-flick.result c.index_mut.result.now c.step_within.new.registers c.step_within.new.self (keeps_of w k.events k.shows) c.from-at.ensures there c.index_mut.ensures.value h c.step_within.ensures.seat e).room in
     let fewer = fewer_pending i.seats.items new.seats k.taken (pending_in i.seats.items) room refl in
     let then = bits-set i.seats.items c.from-at.result c.args.process c.step_within.new.self c.from-at.ensures there in
     record {

@@ -1,0 +1,80 @@
+//! A process that is served by registers.
+ghost use Rattle.std.specs.Prelude.{◌≡◌, ◌<◌, true, Some};
+ghost use Rattle.record.specs.Places.{value_of};
+ghost use Rattle.record.specs.declared.Stage.TheVariants.{Waiting};
+ghost use Rattle.laws.specs.Doings.{Doing};
+ghost use Rattle.laws.specs.Steps.{does_then, marks_with, next_of};
+ghost use Rattle.process.specs.Drops.{AreOf, dropped};
+ghost use Rattle.process.specs.Processes.{kept_at, stage_kept};
+ghost use Rattle.process.specs.Registers.{MayStep, StepsWithin, answered, made};
+ghost use Rattle.process.specs.Steps.{IsAt, bits_within, kept_failing, kept_withdrawing, may_fail, may_step};
+ghost use Rattle.process.specs.Telling.{marks_told};
+
+use super::{Process, Work};
+use crate::registers::{Registers, given};
+use crate::told::Told;
+use safe_number::Access;
+
+impl Process {
+    /// Makes the next access, of the process or of its memory unit, and goes on by it. It answers the access, a read's
+    /// end with what it gave, and what it leads to.
+    #[inline]
+    pub fn step(&mut self, registers: &mut Registers, flick: bool) -> (Access, Told)
+        requires goes { may_step self.old.kept ≡ true }
+        requires may { MayStep self.old registers.old flick }
+        ensures access { (d : Doing) (next : Access) → IsAt self.old d → next_of self.old.setup self.old.process d flick ≡ Some next → result.0 ≡ answered registers.old flick next }
+        ensures process { (d : Doing) → IsAt self.old d → self.new ≡ record self.old { kept = kept_at self.old.setup self.old.process (does_then self.old.setup self.old.process d flick (value_of result.0.how)) } }
+        ensures marks { (d : Doing) → IsAt self.old d → marks_told result.1 ≡ marks_with self.old.setup self.old.process d flick (value_of result.0.how) }
+        ensures registers { registers.new ≡ made registers.old result.0 }
+    {
+        let access = registers.answered(self.next(flick), flick);
+        registers.apply(access);
+        (access, self.advance(flick, given(access.how)))
+    }
+
+    /// How many bits its number access at the data has come to or has before it, without the last one: so many of its
+    /// next steps at least are within that access. 0, if it is not at the data.
+    #[inline]
+    pub fn bits_within(&self) -> u16
+        ensures { result ≡ bits_within self.now.kept }
+    {
+        match &self.work {
+            Work::AtData => self.section.bits_within(),
+            _ => 0,
+        }
+    }
+
+    /// Makes the next access, within a number access at the data: the quick way through the many bits of an image.
+    #[inline]
+    pub fn step_within(&mut self, registers: &mut Registers, flick: bool)
+        requires within { 0 < bits_within self.old.kept }
+        requires may { MayStep self.old registers.old flick }
+        ensures { StepsWithin registers.old flick self.old registers.new self.new }
+    {
+        self.section.step_within(&mut registers.versions, flick);
+    }
+
+    /// The process gives up waiting: its open read is dropped, and it begins to clear its ticket.
+    pub fn withdraw(&mut self, registers: &mut Registers)
+        requires waiting { stage_kept self.old.kept ≡ Waiting }
+        requires at { (d : Doing) × IsAt self.old d }
+        requires registers { AreOf self.old.setup registers.old }
+        ensures process { self.new ≡ record self.old { kept = kept_withdrawing self.old.setup self.old.process } }
+        ensures registers { (d : Doing) → IsAt self.old d → registers.new ≡ dropped self.old.setup self.old.process d registers.old }
+    {
+        registers.drop_read(self.reads(), self.process());
+        self.give_up();
+    }
+
+    /// The process halts: its open read is dropped, and its memory unit takes over.
+    pub fn fail(&mut self, registers: &mut Registers)
+        requires may { may_fail self.old.kept ≡ true }
+        requires at { (d : Doing) × IsAt self.old d }
+        requires registers { AreOf self.old.setup registers.old }
+        ensures process { (d : Doing) → IsAt self.old d → self.new ≡ record self.old { kept = kept_failing self.old.setup self.old.process d } }
+        ensures registers { (d : Doing) → IsAt self.old d → registers.new ≡ dropped self.old.setup self.old.process d registers.old }
+    {
+        registers.drop_read(self.reads(), self.process());
+        self.cut();
+    }
+}

@@ -1,0 +1,104 @@
+//! The registers of all processes, and accesses on them.
+ghost use Rattle.std.specs.Prelude.{◌≡◌, IfOk, Ok};
+ghost use Rattle.plain_store.specs.Setups.{checked};
+ghost use Rattle.record.specs.Moves.{ended_with};
+ghost use Rattle.record.specs.Places.{value_of};
+ghost use Rattle.critical.specs.Newest.{newest_store, IsQuiet};
+ghost use Rattle.critical.specs.Registers.{FitsSetup};
+ghost use Rattle.process.specs.Drops.{CanDrop, without_read};
+ghost use Rattle.process.specs.Registers.{CanMake, HasCopy, answered, made, new_registers};
+
+use bakery::Locks;
+use critical::DataRow;
+use plain_store::Setup;
+use safe_bit::Move;
+use safe_number::{Access, Field};
+use std::alloc::{AllocError, Global};
+use std::marker::Model;
+use store_image::Image;
+
+/// The registers of all processes of a setup: those of the lock, and those of the store's versions.
+#[derive(Drop)]
+pub struct Registers {
+    pub(crate) locks: Locks,
+    pub(crate) versions: DataRow,
+}
+
+impl Model for Registers {
+    ghost use Rattle.process.specs.Registers.{RegistersState};
+
+    ghost Value = { RegistersState };
+
+    ghost view = { λ r. record { locks = r.locks; versions = r.versions } };
+}
+
+impl Registers {
+    /// The registers as they open. The one fault is want of memory.
+    pub fn new(alloc: Global, setup: &Setup) -> Result<Registers, AllocError>
+        requires good { checked setup.now ≡ Ok tt }
+        ensures { IfOk result (λ registers. registers ≡ new_registers setup.now) }
+    {
+        Ok(Registers {
+            locks: Locks::new(alloc, setup)?,
+            versions: DataRow::new(alloc, setup)?,
+        })
+    }
+
+    /// The access, a read's end with what the reader's copy answers: `flick`, if a write of that copy was open at some
+    /// time during the read.
+    #[inline]
+    pub fn answered(&self, access: Access, flick: bool) -> Access
+        requires { HasCopy self.now access }
+        ensures { result ≡ answered self.now flick access }
+    {
+        match access.field {
+            Field::Choosing | Field::Ticket => self.locks.answered(access, flick),
+            _ => self.versions.answered(access, flick),
+        }
+    }
+
+    /// Makes one access, in its turn.
+    #[inline]
+    pub fn apply(&mut self, access: Access)
+        requires { CanMake self.old access }
+        ensures { self.new ≡ made self.old access }
+    {
+        match access.field {
+            Field::Choosing | Field::Ticket => self.locks.apply(access),
+            _ => self.versions.apply(access),
+        }
+    }
+
+    /// Drops the open read that a reader has of a register, if it reads one.
+    pub fn drop_read(&mut self, register: Option<(u8, Field)>, reader: u8)
+        requires { CanDrop self.old register reader }
+        ensures { self.new ≡ without_read register reader self.old }
+    {
+        if let Some((owner, field)) = register {
+            match field {
+                Field::Choosing | Field::Ticket => self.locks.drop_read(owner, field, reader),
+                _ => self.versions.drop_read(owner, field, reader),
+            }
+        }
+    }
+
+    /// The store whose image the versions hold as committed, with the greatest stamp, of the lowest process on a tie.
+    pub fn newest(&self) -> Image
+        requires fits { FitsSetup self.now.versions.setup self.now.versions }
+        requires quiet { IsQuiet self.now.versions }
+        ensures { result ≡ newest_store self.now.versions }
+    {
+        self.versions.newest()
+    }
+}
+
+/// What the end of a read gives.
+#[inline]
+pub(crate) fn given(how: Move) -> bool
+    ensures { result ≡ value_of how }
+{
+    match how {
+        Move::EndRead(value) => value,
+        _ => false,
+    }
+}
