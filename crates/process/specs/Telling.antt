@@ -1,12 +1,12 @@
--- What a step tells, and its marks.
-use Rattle.std.specs.Prelude.{ℕ, List, [], ◌∷◌, map, Some}
+-- What an event tells, and its marks.
+use Rattle.std.specs.Prelude.{ℕ, List, [], ◌∷◌, map}
 use Rattle.record.specs.declared.Mark.{Mark}
 use Rattle.record.specs.declared.Mark.TheVariants as mark
 use Rattle.record.specs.Acts.{Act}
 use Rattle.record.specs.Records.{placed}
-use Rattle.process.specs.declared.told.Stepped.{Stepped}
+use Rattle.process.specs.declared.told.Made.{Made}
 use Rattle.process.specs.declared.told.Told.{Told}
-use Rattle.process.specs.declared.told.Told.TheVariants.{Nothing, Waits, WaitsAndEnters, Enters, Took, Leaves, Answers, Settles, SettlesAndTakes, Lies}
+use Rattle.process.specs.declared.told.Told.TheVariants.{Nothing, Waits, WaitsAndEnters, Enters, Took, Leaves, Answers, Settles, SettlesAndTakes, Lies, Calls, Fails, Withdraws, Restarts}
 
 -- its marks; the place of a command that is taken is left open here, as 0
 abbrev pub marks_told : Told → List Mark
@@ -20,7 +20,11 @@ marks_told (Answers answer) = mark.Answered answer ∷ []
 marks_told (Settles value) = mark.Settled value ∷ []
 marks_told (SettlesAndTakes value reply) = mark.Settled value ∷ mark.Taken 0 reply ∷ []
 marks_told Lies = mark.Down ∷ []
+marks_told (Calls command) = mark.Called command ∷ []
+marks_told Fails = mark.Failed ∷ []
+marks_told Withdraws = mark.Withdrew ∷ []
+marks_told Restarts = mark.Restarted ∷ []
 
--- a step as an act, where a command that is taken gets this place
-abbrev pub act_of : ℕ → Stepped → Act
-act_of place stepped = record { access = Some stepped.access; marks = map (placed place) (marks_told stepped.told) }
+-- what an event has made as an act, where a command that is taken gets this place
+abbrev pub act_of : ℕ → Made → Act
+act_of place made = record { access = made.access; marks = map (placed place) (marks_told made.told) }

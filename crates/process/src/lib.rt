@@ -9,4 +9,4 @@ mod told;
 
 pub use process::Process;
 pub use registers::Registers;
-pub use told::{Stepped, Told, one};
+pub use told::{Made, Told};

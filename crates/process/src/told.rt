@@ -9,13 +9,14 @@ ghost use Rattle.process.specs.Telling.{act_of, marks_told};
 
 use bakery::DoorProgress;
 use critical::SectionProgress;
-use plain_store::{Answer, Reply};
+use plain_store::{Answer, Command, Reply};
 use record::{Act, Mark};
 use safe_number::Access;
 use smallvec::SmallVec;
 use std::alloc::Global;
 
-/// What a step of a process, or of its memory unit, leads to.
+/// What an event leads to. The last four are told of events without an access, all others of steps of a process or of
+/// its memory unit.
 #[derive(Clone, Copy, Debug)]
 pub enum Told {
     Nothing,
@@ -31,6 +32,10 @@ pub enum Told {
     /// The torn commit bit is settled at its new value.
     SettlesAndTakes(bool, Reply),
     Lies,
+    Calls(Command),
+    Fails,
+    Withdraws,
+    Restarts,
 }
 
 impl Told {
@@ -61,31 +66,35 @@ impl Told {
                 two(alloc, Mark::Settled(value), Mark::Taken(place, reply))
             }
             Told::Lies => one(alloc, Mark::Down),
+            Told::Calls(command) => one(alloc, Mark::Called(command)),
+            Told::Fails => one(alloc, Mark::Failed),
+            Told::Withdraws => one(alloc, Mark::Withdrew),
+            Told::Restarts => one(alloc, Mark::Restarted),
         }
     }
 }
 
-/// What a step has made: its access, and what that leads to.
+/// What an event has made: the access of a step, and what the event leads to.
 #[derive(Clone, Copy, Debug)]
-pub struct Stepped {
-    pub access: Access,
+pub struct Made {
+    pub access: Option<Access>,
     pub told: Told,
 }
 
-impl Stepped {
+impl Made {
     /// The same as an act, where a command that is taken gets this place in the history. It takes no memory.
     pub fn act(&self, alloc: Global, place: u64) -> Act
         ensures { result ≡ act_of place self.now }
     {
         Act {
-            access: Some(self.access),
+            access: self.access,
             marks: self.told.marks(alloc, place),
         }
     }
 }
 
 /// One mark, in place.
-pub fn one(alloc: Global, mark: Mark) -> SmallVec<Mark, 3>
+fn one(alloc: Global, mark: Mark) -> SmallVec<Mark, 3>
     ensures { result.items ≡ mark ∷ [] }
 {
     match SmallVec::from_array(alloc, [mark]) {

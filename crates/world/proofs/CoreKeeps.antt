@@ -4,17 +4,19 @@ use Rattle.std.specs.Prelude.{slice_index_or, slice_set}
 use Rattle.std.proofs.lemmas.List.{length-map, length-set, length_push}
 use Rattle.plain_store.specs.declared.Command.{Command}
 use Rattle.plain_store.specs.declared.Reply.{Reply}
+use Rattle.plain_store.specs.declared.Setup.{Setup}
 use Rattle.record.specs.declared.events.Event.{Event}
 use Rattle.record.specs.declared.history.Taken.{Taken}
 use Rattle.record.specs.declared.refusals.Refusal.{Refusal}
 use Rattle.record.specs.Records.{process_of}
 use Rattle.world.specs.Changes.{pending_in, told, with_taken}
-use Rattle.world.specs.Cores.{CoreRefuses, CoreState, CoreWalks, KeepsCore, call_in, with_history}
+use Rattle.world.specs.Cores.{CoreGoesOn, CoreRefuses, CoreState, CoreWalks, KeepsCore, call_in, with_history}
 use Rattle.world.specs.Events.{IsRefused}
 use Rattle.world.specs.Flicks.{FlickState}
 use Rattle.world.specs.Seats.{Seat}
 use Rattle.world.specs.Shows.{Shows, WorldState}
 use Rattle.world.proofs.WorldEnds.{IsUsed, index-in}
+use Rattle.world.proofs.WorldOpen.{is-open, opened}
 use Rattle.world.proofs.WorldWalks.{keeps_of, room_of, walks-then}
 
 -- the world of a core, and what is known of it
@@ -33,6 +35,17 @@ pub core_in : (c d : CoreState) (what : Event) → KeepsCore c → c ≡ d → C
 core_in c d what k is ok =
     let w : WorldState = with_history c k.taken in
     index-in w (room_of w) what (keeps_of w k.events k.shows) (refused_of c d k.taken what None is ok)
+
+-- and it is there afterwards
+pub core_there : (c d new : CoreState) (what : Event) → KeepsCore c → c ≡ d → CoreRefuses d what None → CoreGoesOn d what new → new.setup ≡ d.setup → process_of what < length new.seats
+core_there c d new what k is ok goes setup =
+    let w : WorldState = with_history c k.taken in
+    let before = opened w k.events what k.shows (refused_of c d k.taken what None is ok) in
+    let shows : Shows (with_history new k.taken) (what ∷ k.events) = goes k.taken k.events (subst (λ (x : CoreState). Shows (with_history x k.taken) k.events) is k.shows) in
+    let same = ap (λ (s : Setup). s.processes) setup in
+    let kept = ap (λ (x : CoreState). x.setup.processes) is in
+    let below : process_of what < new.setup.processes = let inside = before.inside in let many = before.many in omega (arith, inside, many, same, kept) in
+    (is-open (with_history new k.taken) (what ∷ k.events) (process_of what) shows below).inside
 
 -- and its seat is used, with each history with which the core shows something
 pub core_used : (c d : CoreState) (what : Event) (i : ℕ) (seat : Seat) (taken : List Taken) (events : List Event) → Shows (with_history c taken) events → c ≡ d → CoreRefuses d what None → i ≡ process_of what → seat ≡ slice_index_or c.seats i seat →

@@ -1,23 +1,26 @@
 -- A world is a core and a history: what it keeps after what its core does.
-use Rattle.std.proofs.Common.{◌≡◌, ℕ, zero, suc, ◌+◌, ◌<◌, ◌≤◌, Bool, List, [], ◌∷◌, Option, None, Some, length, sym, ap, subst, ◌∙◌, arith}
+use Rattle.std.proofs.Common.{◌≡◌, ℕ, zero, suc, ◌+◌, ◌<◌, ◌≤◌, Bool, true, false, List, [], ◌∷◌, Option, None, Some, length, refl, sym, ap, subst, ◌∙◌, arith}
 use Rattle.plain_store.specs.declared.Reply.{Reply}
 use Rattle.plain_store.specs.declared.Setup.{Setup}
 use Rattle.record.specs.declared.events.Event.{Event}
 use Rattle.record.specs.declared.events.Event.TheVariants.{Step}
 use Rattle.record.specs.declared.history.Taken.{Taken}
+use Rattle.record.specs.declared.refusals.Refusal.{Refusal}
 use Rattle.record.specs.Entries.{Entry, Past}
-use Rattle.record.specs.Records.{added, entry_of, refused}
+use Rattle.record.specs.Records.{added, entry_of, is_call, past_of, process_of, refused}
 use Rattle.record.specs.Histories.{reply_taken}
 use Rattle.process.specs.declared.told.Told.{Told}
-use Rattle.process.specs.Telling.{marks_told}
+use Rattle.process.specs.Telling.{act_of, marks_told}
 use Rattle.world.specs.Changes.{pending_in, with_taken}
-use Rattle.world.specs.Cores.{CoreGoesOn, CoreState, CoreSteps, CoreWalks, call_in, taking, with_history}
-use Rattle.world.specs.Events.{KeepsWorld}
+use Rattle.world.specs.Cores.{CoreGoesOn, CoreMakes, CoreRefuses, CoreState, CoreSteps, CoreWalks, KeepsCore, call_in, taking, with_history}
+use Rattle.world.specs.Events.{Adds, GoesOn, KeepsWorld, entry_with}
 use Rattle.world.specs.Flicks.{FlickState}
+use Rattle.world.specs.Seats.{Seat}
 use Rattle.world.specs.Shows.{Shows, WorldState}
 use Rattle.world.specs.Walks.{Walks}
-use Rattle.world.proofs.CoreKeeps.{taken_length}
+use Rattle.world.proofs.CoreKeeps.{core_there, taken_length}
 use Rattle.world.proofs.WorldNew.{new-pending}
+use Rattle.world.proofs.WorldPending.{pending-most}
 
 -- a new one
 pub new_keeps : (c : CoreState) (h : List Taken) (capacity : ℕ) → h ≡ [] → Shows (with_history c []) [] → KeepsWorld (with_history c h) capacity
@@ -30,38 +33,46 @@ new_keeps c h capacity empty shows = record {
       omega (arith, none, long);
 }
 
--- after an event that takes nothing
-pub event_keeps : (c new : CoreState) (h then : List Taken) (what : Event) (capacity more : ℕ) → KeepsWorld (with_history c h) capacity → CoreGoesOn c what new → then ≡ h → length h + pending_in new.seats ≤ more → KeepsWorld (with_history new then) more
-event_keeps c new h then what capacity more keeps goes same room = subst (λ h. KeepsWorld (with_history new h) more) (sym same) (record {
+-- after an event that may take a command: there is room for it, and then for each other
+pub made_keeps : (c new : CoreState) (h then : List Taken) (what : Event) (told : Told) (capacity more : ℕ) → KeepsWorld (with_history c h) capacity → CoreMakes c what told new → length h + (pending_in new.seats + taking told) ≤ more →
+    then ≡ with_taken h (process_of what) (call_in new.seats (process_of what)).0 (call_in new.seats (process_of what)).1 (reply_taken (marks_told told)) → KeepsWorld (with_history new then) more
+made_keeps c new h then what told capacity more keeps makes room is = subst (λ h. KeepsWorld (with_history new h) more) (sym is) (record {
   events = what ∷ keeps.events;
-  shows = goes h keeps.events keeps.shows;
-  room = room;
+  shows = makes.goes h keeps.events keeps.shows;
+  room =
+      let long = taken_length h (process_of what) (call_in new.seats (process_of what)).0 (call_in new.seats (process_of what)).1 (reply_taken (marks_told told)) in
+      omega (arith, room, long);
 })
 
-pub fewer_keeps : (c new : CoreState) (h : List Taken) (what : Event) (capacity : ℕ) → KeepsWorld (with_history c h) capacity → CoreGoesOn c what new → pending_in new.seats ≤ pending_in c.seats → KeepsWorld (with_history new h) capacity
-fewer_keeps c new h what capacity keeps goes fewer = record {
-  events = what ∷ keeps.events;
-  shows = goes h keeps.events keeps.shows;
-  room = let room = keeps.room in omega (arith, room, fewer);
-}
-
--- after a step: where it takes a command there was room for one
-pub step_fits : (c new : CoreState) (h : List Taken) (told : Told) (r : Reply) (capacity : ℕ) → KeepsWorld (with_history c h) capacity → pending_in new.seats + taking told ≤ pending_in c.seats → reply_taken (marks_told told) ≡ Some r → length h < capacity
-step_fits c new h told r capacity keeps fewer is =
+pub made_fits : (new : CoreState) (h : List Taken) (told : Told) (r : Reply) (more : ℕ) → length h + (pending_in new.seats + taking told) ≤ more → reply_taken (marks_told told) ≡ Some r → length h < more
+made_fits new h told r more room is =
     let one : taking told ≡ 1 = ap (λ o. elim o as (λ _. ℕ) [ None ↦ 0 | Some r ↦ 1 ]) is in
-    let room = keeps.room in
-    omega (arith, one, fewer, room)
+    omega (arith, one, room)
+
+-- the room, of a call and of each other event
+pub made_room : (c new : CoreState) (h : List Taken) (what : Event) (told : Told) (capacity more : ℕ) → KeepsWorld (with_history c h) capacity → capacity ≤ more → (is_call what ≡ true → length h + length c.seats ≤ more) →
+    pending_in new.seats + taking told ≤ length c.seats → (is_call what ≡ false → pending_in new.seats + taking told ≤ pending_in c.seats) → length h + (pending_in new.seats + taking told) ≤ more
+made_room c new h what told capacity more keeps grown room few fewer = by (is_call what) refl
+  where
+    by : (b : Bool) → is_call what ≡ b → length h + (pending_in new.seats + taking told) ≤ more
+    by true call = let all = room call in omega (arith, all, few)
+    by false other = let left = fewer other in let had = keeps.room in omega (arith, had, left, grown)
+
+-- with more room
+pub wider_keeps : (c : CoreState) (h then : List Taken) (capacity more : ℕ) → KeepsWorld (with_history c h) capacity → capacity ≤ more → then ≡ h → KeepsWorld (with_history c then) more
+wider_keeps c h then capacity more keeps grown same = subst (λ h. KeepsWorld (with_history c h) more) (sym same) (record {
+  events = keeps.events;
+  shows = keeps.shows;
+  room = let room = keeps.room in omega (arith, room, grown);
+})
+
+-- after a step
+pub step_fits : (c new : CoreState) (h : List Taken) (told : Told) (r : Reply) (capacity : ℕ) → KeepsWorld (with_history c h) capacity → pending_in new.seats + taking told ≤ pending_in c.seats → reply_taken (marks_told told) ≡ Some r → length h < capacity
+step_fits c new h told r capacity keeps fewer is = let room = keeps.room in made_fits new h told r capacity (omega (arith, room, fewer)) is
 
 pub step_keeps : (c new : CoreState) (h then : List Taken) (p : ℕ) (flick : Bool) (told : Told) (capacity more : ℕ) → KeepsWorld (with_history c h) capacity → CoreSteps c p flick told new → pending_in new.seats + taking told ≤ pending_in c.seats →
     then ≡ with_taken h p (call_in new.seats p).0 (call_in new.seats p).1 (reply_taken (marks_told told)) → capacity ≤ more → KeepsWorld (with_history new then) more
-step_keeps c new h then p flick told capacity more keeps steps fewer is grown = subst (λ h. KeepsWorld (with_history new h) more) (sym is) (record {
-  events = Step p flick ∷ keeps.events;
-  shows = steps.goes h keeps.events keeps.shows;
-  room =
-      let room = keeps.room in
-      let long = taken_length h p (call_in new.seats p).0 (call_in new.seats p).1 (reply_taken (marks_told told)) in
-      omega (arith, room, long, fewer, grown);
-})
+step_keeps c new h then p flick told capacity more keeps steps fewer is grown = let room = keeps.room in made_keeps c new h then (Step p flick) told capacity more keeps steps (omega (arith, room, fewer, grown)) is
 
 -- after a walk
 walks-shown : (n : ℕ) (old new : WorldState) (f g : FlickState) (p : ℕ) (events : List Event) → Walks old f p n new g → Shows old events → (later : List Event) × Shows new later
@@ -78,3 +89,22 @@ walk_keeps n c new h f g p capacity keeps walks =
 -- an event that is not refused adds its entry
 pub added_by : (s : Setup) (past : Past) (what : Event) (e : Entry) → refused s past what ≡ None → added s past what ≡ Some e → entry_of s past what ≡ Some e
 added_by s past what e ok is = (λ i. elim (ok i) as (λ _. Option Entry) [ Some r ↦ None | None ↦ added s past what ]) ∙ is
+
+-- an event without an access that a core makes
+pub core_allowed : (d : CoreState) (what is : Event) (r : Option Refusal) → CoreRefuses d what r → r ≡ None → what ≡ is → CoreRefuses d is None
+core_allowed d what is r h none same = subst (λ e. CoreRefuses d e None) same (subst (λ r. CoreRefuses d what r) none h)
+
+pub core_added : (d : CoreState) (what is : Event) (told : Told) → CoreRefuses d is None → ((s : Setup) (past : Past) (n : ℕ) → added s past is ≡ Some (entry_with (process_of is) (act_of n (record { access = None; told = told })))) → what ≡ is →
+    (taken : List Taken) → Adds (with_history d taken) what (process_of what) (act_of (length taken) (record { access = None; told = told }))
+core_added d what is told ok adds same taken = subst (λ e. Adds (with_history d taken) e (process_of e) (act_of (length taken) (record { access = None; told = told }))) (sym same)
+    (λ events shows. added_by d.setup (past_of d.setup events) is (entry_with (process_of is) (act_of (length taken) (record { access = None; told = told }))) (ok taken events shows) (adds d.setup (past_of d.setup events) (length taken)))
+
+pub core_made : (c d new : CoreState) (what is : Event) (told : Told) → KeepsCore c → c ≡ d → CoreRefuses d is None → CoreGoesOn d is new → new.setup ≡ d.setup → reply_taken (marks_told told) ≡ None → what ≡ is → CoreMakes d what told new
+core_made c d new what is told keeps view ok goes setup none same = subst (λ e. CoreMakes d e told new) (sym same) (record {
+  there = core_there c d new is keeps view ok goes setup;
+  goes = λ taken. subst (λ o. GoesOn (with_history d taken) is (with_history new (with_taken taken (process_of is) (call_in new.seats (process_of is)).0 (call_in new.seats (process_of is)).1 o))) (sym none) (goes taken);
+})
+
+-- no more calls are pending than there are processes
+pub few_pending : (old new : List Seat) (n : ℕ) → pending_in new + n ≤ pending_in old → pending_in new + n ≤ length old
+few_pending old new n fewer = let most = pending-most old in omega (arith, most, fewer)

@@ -8,6 +8,7 @@ use Rattle.record.specs.declared.events.Event.TheVariants.{Step}
 use Rattle.record.specs.declared.history.Taken.{Taken}
 use Rattle.record.specs.declared.refusals.Refusal.{Refusal}
 use Rattle.record.specs.Histories.{reply_taken}
+use Rattle.record.specs.Records.{process_of}
 use Rattle.process.specs.declared.told.Told.{Told}
 use Rattle.process.specs.Registers.{RegistersState}
 use Rattle.process.specs.Telling.{marks_told}
@@ -49,12 +50,16 @@ CoreGoesOn old event new = (taken : List Taken) → GoesOn (with_history old tak
 abbrev pub call_in : List Seat → ℕ → Command × ℕ
 call_in seats p = elim (slice_get seats p) as (λ _. Command × ℕ) [ None ↦ (Ask, 0) | Some seat ↦ (seat.process.command, seat.process.number) ]
 
--- a step of a process that there is: the world goes on, with the command in its history that the step takes
-pub record CoreSteps (old : CoreState) (p : ℕ) (flick : Bool) (told : Told) (new : CoreState) : Type 0 where
-  pub there : p < length new.seats
-  pub goes : (taken : List Taken) → GoesOn (with_history old taken) (Step p flick) (with_history new (with_taken taken p (call_in new.seats p).0 (call_in new.seats p).1 (reply_taken (marks_told told))))
+-- an event of a process that there is: the world goes on, with the command in its history that the event takes
+pub record CoreMakes (old : CoreState) (event : Event) (told : Told) (new : CoreState) : Type 0 where
+  pub there : process_of event < length new.seats
+  pub goes : (taken : List Taken) → GoesOn (with_history old taken) event (with_history new (with_taken taken (process_of event) (call_in new.seats (process_of event)).0 (call_in new.seats (process_of event)).1 (reply_taken (marks_told told))))
 
--- 1 if a step takes a command
+-- a step
+abbrev pub CoreSteps : CoreState → ℕ → Bool → Told → CoreState → Type 0
+CoreSteps old p flick told new = CoreMakes old (Step p flick) told new
+
+-- 1 if an event takes a command
 abbrev pub taking : Told → ℕ
 taking told = elim (reply_taken (marks_told told)) as (λ _. ℕ) [ None ↦ 0 | Some r ↦ 1 ]
 

@@ -1,5 +1,5 @@
 //! N processes over one set of registers, without a history.
-ghost use Rattle.std.specs.Prelude.{◌≡◌, ◌+◌, ◌<◌, ◌≤◌, Bool, true, List, length, None, Some, IfOk, IfErr, IsOk, OnErr, OnOk, Ok, [], option_map};
+ghost use Rattle.std.specs.Prelude.{◌≡◌, ◌+◌, ◌<◌, ◌≤◌, Bool, false, true, List, length, None, Some, IfOk, IfErr, IsOk, OnErr, OnOk, Ok, [], option_map};
 ghost use Rattle.plain_store.specs.Setups.{checked};
 ghost use Rattle.plain_store.specs.Commands.{is_command};
 ghost use Rattle.store_image.specs.Image.{image_of};
@@ -8,10 +8,10 @@ ghost use Rattle.record.specs.declared.Event.TheVariants.{Call, Step, Fail, With
 ghost use Rattle.record.specs.declared.history.Taken.{Taken as Seen};
 ghost use Rattle.record.specs.Doorways.{ahead};
 ghost use Rattle.record.specs.Newest.{newest};
-ghost use Rattle.record.specs.Records.{past_of, refused};
+ghost use Rattle.record.specs.Records.{is_call, past_of, process_of, refused};
 ghost use Rattle.process.specs.Telling.{act_of};
 ghost use Rattle.world.specs.Changes.{pending_in};
-ghost use Rattle.world.specs.Cores.{CoreGoesOn, CoreRefuses, CoreSteps, CoreWalks, call_in, taking, with_history};
+ghost use Rattle.world.specs.Cores.{CoreGoesOn, CoreMakes, CoreRefuses, CoreSteps, CoreWalks, call_in, taking, with_history};
 ghost use Rattle.world.specs.Events.{Adds, stage_in};
 ghost use Rattle.world.specs.Shows.{Shows};
 ghost use Rattle.world.specs.Walks.{bits_within_at};
@@ -148,11 +148,54 @@ impl Core {
         None
     }
 
+    /// One event, unless it is refused, and in `told` what it leads to; the access of a step. The command that it takes,
+    /// if it takes one, is that of the process's last call. An event that is refused leaves `told` as it is. None is
+    /// refused for want of memory: whoever keeps a history sees to its room before a call.
+    pub fn event(&mut self, event: &Event, told: &mut Told) -> Result<Option<Access>, Refusal>
+        ensures accepted { IfOk result (λ access. (taken : List Seen) → Adds (with_history self.old taken) event.now (process_of event.now) (act_of (length taken) (record { access = access; told = told.new }))) }
+        ensures shows { OnOk result (CoreMakes self.old event.now told.new self.new) }
+        ensures pending { OnOk result (is_call event.now ≡ false → pending_in self.new.seats + taking told.new ≤ pending_in self.old.seats) }
+        ensures few { OnOk result (pending_in self.new.seats + taking told.new ≤ length self.old.seats) }
+        ensures refused { IfErr result (λ refusal. CoreRefuses self.old event.now (Some refusal)) }
+        ensures unchanged { OnErr result (self.new ≡ self.old) }
+        ensures untold { OnErr result (told.new ≡ told.old) }
+        ensures setup { OnOk result (self.new.setup ≡ self.old.setup) }
+    {
+        let _kept = &self.seats;
+        if let Some(refusal) = self.refusal(event) {
+            return Err(refusal);
+        }
+        match event {
+            Event::Call(process, command) => {
+                command.operands_are_sound();
+                self.call(*process, command);
+                *told = Told::Calls(*command);
+                Ok(None)
+            }
+            Event::Step(process, flick) => Ok(Some(self.make_step(*process, *flick, told))),
+            Event::Fail(process) => {
+                self.fail(*process);
+                *told = Told::Fails;
+                Ok(None)
+            }
+            Event::Withdraw(process) => {
+                self.withdraw(*process);
+                *told = Told::Withdraws;
+                Ok(None)
+            }
+            Event::Restart(process) => {
+                self.restart(*process);
+                *told = Told::Restarts;
+                Ok(None)
+            }
+        }
+    }
+
     /// One step of a process, or of its memory unit: its access, and in `told` what it leads to. The command that it
     /// takes, if it takes one, is that of the process's last call. A step that is refused leaves `told` as it is.
     #[inline]
     pub fn step(&mut self, process: u8, flick: bool, told: &mut Told) -> Result<Access, Refusal>
-        ensures accepted { IfOk result (λ access. (taken : List Seen) → Adds (with_history self.old taken) (Step process flick) process (act_of (length taken) (record { access = access; told = told.new }))) }
+        ensures accepted { IfOk result (λ access. (taken : List Seen) → Adds (with_history self.old taken) (Step process flick) process (act_of (length taken) (record { access = Some access; told = told.new }))) }
         ensures shows { OnOk result (CoreSteps self.old process flick told.new self.new) }
         ensures pending { OnOk result (pending_in self.new.seats + taking told.new ≤ pending_in self.old.seats) }
         ensures refused { IfErr result (λ refusal. CoreRefuses self.old (Step process flick) (Some refusal)) }
@@ -187,7 +230,7 @@ impl Core {
     #[inline]
     fn make_step(&mut self, process: u8, flick: bool, told: &mut Told) -> Access
         requires { CoreRefuses self.old (Step process flick) None }
-        ensures accepted { (taken : List Seen) → Adds (with_history self.old taken) (Step process flick) process (act_of (length taken) (record { access = result; told = told.new })) }
+        ensures accepted { (taken : List Seen) → Adds (with_history self.old taken) (Step process flick) process (act_of (length taken) (record { access = Some result; told = told.new })) }
         ensures shows { CoreSteps self.old process flick told.new self.new }
         ensures pending { pending_in self.new.seats + taking told.new ≤ pending_in self.old.seats }
         ensures setup { self.new.setup ≡ self.old.setup }
@@ -252,7 +295,7 @@ impl Core {
     }
 
     /// A call begins.
-    pub fn call(&mut self, process: u8, command: &Command)
+    fn call(&mut self, process: u8, command: &Command)
         requires accepted { CoreRefuses self.old (Call process command.now) None }
         requires given { is_command command.now ≡ true }
         ensures shows { CoreGoesOn self.old (Call process command.now) self.new }
@@ -266,7 +309,7 @@ impl Core {
     }
 
     /// A process halts, and its memory unit takes over.
-    pub fn fail(&mut self, process: u8)
+    fn fail(&mut self, process: u8)
         requires { CoreRefuses self.old (Fail process) None }
         ensures shows { CoreGoesOn self.old (Fail process) self.new }
         ensures pending { pending_in self.new.seats ≤ pending_in self.old.seats }
@@ -279,7 +322,7 @@ impl Core {
     }
 
     /// A process gives up waiting.
-    pub fn withdraw(&mut self, process: u8)
+    fn withdraw(&mut self, process: u8)
         requires { CoreRefuses self.old (Withdraw process) None }
         ensures shows { CoreGoesOn self.old (Withdraw process) self.new }
         ensures pending { pending_in self.new.seats ≤ pending_in self.old.seats }
@@ -290,7 +333,7 @@ impl Core {
     }
 
     /// A process that was down may call again.
-    pub fn restart(&mut self, process: u8)
+    fn restart(&mut self, process: u8)
         requires { CoreRefuses self.old (Restart process) None }
         ensures shows { CoreGoesOn self.old (Restart process) self.new }
         ensures pending { pending_in self.new.seats ≤ pending_in self.old.seats }

@@ -1,4 +1,4 @@
-ghost use Rattle.std.specs.Prelude.{◌≡◌, Bool, ◌==◌, ◌&&◌, nat_le, ◌<◌, ◌≤◌, ◌∷◌, ◌++◌, [], true, false, map, option_map, None, Some, IfOk, IfErr, OnOk, OnErr, IsOk, Ok, length, List};
+ghost use Rattle.std.specs.Prelude.{◌≡◌, Bool, ◌==◌, ◌&&◌, nat_le, ◌<◌, ◌≤◌, ◌∷◌, ◌++◌, ◌+◌, [], true, false, map, option_map, None, Some, IfOk, IfErr, OnOk, OnErr, IsOk, Ok, length, List};
 ghost use Rattle.std.specs.Vec.{vec_capacity, vec_len};
 ghost use Rattle.plain_store.specs.Setups.{checked};
 ghost use Rattle.store_image.specs.Image.{image_of};
@@ -11,7 +11,8 @@ ghost use Rattle.plain_store.specs.Commands.{is_command};
 ghost use Rattle.record.specs.Headline.{Headline};
 ghost use Rattle.record.specs.Records.{is_call, past_of, process_of, refused, refused_at};
 ghost use Rattle.world.specs.Changes.{with_taken};
-ghost use Rattle.world.specs.Cores.{CoreRefuses, call_in, core_of};
+ghost use Rattle.record.specs.declared.history.Taken.{Taken as Seen};
+ghost use Rattle.world.specs.Cores.{call_in, with_history};
 ghost use Rattle.plain_store.specs.declared.Reply.{Reply as Answered};
 ghost use Rattle.world.specs.Events.{Adds, GoesOn, IsRefused, IsTurnedAway, stage_in};
 ghost use Rattle.process.specs.Processes.{inside_kept, stage_kept};
@@ -23,9 +24,9 @@ ghost use Rattle.world.specs.Walks.{Walks, bits_within_at};
 
 use crate::cores::Core;
 use crate::flicks::Flicks;
-use plain_store::{Command, Name, NestedTypes, Reply, Setup, Text, Value};
-use process::{Stepped, Told, one};
-use record::{Act, Event, Mark, Refusal, Stage, Taken};
+use plain_store::{NestedTypes, Reply, Setup};
+use process::{Made, Told};
+use record::{Act, Event, Refusal, Stage, Taken};
 use safe_number::Access;
 use smallvec::SmallVec;
 use std::alloc::{AllocError, Global};
@@ -84,25 +85,33 @@ impl World {
         ensures through { (events : List Happening) → Shows self.old events → refused self.old.setup (past_of self.old.setup events) event ≡ None → is_call event ≡ false → IsOk result }
         ensures headline { Headline }
     {
-        if let Some(refusal) = self.refusal(&event) {
+        let place = self.history.len() as u64;
+        let mut told = Told::Nothing;
+        match self.make(&event, &mut told) {
+            Ok(access) => Ok(Made { access, told }.act(self.alloc, place)),
+            Err(refusal) => Err(refusal),
+        }
+    }
+
+    /// One event, as `event` makes it, and in `told` what it leads to; the access of a step. The place of a command
+    /// that it takes is the length of the history before. An event that is refused leaves `told` as it is.
+    pub fn make(&mut self, event: &Event, told: &mut Told) -> Result<Option<Access>, Refusal>
+        ensures accepted { IfOk result (λ access. Adds self.old event.now (process_of event.now) (act_of (length self.old.history) (record { access = access; told = told.new }))) }
+        ensures shows { OnOk result (GoesOn self.old event.now self.new) }
+        ensures refused { IfErr result (λ refusal. IsTurnedAway self.old event.now refusal) }
+        ensures unchanged { OnErr result (self.new ≡ self.old) }
+        ensures untold { OnErr result (told.new ≡ told.old) }
+        ensures setup { OnOk result (self.new.setup ≡ self.old.setup) }
+    {
+        if let Err(refusal) = reserve(&mut self.history, &self.core, event) {
             return Err(refusal);
         }
-        match event {
-            Event::Call(process, command) => {
-                command.operands_are_sound();
-                self.call(process, command)
+        match self.core.event(event, told) {
+            Ok(access) => {
+                take(&mut self.history, &self.core, event.process(), told.reply());
+                Ok(access)
             }
-            Event::Step(process, flick) => {
-                let place = self.history.len() as u64;
-                let mut told = Told::Nothing;
-                match self.step(process, flick, &mut told) {
-                    Ok(access) => Ok(Stepped { access, told }.act(self.alloc, place)),
-                    Err(refusal) => Err(refusal),
-                }
-            }
-            Event::Fail(process) => Ok(self.fail(process)),
-            Event::Withdraw(process) => Ok(self.withdraw(process)),
-            Event::Restart(process) => Ok(self.restart(process)),
+            Err(refusal) => Err(refusal),
         }
     }
 
@@ -112,7 +121,7 @@ impl World {
     /// refused leaves `told` as it is.
     #[inline(never)]
     pub fn step(&mut self, process: u8, flick: bool, told: &mut Told) -> Result<Access, Refusal>
-        ensures accepted { IfOk result (λ access. Adds self.old (Step process flick) process (act_of (length self.old.history) (record { access = access; told = told.new }))) }
+        ensures accepted { IfOk result (λ access. Adds self.old (Step process flick) process (act_of (length self.old.history) (record { access = Some access; told = told.new }))) }
         ensures shows { OnOk result (GoesOn self.old (Step process flick) self.new) }
         ensures refused { IfErr result (λ refusal. IsRefused self.old (Step process flick) (Some refusal)) }
         ensures unchanged { OnErr result (self.new ≡ self.old) }
@@ -169,75 +178,24 @@ impl World {
     {
         self.core.newest()
     }
+}
 
-    /// Why an event is refused, if it is: with this history, and with each other.
-    fn refusal(&self, event: &Event) -> Option<Refusal>
-        ensures here { IsRefused self.now event.now result }
-        ensures always { CoreRefuses (core_of self.now) event.now result }
-    {
-        self.core.refusal(event)
+/// Before a call that is not refused: the history gets room for each call that may be taken.
+fn reserve(history: &mut Vec<Taken>, core: &Core, event: &Event) -> Result<(), Refusal>
+    ensures room { OnOk result (is_call event.now ≡ true → length history.old.items + length core.now.seats ≤ vec_capacity history.new) }
+    ensures refused { IfErr result (λ refusal. (taken : List Seen) → IsTurnedAway (with_history core.now taken) event.now refusal) }
+    ensures items { history.new.items ≡ history.old.items }
+    ensures capacity { vec_capacity history.old ≤ vec_capacity history.new }
+{
+    if !matches!(event, Event::Call(..)) {
+        return Ok(());
     }
-
-    /// A call begins, once the history has room for each call that may be taken.
-    fn call(&mut self, process: u8, command: Command) -> Result<Act, Refusal>
-        requires accepted { CoreRefuses (core_of self.old) (Call process command) None }
-        requires given { is_command command ≡ true }
-        ensures accepted { IfOk result (λ act. Adds self.old (Call process command) process act) }
-        ensures shows { OnOk result (GoesOn self.old (Call process command) self.new) }
-        ensures memory { IfErr result (λ refusal. refusal ≡ Memory) }
-        ensures unchanged { OnErr result (self.new ≡ self.old) }
-        ensures setup { OnOk result (self.new.setup ≡ self.old.setup) }
-    {
-        let Ok(()) = self.history.reserve(self.core.processes()) else {
-            return Err(Refusal::Memory);
-        };
-        self.core.call(process, &command);
-        Ok(Act {
-            access: None,
-            marks: one(self.alloc, Mark::Called(command)),
-        })
+    if let Some(refusal) = core.refusal(event) {
+        return Err(refusal);
     }
-
-    /// A process halts, and its memory unit takes over.
-    fn fail(&mut self, process: u8) -> Act
-        requires { CoreRefuses (core_of self.old) (Fail process) None }
-        ensures accepted { Adds self.old (Fail process) process result }
-        ensures shows { GoesOn self.old (Fail process) self.new }
-        ensures setup { self.new.setup ≡ self.old.setup }
-    {
-        self.core.fail(process);
-        Act {
-            access: None,
-            marks: one(self.alloc, Mark::Failed),
-        }
-    }
-
-    /// A process gives up waiting.
-    fn withdraw(&mut self, process: u8) -> Act
-        requires { CoreRefuses (core_of self.old) (Withdraw process) None }
-        ensures accepted { Adds self.old (Withdraw process) process result }
-        ensures shows { GoesOn self.old (Withdraw process) self.new }
-        ensures setup { self.new.setup ≡ self.old.setup }
-    {
-        self.core.withdraw(process);
-        Act {
-            access: None,
-            marks: one(self.alloc, Mark::Withdrew),
-        }
-    }
-
-    /// A process that was down may call again.
-    fn restart(&mut self, process: u8) -> Act
-        requires { CoreRefuses (core_of self.old) (Restart process) None }
-        ensures accepted { Adds self.old (Restart process) process result }
-        ensures shows { GoesOn self.old (Restart process) self.new }
-        ensures setup { self.new.setup ≡ self.old.setup }
-    {
-        self.core.restart(process);
-        Act {
-            access: None,
-            marks: one(self.alloc, Mark::Restarted),
-        }
+    match history.reserve(core.processes()) {
+        Ok(()) => Ok(()),
+        Err(_) => Err(Refusal::Memory),
     }
 }
 

@@ -8,7 +8,7 @@ use Rattle.world.specs.Shows.{Shows, WorldState}
 use Rattle.world.proofs.world.World.step.Goals as goal
 
 pub returns-in-Ok-clause-accepted : goal.returns-in-Ok-clause-accepted
-returns-in-Ok-clause-accepted c = subst (λ (w : WorldState). Adds w (Step c.args.process c.args.flick) c.args.process (act_of (length w.history) (record { access = c.in-Ok.access; told = c.step.new.told }))) c.self.view_is (c.in-Ok.ensures.accepted c.self.inside.history.items)
+returns-in-Ok-clause-accepted c = subst (λ (w : WorldState). Adds w (Step c.args.process c.args.flick) c.args.process (act_of (length w.history) (record { access = Some c.in-Ok.access; told = c.step.new.told }))) c.self.view_is (c.in-Ok.ensures.accepted c.self.inside.history.items)
 
 pub returns-in-Ok-clause-shows : goal.returns-in-Ok-clause-shows
 returns-in-Ok-clause-shows c =
