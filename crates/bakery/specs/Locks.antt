@@ -1,8 +1,8 @@
 -- The locks of all processes: their registers, and what one access makes of them.
-use Rattle.std.specs.Prelude.{ℕ, Bool, List, [], replicate, slice_index_or, slice_set}
+use Rattle.std.specs.Prelude.{◌≡◌, ℕ, ◌<◌, Bool, List, [], length, replicate, slice_index_or, slice_set}
 use Rattle.safe_bit.specs.Cell.{Cell, read_answer}
 use Rattle.reader_copies.specs.declared.Made.{Made}
-use Rattle.reader_copies.specs.Row.{cell_at, row_after, without_reads, new_row, CanMake}
+use Rattle.reader_copies.specs.Row.{cell_at, row_after, without_reads, new_row, CanMake, HaveOneShape}
 use Rattle.safe_number.specs.declared.Access.{Access}
 use Rattle.safe_number.specs.declared.Field.{Field}
 use Rattle.safe_number.specs.declared.Field.TheVariants.{Choosing, Ticket}
@@ -72,3 +72,13 @@ abbrev pub locks_without_reads : List LockRows → ℕ → Field → ℕ → Lis
 locks_without_reads locks p field reader =
     let lock = lock_of locks p in
     slice_set locks p (with_row lock field (without_reads (row_in lock field) reader))
+
+-- two locks of one shape: their registers have as many readers and bits
+pub record AreAlike (lock other : LockRows) : Type 0 where
+  pub choosing : HaveOneShape lock.choosing other.choosing
+  pub ticket : HaveOneShape lock.ticket other.ticket
+
+-- so have the locks of as many processes
+pub record AreAllAlike (locks other : List LockRows) : Type 0 where
+  pub processes : length locks ≡ length other
+  pub each : (p : ℕ) → p < length locks → AreAlike (lock_of locks p) (lock_of other p)

@@ -130,6 +130,16 @@ impl Door {
         (access, self.advance(value))
     }
 
+    /// Becomes as the other, of the same setup: of its process, and come as far. It takes no memory.
+    pub fn copy_from(&mut self, other: &Door)
+        requires { self.old.setup ≡ other.now.setup }
+        ensures { self.new ≡ other.now }
+    {
+        self.process = other.process;
+        self.standing = other.standing;
+        self.runs.copy_from(&other.runs);
+    }
+
     /// The register that its next access reads, and whose it is; none, if that access is of a write.
     #[inline]
     pub fn reads(&self) -> Option<(u8, Field)>

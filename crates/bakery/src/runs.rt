@@ -48,6 +48,15 @@ impl Runs {
         self.read.reset(width);
     }
 
+    /// Becomes as the other, of the same room. It takes no memory.
+    pub fn copy_from(&mut self, other: &Runs)
+        requires { self.old.read.room ≡ other.now.read.room }
+        ensures { self.new ≡ other.now }
+    {
+        self.write = other.write;
+        self.read.copy_from(&other.read);
+    }
+
     /// Goes on by the next access that a process makes at this standing; the end of a read gives `value`.
     /// Once the number access is done it tells the number that was read, 0 if it was a write.
     #[inline]

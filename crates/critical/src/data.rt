@@ -8,7 +8,7 @@ ghost use Rattle.plain_store.specs.Setups.{checked, opening_store};
 ghost use Rattle.record.specs.Program.{image_field};
 ghost use Rattle.record.specs.Registers.{bytes_of_bits};
 ghost use Rattle.critical.specs.Newest.{version_held, values_of, IsReadable};
-ghost use Rattle.critical.specs.Registers.{register_of, with_register, data_from, register_from, opening_cell, zero_cell};
+ghost use Rattle.critical.specs.Registers.{register_of, with_register, data_from, register_from, opening_cell, zero_cell, AreAlike};
 
 use crate::held;
 use crate::image::{self, MOST_IMAGE_BYTES};
@@ -172,6 +172,18 @@ impl Data {
             Field::Image0 => self.image0.drop_read(reader),
             Field::Image1 => self.image1.drop_read(reader),
         }
+    }
+
+    /// Becomes as the other, of the same setup. It takes no memory.
+    pub fn copy_from(&mut self, other: &Data)
+        requires { AreAlike self.old other.now }
+        ensures { self.new ≡ other.now }
+    {
+        self.commit.copy_from(&other.commit);
+        self.stamp0.copy_from(&other.stamp0);
+        self.stamp1.copy_from(&other.stamp1);
+        self.image0.copy_from(&other.image0);
+        self.image1.copy_from(&other.image1);
     }
 
     /// The commit bit, and the stamp of the version that it chooses.

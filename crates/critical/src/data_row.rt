@@ -5,7 +5,7 @@ ghost use Rattle.safe_number.specs.Runs.{bit_read, bit_write, number_read_after,
 ghost use Rattle.safe_number.specs.Written.{loaded};
 ghost use Rattle.plain_store.specs.Setups.{checked};
 ghost use Rattle.critical.specs.Newest.{newest_store, IsQuiet};
-ghost use Rattle.critical.specs.Registers.{data_of, register_at, with_register_at, row_from, opening_cell, after_access, answered, without_reads_at, HasCopy, MayMake, FitsSetup};
+ghost use Rattle.critical.specs.Registers.{data_of, register_at, with_register_at, row_from, opening_cell, after_access, answered, without_reads_at, HasCopy, MayMake, FitsSetup, AreAllAlike};
 
 use crate::data::Data;
 use crate::newest::Newest;
@@ -165,5 +165,16 @@ impl DataRow {
         ensures { self.new ≡ without_reads_at self.old owner field reader }
     {
         self.parts[usize::from(owner)].drop_read(field, reader);
+    }
+
+    /// Becomes as the other, of the same setup: the same copies, and the same accesses open on them. It takes no
+    /// memory.
+    pub fn copy_from(&mut self, other: &DataRow)
+        requires { AreAllAlike self.old other.now }
+        ensures { self.new ≡ other.now }
+    {
+        for (process, part) in other.parts.iter().enumerate() {
+            self.parts[process].copy_from(part);
+        }
     }
 }

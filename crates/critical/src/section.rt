@@ -245,6 +245,19 @@ impl Section {
         }
     }
 
+    /// Becomes as the other, of the same setup: of its process, and come as far. It takes no memory.
+    pub fn copy_from(&mut self, other: &Section)
+        requires { self.old.call.setup ≡ other.now.call.setup }
+        ensures { self.new ≡ other.now }
+    {
+        self.call.process = other.call.process;
+        self.call.command = other.call.command;
+        self.call.number = other.call.number;
+        self.standing = other.standing;
+        self.reading.copy_from(&other.reading);
+        self.writing = other.writing;
+    }
+
     /// Halts at the next access, whatever memory serves the section: the bit whose write was cut is told, if there
     /// is one. The section does nothing until it starts anew. An open read is left to that memory.
     pub fn halt(&mut self) -> Option<TornBit>

@@ -23,7 +23,7 @@ use std::marker::Model;
 /// Then it writes 0 to the ticket, and at last 0 to the choosing bit; with that the process is down.
 ///
 /// Contracts see what it keeps of each closing of the failure rule that it may be at.
-#[derive(Drop)]
+#[derive(Clone, Copy, Debug)]
 pub struct Unit {
     setup: Setup,
     process: u8,
@@ -38,6 +38,8 @@ impl Model for Unit {
     ghost view = { λ u. record { setup = u.setup; process = u.process; work = u.work } };
 
     ghost invariant = { λ u. KeepsUnit u.setup u.process u.work };
+
+    ghost inverse = { λ u. record { setup = u.setup; process = u.process; work = u.work } };
 }
 
 impl Unit {

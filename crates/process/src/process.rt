@@ -24,7 +24,7 @@ use std::alloc::{AllocError, Global};
 use std::marker::Model;
 
 /// Which cursor of a process goes on, with what its next accesses may mark.
-#[derive(Drop)]
+#[derive(Clone, Copy, Debug)]
 pub(crate) enum Work {
     Rests,
     Lies,
@@ -219,5 +219,19 @@ impl Process {
         ensures { result ≡ self.now.number }
     {
         self.number
+    }
+
+    /// Becomes as the other, of the same setup: it has the same number, and its calls have come as far. It takes no
+    /// memory.
+    pub fn copy_from(&mut self, other: &Process)
+        requires setup { self.old.setup ≡ other.now.setup }
+        ensures { self.new ≡ other.now }
+    {
+        self.process = other.process;
+        self.door.copy_from(&other.door);
+        self.section.copy_from(&other.section);
+        self.work = other.work;
+        self.command = other.command;
+        self.number = other.number;
     }
 }

@@ -114,4 +114,15 @@ impl Copies {
     {
         self.value.get(k)
     }
+
+    /// Becomes as the other, of as many bits. It takes no memory.
+    pub fn copy_from(&mut self, other: &Copies)
+        requires { length self.old ≡ length other.now }
+        ensures { self.new ≡ other.now }
+    {
+        self.value.copy_from(&other.value);
+        self.writing.copy_from(&other.writing);
+        self.reading.copy_from(&other.reading);
+        self.touched.copy_from(&other.touched);
+    }
 }

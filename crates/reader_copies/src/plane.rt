@@ -12,14 +12,14 @@ pub struct Plane {
 }
 
 impl Model for Plane {
-    ghost use Rattle.std.specs.Prelude.{List, Bool, ◌≤◌, ◌*◌, length};
+    ghost use Rattle.std.specs.Prelude.{◌≡◌, List, Bool, ◌+◌, ◌/◌, length};
     ghost use Rattle.reader_copies.specs.Plane.{flags_of};
 
     ghost Value = { List Bool };
 
     ghost view = { λ p. flags_of p.words.items p.len };
 
-    ghost invariant = { λ p. p.len ≤ 64 * length p.words.items };
+    ghost invariant = { λ p. length p.words.items ≡ (p.len + 63) / 64 };
 }
 
 impl Plane {
@@ -56,6 +56,14 @@ impl Plane {
         for word in self.words.iter_mut() {
             *word = 0;
         }
+    }
+
+    /// Becomes as the other, of as many flags. It takes no memory.
+    pub fn copy_from(&mut self, other: &Plane)
+        requires { length self.old ≡ length other.now }
+        ensures { self.new ≡ other.now }
+    {
+        self.words.copy_from_slice(&other.words);
     }
 }
 

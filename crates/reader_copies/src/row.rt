@@ -1,6 +1,6 @@
 ghost use Rattle.std.specs.Prelude.{◌≡◌, ℕ, ◌<◌, ◌≤◌, ◌*◌, ◌==◌, true, false, length, None, IfOk};
 ghost use Rattle.safe_bit.specs.Cell.{without_read, read_answer};
-ghost use Rattle.reader_copies.specs.Row.{cell_at, with_cell, row_after, new_row, preset_row, without_reads, HasCell, CanMake, IsClosed};
+ghost use Rattle.reader_copies.specs.Row.{cell_at, with_cell, row_after, new_row, preset_row, without_reads, HasCell, CanMake, HaveOneShape, IsClosed};
 ghost use Rattle.reader_copies.specs.Runs.{next_write, write_after, next_read, read_after, next_settle, settle_after, settled_at, progress_of};
 
 use crate::copies::Copies;
@@ -167,6 +167,17 @@ impl CopiedRow {
     {
         for reader in 0..self.copies.len() {
             self.copies[reader].preset(bit as usize, value);
+        }
+    }
+
+    /// Becomes as the other, which has as many readers and bits: the same copies, and the same accesses open on
+    /// them. It takes no memory.
+    pub fn copy_from(&mut self, other: &CopiedRow)
+        requires { HaveOneShape self.old other.now }
+        ensures { self.new ≡ other.now }
+    {
+        for (reader, copies) in other.copies.iter().enumerate() {
+            self.copies[reader].copy_from(copies);
         }
     }
 }

@@ -69,6 +69,17 @@ impl ReadRun {
         self.run = CopyRead::new();
     }
 
+    /// Becomes as the other, of the same room: it has come as far, and has read the same. It takes no memory.
+    pub fn copy_from(&mut self, other: &ReadRun)
+        requires { self.old.room ≡ other.now.room }
+        ensures { self.new ≡ other.now }
+    {
+        self.width = other.width;
+        self.bit = other.bit;
+        self.run = other.run;
+        self.bytes.copy_from_slice(&other.bytes);
+    }
+
     /// The bits read so far as bytes: bit `k` is bit `k % 8` of byte `k / 8`, the least significant first.
     /// So a number stands little-endian. Past the last bit read the last byte has 0.
     pub fn bytes(&self) -> &[u8]

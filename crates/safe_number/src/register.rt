@@ -1,6 +1,6 @@
 ghost use Rattle.std.specs.Prelude.{◌≡◌, ℕ, ◌<◌, ◌≤◌, ◌*◌, ◌==◌, ◌↔◌, false, length, IfOk, IsErrOf, slice_index_or, []};
 ghost use Rattle.safe_bit.specs.Cell.{read_answer};
-ghost use Rattle.reader_copies.specs.Row.{cell_at, row_after, new_row, without_reads, HasCell, CanMake, IsClosed};
+ghost use Rattle.reader_copies.specs.Row.{cell_at, row_after, new_row, without_reads, HasCell, CanMake, HaveOneShape, IsClosed};
 ghost use Rattle.reader_copies.specs.Runs.{next_write, next_read, next_settle, settle_after, settled_at, progress_of};
 ghost use Rattle.safe_number.specs.Bytes.{IsBadWidth};
 ghost use Rattle.safe_number.specs.Runs.{bit_write, number_write_after, bit_read, number_read_after, preset_number};
@@ -193,5 +193,15 @@ impl Register {
         for k in 0..self.width {
             self.row.preset(k, bytes::bit(value, k as usize));
         }
+    }
+
+    /// Becomes as the other, which has as many bits and readers: the same copies, and the same accesses open on
+    /// them. It takes no memory.
+    pub fn copy_from(&mut self, other: &Register)
+        requires { HaveOneShape self.old other.now }
+        ensures { self.new ≡ other.now }
+    {
+        self.row.copy_from(&other.row);
+        self.width = other.width;
     }
 }

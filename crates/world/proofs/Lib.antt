@@ -26,6 +26,7 @@ pub mod WorldGoesMarked
 pub mod WorldEnds
 -- A world without its history
 pub mod CoreKeeps
+pub mod CoreCopies
 pub mod WorldKeeps
 -- What a world is asked
 pub mod WorldAsks

@@ -23,3 +23,7 @@ waiting_before past p = map (λ j. is_ahead past j p) (range_with_len 0 16)
 -- of a process after a past
 abbrev pub seat_of : Setup → Past → ℕ → Seat
 seat_of s past p = record { process = process_after s past p; begun = is_some (doorway_begin p past); before = waiting_before past p }
+
+-- the setups of processes, by their seats
+abbrev pub setups_in : List Seat → List Setup
+setups_in seats = map (λ seat. seat.process.setup) seats

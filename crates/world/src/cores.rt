@@ -16,6 +16,8 @@ ghost use Rattle.world.specs.Events.{Adds, stage_in};
 ghost use Rattle.world.specs.Shows.{Shows};
 ghost use Rattle.world.specs.Walks.{bits_within_at};
 
+mod copies;
+
 use crate::flicks::Flicks;
 use crate::queue::listed;
 use crate::refusals::{is_full, number_after, refusal_at};

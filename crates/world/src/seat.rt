@@ -139,4 +139,14 @@ impl Seat {
     {
         self.process.step_within(registers, flick);
     }
+
+    /// Becomes as the other, of the same setup. It takes no memory.
+    pub fn copy_from(&mut self, other: &Seat)
+        requires setup { self.old.process.setup ≡ other.now.process.setup }
+        ensures { self.new ≡ other.now }
+    {
+        self.process.copy_from(&other.process);
+        self.begun = other.begun;
+        self.before = other.before;
+    }
 }

@@ -14,7 +14,7 @@ use super::{Process, Work};
 use crate::told::{Told, answer_told, settled, told_at_data, told_at_door, told_left};
 use bakery::{DoorProgress, Leaving};
 use failure::UnitProgress;
-use plain_store::Answer;
+use plain_store::{Answer, NestedTypes};
 use reader_copies::Progress;
 use safe_number::Access;
 use std::mem;
@@ -198,6 +198,7 @@ impl Process {
         ensures process { (value : Bool) (d : Doing) → IsAt self.old d → self.new ≡ record self.old { kept = kept_at self.old.setup self.old.process (does_then self.old.setup self.old.process d flick value) } }
         ensures marks { (value : Bool) (d : Doing) → IsAt self.old d → marks_told result ≡ marks_with self.old.setup self.old.process d flick value }
     {
+        let _nested: NestedTypes = None;
         match mem::replace(&mut self.work, Work::Lies) {
             Work::Settles {
                 inside,

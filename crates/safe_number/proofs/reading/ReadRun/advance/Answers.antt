@@ -18,9 +18,9 @@ invariant_of-self-in-Done c =
     record {
       bit_in_width = omega arith;
       width_in_room = c.self.invariant.width_in_room;
-      room_in_bytes = omega (arith, length-set {A = ℕ}, c.self.invariant.room_in_bytes);
+      bytes_in_room = omega (arith, length-set {A = ℕ}, c.self.invariant.bytes_in_room);
       going = ap (λ (r : Reading). r.value) c.new-self-inside.ensures;
-      rest = λ k above near. bit_in-set_above c.self.inside.bytes.items c.self.inside.bit k c.with_next_bit.result (omega (arith, c.self.invariant.room_in_bytes, c.self.invariant.width_in_room)) c.with_next_bit.ensures.above (omega arith) near;
+      rest = λ k above near. bit_in-set_above c.self.inside.bytes.items c.self.inside.bit k c.with_next_bit.result (omega (arith, c.self.invariant.bytes_in_room, c.self.invariant.width_in_room)) c.with_next_bit.ensures.above (omega arith) near;
     }
 
 pub returns-after-self-clause-run : goal.returns-after-self-clause-run
@@ -30,7 +30,7 @@ returns-after-self-clause-run c =
     let now : List Bool → Bool → NumberRead = λ bits begun. record { width = c.self.inside.width; bits = bits; begun = begun; room = c.self.inside.room } in
     let begun : c.self.inside.run.begun ≡ true = done_at c.self.inside.run.begun (sym c.advance.ensures.progress ∙ c.in-Done.is) in
     ap (λ bits. now bits c.new-self-inside.result.begun)
-    (bits_in-more c.self.inside.bytes.items c.self.inside.bit c.index.result.now c.with_next_bit.result c.args.value (omega (arith, c.self.invariant.room_in_bytes, c.self.invariant.width_in_room)) c.index.ensures c.with_next_bit.ensures.below c.with_next_bit.ensures.same)
+    (bits_in-more c.self.inside.bytes.items c.self.inside.bit c.index.result.now c.with_next_bit.result c.args.value (omega (arith, c.self.invariant.bytes_in_room, c.self.invariant.width_in_room)) c.index.ensures c.with_next_bit.ensures.below c.with_next_bit.ensures.same)
     ∙ ap (λ (r : Reading). now (before ++ c.args.value ∷ []) r.begun) c.new-self-inside.ensures
     ∙ ap (λ b. now (cond b (before ++ c.args.value ∷ []) before) (not b)) (sym begun)
     ∙ ap (λ r. number_read_after r c.args.value) c.self.view_is
