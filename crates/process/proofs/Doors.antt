@@ -61,28 +61,29 @@ at-door s p command number door (doing.Closes x n (closing.Lowers w)) k its reac
 at-door s p command number door (doing.Closes x n closing.Quit) k its reached = cc
 at-door s p command number door (doing.Closes x n closing.Ended) k its reached = cc
 
+-- what holds of each part at the door holds of the part of a door that goes
+at-going : (c : Call) (Q : Part → Type 0) → Q Raises → ((j : ℕ) (js ts : List ℕ) → Q (Asks j js ts)) → ((t : ℕ) → Q (TakesTicket t)) → ((t : ℕ) → Q (Lowers t)) → ((f : ℕ) → Q (Refuses f)) → ((t : ℕ) (w : Wait) (ws : List Wait) → Q (Waits t w ws)) →
+    (x : Part) → not (is_over (part_of (standing_at c x))) ≡ true → Q x
+at-going c Q raises asks takes lowers refuses waits Raises h = raises
+at-going c Q raises asks takes lowers refuses waits (Asks j js ts) h = asks j js ts
+at-going c Q raises asks takes lowers refuses waits (TakesTicket t) h = takes t
+at-going c Q raises asks takes lowers refuses waits (Lowers t) h = lowers t
+at-going c Q raises asks takes lowers refuses waits (Refuses f) h = refuses f
+at-going c Q raises asks takes lowers refuses waits (Waits t w ws) h = waits t w ws
+at-going c Q raises asks takes lowers refuses waits (AsksCommit k ks vs) h = absurd (cc)
+at-going c Q raises asks takes lowers refuses waits (AsksStamp k ks vs b) h = absurd (cc)
+at-going c Q raises asks takes lowers refuses waits (AsksImage vs) h = absurd (cc)
+at-going c Q raises asks takes lowers refuses waits (WritesImage vs st) h = absurd (cc)
+at-going c Q raises asks takes lowers refuses waits (WritesStamp vs st) h = absurd (cc)
+at-going c Q raises asks takes lowers refuses waits (WritesCommit vs st) h = absurd (cc)
+at-going c Q raises asks takes lowers refuses waits (Clears a) h = absurd (cc)
+at-going c Q raises asks takes lowers refuses waits Over h = absurd (cc)
+
 -- a door that goes is kept
 pub kept-door : (s : Setup) (p : ℕ) (command : Command) (number : ℕ) (at : Place) → is_going (door_at (call s p command number) at) ≡ true → kept_at s p (runs command number at) ≡ AtDoor (door_at (call s p command number) at)
-kept-door s p command number at going = by at.part at.run going
-  where
-    c : Call
-    c = call s p command number
-
-    by : (x : Part) (run : Run) → not (is_over (part_of (standing_at c x))) ≡ true → kept_at s p (runs command number (record { part = x; run = run })) ≡ AtDoor (door_at c (record { part = x; run = run }))
-    by Raises run h = refl
-    by (Asks j js ts) run h = refl
-    by (TakesTicket t) run h = refl
-    by (Lowers t) run h = refl
-    by (Refuses f) run h = refl
-    by (Waits t w ws) run h = refl
-    by (AsksCommit k ks vs) run h = absurd (cc)
-    by (AsksStamp k ks vs b) run h = absurd (cc)
-    by (AsksImage vs) run h = absurd (cc)
-    by (WritesImage vs st) run h = absurd (cc)
-    by (WritesStamp vs st) run h = absurd (cc)
-    by (WritesCommit vs st) run h = absurd (cc)
-    by (Clears a) run h = absurd (cc)
-    by Over run h = absurd (cc)
+kept-door s p command number at going =
+    let Q : Part → Type 0 = λ x. kept_at s p (runs command number (record { part = x; run = at.run })) ≡ AtDoor (door_at (call s p command number) (record { part = x; run = at.run })) in
+    at-going (call s p command number) Q refl (λ j js ts. refl) (λ t. refl) (λ t. refl) (λ f. refl) (λ t w ws. refl) at.part going
 
 -- a call that comes inside is at its data
 pub kept-inside : (s : Setup) (p : ℕ) (command : Command) (number : ℕ) → let c : Call = call s p command number in kept_at s p (runs command number (inside_place c)) ≡ AtData (section_at c (inside_place c))
@@ -208,7 +209,7 @@ comes-over c at v f h = by at.part at.run h
 
 -- the stage at the door
 pub stage-door : (c : Call) (at : Place) → is_going (door_at c at) ≡ true → stage_at at ≡ (elim (is_waiting (door_at c at)) [ true ↦ stage.Waiting | false ↦ stage.Doorway ])
-stage-door c at going = by at.part (is_fresh at.run) going
+stage-door c at going = at-going c (λ x. stage_of x (is_fresh at.run) ≡ of (is_waiting (door_at c (record { part = x; run = at.run })))) refl (λ j js ts. refl) (λ t. refl) (λ t. refl) (λ f. refl) (λ t (j, f) ws. sym (ap of (wait t j f ws))) at.part going
   where
     wait : (t j : ℕ) (f : Field) (ws : List Wait) → is_waiting (door_at c (record { part = Waits t (j, f) ws; run = at.run })) ≡ true
     wait t j Choosing ws = refl
@@ -221,19 +222,3 @@ stage-door c at going = by at.part (is_fresh at.run) going
 
     of : Bool → Stage
     of b = elim b as (λ _. Stage) [ true ↦ stage.Waiting | false ↦ stage.Doorway ]
-
-    by : (x : Part) (fresh : Bool) → not (is_over (part_of (standing_at c x))) ≡ true → stage_of x fresh ≡ of (is_waiting (door_at c (record { part = x; run = at.run })))
-    by Raises fresh h = refl
-    by (Asks j js ts) fresh h = refl
-    by (TakesTicket t) fresh h = refl
-    by (Lowers t) fresh h = refl
-    by (Refuses f) fresh h = refl
-    by (Waits t (j, f) ws) fresh h = sym (ap of (wait t j f ws))
-    by (AsksCommit k ks vs) fresh h = absurd (cc)
-    by (AsksStamp k ks vs b) fresh h = absurd (cc)
-    by (AsksImage vs) fresh h = absurd (cc)
-    by (WritesImage vs st) fresh h = absurd (cc)
-    by (WritesStamp vs st) fresh h = absurd (cc)
-    by (WritesCommit vs st) fresh h = absurd (cc)
-    by (Clears a) fresh h = absurd (cc)
-    by Over fresh h = absurd (cc)

@@ -1,14 +1,16 @@
--- What an event tells, and its marks.
+-- What an event leads to, and its marks.
 use Rattle.std.specs.Prelude.{ℕ, List, [], ◌∷◌, map}
 use Rattle.record.specs.declared.Mark.{Mark}
 use Rattle.record.specs.declared.Mark.TheVariants as mark
 use Rattle.record.specs.Acts.{Act}
 use Rattle.record.specs.Records.{placed}
+use Rattle.process.specs.declared.told.Effect.{Effect}
+use Rattle.process.specs.declared.told.Effect.TheVariants.{Steps, Calls, Fails, Withdraws, Restarts}
 use Rattle.process.specs.declared.told.Made.{Made}
 use Rattle.process.specs.declared.told.Told.{Told}
-use Rattle.process.specs.declared.told.Told.TheVariants.{Nothing, Waits, WaitsAndEnters, Enters, Took, Leaves, Answers, Settles, SettlesAndTakes, Lies, Calls, Fails, Withdraws, Restarts}
+use Rattle.process.specs.declared.told.Told.TheVariants.{Nothing, Waits, WaitsAndEnters, Enters, Took, Leaves, Answers, Settles, SettlesAndTakes, Lies}
 
--- its marks; the place of a command that is taken is left open here, as 0
+-- the marks of a step; the place of a command that is taken is left open here, as 0
 abbrev pub marks_told : Told → List Mark
 marks_told Nothing = []
 marks_told (Waits ticket) = mark.Waiting ticket ∷ []
@@ -20,11 +22,15 @@ marks_told (Answers answer) = mark.Answered answer ∷ []
 marks_told (Settles value) = mark.Settled value ∷ []
 marks_told (SettlesAndTakes value reply) = mark.Settled value ∷ mark.Taken 0 reply ∷ []
 marks_told Lies = mark.Down ∷ []
-marks_told (Calls command) = mark.Called command ∷ []
-marks_told Fails = mark.Failed ∷ []
-marks_told Withdraws = mark.Withdrew ∷ []
-marks_told Restarts = mark.Restarted ∷ []
+
+-- the marks of an event
+abbrev pub marks_of : Effect → List Mark
+marks_of (Steps told) = marks_told told
+marks_of (Calls command) = mark.Called command ∷ []
+marks_of Fails = mark.Failed ∷ []
+marks_of Withdraws = mark.Withdrew ∷ []
+marks_of Restarts = mark.Restarted ∷ []
 
 -- what an event has made as an act, where a command that is taken gets this place
 abbrev pub act_of : ℕ → Made → Act
-act_of place made = record { access = made.access; marks = map (placed place) (marks_told made.told) }
+act_of place made = record { access = made.access; marks = map (placed place) (marks_of made.effect) }

@@ -69,6 +69,29 @@ impl Registers {
         }
     }
 
+    /// Both in one, with one look at the field: makes one access, a read's end with what the reader's copy answers. It
+    /// tells that value alone: the access is put together from what was asked, and so is in no memory that is written
+    /// byte by byte and then read at once.
+    #[inline]
+    pub(crate) fn make(&mut self, asked: Access, flick: bool) -> bool
+        requires { CanMake self.old (answered self.old flick asked) }
+        ensures value { result ≡ value_of (answered self.old flick asked).how }
+        ensures registers { self.new ≡ made self.old (answered self.old flick asked) }
+    {
+        match asked.field {
+            Field::Choosing | Field::Ticket => {
+                let access = self.locks.answered(asked, flick);
+                self.locks.apply(access);
+                given(access.how)
+            }
+            _ => {
+                let access = self.versions.answered(asked, flick);
+                self.versions.apply(access);
+                given(access.how)
+            }
+        }
+    }
+
     /// Drops the open read that a reader has of a register, if it reads one.
     pub fn drop_read(&mut self, register: Option<(u8, Field)>, reader: u8)
         requires { CanDrop self.old register reader }
@@ -82,7 +105,8 @@ impl Registers {
         }
     }
 
-    /// The store whose image the versions hold as committed, with the greatest stamp, of the lowest process on a tie.
+    /// The store whose image the versions hold as committed, with the greatest stamp, of the lowest process on a tie. It
+    /// is read off them, and no access is made.
     pub fn newest(&self) -> Image
         requires fits { FitsSetup self.now.versions.setup self.now.versions }
         requires quiet { IsQuiet self.now.versions }
@@ -100,5 +124,19 @@ pub(crate) fn given(how: Move) -> bool
     match how {
         Move::EndRead(value) => value,
         _ => false,
+    }
+}
+
+/// The access, a read's end with this value.
+#[inline]
+pub(crate) fn ended(access: Access, value: bool) -> Access
+    ensures { result ≡ ended_with value access }
+{
+    match access.how {
+        Move::EndRead(_) => Access {
+            how: Move::EndRead(value),
+            ..access
+        },
+        _ => access,
     }
 }

@@ -5,7 +5,7 @@ ghost use Rattle.record.specs.declared.Mark.TheVariants.{Left};
 ghost use Rattle.bakery.specs.Doors as doors;
 ghost use Rattle.critical.specs.Sections as sections;
 ghost use Rattle.process.specs.Keeping.{answer_told, marks_settled, stage_waiting};
-ghost use Rattle.process.specs.Telling.{act_of, marks_told};
+ghost use Rattle.process.specs.Telling.{act_of, marks_of, marks_told};
 
 use bakery::DoorProgress;
 use critical::SectionProgress;
@@ -15,8 +15,7 @@ use safe_number::Access;
 use smallvec::SmallVec;
 use std::alloc::Global;
 
-/// What an event leads to. The last four are told of events without an access, all others of steps of a process or of
-/// its memory unit.
+/// What a step of a process, or of its memory unit, leads to.
 #[derive(Clone, Copy, Debug)]
 pub enum Told {
     Nothing,
@@ -32,6 +31,13 @@ pub enum Told {
     /// The torn commit bit is settled at its new value.
     SettlesAndTakes(bool, Reply),
     Lies,
+}
+
+/// What an event leads to. Nearly all events are steps, so that what those lead to is a type of its own: it is small,
+/// with no room for a command.
+#[derive(Clone, Copy, Debug)]
+pub enum Effect {
+    Steps(Told),
     Calls(Command),
     Fails,
     Withdraws,
@@ -66,10 +72,31 @@ impl Told {
                 two(alloc, Mark::Settled(value), Mark::Taken(place, reply))
             }
             Told::Lies => one(alloc, Mark::Down),
-            Told::Calls(command) => one(alloc, Mark::Called(command)),
-            Told::Fails => one(alloc, Mark::Failed),
-            Told::Withdraws => one(alloc, Mark::Withdrew),
-            Told::Restarts => one(alloc, Mark::Restarted),
+        }
+    }
+}
+
+impl Effect {
+    /// The reply of a command that is taken.
+    pub fn reply(&self) -> Option<Reply>
+        ensures { result ≡ reply_taken (marks_of self.now) }
+    {
+        match self {
+            Effect::Steps(told) => told.reply(),
+            _ => None,
+        }
+    }
+
+    /// The marks, where a command that is taken gets this place in the history. They take no memory.
+    pub fn marks(&self, alloc: Global, place: u64) -> SmallVec<Mark, 3>
+        ensures { result.items ≡ map (placed place) (marks_of self.now) }
+    {
+        match self {
+            Effect::Steps(told) => told.marks(alloc, place),
+            Effect::Calls(command) => one(alloc, Mark::Called(*command)),
+            Effect::Fails => one(alloc, Mark::Failed),
+            Effect::Withdraws => one(alloc, Mark::Withdrew),
+            Effect::Restarts => one(alloc, Mark::Restarted),
         }
     }
 }
@@ -78,7 +105,7 @@ impl Told {
 #[derive(Clone, Copy, Debug)]
 pub struct Made {
     pub access: Option<Access>,
-    pub told: Told,
+    pub effect: Effect,
 }
 
 impl Made {
@@ -88,7 +115,7 @@ impl Made {
     {
         Act {
             access: self.access,
-            marks: self.told.marks(alloc, place),
+            marks: self.effect.marks(alloc, place),
         }
     }
 }

@@ -9,8 +9,10 @@ use Rattle.record.specs.declared.refusals.Refusal.{Refusal}
 use Rattle.record.specs.Entries.{Entry, Past}
 use Rattle.record.specs.Records.{added, entry_of, is_call, past_of, process_of, refused}
 use Rattle.record.specs.Histories.{reply_taken}
+use Rattle.process.specs.declared.told.Effect.{Effect}
+use Rattle.process.specs.declared.told.Effect.TheVariants.{Steps}
 use Rattle.process.specs.declared.told.Told.{Told}
-use Rattle.process.specs.Telling.{act_of, marks_told}
+use Rattle.process.specs.Telling.{act_of, marks_of, marks_told}
 use Rattle.world.specs.Changes.{pending_in, with_taken}
 use Rattle.world.specs.Cores.{CoreGoesOn, CoreMakes, CoreRefuses, CoreState, CoreSteps, CoreWalks, KeepsCore, call_in, taking, with_history}
 use Rattle.world.specs.Events.{Adds, GoesOn, KeepsWorld, entry_with}
@@ -34,27 +36,27 @@ new_keeps c h capacity empty shows = record {
 }
 
 -- after an event that may take a command: there is room for it, and then for each other
-pub made_keeps : (c new : CoreState) (h then : List Taken) (what : Event) (told : Told) (capacity more : ℕ) → KeepsWorld (with_history c h) capacity → CoreMakes c what told new → length h + (pending_in new.seats + taking told) ≤ more →
-    then ≡ with_taken h (process_of what) (call_in new.seats (process_of what)).0 (call_in new.seats (process_of what)).1 (reply_taken (marks_told told)) → KeepsWorld (with_history new then) more
-made_keeps c new h then what told capacity more keeps makes room is = subst (λ h. KeepsWorld (with_history new h) more) (sym is) (record {
+pub made_keeps : (c new : CoreState) (h then : List Taken) (what : Event) (effect : Effect) (capacity more : ℕ) → KeepsWorld (with_history c h) capacity → CoreMakes c what effect new → length h + (pending_in new.seats + taking effect) ≤ more →
+    then ≡ with_taken h (process_of what) (call_in new.seats (process_of what)).0 (call_in new.seats (process_of what)).1 (reply_taken (marks_of effect)) → KeepsWorld (with_history new then) more
+made_keeps c new h then what effect capacity more keeps makes room is = subst (λ h. KeepsWorld (with_history new h) more) (sym is) (record {
   events = what ∷ keeps.events;
   shows = makes.goes h keeps.events keeps.shows;
   room =
-      let long = taken_length h (process_of what) (call_in new.seats (process_of what)).0 (call_in new.seats (process_of what)).1 (reply_taken (marks_told told)) in
+      let long = taken_length h (process_of what) (call_in new.seats (process_of what)).0 (call_in new.seats (process_of what)).1 (reply_taken (marks_of effect)) in
       omega (arith, room, long);
 })
 
-pub made_fits : (new : CoreState) (h : List Taken) (told : Told) (r : Reply) (more : ℕ) → length h + (pending_in new.seats + taking told) ≤ more → reply_taken (marks_told told) ≡ Some r → length h < more
-made_fits new h told r more room is =
-    let one : taking told ≡ 1 = ap (λ o. elim o as (λ _. ℕ) [ None ↦ 0 | Some r ↦ 1 ]) is in
+pub made_fits : (new : CoreState) (h : List Taken) (effect : Effect) (r : Reply) (more : ℕ) → length h + (pending_in new.seats + taking effect) ≤ more → reply_taken (marks_of effect) ≡ Some r → length h < more
+made_fits new h effect r more room is =
+    let one : taking effect ≡ 1 = ap (λ o. elim o as (λ _. ℕ) [ None ↦ 0 | Some r ↦ 1 ]) is in
     omega (arith, one, room)
 
 -- the room, of a call and of each other event
-pub made_room : (c new : CoreState) (h : List Taken) (what : Event) (told : Told) (capacity more : ℕ) → KeepsWorld (with_history c h) capacity → capacity ≤ more → (is_call what ≡ true → length h + length c.seats ≤ more) →
-    pending_in new.seats + taking told ≤ length c.seats → (is_call what ≡ false → pending_in new.seats + taking told ≤ pending_in c.seats) → length h + (pending_in new.seats + taking told) ≤ more
-made_room c new h what told capacity more keeps grown room few fewer = by (is_call what) refl
+pub made_room : (c new : CoreState) (h : List Taken) (what : Event) (effect : Effect) (capacity more : ℕ) → KeepsWorld (with_history c h) capacity → capacity ≤ more → (is_call what ≡ true → length h + length c.seats ≤ more) →
+    pending_in new.seats + taking effect ≤ length c.seats → (is_call what ≡ false → pending_in new.seats + taking effect ≤ pending_in c.seats) → length h + (pending_in new.seats + taking effect) ≤ more
+made_room c new h what effect capacity more keeps grown room few fewer = by (is_call what) refl
   where
-    by : (b : Bool) → is_call what ≡ b → length h + (pending_in new.seats + taking told) ≤ more
+    by : (b : Bool) → is_call what ≡ b → length h + (pending_in new.seats + taking effect) ≤ more
     by true call = let all = room call in omega (arith, all, few)
     by false other = let left = fewer other in let had = keeps.room in omega (arith, had, left, grown)
 
@@ -67,12 +69,12 @@ wider_keeps c h then capacity more keeps grown same = subst (λ h. KeepsWorld (w
 })
 
 -- after a step
-pub step_fits : (c new : CoreState) (h : List Taken) (told : Told) (r : Reply) (capacity : ℕ) → KeepsWorld (with_history c h) capacity → pending_in new.seats + taking told ≤ pending_in c.seats → reply_taken (marks_told told) ≡ Some r → length h < capacity
-step_fits c new h told r capacity keeps fewer is = let room = keeps.room in made_fits new h told r capacity (omega (arith, room, fewer)) is
+pub step_fits : (c new : CoreState) (h : List Taken) (told : Told) (r : Reply) (capacity : ℕ) → KeepsWorld (with_history c h) capacity → pending_in new.seats + taking (Steps told) ≤ pending_in c.seats → reply_taken (marks_told told) ≡ Some r → length h < capacity
+step_fits c new h told r capacity keeps fewer is = let room = keeps.room in made_fits new h (Steps told) r capacity (omega (arith, room, fewer)) is
 
-pub step_keeps : (c new : CoreState) (h then : List Taken) (p : ℕ) (flick : Bool) (told : Told) (capacity more : ℕ) → KeepsWorld (with_history c h) capacity → CoreSteps c p flick told new → pending_in new.seats + taking told ≤ pending_in c.seats →
+pub step_keeps : (c new : CoreState) (h then : List Taken) (p : ℕ) (flick : Bool) (told : Told) (capacity more : ℕ) → KeepsWorld (with_history c h) capacity → CoreSteps c p flick told new → pending_in new.seats + taking (Steps told) ≤ pending_in c.seats →
     then ≡ with_taken h p (call_in new.seats p).0 (call_in new.seats p).1 (reply_taken (marks_told told)) → capacity ≤ more → KeepsWorld (with_history new then) more
-step_keeps c new h then p flick told capacity more keeps steps fewer is grown = let room = keeps.room in made_keeps c new h then (Step p flick) told capacity more keeps steps (omega (arith, room, fewer, grown)) is
+step_keeps c new h then p flick told capacity more keeps steps fewer is grown = let room = keeps.room in made_keeps c new h then (Step p flick) (Steps told) capacity more keeps steps (omega (arith, room, fewer, grown)) is
 
 -- after a walk
 walks-shown : (n : ℕ) (old new : WorldState) (f g : FlickState) (p : ℕ) (events : List Event) → Walks old f p n new g → Shows old events → (later : List Event) × Shows new later
@@ -94,13 +96,13 @@ added_by s past what e ok is = (λ i. elim (ok i) as (λ _. Option Entry) [ Some
 pub core_allowed : (d : CoreState) (what is : Event) (r : Option Refusal) → CoreRefuses d what r → r ≡ None → what ≡ is → CoreRefuses d is None
 core_allowed d what is r h none same = subst (λ e. CoreRefuses d e None) same (subst (λ r. CoreRefuses d what r) none h)
 
-pub core_added : (d : CoreState) (what is : Event) (told : Told) → CoreRefuses d is None → ((s : Setup) (past : Past) (n : ℕ) → added s past is ≡ Some (entry_with (process_of is) (act_of n (record { access = None; told = told })))) → what ≡ is →
-    (taken : List Taken) → Adds (with_history d taken) what (process_of what) (act_of (length taken) (record { access = None; told = told }))
-core_added d what is told ok adds same taken = subst (λ e. Adds (with_history d taken) e (process_of e) (act_of (length taken) (record { access = None; told = told }))) (sym same)
-    (λ events shows. added_by d.setup (past_of d.setup events) is (entry_with (process_of is) (act_of (length taken) (record { access = None; told = told }))) (ok taken events shows) (adds d.setup (past_of d.setup events) (length taken)))
+pub core_added : (d : CoreState) (what is : Event) (effect : Effect) → CoreRefuses d is None → ((s : Setup) (past : Past) (n : ℕ) → added s past is ≡ Some (entry_with (process_of is) (act_of n (record { access = None; effect = effect })))) → what ≡ is →
+    (taken : List Taken) → Adds (with_history d taken) what (process_of what) (act_of (length taken) (record { access = None; effect = effect }))
+core_added d what is effect ok adds same taken = subst (λ e. Adds (with_history d taken) e (process_of e) (act_of (length taken) (record { access = None; effect = effect }))) (sym same)
+    (λ events shows. added_by d.setup (past_of d.setup events) is (entry_with (process_of is) (act_of (length taken) (record { access = None; effect = effect }))) (ok taken events shows) (adds d.setup (past_of d.setup events) (length taken)))
 
-pub core_made : (c d new : CoreState) (what is : Event) (told : Told) → KeepsCore c → c ≡ d → CoreRefuses d is None → CoreGoesOn d is new → new.setup ≡ d.setup → reply_taken (marks_told told) ≡ None → what ≡ is → CoreMakes d what told new
-core_made c d new what is told keeps view ok goes setup none same = subst (λ e. CoreMakes d e told new) (sym same) (record {
+pub core_made : (c d new : CoreState) (what is : Event) (effect : Effect) → KeepsCore c → c ≡ d → CoreRefuses d is None → CoreGoesOn d is new → new.setup ≡ d.setup → reply_taken (marks_of effect) ≡ None → what ≡ is → CoreMakes d what effect new
+core_made c d new what is effect keeps view ok goes setup none same = subst (λ e. CoreMakes d e effect new) (sym same) (record {
   there = core_there c d new is keeps view ok goes setup;
   goes = λ taken. subst (λ o. GoesOn (with_history d taken) is (with_history new (with_taken taken (process_of is) (call_in new.seats (process_of is)).0 (call_in new.seats (process_of is)).1 o))) (sym none) (goes taken);
 })

@@ -9,9 +9,11 @@ use Rattle.record.specs.declared.history.Taken.{Taken}
 use Rattle.record.specs.declared.refusals.Refusal.{Refusal}
 use Rattle.record.specs.Histories.{reply_taken}
 use Rattle.record.specs.Records.{process_of}
+use Rattle.process.specs.declared.told.Effect.{Effect}
+use Rattle.process.specs.declared.told.Effect.TheVariants.{Steps}
 use Rattle.process.specs.declared.told.Told.{Told}
 use Rattle.process.specs.Registers.{RegistersState}
-use Rattle.process.specs.Telling.{marks_told}
+use Rattle.process.specs.Telling.{marks_of}
 use Rattle.world.specs.Changes.{pending_in, with_taken}
 use Rattle.world.specs.Events.{GoesOn, IsRefused}
 use Rattle.world.specs.Flicks.{FlickState}
@@ -51,17 +53,17 @@ abbrev pub call_in : List Seat → ℕ → Command × ℕ
 call_in seats p = elim (slice_get seats p) as (λ _. Command × ℕ) [ None ↦ (Ask, 0) | Some seat ↦ (seat.process.command, seat.process.number) ]
 
 -- an event of a process that there is: the world goes on, with the command in its history that the event takes
-pub record CoreMakes (old : CoreState) (event : Event) (told : Told) (new : CoreState) : Type 0 where
+pub record CoreMakes (old : CoreState) (event : Event) (effect : Effect) (new : CoreState) : Type 0 where
   pub there : process_of event < length new.seats
-  pub goes : (taken : List Taken) → GoesOn (with_history old taken) event (with_history new (with_taken taken (process_of event) (call_in new.seats (process_of event)).0 (call_in new.seats (process_of event)).1 (reply_taken (marks_told told))))
+  pub goes : (taken : List Taken) → GoesOn (with_history old taken) event (with_history new (with_taken taken (process_of event) (call_in new.seats (process_of event)).0 (call_in new.seats (process_of event)).1 (reply_taken (marks_of effect))))
 
 -- a step
 abbrev pub CoreSteps : CoreState → ℕ → Bool → Told → CoreState → Type 0
-CoreSteps old p flick told new = CoreMakes old (Step p flick) told new
+CoreSteps old p flick told new = CoreMakes old (Step p flick) (Steps told) new
 
 -- 1 if an event takes a command
-abbrev pub taking : Told → ℕ
-taking told = elim (reply_taken (marks_told told)) as (λ _. ℕ) [ None ↦ 0 | Some r ↦ 1 ]
+abbrev pub taking : Effect → ℕ
+taking effect = elim (reply_taken (marks_of effect)) as (λ _. ℕ) [ None ↦ 0 | Some r ↦ 1 ]
 
 -- so many steps without a mark, with each history; no more calls are pending
 pub record CoreWalks (old : CoreState) (flicks : FlickState) (p n : ℕ) (new : CoreState) (flicks_then : FlickState) : Type 0 where

@@ -9,6 +9,7 @@ ghost use Rattle.record.specs.declared.history.Taken.{Taken as Seen};
 ghost use Rattle.record.specs.Doorways.{ahead};
 ghost use Rattle.record.specs.Newest.{newest};
 ghost use Rattle.record.specs.Records.{is_call, past_of, process_of, refused};
+ghost use Rattle.process.specs.declared.told.Effect.TheVariants.{Steps};
 ghost use Rattle.process.specs.Telling.{act_of};
 ghost use Rattle.world.specs.Changes.{pending_in};
 ghost use Rattle.world.specs.Cores.{CoreGoesOn, CoreMakes, CoreRefuses, CoreSteps, CoreWalks, call_in, taking, with_history};
@@ -24,7 +25,7 @@ use crate::refusals::{is_full, number_after, refusal_at};
 use crate::seat::Seat;
 use crate::seats::{is_occupied, is_queued, tell, waiting, waits};
 use plain_store::{Command, NestedTypes, Reply, Setup};
-use process::{Registers, Told};
+use process::{Effect, Registers, Told};
 use record::{Event, Refusal, Stage, Taken};
 use safe_number::Access;
 use smallvec::SmallVec;
@@ -150,17 +151,17 @@ impl Core {
         None
     }
 
-    /// One event, unless it is refused, and in `told` what it leads to; the access of a step. The command that it takes,
-    /// if it takes one, is that of the process's last call. An event that is refused leaves `told` as it is. None is
+    /// One event, unless it is refused, and in `effect` what it leads to; the access of a step. The command that it takes,
+    /// if it takes one, is that of the process's last call. An event that is refused leaves `effect` as it is. None is
     /// refused for want of memory: whoever keeps a history sees to its room before a call.
-    pub fn event(&mut self, event: &Event, told: &mut Told) -> Result<Option<Access>, Refusal>
-        ensures accepted { IfOk result (λ access. (taken : List Seen) → Adds (with_history self.old taken) event.now (process_of event.now) (act_of (length taken) (record { access = access; told = told.new }))) }
-        ensures shows { OnOk result (CoreMakes self.old event.now told.new self.new) }
-        ensures pending { OnOk result (is_call event.now ≡ false → pending_in self.new.seats + taking told.new ≤ pending_in self.old.seats) }
-        ensures few { OnOk result (pending_in self.new.seats + taking told.new ≤ length self.old.seats) }
+    pub fn event(&mut self, event: &Event, effect: &mut Effect) -> Result<Option<Access>, Refusal>
+        ensures accepted { IfOk result (λ access. (taken : List Seen) → Adds (with_history self.old taken) event.now (process_of event.now) (act_of (length taken) (record { access = access; effect = effect.new }))) }
+        ensures shows { OnOk result (CoreMakes self.old event.now effect.new self.new) }
+        ensures pending { OnOk result (is_call event.now ≡ false → pending_in self.new.seats + taking effect.new ≤ pending_in self.old.seats) }
+        ensures few { OnOk result (pending_in self.new.seats + taking effect.new ≤ length self.old.seats) }
         ensures refused { IfErr result (λ refusal. CoreRefuses self.old event.now (Some refusal)) }
         ensures unchanged { OnErr result (self.new ≡ self.old) }
-        ensures untold { OnErr result (told.new ≡ told.old) }
+        ensures untold { OnErr result (effect.new ≡ effect.old) }
         ensures setup { OnOk result (self.new.setup ≡ self.old.setup) }
     {
         let _kept = &self.seats;
@@ -171,23 +172,28 @@ impl Core {
             Event::Call(process, command) => {
                 command.operands_are_sound();
                 self.call(*process, command);
-                *told = Told::Calls(*command);
+                *effect = Effect::Calls(*command);
                 Ok(None)
             }
-            Event::Step(process, flick) => Ok(Some(self.make_step(*process, *flick, told))),
+            Event::Step(process, flick) => {
+                let mut told = Told::Nothing;
+                let access = self.make_step(*process, *flick, &mut told);
+                *effect = Effect::Steps(told);
+                Ok(Some(access))
+            }
             Event::Fail(process) => {
                 self.fail(*process);
-                *told = Told::Fails;
+                *effect = Effect::Fails;
                 Ok(None)
             }
             Event::Withdraw(process) => {
                 self.withdraw(*process);
-                *told = Told::Withdraws;
+                *effect = Effect::Withdraws;
                 Ok(None)
             }
             Event::Restart(process) => {
                 self.restart(*process);
-                *told = Told::Restarts;
+                *effect = Effect::Restarts;
                 Ok(None)
             }
         }
@@ -197,9 +203,9 @@ impl Core {
     /// takes, if it takes one, is that of the process's last call. A step that is refused leaves `told` as it is.
     #[inline]
     pub fn step(&mut self, process: u8, flick: bool, told: &mut Told) -> Result<Access, Refusal>
-        ensures accepted { IfOk result (λ access. (taken : List Seen) → Adds (with_history self.old taken) (Step process flick) process (act_of (length taken) (record { access = Some access; told = told.new }))) }
+        ensures accepted { IfOk result (λ access. (taken : List Seen) → Adds (with_history self.old taken) (Step process flick) process (act_of (length taken) (record { access = Some access; effect = Steps told.new }))) }
         ensures shows { OnOk result (CoreSteps self.old process flick told.new self.new) }
-        ensures pending { OnOk result (pending_in self.new.seats + taking told.new ≤ pending_in self.old.seats) }
+        ensures pending { OnOk result (pending_in self.new.seats + taking (Steps told.new) ≤ pending_in self.old.seats) }
         ensures refused { IfErr result (λ refusal. CoreRefuses self.old (Step process flick) (Some refusal)) }
         ensures unchanged { OnErr result (self.new ≡ self.old) }
         ensures untold { OnErr result (told.new ≡ told.old) }
@@ -232,9 +238,9 @@ impl Core {
     #[inline]
     fn make_step(&mut self, process: u8, flick: bool, told: &mut Told) -> Access
         requires { CoreRefuses self.old (Step process flick) None }
-        ensures accepted { (taken : List Seen) → Adds (with_history self.old taken) (Step process flick) process (act_of (length taken) (record { access = Some result; told = told.new })) }
+        ensures accepted { (taken : List Seen) → Adds (with_history self.old taken) (Step process flick) process (act_of (length taken) (record { access = Some result; effect = Steps told.new })) }
         ensures shows { CoreSteps self.old process flick told.new self.new }
-        ensures pending { pending_in self.new.seats + taking told.new ≤ pending_in self.old.seats }
+        ensures pending { pending_in self.new.seats + taking (Steps told.new) ≤ pending_in self.old.seats }
         ensures setup { self.new.setup ≡ self.old.setup }
     {
         let seat = &mut self.seats[usize::from(process)];

@@ -14,6 +14,6 @@ pub use cores::Core;
 pub use flicks::{Flick, Flicks};
 pub use history_laws;
 pub use laws;
-pub use process::{Made, Told};
+pub use process::{Effect, Made, Told};
 pub use record::{Act, Event, Mark, Refusal, Stage, Taken};
 pub use world::World;

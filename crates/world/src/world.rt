@@ -19,13 +19,14 @@ ghost use Rattle.process.specs.Processes.{inside_kept, stage_kept};
 ghost use Rattle.std.specs.List.{list_any};
 ghost use Rattle.record.specs.Newest.{newest};
 ghost use Rattle.world.specs.Shows.{Shows};
+ghost use Rattle.process.specs.declared.told.Effect.TheVariants.{Steps};
 ghost use Rattle.process.specs.Telling.{act_of};
 ghost use Rattle.world.specs.Walks.{Walks, bits_within_at};
 
 use crate::cores::Core;
 use crate::flicks::Flicks;
 use plain_store::{NestedTypes, Reply, Setup};
-use process::{Made, Told};
+use process::{Effect, Made, Told};
 use record::{Act, Event, Refusal, Stage, Taken};
 use safe_number::Access;
 use smallvec::SmallVec;
@@ -86,29 +87,34 @@ impl World {
         ensures headline { Headline }
     {
         let place = self.history.len() as u64;
-        let mut told = Told::Nothing;
-        match self.make(&event, &mut told) {
-            Ok(access) => Ok(Made { access, told }.act(self.alloc, place)),
+        let mut effect = Effect::Steps(Told::Nothing);
+        match self.make(&event, &mut effect) {
+            Ok(access) => Ok(Made { access, effect }.act(self.alloc, place)),
             Err(refusal) => Err(refusal),
         }
     }
 
-    /// One event, as `event` makes it, and in `told` what it leads to; the access of a step. The place of a command
-    /// that it takes is the length of the history before. An event that is refused leaves `told` as it is.
-    pub fn make(&mut self, event: &Event, told: &mut Told) -> Result<Option<Access>, Refusal>
-        ensures accepted { IfOk result (λ access. Adds self.old event.now (process_of event.now) (act_of (length self.old.history) (record { access = access; told = told.new }))) }
+    /// One event, as `event` makes it, and in `effect` what it leads to; the access of a step. The place of a command
+    /// that it takes is the length of the history before. An event that is refused leaves `effect` as it is.
+    pub fn make(&mut self, event: &Event, effect: &mut Effect) -> Result<Option<Access>, Refusal>
+        ensures accepted { IfOk result (λ access. Adds self.old event.now (process_of event.now) (act_of (length self.old.history) (record { access = access; effect = effect.new }))) }
         ensures shows { OnOk result (GoesOn self.old event.now self.new) }
         ensures refused { IfErr result (λ refusal. IsTurnedAway self.old event.now refusal) }
         ensures unchanged { OnErr result (self.new ≡ self.old) }
-        ensures untold { OnErr result (told.new ≡ told.old) }
+        ensures untold { OnErr result (effect.new ≡ effect.old) }
         ensures setup { OnOk result (self.new.setup ≡ self.old.setup) }
     {
         if let Err(refusal) = reserve(&mut self.history, &self.core, event) {
             return Err(refusal);
         }
-        match self.core.event(event, told) {
+        match self.core.event(event, effect) {
             Ok(access) => {
-                take(&mut self.history, &self.core, event.process(), told.reply());
+                take(
+                    &mut self.history,
+                    &self.core,
+                    event.process(),
+                    effect.reply(),
+                );
                 Ok(access)
             }
             Err(refusal) => Err(refusal),
@@ -121,7 +127,7 @@ impl World {
     /// refused leaves `told` as it is.
     #[inline(never)]
     pub fn step(&mut self, process: u8, flick: bool, told: &mut Told) -> Result<Access, Refusal>
-        ensures accepted { IfOk result (λ access. Adds self.old (Step process flick) process (act_of (length self.old.history) (record { access = Some access; told = told.new }))) }
+        ensures accepted { IfOk result (λ access. Adds self.old (Step process flick) process (act_of (length self.old.history) (record { access = Some access; effect = Steps told.new }))) }
         ensures shows { OnOk result (GoesOn self.old (Step process flick) self.new) }
         ensures refused { IfErr result (λ refusal. IsRefused self.old (Step process flick) (Some refusal)) }
         ensures unchanged { OnErr result (self.new ≡ self.old) }

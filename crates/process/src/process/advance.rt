@@ -36,7 +36,7 @@ impl Process {
 
     /// The same at the data, where it is to a register of the versions.
     #[inline]
-    fn next_at_data(&self) -> Access
+    pub(crate) fn next_at_data(&self) -> Access
         requires { is_at_data self.now.kept ≡ true }
         ensures access { (d : Doing) (flick : Bool) → IsAt self.now d → next_of self.now.setup self.now.process d flick ≡ Some result }
         ensures there { IsThere self.now.setup result }
@@ -47,7 +47,7 @@ impl Process {
 
     /// The same elsewhere than at the data.
     #[inline]
-    fn next_elsewhere(&self, flick: bool) -> Access
+    pub(crate) fn next_elsewhere(&self, flick: bool) -> Access
         requires goes { may_step self.now.kept ≡ true }
         requires elsewhere { is_at_data self.now.kept ≡ false }
         ensures access { (d : Doing) → IsAt self.now d → next_of self.now.setup self.now.process d flick ≡ Some result }
@@ -80,7 +80,7 @@ impl Process {
 
     /// The same elsewhere than at the data.
     #[inline]
-    fn advance_elsewhere(&mut self, flick: bool, value: bool) -> Told
+    pub(crate) fn advance_elsewhere(&mut self, flick: bool, value: bool) -> Told
         requires goes { may_step self.old.kept ≡ true }
         requires elsewhere { is_at_data self.old.kept ≡ false }
         requires at { (d : Doing) × IsAt self.old d }
@@ -121,7 +121,7 @@ impl Process {
 
     /// The same at the data.
     #[inline]
-    fn advance_at_data(&mut self, value: bool) -> Told
+    pub(crate) fn advance_at_data(&mut self, value: bool) -> Told
         requires at_data { is_at_data self.old.kept ≡ true }
         requires at { (d : Doing) × IsAt self.old d }
         ensures process { (flick : Bool) (d : Doing) → IsAt self.old d → self.new ≡ record self.old { kept = kept_at self.old.setup self.old.process (does_then self.old.setup self.old.process d flick value) } }

@@ -11,13 +11,14 @@ ghost use Rattle.process.specs.Steps.{IsAt, bits_within, kept_failing, kept_with
 ghost use Rattle.process.specs.Telling.{marks_told};
 
 use super::{Process, Work};
-use crate::registers::{Registers, given};
+use crate::registers::{Registers, ended, given};
 use crate::told::Told;
 use safe_number::Access;
 
 impl Process {
     /// Makes the next access, of the process or of its memory unit, and goes on by it. It answers the access, a read's
-    /// end with what it gave, and what it leads to.
+    /// end with what it gave, and what it leads to. At the data, where a process has nearly all its accesses, it goes to
+    /// the versions with no look at what else there is.
     #[inline]
     pub fn step(&mut self, registers: &mut Registers, flick: bool) -> (Access, Told)
         requires goes { may_step self.old.kept ≡ true }
@@ -27,9 +28,14 @@ impl Process {
         ensures marks { (d : Doing) → IsAt self.old d → marks_told result.1 ≡ marks_with self.old.setup self.old.process d flick (value_of result.0.how) }
         ensures registers { registers.new ≡ made registers.old result.0 }
     {
-        let access = registers.answered(self.next(flick), flick);
-        registers.apply(access);
-        (access, self.advance(flick, given(access.how)))
+        if self.is_at_data() {
+            let access = registers.versions.answered(self.next_at_data(), flick);
+            registers.versions.apply(access);
+            return (access, self.advance_at_data(given(access.how)));
+        }
+        let asked = self.next_elsewhere(flick);
+        let value = registers.make(asked, flick);
+        (ended(asked, value), self.advance_elsewhere(flick, value))
     }
 
     /// How many bits its number access at the data has come to or has before it, without the last one: so many of its

@@ -17,8 +17,8 @@ invariant_of-self-in-Ok c =
     let i = c.self.inside in
     let seats = c.event.new.self.seats in
     let taken = c.take.ensures.items ∙ (λ k. with_taken (c.reserve.ensures.items k) (c.process.ensures k) (call_in seats (c.process.ensures k)).0 (call_in seats (c.process.ensures k)).1 (c.reply.ensures k)) in
-    let room = made_room i.core c.event.new.self i.history.items c.args.event.now c.event.new.told _ (vec_capacity c.reserve.new.history) c.self.invariant c.reserve.ensures.capacity c.in_default.ensures.room c.in-Ok.ensures.few c.in-Ok.ensures.pending in
-    made_keeps i.core c.event.new.self i.history.items c.take.new.history.items c.args.event.now c.event.new.told _ (vec_capacity c.take.new.history) c.self.invariant c.in-Ok.ensures.shows (omega (arith, room, c.take.ensures.capacity)) taken
+    let room = made_room i.core c.event.new.self i.history.items c.args.event.now c.event.new.effect _ (vec_capacity c.reserve.new.history) c.self.invariant c.reserve.ensures.capacity c.in_default.ensures.room c.in-Ok.ensures.few c.in-Ok.ensures.pending in
+    made_keeps i.core c.event.new.self i.history.items c.take.new.history.items c.args.event.now c.event.new.effect _ (vec_capacity c.take.new.history) c.self.invariant c.in-Ok.ensures.shows (omega (arith, room, c.take.ensures.capacity)) taken
 
 pub invariant_of-self-in-Err-event : goal.invariant_of-self-in-Err-event
 invariant_of-self-in-Err-event c =
@@ -27,7 +27,7 @@ invariant_of-self-in-Err-event c =
     (wider_keeps i.core i.history.items c.reserve.new.history.items _ _ c.self.invariant c.reserve.ensures.capacity c.reserve.ensures.items)
 
 pub returns-in-Ok-clause-accepted : goal.returns-in-Ok-clause-accepted
-returns-in-Ok-clause-accepted c = subst (λ (w : WorldState). Adds w c.args.event.now (process_of c.args.event.now) (act_of (length w.history) (record { access = c.in-Ok.access; told = c.event.new.told }))) c.self.view_is (c.in-Ok.ensures.accepted c.self.inside.history.items)
+returns-in-Ok-clause-accepted c = subst (λ (w : WorldState). Adds w c.args.event.now (process_of c.args.event.now) (act_of (length w.history) (record { access = c.in-Ok.access; effect = c.event.new.effect }))) c.self.view_is (c.in-Ok.ensures.accepted c.self.inside.history.items)
 
 pub returns-in-Ok-clause-shows : goal.returns-in-Ok-clause-shows
 returns-in-Ok-clause-shows c =

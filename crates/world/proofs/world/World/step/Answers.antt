@@ -1,5 +1,6 @@
 use Rattle.std.proofs.Common.{◌≡◌, ◌∷◌, length, Some, None, sym, ap, subst, ◌∙◌}
 use Rattle.record.specs.declared.events.Event.TheVariants.{Step}
+use Rattle.process.specs.declared.told.Effect.TheVariants.{Steps}
 use Rattle.process.specs.Telling.{act_of}
 use Rattle.world.specs.Changes.{with_taken}
 use Rattle.world.specs.Cores.{call_in, with_history}
@@ -8,7 +9,7 @@ use Rattle.world.specs.Shows.{Shows, WorldState}
 use Rattle.world.proofs.world.World.step.Goals as goal
 
 pub returns-in-Ok-clause-accepted : goal.returns-in-Ok-clause-accepted
-returns-in-Ok-clause-accepted c = subst (λ (w : WorldState). Adds w (Step c.args.process c.args.flick) c.args.process (act_of (length w.history) (record { access = Some c.in-Ok.access; told = c.step.new.told }))) c.self.view_is (c.in-Ok.ensures.accepted c.self.inside.history.items)
+returns-in-Ok-clause-accepted c = subst (λ (w : WorldState). Adds w (Step c.args.process c.args.flick) c.args.process (act_of (length w.history) (record { access = Some c.in-Ok.access; effect = Steps c.step.new.told }))) c.self.view_is (c.in-Ok.ensures.accepted c.self.inside.history.items)
 
 pub returns-in-Ok-clause-shows : goal.returns-in-Ok-clause-shows
 returns-in-Ok-clause-shows c =
