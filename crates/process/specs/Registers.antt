@@ -41,6 +41,11 @@ made r a = record {
   versions = cond (is_data a.field) (after_access r.versions a) r.versions;
 }
 
+-- two of one shape: the registers of as many processes, with as many readers and bits
+pub record AreAlike (r other : RegistersState) : Type 0 where
+  pub locks : locks.AreAllAlike r.locks other.locks
+  pub versions : versions.AreAllAlike r.versions other.versions
+
 -- the process may step: it keeps what it is doing, and the access that comes next may be made on the registers
 pub record MayStep (now : ProcessState) (r : RegistersState) (flick : Bool) : Type 0 where
   pub doing : Doing

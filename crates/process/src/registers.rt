@@ -6,7 +6,7 @@ ghost use Rattle.record.specs.Places.{value_of};
 ghost use Rattle.critical.specs.Newest.{newest_store, IsQuiet};
 ghost use Rattle.critical.specs.Registers.{FitsSetup};
 ghost use Rattle.process.specs.Drops.{CanDrop, without_read};
-ghost use Rattle.process.specs.Registers.{CanMake, HasCopy, answered, made, new_registers};
+ghost use Rattle.process.specs.Registers.{AreAlike, CanMake, HasCopy, answered, made, new_registers};
 
 use bakery::Locks;
 use critical::DataRow;
@@ -113,6 +113,16 @@ impl Registers {
         ensures { result ≡ newest_store self.now.versions }
     {
         self.versions.newest()
+    }
+
+    /// Becomes as the other, of the same setup: the same copies, and the same accesses open on them. It takes no
+    /// memory.
+    pub fn copy_from(&mut self, other: &Registers)
+        requires { AreAlike self.old other.now }
+        ensures { self.new ≡ other.now }
+    {
+        self.locks.copy_from(&other.locks);
+        self.versions.copy_from(&other.versions);
     }
 }
 

@@ -1,48 +1,58 @@
 -- One turn of a course, by what the world answers.
-use Rattle.std.proofs.Common.{◌≡◌, ℕ, zero, suc, arith, ◌-◌, ◌<◌, ◌≤◌, Bool, true, false, nat_lt, cond, List, ◌∷◌, IfOk, Result, Ok, Err, Option, None, Some, refl, ap, sym, subst, ◌∙◌, inl, inr}
+use Rattle.std.proofs.Common.{◌≡◌, ℕ, zero, suc, arith, ◌-◌, ◌<◌, ◌≤◌, Bool, true, false, nat_lt, cond, length, List, ◌∷◌, IfOk, Result, Ok, Err, Option, None, Some, refl, ap, sym, subst, ◌∙◌, inl, inr}
 use Rattle.std.proofs.lemmas.Bool.Decides.{nat_tests}
 use Rattle.std.specs.declared.alloc.AllocError.{AllocError}
+use Rattle.safe_number.specs.declared.Access.{Access}
 use Rattle.plain_store.specs.Store.{Contents}
 use Rattle.plain_store.specs.declared.setups.Setup.{Setup}
 use Rattle.record.specs.declared.events.Event.{Event}
+use Rattle.record.specs.declared.history.Taken.{Taken}
 use Rattle.record.specs.declared.refusals.Refusal.{Refusal}
 use Rattle.record.specs.declared.refusals.Refusal.TheVariants.{NoProcess, Memory}
 use Rattle.record.specs.declared.stages.Stage.{Stage}
-use Rattle.record.specs.Acts.{Act}
 use Rattle.record.specs.Given.{is_event}
-use Rattle.record.specs.Records.{past_of, process_of, refused}
+use Rattle.record.specs.Histories.{history}
+use Rattle.record.specs.Records.{entry_of, past_of, process_of, refused}
 use Rattle.record.specs.Stages.{stage}
 use Rattle.scenario.specs.declared.lines.Flick.{Flick}
 use Rattle.scenario.specs.declared.lines.Line.{Line}
 use Rattle.scenario.specs.declared.lines.Line.TheVariants as line
 use Rattle.scenario.specs.declared.lines.Target.{Target}
+use Rattle.process.specs.Telling.{act_of}
 use Rattle.world.specs.Events.{Adds, GoesOn, IsTurnedAway, entry_with, stage_in}
 use Rattle.world.specs.Flicks.{FlickState, after_set}
 use Rattle.world.specs.Shows.{Shows, WorldState}
 use Rattle.replayer.specs.Courses.{CourseState, Follows, Makes, MakesTurns, QuietTurns, course}
 use Rattle.replayer.specs.Happenings.{Tries, Lacks, Looks, tried}
 use Rattle.replayer.specs.Runs.{Run, has_step, is_there, past_in, set_to}
-use Rattle.replayer.specs.Telling.{TellsOf, event_made, is_step}
+use Rattle.replayer.specs.Telling.{TellsOf}
 use Rattle.replayer.specs.Texts.{newest_store, store_text}
 use Rattle.replayer.specs.Turns.{Turn, ends, go_turn, happens, next_turn, on_turn, turn_of}
-use Rattle.replayer.specs.declared.told.Made.{Made}
+use Rattle.replayer.specs.declared.told.Accepted.{Accepted}
 use Rattle.replayer.specs.declared.told.Told.{Told}
 use Rattle.replayer.specs.declared.told.Told.TheVariants as told
 use Rattle.replayer.specs.declared.told.Turns.{Turns}
-use Rattle.replayer.proofs.Refusals.{entry_added, marked_made, shows_refused}
+use Rattle.replayer.proofs.Refusals.{shows_refused}
 
--- an event that is accepted, and is no Step
-pub event_accepted : (w w' : WorldState) (flicks : FlickState) (left : ℕ) (made : Made) (act : Act) → is_step made ≡ false → Adds w (event_made made) (process_of (event_made made)) act → GoesOn w (event_made made) w' → w'.setup ≡ w.setup →
-    (run : Run) → Follows (course w flicks left) run → Makes (course w flicks left) run (happens (Tries (event_made made)) (left - 1) run) (Some (told.Accepted made)) (course w' flicks (left - 1))
-event_accepted w w' flicks left made act other adds on same run follows =
-    let entry = adds (tried run.happened) follows.shows in
-    let is = sym (entry_added w.setup (past_in w.setup run) (event_made made) (entry_with (process_of (event_made made)) act) entry) ∙ marked_made w.setup (past_in w.setup run) made other in
-    record {
-      tells = (refl, (None, entry ∙ is));
+-- what was taken before an event is what the world keeps
+pub place_is : (w : WorldState) (events : List Event) (taken : List Taken) (place : ℕ) → Shows w events → taken ≡ history w.setup (past_of w.setup events) → place ≡ length taken → length w.history ≡ place
+place_is w events taken place shows are is = ap (λ (w : WorldState). length w.history) shows.shown ∙ ap length (sym are) ∙ sym is
+
+-- an event that is accepted
+pub event_accepted : (w w' : WorldState) (flicks : FlickState) (left : ℕ) (made : Accepted) (access : Option Access) (taken : List Taken) (turns : Turns) → ((events : List Event) → Shows w events → taken ≡ history w.setup (past_of w.setup events)) → made.place ≡ length taken →
+    Adds w made.event (process_of made.event) (act_of (length w.history) (record { access = access; effect = made.effect })) → GoesOn w made.event w' → w'.setup ≡ w.setup → turns ≡ record { quiet = 0; told = Some (told.Accepted made) } →
+    (run : Run) → Follows (course w flicks left) run → Makes (course w flicks left) run (happens (Tries made.event) (left - 1) run) turns.told (course w' flicks (left - 1))
+event_accepted w w' flicks left made access taken turns taken_is place_at adds on same are run follows =
+    let at : length w.history ≡ made.place = place_is w (tried run.happened) taken made.place follows.shows (taken_is (tried run.happened) follows.shows) place_at in
+    let family : ℕ → Type 0 = λ n. entry_of w.setup (past_in w.setup run) made.event ≡ Some (entry_with (process_of made.event) (act_of n (record { access = access; effect = made.effect }))) in
+    let entry : family made.place = subst family at (adds (tried run.happened) follows.shows) in
+    subst (λ (answer : Option Told). Makes (course w flicks left) run (happens (Tries made.event) (left - 1) run) answer (course w' flicks (left - 1))) (sym (ap (λ (turns : Turns). turns.told) are))
+    (record {
+      tells = (refl, (access, entry));
       follows = record { shows = on (tried run.happened) follows.shows; flicks = follows.flicks };
       left = refl;
       setup = same;
-    }
+    })
 
 -- an event that is refused
 pub event_refused : (w w' : WorldState) (flicks : FlickState) (left p : ℕ) (event : Event) (r : Refusal) → p ≡ process_of event → is_event event ≡ true → IsTurnedAway w event r → (r ≡ Memory → ⊥) → w' ≡ w →
@@ -68,20 +78,6 @@ event_refused_by w w' flicks left p event r (Err e) is given away same answered 
 event_refused_by w w' flicks left p event r (Ok turns) is given away same answered =
     let family : Option Told → Type 0 = λ answer. (run : Run) → Follows (course w flicks left) run → Makes (course w flicks left) run (happens (Tries event) (left - 1) run) answer (course w' flicks (left - 1)) in
     subst family (sym (ap (λ (turns : Turns). turns.told) answered.0)) (event_refused w w' flicks left p event r is given away answered.1 same)
-
--- the same of the event as the code has it
-pub accepted_told : (w w' : WorldState) (flicks : FlickState) (left : ℕ) (made : Made) (event : Event) (act : Act) (turns : Turns) → event ≡ event_made made → is_step made ≡ false → Adds w event (process_of event) act → GoesOn w event w' → w'.setup ≡ w.setup →
-    turns ≡ record { quiet = 0; told = Some (told.Accepted made) } →
-    (run : Run) → Follows (course w flicks left) run → Makes (course w flicks left) run (happens (Tries (event_made made)) (left - 1) run) turns.told (course w' flicks (left - 1))
-accepted_told w w' flicks left made event act turns is other adds on same are run follows =
-    subst (λ (answer : Option Told). Makes (course w flicks left) run (happens (Tries (event_made made)) (left - 1) run) answer (course w' flicks (left - 1))) (sym (ap (λ (turns : Turns). turns.told) are))
-    (event_accepted w w' flicks left made act other (subst (λ (e : Event). Adds w e (process_of e) act) is adds) (subst (λ (e : Event). GoesOn w e w') is on) same run follows)
-
-pub refused_told : (w w' : WorldState) (flicks : FlickState) (left p : ℕ) (made : Made) (event : Event) (r : Refusal) (result : Result Turns AllocError) → event ≡ event_made made → p ≡ process_of event → is_event (event_made made) ≡ true → IsTurnedAway w event r → w' ≡ w →
-    IfOk result (λ turns. (turns ≡ record { quiet = 0; told = Some (told.Refused p r) }) × (r ≡ Memory → ⊥)) →
-    IfOk result (λ turns. (run : Run) → Follows (course w flicks left) run → Makes (course w flicks left) run (happens (Tries (event_made made)) (left - 1) run) turns.told (course w' flicks (left - 1)))
-refused_told w w' flicks left p made event r result is whose given away same answered =
-    event_refused_by w w' flicks left p (event_made made) r result (whose ∙ ap process_of is) given (subst (λ (e : Event). IsTurnedAway w e r) is away) same answered
 
 -- a process that is not there
 pub beyond_told : (w : WorldState) (p : ℕ) (events : List Event) → Shows w events → stage_in w.setup (past_of w.setup events) p ≡ None → nat_lt p w.setup.processes ≡ false

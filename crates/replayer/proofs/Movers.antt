@@ -1,11 +1,6 @@
 -- The processes with a Step to make, one by one.
-use Rattle.std.proofs.Common.{◌≡◌, ℕ, zero, suc, ◌+◌, ◌≤◌, Bool, true, false, cond, if◌then◌else◌, ◌==◌, List, [], ◌∷◌, ◌++◌, filter, length, ◌<◌, Ok, refl, ap, sym, ◌∙◌, arith, add-zero, add-one, eqb-true}
-use Rattle.std.proofs.lemmas.Bool.Decides.{nat_tests}
-use Rattle.std.specs.Int.{is_in_range}
+use Rattle.std.proofs.Common.{◌≡◌, ℕ, zero, suc, ◌+◌, Bool, true, false, cond, ◌==◌, List, [], ◌∷◌, ◌++◌, filter, length, ◌<◌, refl, ap, sym, ◌∙◌, arith, add-zero, add-one, eqb-true}
 use Rattle.std.specs.List.{range_with_len}
-use Rattle.plain_store.proofs.GoodSetups.{good-checked}
-use Rattle.plain_store.specs.Setups.{checked}
-use Rattle.plain_store.specs.declared.setups.Setup.{Setup}
 
 -- one number more, which passes or not
 pub filter_more : (p : ℕ → Bool) (a n j : ℕ) → a + n ≡ j → filter p (range_with_len a (suc n)) ≡ filter p (range_with_len a n) ++ cond (p j) (j ∷ []) []

@@ -1,5 +1,5 @@
 -- What a refused event leaves, and what an accepted one does not.
-use Rattle.std.proofs.Common.{◌≡◌, true, false, List, ◌∷◌, Option, None, Some, refl, ap, sym, ◌∙◌}
+use Rattle.std.proofs.Common.{◌≡◌, true, List, ◌∷◌, Option, None, Some, refl, ap, sym, ◌∙◌}
 use Rattle.std.proofs.lemmas.Bool.{and_from}
 use Rattle.std.specs.List.{list_all}
 use Rattle.safe_number.specs.declared.Access.{Access}
@@ -11,9 +11,6 @@ use Rattle.record.specs.Entries.{Entry, Past}
 use Rattle.record.specs.Given.{is_event}
 use Rattle.record.specs.Records.{added, entry_of, past_of, process_of, refused}
 use Rattle.world.specs.Shows.{Shows, WorldState, world_of}
-use Rattle.replayer.specs.Telling.{event_made, is_step, marks_made}
-use Rattle.replayer.specs.declared.told.Made.{Made}
-use Rattle.replayer.specs.declared.told.Made.TheVariants as made
 
 -- an event that is refused adds no entry
 pub none_added : (s : Setup) (past : Past) (event : Event) (r : Refusal) → refused s past event ≡ Some r → entry_of s past event ≡ None
@@ -47,11 +44,3 @@ shows_refused w events event r shows given is = record {
 -- the entry of an event with these marks
 abbrev pub entry_by : Event → Option Access → List Mark → Entry
 entry_by event access marks = record { process = process_of event; access = access; marks = marks }
-
--- an event that is no Step adds one mark
-pub marked_made : (s : Setup) (past : Past) (made : Made) → is_step made ≡ false → added s past (event_made made) ≡ Some (entry_by (event_made made) None (marks_made made))
-marked_made s past (made.Called p command) other = refl
-marked_made s past (made.Stepped p flick place leads) other = absurd (cc)
-marked_made s past (made.Failed p) other = refl
-marked_made s past (made.Withdrew p) other = refl
-marked_made s past (made.Restarted p) other = refl

@@ -15,19 +15,21 @@ use Rattle.scenario.specs.declared.lines.Line.TheVariants as line
 use Rattle.world.specs.Events.{Adds, GoesOn, IsRefused, entry_with}
 use Rattle.world.specs.Flicks.{FlickState, flick_of, after_flick}
 use Rattle.world.specs.Shows.{Shows, WorldState}
-use Rattle.process.specs.Telling.{act_of, marks_told}
+use Rattle.process.specs.Telling.{act_of, marks_of}
 use Rattle.world.specs.Walks.{Walks}
-use Rattle.process.specs.declared.told.Stepped.{Stepped}
+use Rattle.process.specs.declared.told.Effect.{Effect}
+use Rattle.process.specs.declared.told.Effect.TheVariants.{Steps, Calls, Fails, Withdraws, Restarts}
+use Rattle.process.specs.declared.told.Made.{Made}
 use Rattle.process.specs.declared.told.Told.{Told as Leads}
 use Rattle.process.specs.declared.told.Told.TheVariants as step
 use Rattle.replayer.specs.Courses.{CourseState, Follows, IsQuiet, Makes, MakesQuietly, MakesTurns, QuietTurns, course}
 use Rattle.replayer.specs.Happenings.{Happening, Tries, tried}
 use Rattle.replayer.specs.Runs.{Run, may_step, next_step, past_in, stepped}
-use Rattle.replayer.specs.Telling.{AddsMarks, TellsOf, is_quiet, told_step, with_told}
+use Rattle.replayer.specs.Telling.{AddsMarks, TellsOf, is_nothing, is_quiet, told_step, with_told}
 use Rattle.replayer.specs.Turns.{Turn, ends, made_turn, step_turn, turn_of}
 use Rattle.replayer.specs.declared.told.Told.{Told}
 use Rattle.replayer.specs.declared.told.Turns.{Turns}
-use Rattle.replayer.proofs.CourseTurns.{turn_next}
+use Rattle.replayer.proofs.CourseTurns.{place_is, turn_next}
 use Rattle.replayer.proofs.Refusals.{entry_by, not_refused, shows_refused}
 
 -- one more
@@ -41,7 +43,7 @@ quiet_more s line (suc quiet) left run left' run' turn (first, rest) is here =
     (first, quiet_more s line quiet (turn_of s line left run).left (turn_of s line left run).run left' run' turn rest is here)
 
 -- what holds of a Step holds of it with what it leads to
-pub told_if_ok : (leads : Leads) (r : Result Access Refusal) (P : Stepped → Type 0) → IfOk r (λ access. P (record { access = access; told = leads })) → IfOk (with_told leads r) P
+pub told_if_ok : (leads : Leads) (r : Result Access Refusal) (P : Made → Type 0) → IfOk r (λ access. P (record { access = Some access; effect = Steps leads })) → IfOk (with_told leads r) P
 told_if_ok leads (Ok access) P h = h
 told_if_ok leads (Err refusal) P h = tt
 
@@ -62,17 +64,21 @@ told_is_err leads (Ok access) = refl
 told_is_err leads (Err refusal) = refl
 
 -- a Step that leads to nothing has no mark
-no_marks : (leads : Leads) → (elim leads as (λ _. Bool) [ step.Nothing ↦ true | _ ↦ false ]) ≡ true → marks_told leads ≡ []
-no_marks step.Nothing is = refl
-no_marks (step.Waits t) is = absurd (cc)
-no_marks (step.WaitsAndEnters t) is = absurd (cc)
-no_marks step.Enters is = absurd (cc)
-no_marks (step.Took r) is = absurd (cc)
-no_marks step.Leaves is = absurd (cc)
-no_marks (step.Answers a) is = absurd (cc)
-no_marks (step.Settles v) is = absurd (cc)
-no_marks (step.SettlesAndTakes v r) is = absurd (cc)
-no_marks step.Lies is = absurd (cc)
+no_marks : (effect : Effect) → is_nothing effect ≡ true → marks_of effect ≡ []
+no_marks (Steps step.Nothing) is = refl
+no_marks (Steps (step.Waits t)) is = absurd (cc)
+no_marks (Steps (step.WaitsAndEnters t)) is = absurd (cc)
+no_marks (Steps step.Enters) is = absurd (cc)
+no_marks (Steps (step.Took r)) is = absurd (cc)
+no_marks (Steps step.Leaves) is = absurd (cc)
+no_marks (Steps (step.Answers a)) is = absurd (cc)
+no_marks (Steps (step.Settles v)) is = absurd (cc)
+no_marks (Steps (step.SettlesAndTakes v r)) is = absurd (cc)
+no_marks (Steps step.Lies) is = absurd (cc)
+no_marks (Calls c) is = absurd (cc)
+no_marks Fails is = absurd (cc)
+no_marks Withdraws is = absurd (cc)
+no_marks Restarts is = absurd (cc)
 
 -- a Step that is made, by the flick that is next
 step_follows : (w w' : WorldState) (flicks : FlickState) (left left' p : ℕ) (flick : Bool) (run : Run) → flick ≡ flick_of flicks → GoesOn w (event.Step p flick) w' → Follows (course w flicks left) run →
@@ -83,12 +89,12 @@ step_follows w w' flicks left left' p flick run is on follows = record {
 }
 
 -- it adds its marks
-step_adds : (w : WorldState) (flicks : FlickState) (left p place : ℕ) (flick : Bool) (made : Stepped) (marks : List Mark) (run : Run) → flick ≡ flick_of flicks → Adds w (event.Step p flick) p (act_of place made) → map (placed place) (marks_told made.told) ≡ marks → Follows (course w flicks left) run →
+step_adds : (w : WorldState) (flicks : FlickState) (left p place : ℕ) (flick : Bool) (made : Made) (marks : List Mark) (run : Run) → flick ≡ flick_of flicks → Adds w (event.Step p flick) p (act_of place made) → map (placed place) (marks_of made.effect) ≡ marks → Follows (course w flicks left) run →
     AddsMarks w.setup (past_in w.setup run) (next_step p run) marks
 step_adds w flicks left p place flick made marks run is adds are follows =
     let entry : entry_of w.setup (past_in w.setup run) (event.Step p flick) ≡ Some (entry_with p (act_of place made)) = adds (tried run.happened) follows.shows in
     let family : Bool → List Mark → Type 0 = λ b marks. AddsMarks w.setup (past_in w.setup run) (event.Step p b) marks in
-    let first : family flick (map (placed place) (marks_told made.told)) = (Some made.access, entry) in
+    let first : family flick (map (placed place) (marks_of made.effect)) = (made.access, entry) in
     subst (λ b. family b marks) (is ∙ ap flick_of follows.flicks) (subst (λ marks. family flick marks) are first)
 
 -- a Step without a mark
@@ -97,18 +103,18 @@ pub record QuietStep (w w' : WorldState) (flicks : FlickState) (left' p : ℕ) (
   pub follows : Follows (course w' (after_flick flicks) left') (stepped p run)
   pub setup : w'.setup ≡ w.setup
 
-pub quiet_made : (w w' : WorldState) (flicks : FlickState) (left left' p : ℕ) (flick : Bool) (result : Result Stepped Refusal) → flick ≡ flick_of flicks →
+pub quiet_made : (w w' : WorldState) (flicks : FlickState) (left left' p : ℕ) (flick : Bool) (result : Result Made Refusal) → flick ≡ flick_of flicks →
     IfOk result (λ made. Adds w (event.Step p flick) p (act_of (length w.history) made)) → OnOk result (GoesOn w (event.Step p flick) w') → OnOk result (w'.setup ≡ w.setup) → is_quiet result ≡ true →
     (run : Run) → Follows (course w flicks left) run → QuietStep w w' flicks left' p run
 quiet_made w w' flicks left left' p flick (Err r) is adds on setup quiet run follows = absurd (cc)
 quiet_made w w' flicks left left' p flick (Ok made) is adds on setup quiet run follows = record {
-  adds = step_adds w flicks left p (length w.history) flick made [] run is adds (ap (map (placed (length w.history))) (no_marks made.told quiet)) follows;
+  adds = step_adds w flicks left p (length w.history) flick made [] run is adds (ap (map (placed (length w.history))) (no_marks made.effect quiet)) follows;
   follows = step_follows w w' flicks left left' p flick run is on follows;
   setup = setup;
 }
 
 -- it was made
-pub quiet_ok : (result : Result Stepped Refusal) {P : Type 0} → is_quiet result ≡ true → OnOk result P → P
+pub quiet_ok : (result : Result Made Refusal) {P : Type 0} → is_quiet result ≡ true → OnOk result P → P
 quiet_ok (Ok made) quiet p = p
 quiet_ok (Err r) quiet p = absurd (cc)
 
@@ -134,11 +140,7 @@ pub record StepTold (w w' : WorldState) (flicks : FlickState) (p : ℕ) (answer 
   pub flicks_are : after_flick flicks ≡ (stepped p run).flicks
   pub setup : w'.setup ≡ w.setup
 
--- what was taken before it is what the world keeps
-place_is : (w : WorldState) (events : List Event) (taken : List Taken) (place : ℕ) → Shows w events → taken ≡ history w.setup (past_of w.setup events) → place ≡ length taken → length w.history ≡ place
-place_is w events taken place shows are is = ap (λ (w : WorldState). length w.history) shows.shown ∙ ap length (sym are) ∙ sym is
-
-pub step_told : (w w' : WorldState) (flicks : FlickState) (left p place : ℕ) (flick : Bool) (taken : List Taken) (result : Result Stepped Refusal) → flick ≡ flick_of flicks →
+pub step_told : (w w' : WorldState) (flicks : FlickState) (left p place : ℕ) (flick : Bool) (taken : List Taken) (result : Result Made Refusal) → flick ≡ flick_of flicks →
     ((events : List Event) → Shows w events → taken ≡ history w.setup (past_of w.setup events)) → place ≡ length taken →
     IfOk result (λ made. Adds w (event.Step p flick) p (act_of (length w.history) made)) → OnOk result (GoesOn w (event.Step p flick) w') → IfErr result (λ r. IsRefused w (event.Step p flick) (Some r)) → OnErr result (w' ≡ w) → OnOk result (w'.setup ≡ w.setup) →
     (run : Run) → Follows (course w flicks left) run → StepTold w w' flicks p (told_step p flick place result) run
@@ -146,7 +148,7 @@ step_told w w' flicks left p place flick taken (Ok made) is taken_is place_at ad
     let f = step_follows w w' flicks left left p flick run is on follows in
     let at : length w.history ≡ place = place_is w (tried run.happened) taken place follows.shows (taken_is (tried run.happened) follows.shows) place_at in
     record {
-      tells = (ap (event.Step p) (is ∙ ap flick_of follows.flicks), step_adds w flicks left p (length w.history) flick made (map (placed place) (marks_told made.told)) run is adds (ap (λ n. map (placed n) (marks_told made.told)) at) follows);
+      tells = (ap (event.Step p) (is ∙ ap flick_of follows.flicks), step_adds w flicks left p (length w.history) flick made (map (placed place) (marks_of made.effect)) run is adds (ap (λ n. map (placed n) (marks_of made.effect)) at) follows);
       shows = f.shows;
       flicks_are = f.flicks;
       setup = setup;
@@ -195,7 +197,7 @@ walk_starts old line run new is follows =
     subst (λ (c : CourseState). MakesQuietly old line run 0 c) (sym is) (record { now = run; turns = (refl, refl); follows = record { shows = follows.shows; flicks = follows.flicks }; setup = refl })
 
 -- a Step without a mark more
-pub walk_on : (old : CourseState) (p steps : ℕ) (run : Run) (quiet : ℕ) (w w' : WorldState) (flicks flicks' : FlickState) (left : ℕ) (flick : Bool) (result : Result Stepped Refusal) → (left ≡ 0 → ⊥) → flick ≡ flick_of flicks → flicks' ≡ after_flick flicks →
+pub walk_on : (old : CourseState) (p steps : ℕ) (run : Run) (quiet : ℕ) (w w' : WorldState) (flicks flicks' : FlickState) (left : ℕ) (flick : Bool) (result : Result Made Refusal) → (left ≡ 0 → ⊥) → flick ≡ flick_of flicks → flicks' ≡ after_flick flicks →
     IfOk result (λ made. Adds w (event.Step p flick) p (act_of (length w.history) made)) → OnOk result (GoesOn w (event.Step p flick) w') → OnOk result (w'.setup ≡ w.setup) → is_quiet result ≡ true →
     MakesQuietly old (line.Step p steps) run quiet (course w flicks left) → MakesQuietly old (line.Step p steps) run (quiet + 1) (course w' flicks' (left - 1))
 walk_on old p steps run quiet w w' flicks flicks' left flick result some_left is after adds on setup silent here =
@@ -207,20 +209,20 @@ walk_on old p steps run quiet w w' flicks flicks' left flick result some_left is
     (turn_next s (line.Step p steps) left here.now some_left ∙ step_turn_made s p (left - 1) here.now [] quietly) refl q.adds q.follows q.setup)
 
 -- what a Step leaves of so many turns, which ends its line where it is refused
-abbrev pub left_after : Result Stepped Refusal → ℕ → ℕ
+abbrev pub left_after : Result Made Refusal → ℕ → ℕ
 left_after (Ok made) left = left
 left_after (Err r) left = 0
 
-pub left_ok : (result : Result Stepped Refusal) (left : ℕ) → is_err result ≡ false → left_after result left ≡ left
+pub left_ok : (result : Result Made Refusal) (left : ℕ) → is_err result ≡ false → left_after result left ≡ left
 left_ok (Ok made) left is = refl
 left_ok (Err r) left is = absurd (cc)
 
-pub left_err : (result : Result Stepped Refusal) (left : ℕ) → is_err result ≡ true → left_after result left ≡ 0
+pub left_err : (result : Result Made Refusal) (left : ℕ) → is_err result ≡ true → left_after result left ≡ 0
 left_err (Ok made) left is = absurd (cc)
 left_err (Err r) left is = refl
 
-step_turn_left : (s : Setup) (p left place : ℕ) (flick : Bool) (run : Run) (result : Result Stepped Refusal) → TellsOf s (past_in s run) (Tries (next_step p run)) (told_step p flick place result) → step_turn s p left run ≡ made_turn p (left_after result left) run
-step_turn_left s p left place flick run (Ok made) tells = step_turn_made s p left run (map (placed place) (marks_told made.told)) tells.1
+step_turn_left : (s : Setup) (p left place : ℕ) (flick : Bool) (run : Run) (result : Result Made Refusal) → TellsOf s (past_in s run) (Tries (next_step p run)) (told_step p flick place result) → step_turn s p left run ≡ made_turn p (left_after result left) run
+step_turn_left s p left place flick run (Ok made) tells = step_turn_made s p left run (map (placed place) (marks_of made.effect)) tells.1
 step_turn_left s p left place flick run (Err r) tells = step_turn_refused s p left run r tells.1
 
 -- turns without a mark after turns without a mark
@@ -250,7 +252,7 @@ walks_quietly zero w w' flicks flicks' left p steps run few (same, same_flicks) 
     walk_starts (course w flicks left) (line.Step p steps) run (course w' flicks' (left - 0)) (λ i. course (same i) (same_flicks i) (all i)) follows
 walks_quietly (suc n) w w' flicks flicks' left p steps run few (w1, flicks1, walks, quietly, after) follows =
     let before = walks_quietly n w w1 flicks flicks1 left p steps run (omega (arith, few)) walks follows in
-    let result : Result Stepped Refusal = Ok (record { access = quietly.access; told = step.Nothing }) in
+    let result : Result Made Refusal = Ok (record { access = Some quietly.access; effect = Steps step.Nothing }) in
     let on = walk_on (course w flicks left) p steps run n w1 w' flicks1 flicks' (left - n) (flick_of flicks1) result (λ none. omega (arith, few, none)) refl after quietly.adds quietly.shows quietly.setup refl before in
     let fewer : left - n - 1 ≡ left - suc n = omega arith in
     subst (λ k. MakesQuietly (course w flicks left) (line.Step p steps) run (suc n) (course w' flicks' k)) fewer
@@ -267,7 +269,7 @@ walks_setup zero w w' flicks flicks' p (same, same_flicks) = ap (λ (w : WorldSt
 walks_setup (suc n) w w' flicks flicks' p (w1, flicks1, walks, quietly, after) = quietly.setup ∙ walks_setup n w w1 flicks flicks1 p walks
 
 -- the Step that is told
-pub walk_told : (old : CourseState) (p steps : ℕ) (run : Run) (quiet : ℕ) (w w' : WorldState) (flicks flicks' : FlickState) (left place : ℕ) (flick : Bool) (taken : List Taken) (result : Result Stepped Refusal) (answer : Told) (new : CourseState) → (left ≡ 0 → ⊥) →
+pub walk_told : (old : CourseState) (p steps : ℕ) (run : Run) (quiet : ℕ) (w w' : WorldState) (flicks flicks' : FlickState) (left place : ℕ) (flick : Bool) (taken : List Taken) (result : Result Made Refusal) (answer : Told) (new : CourseState) → (left ≡ 0 → ⊥) →
     flick ≡ flick_of flicks → flicks' ≡ after_flick flicks → ((events : List Event) → Shows w events → taken ≡ history w.setup (past_of w.setup events)) → place ≡ length taken →
     IfOk result (λ made. Adds w (event.Step p flick) p (act_of (length w.history) made)) → OnOk result (GoesOn w (event.Step p flick) w') → IfErr result (λ r. IsRefused w (event.Step p flick) (Some r)) → OnErr result (w' ≡ w) → OnOk result (w'.setup ≡ w.setup) →
     answer ≡ told_step p flick place result → new ≡ course w' flicks' (left_after result (left - 1)) → MakesQuietly old (line.Step p steps) run quiet (course w flicks left) →

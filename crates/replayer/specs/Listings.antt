@@ -10,7 +10,6 @@ use Rattle.world.specs.Shows.{Shows, WorldState}
 use Rattle.replayer.specs.Courses.{CourseState, Follows}
 use Rattle.replayer.specs.Happenings.{Happening, accepted, tried}
 use Rattle.replayer.specs.Runs.{Run, happenings, run_after}
-use Rattle.replayer.specs.Telling.{event_made}
 use Rattle.replayer.specs.declared.told.Told.{Told}
 use Rattle.replayer.specs.declared.told.Told.TheVariants as told
 
@@ -24,7 +23,7 @@ accepted_events script = listed script.setup (happenings script)
 
 -- the event that is told, if one is
 abbrev pub event_told : Told → List Event
-event_told (told.Accepted made) = event_made made ∷ []
+event_told (told.Accepted made) = made.event ∷ []
 event_told (told.Refused p refusal) = []
 event_told (told.Tired p) = []
 event_told (told.Shown line) = []

@@ -1,47 +1,30 @@
 -- What a turn tells of what happens, and its text.
-use Rattle.std.specs.Prelude.{◌≡◌, ℕ, Bool, true, false, List, [], ◌∷◌, flat_map, map, Option, None, Some, Result, Ok, Err}
+use Rattle.std.specs.Prelude.{◌≡◌, ℕ, Bool, true, false, List, flat_map, map, Option, None, Some, Result, Ok, Err}
 use Rattle.std.specs.String.{string_bytes}
 use Rattle.safe_number.specs.declared.Access.{Access}
 use Rattle.plain_store.specs.declared.setups.Setup.{Setup}
 use Rattle.record.specs.declared.events.Event.{Event}
 use Rattle.record.specs.declared.events.Event.TheVariants as event
 use Rattle.record.specs.declared.marks.Mark.{Mark}
-use Rattle.record.specs.declared.marks.Mark.TheVariants as mark
 use Rattle.record.specs.declared.refusals.Refusal.{Refusal}
 use Rattle.record.specs.declared.refusals.Refusal.TheVariants.{NoProcess}
 use Rattle.record.specs.Entries.{Past}
 use Rattle.record.specs.Records.{entry_of, placed, process_of, refused}
-use Rattle.process.specs.Telling.{marks_told}
-use Rattle.process.specs.declared.told.Stepped.{Stepped}
+use Rattle.process.specs.Telling.{marks_of}
+use Rattle.process.specs.declared.told.Effect.{Effect}
+use Rattle.process.specs.declared.told.Effect.TheVariants.{Steps}
+use Rattle.process.specs.declared.told.Made.{Made}
 use Rattle.process.specs.declared.told.Told.{Told as Leads}
 use Rattle.process.specs.declared.told.Told.TheVariants as step
 use Rattle.replayer.specs.Happenings.{Happening, Tries, Lacks, Tires, Looks}
 use Rattle.replayer.specs.Texts.{mark_line, newest_store, refusal_line, store_text, turns_line}
-use Rattle.replayer.specs.declared.told.Made.{Made}
-use Rattle.replayer.specs.declared.told.Made.TheVariants as made
+use Rattle.replayer.specs.declared.told.Accepted.{Accepted}
 use Rattle.replayer.specs.declared.told.Told.{Told}
 use Rattle.replayer.specs.declared.told.Told.TheVariants as told
 
--- the event that was made
-abbrev pub event_made : Made → Event
-event_made (made.Called p command) = event.Call p command
-event_made (made.Stepped p flick place leads) = event.Step p flick
-event_made (made.Failed p) = event.Fail p
-event_made (made.Withdrew p) = event.Withdraw p
-event_made (made.Restarted p) = event.Restart p
-
--- the marks of its entry
-abbrev pub marks_made : Made → List Mark
-marks_made (made.Called p command) = mark.Called command ∷ []
-marks_made (made.Stepped p flick place leads) = map (placed place) (marks_told leads)
-marks_made (made.Failed p) = mark.Failed ∷ []
-marks_made (made.Withdrew p) = mark.Withdrew ∷ []
-marks_made (made.Restarted p) = mark.Restarted ∷ []
-
--- it was a Step
-abbrev pub is_step : Made → Bool
-is_step (made.Stepped p flick place leads) = true
-is_step _ = false
+-- the marks of the entry of an accepted event
+abbrev pub marks_made : Accepted → List Mark
+marks_made made = map (placed made.place) (marks_of made.effect)
 
 -- an event adds an entry with these marks
 abbrev pub AddsMarks : Setup → Past → Event → List Mark → Type 0
@@ -49,7 +32,7 @@ AddsMarks s past event marks = (access : Option Access) × (entry_of s past even
 
 -- what is told is what happens after this past
 abbrev pub TellsOf : Setup → Past → Happening → Told → Type 0
-TellsOf s past (Tries event) (told.Accepted made) = (event_made made ≡ event) × AddsMarks s past event (marks_made made)
+TellsOf s past (Tries event) (told.Accepted made) = (made.event ≡ event) × AddsMarks s past event (marks_made made)
 TellsOf s past (Tries event) (told.Refused p refusal) = (p ≡ process_of event) × (refused s past event ≡ Some refusal)
 TellsOf s past (Lacks p) (told.Refused q refusal) = (q ≡ p) × (refusal ≡ NoProcess)
 TellsOf s past (Tires p) (told.Tired q) = q ≡ p
@@ -64,22 +47,27 @@ Tells s past _ _ = ⊥
 
 -- the text of what is told, where so many events were accepted before
 abbrev pub told_text : ℕ → Told → List ℕ
-told_text number (told.Accepted made) = flat_map (mark_line number (process_of (event_made made))) (marks_made made)
+told_text number (told.Accepted made) = flat_map (mark_line number (process_of made.event)) (marks_made made)
 told_text number (told.Refused p refusal) = refusal_line p refusal
 told_text number (told.Tired p) = turns_line p
 told_text number (told.Shown line) = string_bytes line
 
 -- a Step that is made or refused, with what it leads to
-abbrev pub with_told : Leads → Result Access Refusal → Result Stepped Refusal
-with_told leads (Ok access) = Ok (record { access = access; told = leads })
+abbrev pub with_told : Leads → Result Access Refusal → Result Made Refusal
+with_told leads (Ok access) = Ok (record { access = Some access; effect = Steps leads })
 with_told leads (Err refusal) = Err refusal
 
 -- what a Step of a process tells, with its flick and the place of a command that it takes
-abbrev pub told_step : ℕ → Bool → ℕ → Result Stepped Refusal → Told
-told_step p flick place (Ok stepped) = told.Accepted (made.Stepped p flick place stepped.told)
+abbrev pub told_step : ℕ → Bool → ℕ → Result Made Refusal → Told
+told_step p flick place (Ok made) = told.Accepted (record { event = event.Step p flick; place = place; effect = made.effect })
 told_step p flick place (Err refusal) = told.Refused p refusal
 
+-- a Step leads to nothing
+abbrev pub is_nothing : Effect → Bool
+is_nothing (Steps step.Nothing) = true
+is_nothing _ = false
+
 -- a Step was made that has no mark
-abbrev pub is_quiet : Result Stepped Refusal → Bool
-is_quiet (Ok stepped) = elim stepped.told [ step.Nothing ↦ true | _ ↦ false ]
+abbrev pub is_quiet : Result Made Refusal → Bool
+is_quiet (Ok made) = is_nothing made.effect
 is_quiet (Err refusal) = false

@@ -46,7 +46,7 @@ fn list(told: Told, events: &mut Vec<Event>) -> Result<(), AllocError>
 {
     let _nested: NestedTypes = None;
     if let Told::Accepted(made) = &told {
-        events.push(made.event())?;
+        events.push(made.event)?;
     }
     Ok(())
 }

@@ -1,75 +1,35 @@
 //! What the turns of a run tell.
-ghost use Rattle.std.specs.Prelude.{◌≡◌, ◌∷◌, []};
-ghost use Rattle.replayer.specs.Telling.{event_made, marks_made};
+ghost use Rattle.std.specs.Prelude.{◌≡◌};
+ghost use Rattle.replayer.specs.Telling.{marks_made};
 
-use plain_store::{Command, NestedTypes};
+use plain_store::NestedTypes;
 use record::{Event, Mark, Refusal};
 use smallvec::SmallVec;
 use std::alloc::Global;
+use world::Effect;
 
-/// An event that was made, and what its entry marks, in a few bytes.
+/// An event that was accepted, and what it leads to. A command that it takes gets this place in the history.
 #[derive(Clone, Copy)]
-pub(crate) enum Made {
-    Called {
-        process: u8,
-        command: Command,
-    },
-    /// A Step, and what it leads to. A command that it takes gets this place in the history.
-    Stepped {
-        process: u8,
-        flick: bool,
-        place: u64,
-        told: world::Told,
-    },
-    Failed(u8),
-    Withdrew(u8),
-    Restarted(u8),
+pub(crate) struct Accepted {
+    pub event: Event,
+    pub place: u64,
+    pub effect: Effect,
 }
 
-impl Made {
-    /// The event.
-    pub fn event(&self) -> Event
-        ensures { result ≡ event_made self.now }
-    {
-        let _nested: NestedTypes = None;
-        match self {
-            Made::Called { process, command } => Event::Call(*process, *command),
-            Made::Stepped { process, flick, .. } => Event::Step(*process, *flick),
-            Made::Failed(process) => Event::Fail(*process),
-            Made::Withdrew(process) => Event::Withdraw(*process),
-            Made::Restarted(process) => Event::Restart(*process),
-        }
-    }
-
+impl Accepted {
     /// The marks of its entry, in their order. They take no memory.
     pub fn marks(&self, alloc: Global) -> SmallVec<Mark, 3>
         ensures { result.items ≡ marks_made self.now }
     {
         let _nested: NestedTypes = None;
-        match self {
-            Made::Called { command, .. } => one(alloc, Mark::Called(*command)),
-            Made::Stepped { place, told, .. } => told.marks(alloc, *place),
-            Made::Failed(_) => one(alloc, Mark::Failed),
-            Made::Withdrew(_) => one(alloc, Mark::Withdrew),
-            Made::Restarted(_) => one(alloc, Mark::Restarted),
-        }
-    }
-}
-
-/// One mark, in place.
-fn one(alloc: Global, mark: Mark) -> SmallVec<Mark, 3>
-    ensures { result.items ≡ mark ∷ [] }
-{
-    match SmallVec::from_array(alloc, [mark]) {
-        Ok(marks) => marks,
-        Err(_) => unreachable!(),
+        self.effect.marks(alloc, self.place)
     }
 }
 
 /// What a turn of a run tells.
 #[derive(Drop)]
 pub(crate) enum Told {
-    Accepted(Made),
+    Accepted(Accepted),
     /// An event of this process was refused, or `go` found no such process.
     Refused { process: u8, refusal: Refusal },
     /// This process has made all the Steps of a `go`.

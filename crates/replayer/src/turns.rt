@@ -12,21 +12,20 @@ ghost use Rattle.world.specs.Shows.{Shows};
 ghost use Rattle.replayer.specs.Courses.{Follows, Makes, MakesTurns, CourseState};
 ghost use Rattle.replayer.specs.Happenings.{Tries};
 ghost use Rattle.replayer.specs.Runs.{Run, is_there as is_target, past_in, run_at_start, set_to as seed_set};
-ghost use Rattle.replayer.specs.Telling.{event_made, is_step};
 ghost use Rattle.replayer.specs.Texts.{newest_store, store_text};
 ghost use Rattle.replayer.specs.Turns.{happens, turn_of, turns_in as turns_of};
 
 mod walks;
 
 use crate::store_line::newest_line;
-use crate::told::{Made, Told, Turns};
+use crate::told::{Accepted, Told, Turns};
 use plain_store::{NestedTypes, Setup};
-use record::Refusal;
+use record::{Event, Refusal};
 use scenario::{Flick, Line};
 use std::alloc::{AllocError, Global};
 use std::marker::Model;
 use store_image::Image;
-use world::{Flicks, World};
+use world::{Effect, Flicks, World};
 
 /// The Steps that a `go` makes at most.
 const GO_LIMIT: u32 = 65_536;
@@ -121,14 +120,11 @@ impl Course {
             Line::Wander(_) => Ok(self.wander(all)),
             Line::Call(process, command) => {
                 command.operands_are_sound();
-                self.event(Made::Called {
-                    process: *process,
-                    command: *command,
-                })
+                self.event(Event::Call(*process, *command))
             }
-            Line::Fail(process) => self.event(Made::Failed(*process)),
-            Line::Withdraw(process) => self.event(Made::Withdrew(*process)),
-            Line::Restart(process) => self.event(Made::Restarted(*process)),
+            Line::Fail(process) => self.event(Event::Fail(*process)),
+            Line::Withdraw(process) => self.event(Event::Withdraw(*process)),
+            Line::Restart(process) => self.event(Event::Restart(*process)),
             Line::Flick(flick) => {
                 self.left -= 1;
                 self.flicks.set(set_to(*flick));
@@ -141,19 +137,26 @@ impl Course {
         }
     }
 
-    /// Makes an event that is no Step, unless it is refused.
-    fn event(&mut self, made: Made) -> Result<Turns, AllocError>
+    /// Makes an event, unless it is refused.
+    fn event(&mut self, event: Event) -> Result<Turns, AllocError>
         requires some_left { 0 < self.old.left }
-        requires other { is_step made ≡ false }
-        requires given { is_event (event_made made) ≡ true }
+        requires given { is_event event ≡ true }
         ensures left { self.new.left ≡ self.old.left - 1 }
         ensures quiet { IfOk result (λ turns. turns.quiet ≡ 0) }
-        ensures made { IfOk result (λ turns. (run : Run) → Follows self.old run → Makes self.old run (happens (Tries (event_made made)) (self.old.left - 1) run) turns.told self.new) }
+        ensures made { IfOk result (λ turns. (run : Run) → Follows self.old run → Makes self.old run (happens (Tries event) (self.old.left - 1) run) turns.told self.new) }
     {
         self.left -= 1;
-        let event = made.event();
-        match self.world.event(event) {
-            Ok(_) => Ok(Turns::one(Told::Accepted(made))),
+        let place = self.world.history().len() as u64;
+        let mut effect = Effect::Steps(world::Told::Nothing);
+        match self.world.make(&event, &mut effect) {
+            Ok(_) => {
+                let made = Accepted {
+                    event,
+                    place,
+                    effect,
+                };
+                Ok(Turns::one(Told::Accepted(made)))
+            }
             Err(refusal) => refused(event.process(), refusal),
         }
     }

@@ -24,7 +24,7 @@ fn write_told<W: Sink>(alloc: Global, number: u64, told: &Told, output: &mut W) 
 {
     match told {
         Told::Accepted(made) => {
-            let process = made.event().process();
+            let process = made.event.process();
             write_marks(alloc, number, process, made.marks(alloc).as_slice(), output)
         }
         Told::Refused { process, refusal } => {

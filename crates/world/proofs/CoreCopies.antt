@@ -16,7 +16,8 @@ use Rattle.critical.specs.Registers.{Data, DataRow, data_from, register_from, ro
 use Rattle.laws.specs.Held.{cell_held}
 use Rattle.world.specs.Cores.{CoreState, KeepsCore}
 use Rattle.world.specs.Seats.{Seat, seat_of, setups_in}
-use Rattle.world.specs.Shows.{WorldState, lock_from, locks_from}
+use Rattle.process.specs.Registers.{AreAlike, RegistersState}
+use Rattle.world.specs.Shows.{WorldState, lock_from, locks_from, registers_from}
 use Rattle.world.proofs.RowsCells.{data-is, lock-is, many-locks, many-parts, readers-are, width-is}
 
 -- Registers of one setup, whatever their cells.
@@ -40,7 +41,7 @@ module _ (a b : Access → Cell) (s : Setup) where
     image1 = register-shape p Image1;
   }
 
-  pub locks-shape : locks.AreAllAlike (locks_from a s) (locks_from b s)
+  locks-shape : locks.AreAllAlike (locks_from a s) (locks_from b s)
   locks-shape = record {
     processes = many-locks a s ∙ sym (many-locks b s);
     each = λ p inside.
@@ -49,7 +50,7 @@ module _ (a b : Access → Cell) (s : Setup) where
       (subst (λ (y : LockRows). locks.AreAlike (lock_from a s p) y) (sym (lock-is b s p below)) (lock-shape p));
   }
 
-  pub row-shape : versions.AreAllAlike (row_from a s) (row_from b s)
+  row-shape : versions.AreAllAlike (row_from a s) (row_from b s)
   row-shape = record {
     setup = refl;
     parts = many-parts a s ∙ sym (many-parts b s);
@@ -58,6 +59,9 @@ module _ (a b : Access → Cell) (s : Setup) where
       subst (λ (x : Data). versions.AreAlike x (versions.data_of (row_from b s) p)) (sym (data-is a s p below))
       (subst (λ (y : Data). versions.AreAlike (data_from a s p) y) (sym (data-is b s p below)) (data-shape p));
   }
+
+  pub registers-shape : AreAlike (registers_from a s) (registers_from b s)
+  registers-shape = record { locks = locks-shape; versions = row-shape }
 
 -- the seats of a setup have it
 seats-setup : (s : Setup) (past then : Past) (ps : List ℕ) → setups_in (map (seat_of s past) ps) ≡ setups_in (map (seat_of s then) ps)
@@ -73,19 +77,12 @@ module _ (c d : CoreState) (k : KeepsCore c) (l : KeepsCore d) (same : c.setup �
   abbrev then : Past
   then = past_of d.setup l.events
 
-  pub locks-alike : locks.AreAllAlike c.locks d.locks
-  locks-alike =
-      subst (λ (rows : List LockRows). locks.AreAllAlike rows d.locks) (sym (ap (λ (w : WorldState). w.locks) k.shows.shown))
-      (subst (λ (rows : List LockRows). locks.AreAllAlike (locks_from (cell_held c.setup past) c.setup) rows)
-      (ap (locks_from (cell_held d.setup then)) same ∙ sym (ap (λ (w : WorldState). w.locks) l.shows.shown))
-      (locks-shape (cell_held c.setup past) (cell_held d.setup then) c.setup))
-
-  pub versions-alike : versions.AreAllAlike c.versions d.versions
-  versions-alike =
-      subst (λ (row : DataRow). versions.AreAllAlike row d.versions) (sym (ap (λ (w : WorldState). w.versions) k.shows.shown))
-      (subst (λ (row : DataRow). versions.AreAllAlike (row_from (cell_held c.setup past) c.setup) row)
-      (ap (row_from (cell_held d.setup then)) same ∙ sym (ap (λ (w : WorldState). w.versions) l.shows.shown))
-      (row-shape (cell_held c.setup past) (cell_held d.setup then) c.setup))
+  pub registers-alike : AreAlike c.registers d.registers
+  registers-alike =
+      subst (λ (r : RegistersState). AreAlike r d.registers) (sym (ap (λ (w : WorldState). w.registers) k.shows.shown))
+      (subst (λ (r : RegistersState). AreAlike (registers_from (cell_held c.setup past) c.setup) r)
+      (ap (registers_from (cell_held d.setup then)) same ∙ sym (ap (λ (w : WorldState). w.registers) l.shows.shown))
+      (registers-shape (cell_held c.setup past) (cell_held d.setup then) c.setup))
 
   pub seats-alike : setups_in c.seats ≡ setups_in d.seats
   seats-alike =

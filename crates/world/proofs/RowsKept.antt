@@ -1,5 +1,5 @@
 -- The registers as they open, that an entry which only marks leaves them, and that they are those of the setup.
-use Rattle.std.proofs.Common.{◌≡◌, ℕ, zero, suc, ◌==◌, ◌&&◌, false, cond, [], ◌∷◌, None, Ok, length, map, refl, sym, ap, subst, ◌∙◌, arith}
+use Rattle.std.proofs.Common.{◌≡◌, ℕ, zero, suc, ◌==◌, ◌&&◌, false, cond, [], ◌∷◌, None, Ok, length, map, sym, ap, subst, ◌∙◌, arith}
 use Rattle.safe_bit.specs.Cell.{Cell, without_read}
 use Rattle.reader_copies.specs.Row.{IsRow}
 use Rattle.safe_number.specs.declared.Access.{Access}

@@ -8,13 +8,13 @@ ghost use Rattle.replayer.specs.Runs.{Run, has_step, is_there as is_target, move
 ghost use Rattle.replayer.specs.Telling.{is_quiet as has_no_mark, told_step, with_told};
 
 use super::Course;
-use crate::told::{Made, Told, Turns};
+use crate::told::{Accepted, Told, Turns};
 use plain_store::NestedTypes;
-use record::{Refusal, Stage};
+use record::{Event, Refusal, Stage};
 use safe_number::Access;
 use scenario::Target;
 use smallvec::SmallVec;
-use world::{Flicks, World};
+use world::{Effect, Flicks, World};
 
 impl Course {
     /// Steps of this process, while more than so many turns are left, up to the first that is told; one that is
@@ -211,11 +211,10 @@ fn told_of(
 {
     let _nested: NestedTypes = None;
     match stepped {
-        Ok(_) => Told::Accepted(Made::Stepped {
-            process,
-            flick,
+        Ok(_) => Told::Accepted(Accepted {
+            event: Event::Step(process, flick),
             place,
-            told: *leads,
+            effect: Effect::Steps(*leads),
         }),
         Err(refusal) => Told::Refused {
             process,

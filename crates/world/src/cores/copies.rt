@@ -12,8 +12,7 @@ impl Core {
         requires setup { self.old.setup ≡ other.now.setup }
         ensures { self.new ≡ other.now }
     {
-        self.locks.copy_from(&other.locks);
-        self.versions.copy_from(&other.versions);
+        self.registers.copy_from(&other.registers);
         copy_seats(&mut self.seats, &other.seats);
     }
 }

@@ -1,16 +1,12 @@
 use Rattle.std.proofs.Common.{ap, sym, ◌∙◌}
 use Rattle.world.specs.Cores.{CoreState}
 use Rattle.world.specs.Seats.{setups_in}
-use Rattle.world.proofs.CoreCopies.{locks-alike, seats-alike, versions-alike}
+use Rattle.world.proofs.CoreCopies.{registers-alike, seats-alike}
 use Rattle.world.proofs.cores.Core.copy_from.Goals as goal
 
 pub copy_from-requires : goal.copy_from-requires
 copy_from-requires c =
-    locks-alike _ _ c.self.invariant c.other.invariant (ap (λ (core : CoreState). core.setup) c.self.view_is ∙ c.requires.setup ∙ sym (ap (λ (core : CoreState). core.setup) c.other.view_is))
-
-pub copy_from-requires-2 : goal.copy_from-requires-2
-copy_from-requires-2 c =
-    versions-alike _ _ c.self.invariant c.other.invariant (ap (λ (core : CoreState). core.setup) c.self.view_is ∙ c.requires.setup ∙ sym (ap (λ (core : CoreState). core.setup) c.other.view_is))
+    registers-alike _ _ c.self.invariant c.other.invariant (ap (λ (core : CoreState). core.setup) c.self.view_is ∙ c.requires.setup ∙ sym (ap (λ (core : CoreState). core.setup) c.other.view_is))
 
 pub copy_seats-requires : goal.copy_seats-requires
 copy_seats-requires c =
