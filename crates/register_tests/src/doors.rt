@@ -183,3 +183,22 @@ fn withdrawal(rt: HostRuntime) -> Result<(), Fail> {
     assert_eq!(rt; told, DoorProgress::Doorway);
     Ok(())
 }
+
+// A door that is set from another is of that one's process, and has begun with it.
+#[test]
+fn sets_a_door_from_another(rt: HostRuntime) -> Result<(), Fail> {
+    let setup = Setup::one(2, 2, 2, 1);
+    let mut door = Door::new(rt.alloc(), 0, &setup)?;
+    let mut other = Door::new(rt.alloc(), 1, &setup)?;
+    other.start();
+    door.copy_from(&other);
+    let first = Access {
+        owner: 1,
+        field: Field::Choosing,
+        bit: 0,
+        reader: 0,
+        how: Move::BeginWrite(true),
+    };
+    assert_eq!(rt; door.next(false), first);
+    Ok(())
+}

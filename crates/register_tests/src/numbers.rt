@@ -55,3 +55,23 @@ fn goes_on_untold(rt: HostRuntime) -> Result<(), NumberFault> {
     assert_eq!(rt; number_of(read.bytes()), 1);
     Ok(())
 }
+
+// A register that is set from another goes on with the write that is open there, and a read with what was read there.
+#[tactic(auto, using(crate::proofs::Shapes::shape_after))]
+#[test]
+fn sets_registers_and_reads(rt: HostRuntime) -> Result<(), NumberFault> {
+    let mut register = Register::new(rt.alloc(), 1, 1)?;
+    let mut other = Register::new(rt.alloc(), 1, 1)?;
+    let mut write = WriteRun::new(1);
+    other.write_on(1, &mut write, &[1]);
+    register.copy_from(&other);
+    register.write_on(1, &mut write, &[1]);
+    assert!(rt; register.bit(0));
+    let mut read = ReadRun::new(rt.alloc(), 1)?;
+    register.read_on(0, &mut read, false);
+    register.read_on(0, &mut read, false);
+    let mut set = ReadRun::new(rt.alloc(), 1)?;
+    set.copy_from(&read);
+    assert_eq!(rt; number_of(set.bytes()), 1);
+    Ok(())
+}

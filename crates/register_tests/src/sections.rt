@@ -235,3 +235,19 @@ fn failure_within_an_image(rt: HostRuntime) -> Result<(), Fail> {
     );
     Ok(())
 }
+
+// A section that is set from another has that one's call.
+#[test]
+fn sets_a_section_from_another(rt: HostRuntime) -> Result<(), Fail> {
+    let setup = Setup::one(1, 2, 2, 1);
+    let mut memory = Memory::new(rt.alloc())?;
+    let mut section = Section::new(rt.alloc(), 0, &setup)?;
+    let mut other = Section::new(rt.alloc(), 0, &setup)?;
+    other.start(write(5)?, 0);
+    section.copy_from(&other);
+    assert_eq!(rt;
+        run(&rt, &mut section, &mut memory, 1000),
+        taken(Reply::Done, 0, 748)
+    );
+    Ok(())
+}

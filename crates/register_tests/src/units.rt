@@ -169,3 +169,13 @@ fn clears_the_registers(rt: HostRuntime) -> Result<(), Fail> {
     assert_eq!(rt; told, UnitProgress::Clearing);
     Ok(())
 }
+
+// A unit is plain data: one that was copied stays where it is while the other goes on.
+#[test]
+fn copies_a_unit(rt: HostRuntime) {
+    let mut unit = Unit::start(0, &Setup::one(1, 1, 2, 1), None);
+    let copied = unit;
+    assert_eq!(rt; unit.next(false).how, Move::BeginWrite(false));
+    assert_eq!(rt; unit.advance(false), UnitProgress::Clearing);
+    assert_eq!(rt; copied.next(false).how, Move::BeginWrite(false));
+}

@@ -1,4 +1,5 @@
 //! Worlds under events.
+mod cores;
 mod events;
 mod growths;
 mod walks;

@@ -1,6 +1,6 @@
 -- A core that shows events with a history keeps, with it, what a world keeps.
-use Rattle.std.proofs.Common.{◌≡◌, ℕ, zero, suc, ◌+◌, ◌<◌, ◌≤◌, Bool, List, [], ◌∷◌, Option, None, Some, length, map, refl, sym, ap, subst, ◌∙◌, arith}
-use Rattle.std.specs.Prelude.{slice_index_or, slice_set}
+use Rattle.std.proofs.Common.{◌≡◌, ℕ, zero, suc, ◌+◌, ◌<◌, ◌≤◌, ◌==◌, ◌&&◌, cond, Bool, List, [], ◌∷◌, Option, None, Some, length, map, refl, sym, ap, subst, ◌∙◌, arith}
+use Rattle.std.specs.Prelude.{nat_le, slice_index_or, slice_set}
 use Rattle.std.proofs.lemmas.List.{length-map, length-set, length_push}
 use Rattle.plain_store.specs.declared.Command.{Command}
 use Rattle.plain_store.specs.declared.Reply.{Reply}
@@ -8,7 +8,9 @@ use Rattle.plain_store.specs.declared.Setup.{Setup}
 use Rattle.record.specs.declared.events.Event.{Event}
 use Rattle.record.specs.declared.history.Taken.{Taken}
 use Rattle.record.specs.declared.refusals.Refusal.{Refusal}
-use Rattle.record.specs.Records.{process_of}
+use Rattle.record.specs.declared.refusals.Refusal.TheVariants.{CallsFull}
+use Rattle.record.specs.Records.{is_call, past_of, process_of, refused, refused_at}
+use Rattle.process.specs.Processes.{ProcessState, stage_kept}
 use Rattle.world.specs.Changes.{pending_in, told, with_taken}
 use Rattle.world.specs.Cores.{CoreGoesOn, CoreRefuses, CoreState, CoreWalks, KeepsCore, call_in, with_history}
 use Rattle.world.specs.Events.{IsRefused}
@@ -16,6 +18,7 @@ use Rattle.world.specs.Flicks.{FlickState}
 use Rattle.world.specs.Seats.{Seat}
 use Rattle.world.specs.Shows.{Shows, WorldState}
 use Rattle.world.proofs.WorldEnds.{IsUsed, index-in}
+use Rattle.world.proofs.WorldNew.{refused-full}
 use Rattle.world.proofs.WorldOpen.{is-open, opened}
 use Rattle.world.proofs.WorldWalks.{keeps_of, room_of, walks-then}
 
@@ -29,6 +32,15 @@ shows_of c d taken events is h = subst (λ (x : CoreState). Shows (with_history 
 -- what a core keeps, with the history and the events that it shows
 pub keeps_core : (c : CoreState) (taken : List Taken) (events : List Event) → Shows (with_history c taken) events → KeepsCore c
 keeps_core c taken events shows = record { taken = taken; events = events; shows = shows }
+
+-- an event that the stage of its process allows is refused for the number of its calls alone
+pub core_full : (c d : CoreState) (what : Event) (i : ℕ) (seat : Seat) (now : ProcessState) (full : Bool) → c ≡ d → i ≡ process_of what → i < length c.seats → seat ≡ slice_index_or c.seats i seat → now ≡ seat.process → refused_at what (stage_kept now.kept) ≡ None →
+    (is_call what && (c.setup.version == 2) && nat_le 65535 now.number) ≡ full → CoreRefuses d what (cond full (Some CallsFull) None)
+core_full c d what i seat now full is own inside seat_is same none counted taken events shows =
+    let inside : process_of what < length c.seats = omega (arith, own, inside) in
+    ap (λ (x : CoreState). refused x.setup (past_of x.setup events) what) (sym is)
+    ∙ refused-full (with_history c taken) events what full seat seat (shows_of c d taken events is shows) inside (seat_is ∙ ap (λ k. slice_index_or c.seats k seat) own) (ap (λ (now : ProcessState). refused_at what (stage_kept now.kept)) (sym same) ∙ none)
+    (ap (λ (now : ProcessState). is_call what && (c.setup.version == 2) && nat_le 65535 now.number) (sym same) ∙ counted)
 
 -- the process of an event that is not refused: there is one, below 16
 pub core_in : (c d : CoreState) (what : Event) → KeepsCore c → c ≡ d → CoreRefuses d what None → (process_of what < length c.seats) × (process_of what < 16)
