@@ -1,6 +1,5 @@
 -- The registers of all processes, those of the lock and those of the versions, and a process that is served by them.
 use Rattle.std.specs.Prelude.{◌≡◌, ◌+◌, ◌≤◌, Bool, true, false, cond, List, [], Some}
-use Rattle.reader_copies.specs.Row.{HasCell}
 use Rattle.safe_number.specs.declared.Access.{Access}
 use Rattle.plain_store.specs.declared.Setup.{Setup}
 use Rattle.record.specs.Doorways.{is_waiting_stage}
@@ -21,10 +20,6 @@ pub record RegistersState : Type 0 where
 -- as they open
 abbrev pub new_registers : Setup → RegistersState
 new_registers s = record { locks = new_locks s; versions = row_from (opening_cell s) s }
-
--- the copy of an access is there
-abbrev pub HasCopy : RegistersState → Access → Type 0
-HasCopy r a = elim (is_data a.field) [ true ↦ versions.HasCopy r.versions a | false ↦ HasCell (row_in (lock_of r.locks a.owner) a.field) a.bit a.reader ]
 
 -- an access may be made on them
 abbrev pub CanMake : RegistersState → Access → Type 0

@@ -6,7 +6,7 @@ ghost use Rattle.record.specs.Places.{value_of};
 ghost use Rattle.critical.specs.Newest.{newest_store, IsQuiet};
 ghost use Rattle.critical.specs.Registers.{FitsSetup};
 ghost use Rattle.process.specs.Drops.{CanDrop, without_read};
-ghost use Rattle.process.specs.Registers.{AreAlike, CanMake, HasCopy, answered, made, new_registers};
+ghost use Rattle.process.specs.Registers.{AreAlike, CanMake, answered, made, new_registers};
 
 use bakery::Locks;
 use critical::DataRow;
@@ -44,36 +44,11 @@ impl Registers {
         })
     }
 
-    /// The access, a read's end with what the reader's copy answers: `flick`, if a write of that copy was open at some
-    /// time during the read.
+    /// Makes one access, in its turn, a read's end with what the reader's copy answers: `flick`, if a write of that copy
+    /// was open at some time during the read. It tells that value alone, false for every other access: who asked has the
+    /// access, and so it is in no memory that is written byte by byte and then read at once.
     #[inline]
-    pub fn answered(&self, access: Access, flick: bool) -> Access
-        requires { HasCopy self.now access }
-        ensures { result ≡ answered self.now flick access }
-    {
-        match access.field {
-            Field::Choosing | Field::Ticket => self.locks.answered(access, flick),
-            _ => self.versions.answered(access, flick),
-        }
-    }
-
-    /// Makes one access, in its turn.
-    #[inline]
-    pub fn apply(&mut self, access: Access)
-        requires { CanMake self.old access }
-        ensures { self.new ≡ made self.old access }
-    {
-        match access.field {
-            Field::Choosing | Field::Ticket => self.locks.apply(access),
-            _ => self.versions.apply(access),
-        }
-    }
-
-    /// Both in one, with one look at the field: makes one access, a read's end with what the reader's copy answers. It
-    /// tells that value alone: the access is put together from what was asked, and so is in no memory that is written
-    /// byte by byte and then read at once.
-    #[inline]
-    pub(crate) fn make(&mut self, asked: Access, flick: bool) -> bool
+    pub fn make(&mut self, asked: Access, flick: bool) -> bool
         requires { CanMake self.old (answered self.old flick asked) }
         ensures value { result ≡ value_of (answered self.old flick asked).how }
         ensures registers { self.new ≡ made self.old (answered self.old flick asked) }
