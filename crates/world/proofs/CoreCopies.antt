@@ -15,7 +15,7 @@ use Rattle.critical.specs.Registers as versions
 use Rattle.critical.specs.Registers.{Data, DataRow, data_from, register_from, row_from}
 use Rattle.laws.specs.Held.{cell_held}
 use Rattle.world.specs.Cores.{CoreState, KeepsCore}
-use Rattle.world.specs.Seats.{Seat, seat_of, setups_in}
+use Rattle.world.specs.Seats.{seat_of, setups_in}
 use Rattle.process.specs.Registers.{AreAlike, RegistersState}
 use Rattle.world.specs.Shows.{WorldState, lock_from, locks_from, registers_from}
 use Rattle.world.proofs.RowsCells.{data-is, lock-is, many-locks, many-parts, readers-are, width-is}
@@ -45,9 +45,9 @@ module _ (a b : Access → Cell) (s : Setup) where
   locks-shape = record {
     processes = many-locks a s ∙ sym (many-locks b s);
     each = λ p inside.
-      let below : p < s.processes = omega (arith, inside, many-locks a s) in
-      subst (λ (x : LockRows). locks.AreAlike x (locks.lock_of (locks_from b s) p)) (sym (lock-is a s p below))
-      (subst (λ (y : LockRows). locks.AreAlike (lock_from a s p) y) (sym (lock-is b s p below)) (lock-shape p));
+        let below : p < s.processes = omega (arith, inside, many-locks a s) in
+        subst (λ (x : LockRows). locks.AreAlike x (locks.lock_of (locks_from b s) p)) (sym (lock-is a s p below))
+        (subst (λ (y : LockRows). locks.AreAlike (lock_from a s p) y) (sym (lock-is b s p below)) (lock-shape p));
   }
 
   row-shape : versions.AreAllAlike (row_from a s) (row_from b s)
@@ -55,9 +55,9 @@ module _ (a b : Access → Cell) (s : Setup) where
     setup = refl;
     parts = many-parts a s ∙ sym (many-parts b s);
     each = λ p inside.
-      let below : p < s.processes = omega (arith, inside, many-parts a s) in
-      subst (λ (x : Data). versions.AreAlike x (versions.data_of (row_from b s) p)) (sym (data-is a s p below))
-      (subst (λ (y : Data). versions.AreAlike (data_from a s p) y) (sym (data-is b s p below)) (data-shape p));
+        let below : p < s.processes = omega (arith, inside, many-parts a s) in
+        subst (λ (x : Data). versions.AreAlike x (versions.data_of (row_from b s) p)) (sym (data-is a s p below))
+        (subst (λ (y : Data). versions.AreAlike (data_from a s p) y) (sym (data-is b s p below)) (data-shape p));
   }
 
   pub registers-shape : AreAlike (registers_from a s) (registers_from b s)

@@ -5,18 +5,15 @@ use plain_store::{Command, Name, Setup, Store, Value};
 use record::{Event, Stage};
 use std::process::Abort;
 use std::test::Fail;
-use world::{Core, Told};
+use world::{Core, Effect, Told};
 
 /// A process writes a count, and makes so many steps.
 fn write(rt: &impl Abort, core: &mut Core, process: u8, count: i64, steps: u32)
     ensures { core.new.setup ≡ core.old.setup }
 {
     let command = Command::Write(Name::new(b"a").unwrap(), Value::Count(count));
-    if let Some(refusal) = core.refusal(&Event::Call(process, command)) {
-        panic!(rt; "process {process} can't call: {refusal:?}");
-    }
-    command.operands_are_sound();
-    core.call(process, &command);
+    let mut effect = Effect::Restarts;
+    assert!(rt; core.event(&Event::Call(process, command), &mut effect).is_ok());
     for _ in 0..steps {
         assert!(rt; core.step(process, false, &mut Told::Nothing).is_ok());
     }

@@ -17,12 +17,12 @@ copy_from-requires c =
     let inside : at < length others = c.loop-process-test.true in
     record {
       setup =
-        ap (λ (xs : List Seat). (get_or xs at one).process.setup) c.loop-process.invariant
-        ∙ ap setup (get_or-written_over others seats at one same_len inside)
-        ∙ sym (get_or-map setup seats at one one.process.setup (omega (arith, inside, same_len)))
-        ∙ ap (λ setups. get_or setups at one.process.setup) c.requires
-        ∙ get_or-map setup others at other one.process.setup inside
-        ∙ sym (ap setup c.index-others-process.is);
+          ap (λ (xs : List Seat). (get_or xs at one).process.setup) c.loop-process.invariant
+          ∙ ap setup (get_or-written_over others seats at one same_len inside)
+          ∙ sym (get_or-map setup seats at one one.process.setup (omega (arith, inside, same_len)))
+          ∙ ap (λ setups. get_or setups at one.process.setup) c.requires
+          ∙ get_or-map setup others at other one.process.setup inside
+          ∙ sym (ap setup c.index-others-process.is);
     }
 
 pub loop-process-preserved : goal.loop-process-preserved
