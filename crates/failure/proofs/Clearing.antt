@@ -1,7 +1,7 @@
 -- The clearing of a register of the lock.
 use Rattle.std.proofs.Common.{◌≡◌, ℕ, zero, suc, ◌+◌, ◌*◌, ◌≤◌, ◌==◌, Bool, true, false, cond, List, [], ◌∷◌, Option, None, Some, refl, sym, ◌∙◌, arith}
 use Rattle.std.proofs.lemmas.Bool.{eqb-false}
-use Rattle.std.specs.Prelude.{slice_index_or, unwrap_or}
+use Rattle.std.specs.Prelude.{slice_index_or}
 use Rattle.reader_copies.specs.Runs.{Writing}
 use Rattle.safe_number.specs.Bytes.{bits_of_number}
 use Rattle.safe_number.specs.Runs.{NumberWrite}

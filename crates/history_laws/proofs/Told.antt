@@ -1,5 +1,5 @@
 -- What each entry tells, and what is known of each process by the entries of its present call.
-use Rattle.std.proofs.Common.{◌≡◌, ◌≢◌, ℕ, ◌||◌, Bool, true, false, List, [], ◌∷◌, Some, length, refl, sym, ap, subst, arith}
+use Rattle.std.proofs.Common.{◌≡◌, ◌≢◌, ℕ, true, false, List, [], ◌∷◌, Some, length, refl, sym, ap, subst, arith}
 use Rattle.std.specs.List.{list_any}
 use Rattle.plain_store.specs.declared.Reply.{Reply}
 use Rattle.plain_store.specs.declared.Setup.{Setup}

@@ -103,7 +103,10 @@ fn replies_are_right<S: Store>(rt: &impl Abort, store: &mut S, last: u16) -> Res
         assert_eq!(rt; store.would_change(&command), changes, "call {number}");
         assert_eq!(rt; store.apply(&command, caller)?, reply, "call {number}");
     }
-    let asked = Caller { process: 1, number: 11 };
+    let asked = Caller {
+        process: 1,
+        number: 11,
+    };
     assert_eq!(rt; store.apply(&Command::Ask, asked)?, Reply::Last(last));
     let hi = Value::Text(Text::new(b"hi")?);
     assert_eq!(rt; store.len(), 1);

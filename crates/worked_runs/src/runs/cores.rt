@@ -13,7 +13,10 @@ fn write(rt: &impl Abort, core: &mut Core, process: u8, count: i64, steps: u32)
 {
     let command = Command::Write(Name::new(b"a").unwrap(), Value::Count(count));
     let mut effect = Effect::Restarts;
-    assert!(rt; core.event(&Event::Call(process, command), &mut effect).is_ok());
+    assert!(rt;
+        core.event(&Event::Call(process, command), &mut effect)
+            .is_ok()
+    );
     for _ in 0..steps {
         assert!(rt; core.step(process, false, &mut Told::Nothing).is_ok());
     }
@@ -44,7 +47,11 @@ fn sets_a_core_from_another(rt: HostRuntime) -> Result<(), Fail> {
         let process = u8::from(step < 1500);
         let mut told = [Told::Nothing; 2];
         let made = core.step(process, step % 3 == 0, &mut told[0]);
-        assert_eq!(rt; made, other.step(process, step % 3 == 0, &mut told[1]), "step {step}");
+        assert_eq!(rt;
+            made,
+            other.step(process, step % 3 == 0, &mut told[1]),
+            "step {step}"
+        );
     }
     assert!(rt; look_at(&core) == look_at(&other));
     let newest = (Name::new(b"a")?, Value::Count(5));

@@ -14,11 +14,11 @@ copy_from-requires c =
     let inside : at < length other = omega (arith, c.loop-process-test.true, ap length seen) in
     let there : at < length row = omega (arith, inside, c.requires.parts) in
     let read : c.part-item.result ≡ data_of c.args.other.now at =
-        c.part-item.is ∙ ap (λ xs. get_or xs at c.part-item.result) seen ∙ get_or_default other at c.part-item.result no_data inside in
+    c.part-item.is ∙ ap (λ xs. get_or xs at c.part-item.result) seen ∙ get_or_default other at c.part-item.result no_data inside in
     let lent : c.index_mut.result.now ≡ data_of c.args.self.now at =
-        c.index_mut.ensures.value ∙ ap (λ xs. get_or xs at c.index_mut.result.now) c.loop-process.invariant.0
-        ∙ get_or-written_over other row at c.index_mut.result.now (sym c.requires.parts) inside
-        ∙ get_or_default row at c.index_mut.result.now no_data there in
+    c.index_mut.ensures.value ∙ ap (λ xs. get_or xs at c.index_mut.result.now) c.loop-process.invariant.0
+    ∙ get_or-written_over other row at c.index_mut.result.now (sym c.requires.parts) inside
+    ∙ get_or_default row at c.index_mut.result.now no_data there in
     subst (λ (one : Data). AreAlike one c.part-item.result) (sym lent)
     (subst (λ (other : Data). AreAlike (data_of c.args.self.now at) other) (sym read) (c.requires.each at there))
 
@@ -26,13 +26,13 @@ pub loop-process-preserved : goal.loop-process-preserved
 loop-process-preserved c =
     let at = c.loop-process.process in
     let other = c.args.other.now.parts in
-    let seen : c.deref-part-items.result.now ≡ other = c.deref-part-items.ensures.value ∙ ap (λ (row : DataRow). row.parts) c.other.view_is in
-    ( ap (set c.loop-process.self-inside.parts.items at) c.copy_from.ensures
-      ∙ ap (λ parts. set parts at c.part-item.result) c.loop-process.invariant.0
-      ∙ written_over-more other c.args.self.now.parts at c.part-item.result (sym c.requires.parts)
-      (omega (arith, c.loop-process-test.true, ap length seen))
-      (c.part-item.is ∙ ap (λ xs. get_or xs at c.part-item.result) seen)
-    , c.loop-process.invariant.1
+    let seen : c.deref-part-items.result.now ≡ other = c.deref-part-items.ensures.value ∙ ap (λ (row : DataRow). row.parts) c.other.view_is in (
+      ap (set c.loop-process.self-inside.parts.items at) c.copy_from.ensures
+          ∙ ap (λ parts. set parts at c.part-item.result) c.loop-process.invariant.0
+          ∙ written_over-more other c.args.self.now.parts at c.part-item.result (sym c.requires.parts)
+          (omega (arith, c.loop-process-test.true, ap length seen))
+          (c.part-item.is ∙ ap (λ xs. get_or xs at c.part-item.result) seen),
+      c.loop-process.invariant.1,
     )
 
 pub invariant_of-self : goal.invariant_of-self
@@ -43,7 +43,7 @@ returns c =
     let other = c.args.other.now.parts in
     let seen : c.deref-part-items.result.now ≡ other = c.deref-part-items.ensures.value ∙ ap (λ (row : DataRow). row.parts) c.other.view_is in
     let all : c.loop-process.self-inside.parts.items ≡ other =
-        c.loop-process.invariant.0
-        ∙ written_over-all other c.args.self.now.parts c.loop-process.process (sym c.requires.parts) (omega (arith, c.loop-process-test.false, ap length seen)) in
+    c.loop-process.invariant.0
+    ∙ written_over-all other c.args.self.now.parts c.loop-process.process (sym c.requires.parts) (omega (arith, c.loop-process-test.false, ap length seen)) in
     let same : c.loop-process.self-inside.setup ≡ c.args.other.now.setup = c.loop-process.invariant.1 ∙ c.requires.setup in
     λ i. record { setup = same i; parts = all i }
