@@ -1,7 +1,7 @@
 //! The command `bits`: the calls of a file on one safe bit, in order.
 ghost use Rattle.std.specs.Prelude.{◌≡◌, ◌^◌, ◌-◌, ◌<◌, true, IfOk, Ok};
 ghost use Rattle.std.specs.String.{string_bytes};
-ghost use Rattle.scenario.specs.Engines.{Ran};
+ghost use Rattle.files.specs.Engines.{Ran};
 ghost use Rattle.engines.specs.BitCells.{can_take, made, made_text, bit_after, bit_line_text};
 ghost use Rattle.engines.specs.Bits.{bits_printed, bits_text};
 

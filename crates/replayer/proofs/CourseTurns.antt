@@ -20,7 +20,7 @@ use Rattle.scenario.specs.declared.lines.Line.TheVariants as line
 use Rattle.scenario.specs.declared.lines.Target.{Target}
 use Rattle.process.specs.Telling.{act_of}
 use Rattle.world.specs.Events.{Adds, GoesOn, IsTurnedAway, entry_with, stage_in}
-use Rattle.world.specs.Flicks.{FlickState, after_set}
+use Rattle.flicks.specs.Flicks.{FlickState, after_set}
 use Rattle.world.specs.Shows.{Shows, WorldState}
 use Rattle.replayer.specs.Courses.{CourseState, Follows, Makes, MakesTurns, QuietTurns, course}
 use Rattle.replayer.specs.Happenings.{Tries, Lacks, Looks, tried}

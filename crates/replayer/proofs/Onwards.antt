@@ -1,7 +1,7 @@
 -- A replay between two lines: what has happened, what was written, and the lines to come.
 use Rattle.std.proofs.Common.{◌≡◌, ℕ, List, [], ◌∷◌, ◌++◌, Option, refl, ap, sym, subst, ◌∙◌, append_assoc}
 use Rattle.std.specs.Io.KnownBytes.{Appends}
-use Rattle.scenario.specs.Streams.{WritesFront}
+use Rattle.files.specs.Streams.{WritesFront}
 use Rattle.plain_store.specs.declared.setups.Setup.{Setup}
 use Rattle.scenario.specs.declared.lines.Line.{Line}
 use Rattle.replayer.specs.Courses.{CourseState, Follows}

@@ -1,13 +1,14 @@
 -- How a replay ends that has read its input: the whole text was written, or a front of it.
 use Rattle.std.proofs.Common.{◌≡◌, ℕ, ◌+◌, List, Option, Some, None, Result, Ok, Err, IfSome, IfOk, IfErr, IsErrAnd, OnOk, subst, sym, ◌∙◌, arith}
 use Rattle.std.specs.Io.KnownBytes.{Appends}
-use Rattle.scenario.proofs.CutTexts.{input_tells, scenario_tells_at_limit}
-use Rattle.scenario.proofs.EngineEnds.{text_told, read_to_end}
-use Rattle.scenario.specs.Engines.{Streams, Ran, text_or_none}
+use Rattle.files.proofs.CutTexts.{input_tells}
+use Rattle.scenario.proofs.CutTexts.{scenario_tells_at_limit}
+use Rattle.files.proofs.EngineEnds.{text_told, read_to_end}
+use Rattle.files.specs.Engines.{Streams, Ran, text_or_none}
 use Rattle.scenario.specs.Reading.{Script, scenario_of}
-use Rattle.scenario.specs.Streams.{ReadsInput, WritesFront}
-use Rattle.scenario.specs.declared.faults.Fault.{Fault}
-use Rattle.scenario.specs.declared.faults.Fault.TheVariants.{Line, Read, Write, Memory}
+use Rattle.files.specs.Streams.{ReadsInput, WritesFront}
+use Rattle.files.specs.declared.faults.Fault.{Fault}
+use Rattle.files.specs.declared.faults.Fault.TheVariants.{Line, Read, Write, Memory}
 use Rattle.replayer.specs.Replays.{IsSummaryOf, ended}
 use Rattle.replayer.specs.Runs.{happenings}
 use Rattle.replayer.specs.Summaries.{summary_of}

@@ -13,7 +13,7 @@ use Rattle.record.specs.Records.{entry_of, past_of, placed, refused}
 use Rattle.scenario.specs.declared.lines.Line.{Line}
 use Rattle.scenario.specs.declared.lines.Line.TheVariants as line
 use Rattle.world.specs.Events.{Adds, GoesOn, IsRefused, entry_with}
-use Rattle.world.specs.Flicks.{FlickState, flick_of, after_flick}
+use Rattle.flicks.specs.Flicks.{FlickState, flick_of, after_flick}
 use Rattle.world.specs.Shows.{Shows, WorldState}
 use Rattle.process.specs.Telling.{act_of, marks_of}
 use Rattle.world.specs.Walks.{Walks}

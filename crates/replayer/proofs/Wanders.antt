@@ -13,7 +13,7 @@ use Rattle.record.specs.Stages.{stage, stage_after}
 use Rattle.scenario.specs.declared.lines.Line.{Line}
 use Rattle.scenario.specs.declared.lines.Line.TheVariants as line
 use Rattle.world.specs.Events.{Adds, GoesOn, IsRefused}
-use Rattle.world.specs.Flicks.{FlickState, flick_of, after_flick, pick_of, after_pick}
+use Rattle.flicks.specs.Flicks.{FlickState, flick_of, after_flick, pick_of, after_pick}
 use Rattle.world.specs.Shows.{Shows, WorldState}
 use Rattle.process.specs.Telling.{act_of}
 use Rattle.process.specs.declared.told.Made.{Made}

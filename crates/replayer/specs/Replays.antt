@@ -2,7 +2,7 @@
 use Rattle.std.specs.Prelude.{◌≡◌, ℕ, List, Option, IfSome, Result, Ok, Err}
 use Rattle.plain_store.specs.declared.setups.Setup.{Setup}
 use Rattle.scenario.specs.Reading.{Script, scenario_of}
-use Rattle.scenario.specs.declared.faults.Fault.{Fault}
+use Rattle.files.specs.declared.faults.Fault.{Fault}
 use Rattle.scenario.specs.declared.lines.Line.{Line}
 use Rattle.replayer.specs.Courses.{CourseState, Follows}
 use Rattle.replayer.specs.Runs.{Run, happenings, run_after}

@@ -2,9 +2,9 @@
 ghost use Rattle.std.specs.Prelude.{◌≡◌, ◌+◌, ◌-◌, ◌^◌, ◌<◌, IfErr, IfOk, OnErr, OnOk};
 ghost use Rattle.std.specs.Io.KnownBytes.{Appends};
 ghost use Rattle.record.specs.Headline.{Headline};
-ghost use Rattle.scenario.specs.Engines.{Ran};
+ghost use Rattle.files.specs.Engines.{Ran};
 ghost use Rattle.scenario.specs.Reads.{script};
-ghost use Rattle.scenario.specs.Streams.{WritesFront};
+ghost use Rattle.files.specs.Streams.{WritesFront};
 ghost use Rattle.replayer.specs.Replays.{CutsLine, IsSummaryOf, MakesLine, ended};
 ghost use Rattle.replayer.specs.Runs.{happenings};
 ghost use Rattle.replayer.specs.Summaries.{summary_of};

@@ -7,7 +7,7 @@ ghost use Rattle.record.specs.declared.Refusal.TheVariants.{Memory};
 ghost use Rattle.record.specs.Given.{is_event};
 ghost use Rattle.record.specs.Histories.{history};
 ghost use Rattle.record.specs.Records.{past_of};
-ghost use Rattle.world.specs.Flicks.{constant_flicks};
+ghost use Rattle.flicks.specs.Flicks.{constant_flicks};
 ghost use Rattle.world.specs.Shows.{Shows};
 ghost use Rattle.replayer.specs.Courses.{Follows, Makes, MakesTurns, CourseState};
 ghost use Rattle.replayer.specs.Happenings.{Tries};

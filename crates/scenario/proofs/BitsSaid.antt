@@ -7,18 +7,19 @@ use Rattle.std.specs.Map.{lookup}
 use Rattle.std.specs.Option.{ok_or}
 use Rattle.std.specs.Str.{bytes_eq}
 use Rattle.scenario.specs.BitFiles.{bit_words, bit_word_of, bits, bit_at, one_bit_of, lone_word_of, bit_line_of, first_bits_read, later_bits_read, bits_grammar, bits_of}
-use Rattle.scenario.specs.Checks.{◌>>=◌, known, counted, word}
-use Rattle.scenario.specs.Files.{one_more}
-use Rattle.scenario.specs.Spelling.{said_words, bit_word, bit_line_words, SaysBits}
+use Rattle.files.specs.Checks.{◌>>=◌, known, counted, word}
+use Rattle.files.specs.Files.{one_more}
+use Rattle.files.specs.Limits.{said_words}
+use Rattle.scenario.specs.Spelling.{bit_word, bit_line_words, SaysBits}
 use Rattle.scenario.specs.declared.bit_files.BitLine.{BitLine}
 use Rattle.scenario.specs.declared.bit_files.BitLine.TheVariants as line
 use Rattle.scenario.specs.declared.bit_files.BitWord.{BitWord}
 use Rattle.scenario.specs.declared.bit_files.BitWord.TheVariants.{Bits, Write, End, Settle, Read, Value, Drop}
-use Rattle.scenario.specs.declared.faults.FaultKind.TheVariants.{NotFirst, Number, TooLong}
+use Rattle.files.specs.declared.faults.FaultKind.TheVariants.{NotFirst, Number, TooLong}
 use Rattle.scenario.proofs.LineSpelled.{none_of, one_of}
 use Rattle.scenario.proofs.OneSpelling.{found_spelled}
-use Rattle.scenario.proofs.Passing.{passed, length_of}
-use Rattle.scenario.proofs.Said.{said_line, said_read, later_then, first_then, text_said, text_is_read}
+use Rattle.files.proofs.Passing.{passed, length_of}
+use Rattle.files.proofs.Said.{said_line, said_read, later_then, first_then, text_said, text_is_read}
 
 -- the first word of a line
 abbrev bit_key : BitWord → List ℕ

@@ -1,11 +1,6 @@
 -- Lists of any kind
-pub mod Appending
-pub mod Collected
-pub mod Passing
 pub mod Places
--- Lines of a text, and what is read of them
-pub mod Ends
-pub mod Said
+-- What is read of lines
 pub mod ScriptSaid
 pub mod BitsSaid
 pub mod TextSaid
@@ -21,6 +16,5 @@ pub mod Spaced
 pub mod Spelled
 pub mod LineSpelled
 pub mod OneSpelling
--- Long texts, and how engines end
+-- Long texts
 pub mod CutTexts
-pub mod EngineEnds

@@ -9,15 +9,15 @@ use Rattle.plain_store.specs.Commands.{is_command}
 use Rattle.plain_store.specs.Shown.{value_text}
 use Rattle.plain_store.specs.declared.commands.Command.{Command}
 use Rattle.plain_store.specs.declared.commands.Command.TheVariants as command
-use Rattle.scenario.specs.Checks.{◌>>=◌, known, counted, word}
+use Rattle.files.specs.Checks.{◌>>=◌, known, counted, word}
 use Rattle.scenario.specs.Keywords.{target_of}
 use Rattle.scenario.specs.Operands.{number_at, integer_at, name_at, value_at}
 use Rattle.scenario.specs.Printing.{command_words, line_words}
 use Rattle.scenario.specs.Scripts.{is_line}
 use Rattle.scenario.specs.Spelling.{line_word}
 use Rattle.scenario.specs.Statements.{operand_count, verb_at, command_of, call_of, step_of, go_of, process_of, flick_of, wander_of, show_of, line_of, verb_in, is_verb_of, is_line_of}
-use Rattle.scenario.specs.declared.faults.FaultKind.{FaultKind}
-use Rattle.scenario.specs.declared.faults.FaultKind.TheVariants.{Unknown}
+use Rattle.files.specs.declared.faults.FaultKind.{FaultKind}
+use Rattle.files.specs.declared.faults.FaultKind.TheVariants.{Unknown}
 use Rattle.scenario.specs.declared.keywords.LineWord.{LineWord}
 use Rattle.scenario.specs.declared.keywords.LineWord.TheVariants as opener
 use Rattle.scenario.specs.declared.keywords.Verb.{Verb}
@@ -26,7 +26,7 @@ use Rattle.scenario.specs.declared.lines.Flick.TheVariants as flick
 use Rattle.scenario.specs.declared.lines.Line.{Line}
 use Rattle.scenario.specs.declared.lines.Line.TheVariants as line
 use Rattle.scenario.proofs.OneSpelling.{number_spelled, integer_at_spelled, name_spelled, value_spelled, verb_word, verb_spelled, target_spelled}
-use Rattle.scenario.proofs.Passing.{passed, length_of}
+use Rattle.files.proofs.Passing.{passed, length_of}
 
 -- words of a known number
 pub none_of : (ws : List (List ℕ)) → length ws ≡ 0 → ws ≡ []

@@ -15,13 +15,13 @@ use Rattle.plain_store.specs.Values.{fits_i64, is_value}
 use Rattle.plain_store.specs.Shown.{value_text}
 use Rattle.plain_store.specs.declared.commands.Value.{Value}
 use Rattle.plain_store.specs.declared.commands.Value.TheVariants.{Count, Text}
-use Rattle.scenario.specs.Checks.{◌>>=◌, known}
+use Rattle.files.specs.Checks.{◌>>=◌, known}
 use Rattle.scenario.specs.Keywords.{verbs, verb_of, targets, target_of}
 use Rattle.scenario.specs.Numbers.{is_numeral, is_signed_numeral, in_i64, integer_of}
 use Rattle.scenario.specs.Operands.{number_at, integer_at, name_at, counter, value_at}
 use Rattle.scenario.specs.Printing.{target_word}
 use Rattle.scenario.specs.Statements.{is_verb_of, verb_at}
-use Rattle.scenario.specs.declared.faults.FaultKind.TheVariants.{Number, BadName, BadValue, Unknown}
+use Rattle.files.specs.declared.faults.FaultKind.TheVariants.{Number, BadName, BadValue, Unknown}
 use Rattle.scenario.specs.declared.keywords.Verb.{Verb}
 use Rattle.scenario.specs.declared.keywords.Verb.TheVariants as verb
 use Rattle.scenario.specs.declared.lines.Target.{Target}

@@ -12,21 +12,21 @@ use Rattle.plain_store.specs.Pairs.{Pair, is_pair}
 use Rattle.plain_store.specs.Setups.{is_good_opening}
 use Rattle.plain_store.specs.Store.{value_at, names_differ}
 use Rattle.plain_store.specs.declared.setups.Setup.{Setup}
-use Rattle.scenario.specs.Checks.{◌>>=◌}
+use Rattle.files.specs.Checks.{◌>>=◌}
 use Rattle.scenario.specs.Printing.{heading_words, headings_of, line_words, open_words, script_words, scenario_text}
 use Rattle.scenario.specs.Reading.{Progress, Script, scenario_grammar, kept_read, script_of, scenario_of}
 use Rattle.scenario.specs.Scripts.{IsScenario, is_line}
 use Rattle.scenario.specs.Setting.{none_given, is_given, and_given, default_setup, most_of, with_heading, with_pair, may_open}
 use Rattle.scenario.specs.Spelling.{with_headings, headings_differ, Says}
 use Rattle.scenario.specs.Statements.{is_line_of}
-use Rattle.scenario.specs.declared.faults.FaultKind.TheVariants.{TooLong}
+use Rattle.files.specs.declared.faults.FaultKind.TheVariants.{TooLong}
 use Rattle.scenario.specs.declared.headings.Given.{Given}
 use Rattle.scenario.specs.declared.keywords.Heading.{Heading}
 use Rattle.scenario.specs.declared.keywords.Heading.TheVariants.{Processes, Tickets, Stamps, Slots}
 use Rattle.scenario.specs.declared.lines.Line.{Line}
 use Rattle.scenario.proofs.HeadingLists.{are_free, are_others, free_more, all_given, heading_in, heading_keeps, version_keeps, headings_keep, opening_kept, number_kept, number_set}
 use Rattle.scenario.proofs.ReadBack.{line_said_again, open_again, heading_said_again, first_again}
-use Rattle.scenario.proofs.Said.{said_read, text_is_read}
+use Rattle.files.proofs.Said.{said_read, text_is_read}
 use Rattle.scenario.proofs.ShortLines.{small_heading, heading_fits, script_printable}
 use Rattle.scenario.proofs.Spaced.{printed_limits, printed_said}
 

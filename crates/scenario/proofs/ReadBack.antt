@@ -15,7 +15,7 @@ use Rattle.plain_store.specs.declared.commands.Command.{Command}
 use Rattle.plain_store.specs.declared.commands.Command.TheVariants as command
 use Rattle.plain_store.specs.declared.commands.Value.{Value}
 use Rattle.plain_store.specs.declared.setups.Setup.{Setup}
-use Rattle.scenario.specs.Checks.{◌>>=◌, known, fault_if, counted}
+use Rattle.files.specs.Checks.{◌>>=◌, known, fault_if, counted}
 use Rattle.scenario.specs.Keywords.{opener_of}
 use Rattle.scenario.specs.Operands.{number_at, integer_at, name_at, value_at}
 use Rattle.scenario.specs.Printing.{version_words, command_words, target_word, flick_words, heading_word, heading_words, line_words, open_words}
@@ -24,7 +24,7 @@ use Rattle.scenario.specs.Scripts.{is_flick, is_line}
 use Rattle.scenario.specs.Setting.{none_given, default_setup, is_given, and_given, most_of, with_heading, may_open, with_pair}
 use Rattle.scenario.specs.Spelling.{line_word}
 use Rattle.scenario.specs.Statements.{operand_count, is_verb_of, verb_at, command_of, call_of, step_of, go_of, process_of, flick_of, wander_of, show_of, line_of, verb_in, is_line_of}
-use Rattle.scenario.specs.declared.faults.FaultKind.TheVariants.{Unknown, NotFirst, Number, BadSetup}
+use Rattle.files.specs.declared.faults.FaultKind.TheVariants.{Unknown, NotFirst, Number, BadSetup}
 use Rattle.scenario.specs.declared.headings.Given.{Given}
 use Rattle.scenario.specs.declared.keywords.Heading.{Heading}
 use Rattle.scenario.specs.declared.keywords.Heading.TheVariants.{Processes, Tickets, Stamps, Slots}
@@ -39,7 +39,7 @@ use Rattle.scenario.specs.declared.lines.Line.{Line}
 use Rattle.scenario.specs.declared.lines.Line.TheVariants as line
 use Rattle.scenario.specs.declared.lines.Target.{Target}
 use Rattle.scenario.specs.declared.lines.Target.TheVariants as target
-use Rattle.scenario.proofs.Said.{said_line}
+use Rattle.files.proofs.Said.{said_line}
 use Rattle.scenario.proofs.Spelled.{number_again, integer_again, name_again, value_again}
 
 -- the number of a process is read again

@@ -7,7 +7,7 @@ use Rattle.std.specs.Int.{is_in_range}
 use Rattle.plain_store.specs.Pairs.{Pair}
 use Rattle.plain_store.specs.Shown.{value_text}
 use Rattle.plain_store.specs.declared.commands.Value.{Value}
-use Rattle.scenario.specs.Checks.{◌>>=◌, fault_if, counted, word}
+use Rattle.files.specs.Checks.{◌>>=◌, fault_if, counted, word}
 use Rattle.scenario.specs.Keywords.{openers, opener_of}
 use Rattle.scenario.specs.Operands.{number_at, name_at, value_at}
 use Rattle.scenario.specs.Printing.{heading_word, line_words}
@@ -16,7 +16,7 @@ use Rattle.scenario.specs.Scripts.{IsScenario}
 use Rattle.scenario.specs.Setting.{is_given, and_given, most_of, with_heading, may_open, with_pair}
 use Rattle.scenario.specs.Spelling.{line_word}
 use Rattle.scenario.specs.Statements.{line_of}
-use Rattle.scenario.specs.declared.faults.FaultKind.TheVariants.{NotFirst, Unknown, BadSetup, TooLong}
+use Rattle.files.specs.declared.faults.FaultKind.TheVariants.{NotFirst, Unknown, BadSetup, TooLong}
 use Rattle.scenario.specs.declared.keywords.Heading.{Heading}
 use Rattle.scenario.specs.declared.keywords.LineWord.{LineWord}
 use Rattle.scenario.specs.declared.keywords.Opener.{Opener}
@@ -25,7 +25,7 @@ use Rattle.scenario.specs.declared.lines.Line.{Line}
 use Rattle.scenario.proofs.Good.{scenario_with_heading, scenario_with_pair, scenario_with_line}
 use Rattle.scenario.proofs.LineSpelled.{one_of, two_of, line_said}
 use Rattle.scenario.proofs.OneSpelling.{number_spelled, name_spelled, value_spelled, found_spelled}
-use Rattle.scenario.proofs.Passing.{passed, no_fault, length_of}
+use Rattle.files.proofs.Passing.{passed, no_fault, length_of}
 
 -- the word of an opener
 abbrev pub opener_word : Opener → List ℕ

@@ -20,7 +20,7 @@ use Rattle.scenario.specs.Reading.{Script}
 use Rattle.scenario.specs.Scripts.{IsScenario, is_line}
 use Rattle.scenario.specs.Setting.{most_of}
 use Rattle.scenario.specs.Statements.{is_line_of}
-use Rattle.scenario.specs.Words.{begins_with}
+use Rattle.files.specs.Words.{begins_with}
 use Rattle.scenario.specs.declared.keywords.Heading.{Heading}
 use Rattle.scenario.specs.declared.keywords.Heading.TheVariants.{Processes, Tickets, Stamps, Slots}
 use Rattle.scenario.specs.declared.lines.Flick.TheVariants as flick

@@ -8,8 +8,8 @@ use Rattle.std.proofs.lemmas.List.Splits.{slice_split_none, slice_split_at}
 use Rattle.std.specs.Char.{is_ascii_graphic}
 use Rattle.std.specs.List.{All, list_all, slice_split}
 use Rattle.scenario.specs.Printing.{spaced, printed_line}
-use Rattle.scenario.specs.Spelling.{is_said, said_words, is_short, IsWithinLimits}
-use Rattle.scenario.specs.Words.{lines, onto, begins_with, is_blank, words_of}
+use Rattle.files.specs.Limits.{is_said, said_words, is_short, IsWithinLimits}
+use Rattle.files.specs.Words.{lines, onto, begins_with, is_blank, words_of}
 
 -- a byte or more, all of them printable and none a blank
 abbrev pub is_word : List ℕ → Bool

@@ -14,7 +14,7 @@ use Rattle.plain_store.specs.declared.commands.Value.{Value}
 use Rattle.plain_store.specs.declared.commands.Value.TheVariants.{Count, Text}
 use Rattle.scenario.specs.Numbers.{are_digits, is_numeral, is_signed_numeral, in_i64, integer_of}
 use Rattle.scenario.specs.Operands.{number_at, name_at, counter, value_at}
-use Rattle.scenario.specs.declared.faults.FaultKind.TheVariants.{Number, BadName, BadValue}
+use Rattle.files.specs.declared.faults.FaultKind.TheVariants.{Number, BadName, BadValue}
 use Rattle.scenario.proofs.Numerals.{own}
 use Rattle.scenario.proofs.Spaced.{is_word}
 

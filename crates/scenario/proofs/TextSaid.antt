@@ -11,15 +11,16 @@ use Rattle.std.specs.Option.{ok_or}
 use Rattle.std.specs.Str.{bytes_eq}
 use Rattle.plain_store.specs.Pairs.{Pair}
 use Rattle.plain_store.specs.declared.setups.Setup.{Setup}
-use Rattle.scenario.specs.Checks.{◌>>=◌, known, fault_if, word}
-use Rattle.scenario.specs.Files.{file_of}
+use Rattle.files.specs.Checks.{◌>>=◌, known, fault_if, word}
+use Rattle.files.specs.Files.{file_of}
 use Rattle.scenario.specs.Keywords.{opener_of}
 use Rattle.scenario.specs.Printing.{version_words, heading_word, heading_words, line_words, open_words}
 use Rattle.scenario.specs.Reading.{Progress, Script, scenario_grammar, version_of, first_read, opened_read, later_read, script_of, scenario_of}
 use Rattle.scenario.specs.Scripts.{IsScenario}
 use Rattle.scenario.specs.Setting.{none_given, and_given, default_setup, with_heading, with_pair}
-use Rattle.scenario.specs.Spelling.{line_word, said_words, with_headings, headings_differ, IsWithinLimits, Says}
-use Rattle.scenario.specs.declared.faults.FaultKind.TheVariants.{NotFirst}
+use Rattle.files.specs.Limits.{said_words, IsWithinLimits}
+use Rattle.scenario.specs.Spelling.{line_word, with_headings, headings_differ, Says}
+use Rattle.files.specs.declared.faults.FaultKind.TheVariants.{NotFirst}
 use Rattle.scenario.specs.declared.keywords.Heading.{Heading}
 use Rattle.scenario.specs.declared.keywords.LineWord.{LineWord}
 use Rattle.scenario.specs.declared.keywords.Opener.{Opener}
@@ -28,8 +29,8 @@ use Rattle.scenario.specs.declared.lines.Line.{Line}
 use Rattle.scenario.proofs.Good.{scenario_at_first}
 use Rattle.scenario.proofs.HeadingLists.{are_free, free_less, heading_keeps, headings_keep}
 use Rattle.scenario.proofs.LineSpelled.{one_of}
-use Rattle.scenario.proofs.Passing.{passed, no_fault}
-use Rattle.scenario.proofs.Said.{said_read, later_then, first_then, text_said}
+use Rattle.files.proofs.Passing.{passed, no_fault}
+use Rattle.files.proofs.Said.{said_read, later_then, first_then, text_said}
 use Rattle.scenario.proofs.ScriptSaid.{HeadingSaid, OpenSaid, OtherSaid, heading_said, open_said, other_said, opener_spelled}
 
 -- what lines behind the first add: headings, then opening pairs, then other lines

@@ -1,8 +1,4 @@
 pub mod BitFiles
-pub mod Checks
-pub mod Cuts
-pub mod Engines
-pub mod Files
 pub mod Keywords
 pub mod Numbers
 pub mod Operands
@@ -13,6 +9,3 @@ pub mod Scripts
 pub mod Setting
 pub mod Spelling
 pub mod Statements
-pub mod Statuses
-pub mod Streams
-pub mod Words

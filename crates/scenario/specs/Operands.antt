@@ -6,8 +6,8 @@ use Rattle.plain_store.specs.Names.{is_name, is_text}
 use Rattle.plain_store.specs.declared.commands.Value.{Value}
 use Rattle.plain_store.specs.declared.commands.Value.TheVariants.{Count, Text}
 use Rattle.scenario.specs.Numbers.{number_up_to, integer_of}
-use Rattle.scenario.specs.declared.faults.FaultKind.{FaultKind}
-use Rattle.scenario.specs.declared.faults.FaultKind.TheVariants.{Number, BadName, BadValue}
+use Rattle.files.specs.declared.faults.FaultKind.{FaultKind}
+use Rattle.files.specs.declared.faults.FaultKind.TheVariants.{Number, BadName, BadValue}
 
 -- a number up to `most`
 abbrev pub number_at : ℕ → List ℕ → Result ℕ FaultKind

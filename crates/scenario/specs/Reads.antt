@@ -1,36 +1,15 @@
--- What a call answered, beside what the grammar says.
+-- What the reading of a scenario file answered, beside what the grammar says.
 use Rattle.std.specs.Prelude.{◌≡◌, Result, Ok, Err}
+use Rattle.files.specs.Reads.{UnlessMemory}
+use Rattle.files.specs.declared.faults.LineFault.{LineFault}
 use Rattle.scenario.specs.Reading.{Script}
-use Rattle.scenario.specs.declared.faults.FaultKind.{FaultKind}
-use Rattle.scenario.specs.declared.faults.FaultKind.TheVariants.{Memory}
-use Rattle.scenario.specs.declared.faults.LineFault.{LineFault}
 use Rattle.scenario.specs.declared.scenarios.Scenario.{Scenario}
-
--- a fact that is known unless memory ran out
-abbrev pub UnlessMemory : FaultKind → Type 0 → Type 0
-UnlessMemory Memory P = Unit {0}
-UnlessMemory kind P = P
-
--- what was made is what the grammar says, and so is the fault, unless memory ran out
-abbrev pub Makes : {A : Type 0} → Result A FaultKind → Result A FaultKind → Type 0
-Makes (Ok made) said = said ≡ Ok made
-Makes (Err kind) said = UnlessMemory kind (said ≡ Err kind)
-
--- the same of a call that changes what was there
-abbrev pub Takes : {A : Type 0} → Result (Unit {0}) FaultKind → Result A FaultKind → A → Type 0
-Takes (Ok done) said new = said ≡ Ok new
-Takes (Err kind) said new = UnlessMemory kind (said ≡ Err kind)
-
--- the same of a whole file
-abbrev pub MakesFile : {A : Type 0} → Result A LineFault → Result A LineFault → Type 0
-MakesFile (Ok made) said = said ≡ Ok made
-MakesFile (Err fault) said = UnlessMemory fault.kind (said ≡ Err fault)
 
 -- a scenario, without where its lines lie
 abbrev pub script : Scenario → Script
 script s = record { setup = s.setup; lines = s.lines.items }
 
--- the same of a scenario file
+-- what was read is what the grammar says, and so is the fault, unless memory ran out
 abbrev pub Gives : Result Scenario LineFault → Result Script LineFault → Type 0
 Gives (Ok s) said = said ≡ Ok (script s)
 Gives (Err fault) said = UnlessMemory fault.kind (said ≡ Err fault)

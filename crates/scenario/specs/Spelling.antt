@@ -1,5 +1,5 @@
 -- How a file is spelled: its lines have the words that are printed for what it says.
-use Rattle.std.specs.Prelude.{◌≡◌, ◌≤◌, ℕ, Bool, true, false, not, nat_le, ◌&&◌, List, [], ◌∷◌, ◌++◌, length, codes, filter, map}
+use Rattle.std.specs.Prelude.{◌≡◌, ◌≤◌, ℕ, Bool, true, false, not, ◌&&◌, List, [], ◌∷◌, ◌++◌, length, codes, map}
 use Rattle.std.specs.List.{list_all}
 use Rattle.std.specs.Str.{bytes_eq}
 use Rattle.plain_store.specs.declared.setups.Setup.{Setup}
@@ -7,7 +7,7 @@ use Rattle.scenario.specs.Printing.{version_words, heading_word, heading_words, 
 use Rattle.scenario.specs.Reading.{Script}
 use Rattle.scenario.specs.Scripts.{IsScenario}
 use Rattle.scenario.specs.Setting.{default_setup, with_heading}
-use Rattle.scenario.specs.Words.{lines, words_of, begins_with}
+use Rattle.files.specs.Limits.{said_words, IsWithinLimits}
 use Rattle.scenario.specs.declared.bit_files.BitLine.{BitLine}
 use Rattle.scenario.specs.declared.bit_files.BitLine.TheVariants as bit
 use Rattle.scenario.specs.declared.keywords.Heading.{Heading}
@@ -25,24 +25,6 @@ line_word Restart = codes "restart"
 line_word Flick = codes "flick"
 line_word Wander = codes "wander"
 line_word Show = codes "show"
-
--- whether a line is not skipped: it has a word, and the first begins with no #
-abbrev pub is_said : List (List ℕ) → Bool
-is_said [] = false
-is_said (first ∷ words) = not (begins_with 35 first)
-
--- the words of the lines of a text that are not skipped
-abbrev pub said_words : List ℕ → List (List (List ℕ))
-said_words text = filter is_said (map words_of (lines text))
-
--- a line that is not too long
-abbrev pub is_short : List ℕ → Bool
-is_short line = nat_le (length line) 128
-
--- a text of 4,096 lines at most, none of them too long; skipped lines too
-pub record IsWithinLimits (text : List ℕ) : Type 0 where
-  pub few : length (lines text) ≤ 4096
-  pub short : list_all is_short (lines text) ≡ true
 
 -- whether two headings have the same first word
 abbrev pub same_heading : Heading → Heading → Bool

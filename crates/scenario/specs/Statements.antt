@@ -3,11 +3,11 @@ use Rattle.std.specs.Prelude.{ℕ, ◌-◌, ◌^◌, Bool, true, ◌==◌, nat_l
 use Rattle.std.specs.Str.{bytes_eq}
 use Rattle.plain_store.specs.declared.commands.Command.{Command}
 use Rattle.plain_store.specs.declared.commands.Command.TheVariants as command
-use Rattle.scenario.specs.Checks.{◌>>=◌, known, counted, word}
+use Rattle.files.specs.Checks.{◌>>=◌, known, counted, word}
 use Rattle.scenario.specs.Keywords.{verb_of, target_of}
 use Rattle.scenario.specs.Operands.{number_at, integer_at, name_at, value_at}
-use Rattle.scenario.specs.declared.faults.FaultKind.{FaultKind}
-use Rattle.scenario.specs.declared.faults.FaultKind.TheVariants.{Unknown, Words}
+use Rattle.files.specs.declared.faults.FaultKind.{FaultKind}
+use Rattle.files.specs.declared.faults.FaultKind.TheVariants.{Unknown, Words}
 use Rattle.scenario.specs.declared.keywords.LineWord.{LineWord}
 use Rattle.scenario.specs.declared.keywords.LineWord.TheVariants as opener
 use Rattle.scenario.specs.declared.keywords.Verb.{Verb}

@@ -1,9 +1,9 @@
 //! What holds of scenario files of any length.
 ghost use Rattle.std.specs.Prelude.{◌≡◌, ◌≤◌, ℕ, List, Option, Some, Ok, length};
 ghost use Rattle.std.specs.Io.KnownBytes.{IsAtEnd};
-ghost use Rattle.scenario.specs.Cuts.{input_limit, TellsAtLimit};
+ghost use Rattle.files.specs.Cuts.{input_limit, TellsAtLimit};
 ghost use Rattle.scenario.specs.Reading.{Script, scenario_of};
-ghost use Rattle.scenario.specs.Streams.{ReadsInput};
+ghost use Rattle.files.specs.Streams.{ReadsInput};
 
 /// A text of 532,481 bytes or more has a fault, and its first 532,481 bytes have the same one. So what is
 /// read of an input, up to its end or to so many bytes, says what the whole input says; and where it has no

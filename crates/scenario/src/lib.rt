@@ -1,9 +1,7 @@
-//! Scenario files: what their lines say, how they are read, and the streams that all engines read and write.
+//! Scenario files and bits files: what their lines say, how they are read, and how scenarios are printed.
 #![tactic(auto)]
 
 mod bit_files;
-mod faults;
-mod files;
 mod headings;
 mod keywords;
 mod laws;
@@ -16,12 +14,12 @@ mod scenarios;
 mod sound;
 mod spelling;
 mod statements;
-mod statuses;
-mod streams;
-mod words;
 
 pub use bit_files::{BitLine, read_bits};
-pub use faults::{Fault, FaultKind, LineFault};
+pub use files::{
+    DONE, Ending, Failed, Fault, FaultKind, FromRead, INPUT_LIMIT, IntoWrite, LineFault, Sink,
+    Source, ended, fault_status, read_input, write_all,
+};
 pub use laws::cut_texts_have_the_fault_of_the_whole;
 pub use lines::{Flick, Line, Target};
 pub use printing::print_scenario;
@@ -30,5 +28,3 @@ pub use scenarios::Scenario;
 pub use spelling::{
     files_are_spelled_in_one_way, lines_are_spelled_in_one_way, printed_scenarios_are_read_again,
 };
-pub use statuses::{DONE, Ending, ended, fault_status};
-pub use streams::{Failed, FromRead, INPUT_LIMIT, IntoWrite, Sink, Source, read_input, write_all};

@@ -2,8 +2,8 @@
 ghost use Rattle.std.specs.Prelude.{◌≡◌, ◌≤◌, IfOk};
 ghost use Rattle.scenario.specs.Operands.{number_at, name_at, value_at, integer_at};
 
-use crate::faults::FaultKind;
 use crate::numbers;
+use files::FaultKind;
 use plain_store::{Name, Text, Value};
 
 /// A number up to `most`.

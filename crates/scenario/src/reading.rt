@@ -1,21 +1,21 @@
 //! Reading a scenario file, line by line.
 ghost use Rattle.std.specs.Prelude.{◌≡◌, [], true, false, not, ◌&&◌, length};
 ghost use Rattle.std.specs.Int.{is_in_range};
-ghost use Rattle.scenario.specs.Files.{one_more};
-ghost use Rattle.scenario.specs.Reads.{Gives, Makes, Takes, script};
+ghost use Rattle.files.specs.Files.{one_more};
+ghost use Rattle.files.specs.Reads.{Makes, Takes};
+ghost use Rattle.scenario.specs.Reads.{Gives, script};
 ghost use Rattle.scenario.specs.Reading.{first_read, heading_read, pair_read, open_read, kept_read, other_read, opened_read, script_of, scenario_of};
 ghost use Rattle.scenario.specs.Setting.{most_of, may_open, and_given, with_heading, with_pair};
 ghost use Rattle.scenario.specs.Statements.{is_line_of};
-ghost use Rattle.scenario.specs.Words.{texts};
+ghost use Rattle.files.specs.Words.{texts};
 
-use crate::faults::{FaultKind, LineFault};
-use crate::files::{FromLines, keep_line, read_file};
 use crate::headings::{Given, default_setup};
 use crate::keywords::{Heading, LineWord, Opener};
 use crate::lines::Line;
 use crate::operands::{name, number, value};
 use crate::scenarios::Scenario;
 use crate::statements;
+use files::{FaultKind, FromLines, LineFault, keep_line, read_file};
 use plain_store::{Name, NestedTypes, Setup, Value};
 use std::alloc::Global;
 use std::marker::Model;

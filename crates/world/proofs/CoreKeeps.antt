@@ -14,7 +14,7 @@ use Rattle.process.specs.Processes.{ProcessState, stage_kept}
 use Rattle.world.specs.Changes.{pending_in, told, with_taken}
 use Rattle.world.specs.Cores.{CoreGoesOn, CoreRefuses, CoreState, CoreWalks, KeepsCore, call_in, with_history}
 use Rattle.world.specs.Events.{IsRefused}
-use Rattle.world.specs.Flicks.{FlickState}
+use Rattle.flicks.specs.Flicks.{FlickState}
 use Rattle.world.specs.Seats.{Seat}
 use Rattle.world.specs.Shows.{Shows, WorldState}
 use Rattle.world.proofs.WorldEnds.{IsUsed, index-in}

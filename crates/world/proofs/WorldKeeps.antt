@@ -16,7 +16,7 @@ use Rattle.process.specs.Telling.{act_of, marks_of, marks_told}
 use Rattle.world.specs.Changes.{pending_in, with_taken}
 use Rattle.world.specs.Cores.{CoreGoesOn, CoreMakes, CoreRefuses, CoreState, CoreSteps, CoreWalks, KeepsCore, call_in, taking, with_history}
 use Rattle.world.specs.Events.{Adds, GoesOn, KeepsWorld, entry_with}
-use Rattle.world.specs.Flicks.{FlickState}
+use Rattle.flicks.specs.Flicks.{FlickState}
 use Rattle.world.specs.Seats.{Seat}
 use Rattle.world.specs.Shows.{Shows, WorldState}
 use Rattle.world.specs.Walks.{Walks}
@@ -81,7 +81,7 @@ walks-shown : (n : ℕ) (old new : WorldState) (f g : FlickState) (p : ℕ) (eve
 walks-shown zero old new f g p events (same, same_flicks) shows = (events, subst (λ w. Shows w events) (sym same) shows)
 walks-shown (suc n) old new f g p events (w, x, walks, quietly, after) shows =
     let before : (later : List Event) × Shows w later = walks-shown n old w f x p events walks shows in
-    (Step p (Rattle.world.specs.Flicks.flick_of x) ∷ before.0, quietly.shows before.0 before.1)
+    (Step p (Rattle.flicks.specs.Flicks.flick_of x) ∷ before.0, quietly.shows before.0 before.1)
 
 pub walk_keeps : (n : ℕ) (c new : CoreState) (h : List Taken) (f g : FlickState) (p capacity : ℕ) → KeepsWorld (with_history c h) capacity → CoreWalks c f p n new g → KeepsWorld (with_history new h) capacity
 walk_keeps n c new h f g p capacity keeps walks =

@@ -8,7 +8,7 @@ use Rattle.record.specs.Records.{refused_at}
 use Rattle.process.specs.declared.told.Told.TheVariants.{Nothing}
 use Rattle.world.specs.Changes.{pending_in, told}
 use Rattle.world.specs.Events.{KeepsWorld}
-use Rattle.world.specs.Flicks.{FlickState}
+use Rattle.flicks.specs.Flicks.{FlickState}
 use Rattle.process.specs.Processes as kept
 use Rattle.world.specs.Seats.{Seat}
 use Rattle.process.specs.Processes.{Kept, kept_at, stage_kept}

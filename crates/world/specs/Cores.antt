@@ -16,7 +16,7 @@ use Rattle.process.specs.Registers.{RegistersState}
 use Rattle.process.specs.Telling.{marks_of}
 use Rattle.world.specs.Changes.{pending_in, with_taken}
 use Rattle.world.specs.Events.{GoesOn, IsRefused}
-use Rattle.world.specs.Flicks.{FlickState}
+use Rattle.flicks.specs.Flicks.{FlickState}
 use Rattle.world.specs.Seats.{Seat}
 use Rattle.world.specs.Shows.{Shows, WorldState}
 use Rattle.world.specs.Walks.{Walks}

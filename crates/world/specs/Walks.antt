@@ -3,7 +3,7 @@ use Rattle.std.specs.Prelude.{◌≡◌, ℕ, zero, suc, Bool, List, [], None, S
 use Rattle.safe_number.specs.declared.Access.{Access}
 use Rattle.record.specs.declared.events.Event.TheVariants.{Step}
 use Rattle.world.specs.Events.{Adds, GoesOn}
-use Rattle.world.specs.Flicks.{FlickState, after_flick, flick_of}
+use Rattle.flicks.specs.Flicks.{FlickState, after_flick, flick_of}
 use Rattle.world.specs.Seats.{Seat}
 use Rattle.world.specs.Shows.{WorldState}
 use Rattle.process.specs.Steps.{bits_within}

@@ -19,11 +19,11 @@ ghost use Rattle.world.specs.Walks.{bits_within_at};
 
 mod copies;
 
-use crate::flicks::Flicks;
 use crate::queue::listed;
 use crate::refusals::{is_full, number_after, refusal_at};
 use crate::seat::Seat;
 use crate::seats::{is_occupied, is_queued, tell, waiting, waits};
+use flicks::Flicks;
 use plain_store::{Command, NestedTypes, Reply, Setup};
 use process::{Effect, Registers, Told};
 use record::{Event, Refusal, Stage, Taken};

@@ -3,7 +3,6 @@
 #![tactic(auto)]
 
 mod cores;
-mod flicks;
 mod queue;
 mod refusals;
 mod seat;

@@ -24,7 +24,7 @@ ghost use Rattle.process.specs.Telling.{act_of};
 ghost use Rattle.world.specs.Walks.{Walks, bits_within_at};
 
 use crate::cores::Core;
-use crate::flicks::Flicks;
+use flicks::Flicks;
 use plain_store::{NestedTypes, Reply, Setup};
 use process::{Effect, Made, Told};
 use record::{Act, Event, Refusal, Stage, Taken};

@@ -1,7 +1,7 @@
 use Rattle.std.proofs.Common.{◌<◌, ◌∷◌, List, sym, refl, subst, add-one, arith}
 use Rattle.std.specs.Prelude.{slice_set}
 use Rattle.record.specs.declared.history.Taken.{Taken}
-use Rattle.world.specs.Flicks.{flick_of}
+use Rattle.flicks.specs.Flicks.{flick_of}
 use Rattle.world.specs.Shows.{WorldState}
 use Rattle.process.specs.Steps.{bits_within}
 use Rattle.world.specs.Cores.{CoreState, KeepsCore, with_history}

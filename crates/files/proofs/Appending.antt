@@ -1,0 +1,38 @@
+-- Bytes that are written or read in pieces.
+use Rattle.std.proofs.Common.{ℕ, ◌+◌, ◌≤◌, ◌<◌, List, [], ◌∷◌, ◌++◌, arith, Option, Some, None, length, take, drop, ap, sym, ◌∙◌, append_assoc, take-add}
+use Rattle.std.proofs.lemmas.List.{take_all, length-append}
+use Rattle.std.specs.Io.KnownBytes.{Appends, Consumes, Keeps}
+use Rattle.files.specs.Cuts.{input_limit}
+use Rattle.files.specs.Streams.{ReadsFront, WritesFront}
+
+-- one piece and then the next
+pub appends_more : (a b c : Option (List ℕ)) (bytes : List ℕ) (at n : ℕ) → Appends a b (take at bytes) → Appends b c (take n (drop at bytes)) → Appends a c (take (at + n) bytes)
+appends_more None b c bytes at n first next = tt
+appends_more (Some xs) (Some ys) (Some zs) bytes at n first next = next ∙ ap (λ front. front ++ take n (drop at bytes)) first ∙ append_assoc xs (take at bytes) (take n (drop at bytes)) ∙ ap (λ front. xs ++ front) (sym (take-add at n bytes))
+appends_more (Some xs) (Some ys) None bytes at n first next = next
+appends_more (Some xs) None c bytes at n first next = elim first [ ]
+
+-- what was taken is a front of the bytes
+pub front_of : (a b : Option (List ℕ)) (bytes : List ℕ) (at : ℕ) → Appends a b (take at bytes) → WritesFront a b bytes
+front_of a b bytes at taken = record { count = at; front = taken }
+
+-- and stays so after a call that took none
+pub front_kept : (a b c : Option (List ℕ)) (bytes : List ℕ) (at : ℕ) → Appends a b (take at bytes) → Keeps b c → WritesFront a c bytes
+front_kept None b c bytes at taken kept = record { count = at; front = tt }
+front_kept (Some xs) (Some ys) (Some zs) bytes at taken kept = record { count = at; front = kept ∙ taken }
+front_kept (Some xs) (Some ys) None bytes at taken kept = elim kept [ ]
+front_kept (Some xs) None c bytes at taken kept = elim taken [ ]
+
+-- all of them, at the end
+pub whole_of : (a b : Option (List ℕ)) (bytes : List ℕ) (at : ℕ) → length bytes ≤ at → Appends a b (take at bytes) → Appends a b bytes
+whole_of a b bytes at done taken = rw (take_all at bytes done) at taken
+
+-- the bytes so far, and one more
+pub front_read : (a b c : Option (List ℕ)) (bytes : List ℕ) (byte : ℕ) → length bytes < input_limit → Consumes a b bytes → Consumes b c (byte ∷ []) → ReadsFront a c
+front_read a b c bytes byte early so_far next = record { bytes = bytes ++ byte ∷ []; front = by a b c so_far next; within = let more = length-append bytes (byte ∷ []) in omega (arith, more, early) }
+  where
+    by : (a b c : Option (List ℕ)) → Consumes a b bytes → Consumes b c (byte ∷ []) → Consumes a c (bytes ++ byte ∷ [])
+    by None b c so_far next = tt
+    by (Some xs) (Some ys) (Some zs) so_far next = so_far ∙ ap (λ rest. bytes ++ rest) next ∙ sym (append_assoc bytes (byte ∷ []) zs)
+    by (Some xs) (Some ys) None so_far next = next
+    by (Some xs) None c so_far next = elim so_far [ ]

@@ -1,0 +1,46 @@
+-- What an engine that prints a text for a file has read and written.
+use Rattle.std.specs.Prelude.{◌≡◌, ℕ, ◌<◌, List, Option, [], IfSome, Result, Ok, Err}
+use Rattle.std.specs.Io.KnownBytes.{Appends, IsAtEnd, Keeps}
+use Rattle.files.specs.Checks.{◌>>=◌}
+use Rattle.files.specs.Reads.{UnlessMemory}
+use Rattle.files.specs.Streams.{WritesFront}
+use Rattle.files.specs.declared.faults.Fault.{Fault}
+use Rattle.files.specs.declared.faults.Fault.TheVariants as fault
+use Rattle.files.specs.declared.faults.LineFault.{LineFault}
+
+-- a source and a sink at one moment: their bytes, where they are told, and their failures
+pub record Streams : Type 0 where
+  pub to_come : Option (List ℕ)
+  pub taken : Option (List ℕ)
+  pub read_failures : ℕ
+  pub write_failures : ℕ
+
+-- the text that an engine prints for what a file says
+abbrev pub text_by : {S : Type 0} → (List ℕ → Result S LineFault) → (S → List ℕ) → List ℕ → Result (List ℕ) LineFault
+text_by reading printed input = reading input >>= λ said. Ok (printed said)
+
+-- a text, or no byte
+abbrev pub text_or_none : Result (List ℕ) LineFault → List ℕ
+text_or_none (Ok text) = text
+text_or_none (Err fault) = []
+
+module _ (text_of : List ℕ → Result (List ℕ) LineFault) where
+  -- the whole text of the whole input was written
+  abbrev pub WritesAll : Streams → Streams → Type 0
+  WritesAll old new = IfSome old.to_come (λ input. (text : List ℕ) × (text_of input ≡ Ok text) × Appends old.taken new.taken text) × IsAtEnd new.to_come
+
+  -- a front of the text was written
+  abbrev pub WritesSome : Streams → Streams → Type 0
+  WritesSome old new = IfSome old.to_come (λ input. (text : List ℕ) × (text_of input ≡ Ok text) × WritesFront old.taken new.taken text)
+
+  -- a front of the text was written, of which there is none where the input has a fault
+  abbrev pub WritesFrontIfAny : Streams → Streams → Type 0
+  WritesFrontIfAny old new = IfSome old.to_come (λ input. WritesFront old.taken new.taken (text_or_none (text_of input)))
+
+  -- How an engine ends: each fault has its cause, and after a fault of the input nothing was written.
+  abbrev pub Ran : Result (Unit {0}) Fault → Streams → Streams → Type 0
+  Ran (Ok done) old new = WritesAll old new
+  Ran (Err (fault.Line f)) old new = IfSome old.to_come (λ input. UnlessMemory f.kind (text_of input ≡ Err f)) × Keeps old.taken new.taken
+  Ran (Err fault.Read) old new = (old.read_failures < new.read_failures) × Keeps old.taken new.taken
+  Ran (Err fault.Write) old new = (old.write_failures < new.write_failures) × WritesSome old new
+  Ran (Err fault.Memory) old new = WritesFrontIfAny old new

@@ -1,0 +1,9 @@
+pub mod Checks
+pub mod Cuts
+pub mod Engines
+pub mod Files
+pub mod Limits
+pub mod Reads
+pub mod Statuses
+pub mod Streams
+pub mod Words

@@ -1,0 +1,88 @@
+//! What can be wrong with a file.
+ghost use Rattle.std.specs.Prelude.{◌≡◌};
+
+use std::alloc::AllocError;
+use thiserror::Error;
+
+/// What is wrong with a line.
+#[derive(Clone, Copy, Debug, PartialEq, Eq, Error)]
+pub enum FaultKind {
+    /// The line stands where no line of its kind may stand, or is not the first line that the file must have.
+    #[error("not-first")]
+    NotFirst,
+    /// A key word is not in the table.
+    #[error("unknown")]
+    Unknown,
+    /// The number of words is another one.
+    #[error("words")]
+    Words,
+    /// An operand is no number, or out of its range.
+    #[error("number")]
+    Number,
+    /// An operand is no name.
+    #[error("bad-name")]
+    BadName,
+    /// An operand is no value.
+    #[error("bad-value")]
+    BadValue,
+    /// No such setup is in the file's version.
+    #[error("bad-setup")]
+    BadSetup,
+    /// The line has more than 128 bytes, or there are too many lines.
+    #[error("too-long")]
+    TooLong,
+    /// A growth was refused.
+    #[error("memory")]
+    Memory,
+}
+
+/// The first line with a fault, counted from 1.
+#[derive(Clone, Copy, Debug, PartialEq, Eq, Error)]
+#[error("line {line}: {kind}")]
+pub struct LineFault {
+    pub line: u32,
+    pub kind: FaultKind,
+}
+
+/// Why an engine ended early.
+#[derive(Clone, Copy, Debug, PartialEq, Eq, Error)]
+pub enum Fault {
+    #[error(transparent)]
+    Line(LineFault),
+    #[error("read fault")]
+    Read,
+    #[error("write fault")]
+    Write,
+    #[error("out of memory")]
+    Memory,
+}
+
+impl From<LineFault> for Fault {
+    ghost use Rattle.files.specs.declared.faults.Fault.TheVariants.{Line, Memory};
+
+    ghost from_gives = { λ fault result. result ≡ Line fault };
+
+    fn from(fault: LineFault) -> Fault {
+        Fault::Line(fault)
+    }
+}
+
+impl From<AllocError> for Fault {
+    ghost use Rattle.files.specs.declared.faults.Fault.TheVariants.{Line, Memory};
+
+    ghost from_gives = { λ error result. result ≡ Memory };
+
+    fn from(_: AllocError) -> Fault {
+        Fault::Memory
+    }
+}
+
+impl From<AllocError> for FaultKind {
+    ghost use Rattle.files.specs.declared.faults.FaultKind.TheVariants.{Memory};
+
+    ghost from_gives = { λ error result. result ≡ Memory };
+
+    fn from(_: AllocError) -> FaultKind {
+        FaultKind::Memory
+    }
+}

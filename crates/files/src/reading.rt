@@ -1,0 +1,104 @@
+//! Reading a file of lines, by any grammar.
+ghost use Rattle.std.specs.Prelude.{◌≡◌, ◌≤◌, [], ◌∷◌, ◌++◌, length, OnErr, OnOk};
+ghost use Rattle.files.specs.Files.{Grammar, file_of, line_read, words_read, statement_read, one_more};
+ghost use Rattle.files.specs.Reads.{Makes, MakesFile, Takes};
+ghost use Rattle.files.specs.Words.{texts};
+
+use crate::faults::{FaultKind, LineFault};
+use crate::words::words;
+use bstr::ByteSlice;
+use std::alloc::Global;
+
+/// The most lines of a file, skipped ones among them.
+const MOST_LINES: u32 = 4096;
+
+/// The most bytes of a line, without its end.
+const MOST_BYTES: usize = 128;
+
+/// The most lines that a file has behind its headings.
+const MOST_KEPT: usize = 4000;
+
+/// What is read line by line, by a grammar of its own. A line is its first word and the words behind it.
+pub trait FromLines: Sized + Drop {
+    ghost grammar: { Grammar Self };
+
+    /// Reads the first line that is not skipped.
+    fn first(alloc: Global, word: &[u8], words: &[&[u8]]) -> Result<Self, FaultKind>
+        ensures { Makes result (grammar.first word.now (texts words.now)) };
+
+    /// Reads a later line. After an `Err` no more is read.
+    fn later(&mut self, word: &[u8], words: &[&[u8]]) -> Result<(), FaultKind>
+        ensures { Takes result (grammar.later word.now (texts words.now) self.old) self.new };
+}
+
+/// What the bytes of a file say, or the first fault of the first line that has one.
+#[tactic(auto, using(crate::proofs::Ends::lines_agree))]
+pub fn read_file<T: FromLines>(alloc: Global, text: &[u8]) -> Result<T, LineFault>
+    ensures { MakesFile result (file_of T.grammar text.now) }
+{
+    let mut read = None;
+    let mut number = 0;
+    for line in text.lines() {
+        number += 1;
+        if let Err(kind) = read_line(alloc, number, line, &mut read) {
+            return Err(LineFault { line: number, kind });
+        }
+    }
+    read.ok_or(LineFault {
+        line: number + 1,
+        kind: FaultKind::NotFirst,
+    })
+}
+
+/// Reads one line after what was read before.
+fn read_line<T: FromLines>(
+    alloc: Global,
+    number: u32,
+    line: &[u8],
+    read: &mut Option<T>,
+) -> Result<(), FaultKind>
+    ensures { Takes result (line_read T.grammar number line.now read.old) read.new }
+{
+    if number > MOST_LINES || line.len() > MOST_BYTES {
+        return Err(FaultKind::TooLong);
+    }
+    let words = words(alloc, line)?;
+    read_words(alloc, words.as_slice(), read)
+}
+
+fn read_words<T: FromLines>(
+    alloc: Global,
+    words: &[&[u8]],
+    read: &mut Option<T>,
+) -> Result<(), FaultKind>
+    ensures { Takes result (words_read T.grammar (texts words.now) read.old) read.new }
+{
+    let [first, rest @ ..] = words else {
+        return Ok(());
+    };
+    if first.first() == Some(&b'#') {
+        return Ok(());
+    }
+    match read {
+        None => *read = Some(T::first(alloc, first, rest)?),
+        Some(read) => read.later(first, rest)?,
+    }
+    Ok(())
+}
+
+/// Keeps one more line behind the headings, of which a file has at most 4,000. After an `Err` the lines are
+/// as they were.
+pub fn keep_line<T: Drop>(lines: &mut Vec<T>, line: T) -> Result<(), FaultKind>
+    ensures value { Takes result (one_more lines.old.items line) lines.new.items }
+    ensures ok { OnOk result (lines.new.items ≡ lines.old.items ++ line ∷ []) }
+    ensures err { OnErr result (lines.new.items ≡ lines.old.items) }
+    ensures few { length lines.old.items ≤ 4000 → length lines.new.items ≤ 4000 }
+{
+    if lines.len() >= MOST_KEPT {
+        return Err(FaultKind::TooLong);
+    }
+    match lines.push(line) {
+        Ok(()) => Ok(()),
+        Err(_) => Err(FaultKind::Memory),
+    }
+}

@@ -1,0 +1,174 @@
+//! Bytes that come one by one, and bytes that go.
+ghost use Rattle.std.specs.Prelude.{◌≡◌, ℕ, ◌+◌, ◌-◌, ◌^◌, ◌<◌, List, Option, Result, Err, IfErr, IfOk, OnOk, OnErr};
+ghost use Rattle.std.specs.Io.{WritesAtMost};
+ghost use Rattle.std.specs.Io.KnownBytes.{Appends, WriteAppends};
+ghost use Rattle.files.specs.Streams.{GivesByte, failed_read, failed_put, failed_reading, failed_writing, IsReadFault, ReadsInput, ReadsFront, WritesFront};
+
+use crate::faults::Fault;
+use std::alloc::Global;
+use std::io::{Read, Write};
+
+/// A call that failed, for whatever reason.
+#[derive(Clone, Copy, Debug, PartialEq, Eq)]
+pub struct Failed;
+
+/// Where an engine's bytes come from.
+pub trait Source {
+    /// The bytes to come, where they are told.
+    ghost to_come: { Self → Option (List ℕ) };
+
+    /// How many calls have failed.
+    ghost failures: { Self → ℕ };
+
+    /// The next byte, or `None` at the end. An `Err` takes no byte.
+    fn next_byte(&mut self) -> Result<Option<u8>, Failed>
+        requires { failures self.old < 2 ^ 64 - 1 }
+        ensures byte { GivesByte (to_come self.old) (to_come self.new) result }
+        ensures failures { failures self.new ≡ failures self.old + failed_read result };
+}
+
+/// Where an engine's bytes go.
+pub trait Sink {
+    /// The bytes that were taken, where they are told.
+    ghost taken: { Self → Option (List ℕ) };
+
+    /// How many calls have failed, or took none of some bytes.
+    ghost failures: { Self → ℕ };
+
+    /// Takes bytes from the front, and says how many. After an `Err` none of them is taken.
+    fn put(&mut self, bytes: &[u8]) -> Result<usize, Failed>
+        requires { failures self.old < 2 ^ 64 - 1 }
+        ensures count { WritesAtMost result bytes.now }
+        ensures bytes { WriteAppends (taken self.old) (taken self.new) result bytes.now }
+        ensures failures { failures self.new ≡ failures self.old + failed_put result bytes.now };
+}
+
+/// A reader of std as a source: an error of any kind is a `Failed`. Each byte is a call of `read`, so put a
+/// buffer before a file.
+#[derive(Drop)]
+pub struct FromRead<R: Read> {
+    reader: R,
+    failures: u64,
+}
+
+impl<R: Read> FromRead<R> {
+    /// The bytes that a reader has, and no failures yet.
+    pub fn new(reader: R) -> FromRead<R>
+        ensures bytes { ⟦<FromRead<R> as Source>⟧.to_come result ≡ R.remaining reader }
+        ensures failures { ⟦<FromRead<R> as Source>⟧.failures result ≡ 0 }
+    {
+        FromRead {
+            reader,
+            failures: 0,
+        }
+    }
+}
+
+impl<R: Read> Source for FromRead<R> {
+    ghost to_come = { λ s. R.remaining s.reader };
+
+    ghost failures = { λ s. s.failures };
+
+    fn next_byte(&mut self) -> Result<Option<u8>, Failed> {
+        let mut buffer = [0];
+        match self.reader.read(&mut buffer) {
+            Ok(0) => Ok(None),
+            Ok(_) => Ok(Some(buffer[0])),
+            Err(_) => {
+                self.failures += 1;
+                Err(Failed)
+            }
+        }
+    }
+}
+
+/// A writer of std as a sink: an error of any kind is a `Failed`.
+#[derive(Drop)]
+pub struct IntoWrite<W: Write> {
+    writer: W,
+    failures: u64,
+}
+
+impl<W: Write> IntoWrite<W> {
+    /// What a writer took, and no failures yet.
+    pub fn new(writer: W) -> IntoWrite<W>
+        ensures bytes { ⟦<IntoWrite<W> as Sink>⟧.taken result ≡ W.contents writer }
+        ensures failures { ⟦<IntoWrite<W> as Sink>⟧.failures result ≡ 0 }
+    {
+        IntoWrite {
+            writer,
+            failures: 0,
+        }
+    }
+}
+
+impl<W: Write> Sink for IntoWrite<W> {
+    ghost taken = { λ s. W.contents s.writer };
+
+    ghost failures = { λ s. s.failures };
+
+    fn put(&mut self, bytes: &[u8]) -> Result<usize, Failed> {
+        match self.writer.write(bytes) {
+            Ok(n) => {
+                if n == 0 && !bytes.is_empty() {
+                    self.failures += 1;
+                }
+                Ok(n)
+            }
+            Err(_) => {
+                self.failures += 1;
+                Err(Failed)
+            }
+        }
+    }
+}
+
+/// How many bytes an engine reads of its input at most: 4,096 lines of 128 bytes with two bytes of end, and
+/// one more. A longer input has its fault among them.
+pub const INPUT_LIMIT: usize = 532_481;
+
+/// The bytes to come, up to the end or to `INPUT_LIMIT` of them. It fails with `Read` where a call failed,
+/// and with `Memory`; then some bytes from the front are gone, no more than `INPUT_LIMIT`.
+#[tactic(auto, using(crate::proofs::Appending::front_read))]
+pub fn read_input<R: Source>(alloc: Global, input: &mut R) -> Result<Vec<u8>, Fault>
+    requires { R.failures input.old < 2 ^ 64 - 1 }
+    ensures ok { IfOk result (λ bytes. ReadsInput (R.to_come input.old) (R.to_come input.new) bytes.items) }
+    ensures front { OnErr result (ReadsFront (R.to_come input.old) (R.to_come input.new)) }
+    ensures fault { IfErr result IsReadFault }
+    ensures failures { R.failures input.new ≡ R.failures input.old + failed_reading result }
+{
+    let mut bytes = Vec::new(alloc);
+    while bytes.len() < INPUT_LIMIT {
+        match input.next_byte() {
+            Ok(Some(byte)) => {
+                if bytes.push(byte).is_err() {
+                    return Err(Fault::Memory);
+                }
+            }
+            Ok(None) => return Ok(bytes),
+            Err(Failed) => return Err(Fault::Read),
+        }
+    }
+    Ok(bytes)
+}
+
+/// Writes all the bytes. It fails with `Write` where a call failed or took none of some bytes; then some
+/// bytes from the front were written.
+#[tactic(auto, using(crate::proofs::Appending::appends_more, crate::proofs::Appending::front_of, crate::proofs::Appending::front_kept, crate::proofs::Appending::whole_of))]
+pub fn write_all<W: Sink>(output: &mut W, bytes: &[u8]) -> Result<(), Fault>
+    requires { W.failures output.old < 2 ^ 64 - 1 }
+    ensures ok { OnOk result (Appends (W.taken output.old) (W.taken output.new) bytes.now) }
+    ensures front { WritesFront (W.taken output.old) (W.taken output.new) bytes.now }
+    ensures fault { OnErr result (result ≡ Err Fault.Write) }
+    ensures failures { W.failures output.new ≡ W.failures output.old + failed_writing result }
+{
+    let mut at = 0;
+    while at < bytes.len() {
+        match output.put(&bytes[at..]) {
+            Ok(0) => return Err(Fault::Write),
+            Ok(n) => at += n,
+            Err(Failed) => return Err(Fault::Write),
+        }
+    }
+    Ok(())
+}
