@@ -1,23 +1,87 @@
 -- One history, and the headline, put together.
-use Rattle.record.specs.Headline.{Headline, OneHistory}
+use Rattle.std.proofs.Common.{◌≡◌, ℕ, List, [], ◌∷◌, ◌++◌, Option, None, Some, Ok, refl, ap, subst}
+use Rattle.plain_store.specs.declared.Setup.{Setup}
+use Rattle.plain_store.specs.Setups.{checked}
+use Rattle.record.specs.declared.events.Event.{Event}
+use Rattle.record.specs.Entries.{Entry, Past}
+use Rattle.record.specs.Given.{AreGiven}
+use Rattle.record.specs.Headline.{AnsweredCallsTakeNoMore, AnswersAreTaken, AnswersStandInHistory, CallsTakeOnce, CallsTakeWhatTheyAnswer, CutCallsAreNotAnswered, Headline, IsAlone, KeepsHeadline, KeepsHeadlineThroughout, KeepsOrder, MutualExclusion, NoOvertaking, OneHistory, PlacesKeepOrder, TakenOnce}
+use Rattle.record.specs.Records.{entry_of, past_of}
 use Rattle.record.proofs.Width.{is_good}
 use Rattle.laws.proofs.Always.{inv_of}
 use Rattle.laws.proofs.Theorems as lock
-use Rattle.history_laws.proofs.DataHeadline as headline
+use Rattle.history_laws.proofs.Answered.{answered_whole, answers_stand}
+use Rattle.history_laws.proofs.CallSpans.{before, older}
+use Rattle.history_laws.proofs.DataHeadline.{taken}
+use Rattle.history_laws.proofs.Given.{given_before}
 use Rattle.history_laws.proofs.Order as history
+
+pub alone : MutualExclusion
+alone s h events i j hi hj = lock.mutual_exclusion s (is_good s h) (inv_of s (is_good s h)) events i j hi hj
+
+pub in_turn : NoOvertaking
+in_turn s h events event e is enters j = lock.no_overtaking s (is_good s h) (inv_of s (is_good s h)) events event e is enters j
+
+pub answers_are_taken : AnswersAreTaken
+answers_are_taken s h events event e is a answered = history.answers_tell s (is_good s h) events event e is a answered
+
+pub answered_take_no_more : AnsweredCallsTakeNoMore
+answered_take_no_more s h events later earlier e answering a is called among answered = answered_whole s (is_good s h) later events e answering earlier a is called among answered
+
+pub stand : AnswersStandInHistory
+stand s h events event e given is r answered = answers_stand taken s h events event e given is r answered
+
+pub taken_once : TakenOnce
+taken_once s h events later earlier e is called = history.once s (is_good s h) later events e earlier is called
+
+pub cut_calls : CutCallsAreNotAnswered
+cut_calls s h events event e is a answered = history.cut_is_not_answered s (is_good s h) events event e is a answered
+
+pub keeps_order : KeepsOrder
+keeps_order s h events newer between earlier x y is first second ended k m q r takes_x takes_y = history.in_order s (is_good s h) events newer between earlier x y is first ended k m q r takes_x takes_y
 
 pub history_is_one : OneHistory
 history_is_one = record {
-  taken = headline.taken;
-  answers = λ s h events event e is a answered. history.answers_tell s (is_good s h) events event e is a answered;
-  once = λ s h events later earlier e is called. history.once s (is_good s h) later events e earlier is called;
-  cut = λ s h events event e is a answered. history.cut_is_not_answered s (is_good s h) events event e is a answered;
-  order = λ s h events newer between earlier x y is first second ended k m q r takes_x takes_y. history.in_order s (is_good s h) events newer between earlier x y is first ended k m q r takes_x takes_y;
+  taken = taken;
+  answers = answers_are_taken;
+  whole_calls = answered_take_no_more;
+  stand = stand;
+  once = taken_once;
+  cut = cut_calls;
+  order = keeps_order;
 }
 
+-- A past with one entry more is that of one event more.
+with-entry : (s : Setup) (P : Past → Type 0) → ((events : List Event) → P (past_of s events)) → (events : List Event) (event : Event) (e : Entry) → entry_of s (past_of s events) event ≡ Some e → P (e ∷ past_of s events)
+with-entry s P all events event e is = subst P (ap (λ o. elim o as (λ _. Past) [ None ↦ past_of s events | Some x ↦ x ∷ past_of s events ]) is) (all (event ∷ events))
+
 pub the_headline : Headline
-the_headline = record {
-  mutual_exclusion = λ s h events i j hi hj. lock.mutual_exclusion s (is_good s h) (inv_of s (is_good s h)) events i j hi hj;
-  no_overtaking = λ s h events event e is enters j. lock.no_overtaking s (is_good s h) (inv_of s (is_good s h)) events event e is enters j;
-  one_history = history_is_one;
+the_headline s h events event e given is = record {
+  alone = with-entry s IsAlone (alone s h) events event e is;
+  overtakes = in_turn s h events event e is;
+  place = taken s h events event e given is;
+  stands = stand s h events event e given is;
+  answers = with-entry s CallsTakeWhatTheyAnswer (answered_take_no_more s h) events event e is;
+  cut = cut_calls s h events event e is;
+  once = with-entry s CallsTakeOnce (taken_once s h) events event e is;
+  order = with-entry s PlacesKeepOrder (keeps_order s h) events event e is;
 }
+
+-- Each entry of a past keeps the headline: it was added by an event, to the past before it.
+pub throughout : (s : Setup) → checked s ≡ Ok tt → (events : List Event) → AreGiven s events → KeepsHeadlineThroughout s (past_of s events)
+throughout s h [] given [] earlier e split = cc
+throughout s h [] given (x ∷ later) earlier e split = cc
+throughout s h (event ∷ events) given later earlier e split =
+    go (entry_of s (past_of s events) event) refl (throughout s h events (given_before s event events given)) later split
+  where
+    Keeps : Type 0
+    Keeps = KeepsHeadline s earlier e
+
+    go : (o : Option Entry) → entry_of s (past_of s events) event ≡ o → KeepsHeadlineThroughout s (past_of s events) → (later : Past) →
+        elim o as (λ _. Past) [ None ↦ past_of s events | Some f ↦ f ∷ past_of s events ] ≡ later ++ e ∷ earlier → Keeps
+    go None is before later split = before later earlier e split
+    go (Some f) is before [] split =
+        let same : f ≡ e = cc in
+        let rest : past_of s events ≡ earlier = cc in
+        subst (λ (p : Past). KeepsHeadline s p e) rest (subst (KeepsHeadline s (past_of s events)) same (the_headline s h events event f given is))
+    go (Some f) is before (x ∷ later) split = let rest : past_of s events ≡ later ++ e ∷ earlier = cc in before later earlier e rest

@@ -125,7 +125,7 @@ record Counted (h : List Taken) (p : ℕ) (mine : Past) : Type 0 where
 calls-called : (e : Entry) (mine : Past) → has is_called e ≡ true → calls_in (e ∷ mine) ≡ suc (calls_in mine)
 calls-called e mine h = ap (λ b. elim b as (λ _. ℕ) [ true ↦ suc (calls_in mine) | false ↦ calls_in mine ]) h
 
-calls-uncalled : (e : Entry) (mine : Past) → has is_called e ≡ false → calls_in (e ∷ mine) ≡ calls_in mine
+pub calls-uncalled : (e : Entry) (mine : Past) → has is_called e ≡ false → calls_in (e ∷ mine) ≡ calls_in mine
 calls-uncalled e mine h = ap (λ b. elim b as (λ _. ℕ) [ true ↦ suc (calls_in mine) | false ↦ calls_in mine ]) h
 
 append-none : {X : Type 0} (xs ys : List X) → xs ++ ys ≡ [] → (xs ≡ []) × (ys ≡ [])

@@ -48,4 +48,5 @@ pub mod DataHeadline
 pub mod HistoryItems
 pub mod StoreNumbers
 pub mod Asked
+pub mod Answered
 pub mod Headlines

@@ -100,7 +100,7 @@ longer s g (e ∷ later) events base h =
     let n : length (history s (e ∷ later ++ base)) ≡ length (history s (later ++ base)) + length (takings e.marks) = a.grows in
     omega (arith, l, n)
 
-in-append : {X : Type 0} (A : Type 0) (xs ys : List X) (x : X) → Contains (xs ++ ys) x → (Contains xs x → A) → (Contains ys x → A) → A
+pub in-append : {X : Type 0} (A : Type 0) (xs ys : List X) (x : X) → Contains (xs ++ ys) x → (Contains xs x → A) → (Contains ys x → A) → A
 in-append A [] ys x h left right = right h
 in-append A (y ∷ xs) ys x (zero, l, e) left right = left (0, omega arith, e)
 in-append A (y ∷ xs) ys x (suc k, l, e) left right = in-append A xs ys x (k, omega (arith, l), e) (λ h. left (suc h.0, (let m = h.1 in omega (arith, m)), h.2)) right
@@ -153,7 +153,7 @@ settled s x later earlier t c none ended = go (is_done d) refl
     go true h = refl
     go false h = sym (t.unended h) ∙ ap (list_any (has ends_span)) (since-whole later x earlier c none ∙ sym (whole (own x.process later) none)) ∙ ended
 
-stands : (s : Setup) → IsGood s → (newer : Past) (events : List Event) (between : Past) (x : Entry) (earlier : Past) → past_of s events ≡ newer ++ between ++ x ∷ earlier → has is_called x ≡ true →
+pub stands : (s : Setup) → IsGood s → (newer : Past) (events : List Event) (between : Past) (x : Entry) (earlier : Past) → past_of s events ≡ newer ++ between ++ x ∷ earlier → has is_called x ≡ true →
     has_ended x.process between ≡ true → Stands x.process between (newer ++ between)
 stands s g [] events between x earlier h c ended = (ended, refl)
 stands s g (e ∷ newer) events between x earlier h c ended = go (stands s g newer o.events between x earlier o.past c ended) (one_more p e later)

@@ -2,7 +2,7 @@
 //! is of every setup that the check passes, of every list of events, refused ones among them, and of every
 //! flick. Where a law speaks of a store, the names, values and counts of the events are what their types
 //! allow.
-ghost use Rattle.record.specs.Headline.{AskAnswersTheLatestChange, AskTellsOfCutCalls, Headline, ImagesAreRead, NewestIsTheHistorys, OneHistory, StampsFullAfterAllChanges, VersionReadsAreUnoverlapped, VersionsAreWholeOutside};
+ghost use Rattle.record.specs.Headline.{AskAnswersTheLatestChange, AskTellsOfCutCalls, Headline, HeadlineThroughout, ImagesAreRead, MutualExclusion, NewestIsTheHistorys, NoOvertaking, OneHistory, StampsFullAfterAllChanges, VersionReadsAreUnoverlapped, VersionsAreWholeOutside};
 ghost use Rattle.history_laws.specs.DataLaws.{ChangesFitTheStamps, ImagesAreOfTheStore, NewestStampCountsTheChanges, NumbersAscend, RepliesAreThoseOfTheirPlaces};
 
 /// No read of a commit bit, of a stamp or of an image is overlapped by a write, and the bytes that a process
@@ -48,6 +48,13 @@ pub fn ask_tells_of_changes()
 /// The headline: of every record, whatever overlapped reads return, no two processes are inside the critical
 /// section together; nobody overtakes a process whose doorway finished first; every store answer is the
 /// one-thread store's at its place in one history that keeps the order of calls that do not overlap.
+///
+/// It is said of each entry and the past that it is added to, and so of each entry of a past. The first two
+/// hold also where names and values are not what their types allow.
 pub fn headline()
-    ensures { Headline }
+    ensures entries { Headline }
+    ensures pasts { HeadlineThroughout }
+    ensures mutual_exclusion { MutualExclusion }
+    ensures no_overtaking { NoOvertaking }
+    ensures one_history { OneHistory }
 {}

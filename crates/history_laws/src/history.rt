@@ -1,6 +1,6 @@
 //! The laws of one history that hold whatever the registers give. Each is of every setup that the check
 //! passes, of every list of events, refused ones among them, and of every flick.
-ghost use Rattle.record.specs.Headline.{AnswersAreTaken, CutCallsAreNotAnswered, KeepsOrder, TakenOnce};
+ghost use Rattle.record.specs.Headline.{AnsweredCallsTakeNoMore, AnswersAreTaken, AnswersStandInHistory, CutCallsAreNotAnswered, KeepsOrder, TakenOnce};
 ghost use Rattle.history_laws.specs.HistoryLaws.{HistoryGrowsByTheTaken, TakenAtItsPlace};
 
 /// The mark of a command that is taken tells its place in the history, which is the number of commands taken
@@ -12,9 +12,12 @@ pub fn taken_at_its_place()
 {}
 
 /// A call that is answered with a reply of the store has taken exactly one command, with that reply. A call
-/// that is answered otherwise has taken none.
+/// that is answered otherwise has taken none. After its answer a call takes nothing. A reply of the store stands
+/// in the history, with its process, command and number, and is the one-thread store's at its place.
 pub fn answers_are_taken()
-    ensures { AnswersAreTaken }
+    ensures answers { AnswersAreTaken }
+    ensures whole_calls { AnsweredCallsTakeNoMore }
+    ensures history { AnswersStandInHistory }
 {}
 
 /// A call takes at most one command, also one that is cut by a failure and whose command its memory unit

@@ -32,7 +32,7 @@ use Rattle.record.specs.Program.{max_of}
 use Rattle.record.specs.Records.{entry_of, past_of}
 use Rattle.record.specs.Registers.{others, width, image_bytes, bytes_of_bits}
 use Rattle.record.specs.Scripts.{Call, caller}
-use Rattle.record.specs.Spans.{has_ended, takings, takings_of_call, all_takings}
+use Rattle.record.specs.Spans.{entries_of_call, has_ended, takings, takings_of_call, all_takings}
 use Rattle.record.specs.Stages.{inside}
 use Rattle.record.specs.Unit.{last_read}
 
@@ -46,21 +46,30 @@ EachEntry P = (s : Setup) → checked s ≡ Ok tt → (events : List Event) (eve
     entry_of s (past_of s events) event ≡ Some e → P s (past_of s events) e
 
 -- No two processes are inside together.
+abbrev pub IsAlone : Past → Type 0
+IsAlone past = (i j : ℕ) → IsTrue (inside i past) → IsTrue (inside j past) → i ≡ j
+
 abbrev pub MutualExclusion : Type 0
-MutualExclusion = EachPast λ s past. (i j : ℕ) → IsTrue (inside i past) → IsTrue (inside j past) → i ≡ j
+MutualExclusion = EachPast λ s past. IsAlone past
 
 -- Who gets inside is not before anybody that waits and whose doorway is before its own: no call overtakes.
+abbrev pub OvertakesNobody : Past → Entry → Type 0
+OvertakesNobody past e = IsTrue (has is_entered e) → (j : ℕ) → IsFalse (is_ahead past j e.process)
+
 abbrev pub NoOvertaking : Type 0
-NoOvertaking = EachEntry λ s past e. IsTrue (has is_entered e) → (j : ℕ) → IsFalse (is_ahead past j e.process)
+NoOvertaking = EachEntry λ s past e. OvertakesNobody past e
 
 -- the last call of the process of an entry that is added to a past
 abbrev pub call_of : Setup → Past → Entry → Call
 call_of s past e = last_call s e.process (own e.process past)
 
 -- What is taken has its place in the history, and the one-thread store's reply there, to the call's command, process and number.
-abbrev pub TakenInHistory : Type 0
-TakenInHistory = EachEntryGiven λ s past e. (k : ℕ) (r : Reply) → Contains (takings e.marks) (k, r) →
+abbrev pub TakesItsPlace : Setup → Past → Entry → Type 0
+TakesItsPlace s past e = (k : ℕ) (r : Reply) → Contains (takings e.marks) (k, r) →
     (k ≡ length (history s past)) × (r ≡ reply_to (store_after s (history s past)) (call_of s past e).command (caller (call_of s past e)))
+
+abbrev pub TakenInHistory : Type 0
+TakenInHistory = EachEntryGiven TakesItsPlace
 
 -- a store answer: exactly one command was taken, with this reply; any other answer: none was taken
 abbrev pub IsAnswerTo : Answer → List (ℕ × Reply) → Type 0
@@ -71,33 +80,80 @@ IsAnswerTo _ taken = taken ≡ []
 abbrev pub AnswersAreTaken : Type 0
 AnswersAreTaken = EachEntry λ s past e. (a : Answer) → Contains e.marks (Answered a) → IsAnswerTo a (all_takings (since is_called (own e.process (e ∷ past))))
 
+-- What a call takes in all its entries is what it was answered, wherever among them the answer stands.
+abbrev pub CallsTakeWhatTheyAnswer : Past → Type 0
+CallsTakeWhatTheyAnswer past = (later earlier : Past) (e answering : Entry) (a : Answer) → past ≡ later ++ e ∷ earlier → IsTrue (has is_called e) →
+    Contains (entries_of_call e.process later) answering → Contains answering.marks (Answered a) → IsAnswerTo a (takings_of_call e.process later)
+
+abbrev pub AnsweredCallsTakeNoMore : Type 0
+AnsweredCallsTakeNoMore = EachPast λ s past. CallsTakeWhatTheyAnswer past
+
+-- the history has a command of this call at this place, with this reply, which is the one-thread store's there
+pub record StandsAt (s : Setup) (taken : List Taken) (c : Call) (r : Reply) (k : ℕ) : Type 0 where
+  pub there : slice_get taken k ≡ Some (record { process = c.process; command = c.command; reply = r; number = c.number })
+  pub reply : r ≡ reply_to (store_after s (take k taken)) c.command (caller c)
+
+-- A store answer stands in the history.
+abbrev pub StandsInHistory : Setup → Past → Entry → Type 0
+StandsInHistory s past e = (r : Reply) → Contains e.marks (Answered (answer.Reply r)) → (k : ℕ) × StandsAt s (history s (e ∷ past)) (call_of s past e) r k
+
+abbrev pub AnswersStandInHistory : Type 0
+AnswersStandInHistory = EachEntryGiven StandsInHistory
+
 -- A call, cut or not, is taken at most once.
+abbrev pub CallsTakeOnce : Past → Type 0
+CallsTakeOnce past = (later earlier : Past) (e : Entry) → past ≡ later ++ e ∷ earlier → IsTrue (has is_called e) → length (takings_of_call e.process later) < 2
+
 abbrev pub TakenOnce : Type 0
-TakenOnce = EachPast λ s past. (later earlier : Past) (e : Entry) → past ≡ later ++ e ∷ earlier → IsTrue (has is_called e) → length (takings_of_call e.process later) < 2
+TakenOnce = EachPast λ s past. CallsTakeOnce past
 
 -- A call that was cut by a failure is never answered.
+abbrev pub AnswersNoCutCall : Past → Entry → Type 0
+AnswersNoCutCall past e = (a : Answer) → Contains e.marks (Answered a) → IsFalse (list_any (has is_failed) (since is_called (own e.process past)))
+
 abbrev pub CutCallsAreNotAnswered : Type 0
-CutCallsAreNotAnswered = EachEntry λ s past e. (a : Answer) → Contains e.marks (Answered a) → IsFalse (list_any (has is_failed) (since is_called (own e.process past)))
+CutCallsAreNotAnswered = EachEntry λ s past e. AnswersNoCutCall past e
 
 -- Of two taken calls that do not overlap the earlier one has the lower place: the span of the one of x ends before that of y begins.
-abbrev pub KeepsOrder : Type 0
-KeepsOrder = EachPast λ s past. (newer between earlier : Past) (x y : Entry) → past ≡ newer ++ y ∷ between ++ x ∷ earlier →
+abbrev pub PlacesKeepOrder : Past → Type 0
+PlacesKeepOrder past = (newer between earlier : Past) (x y : Entry) → past ≡ newer ++ y ∷ between ++ x ∷ earlier →
     IsTrue (has is_called x) → IsTrue (has is_called y) → IsTrue (has_ended x.process between) →
     (k m : ℕ) (q r : Reply) → Contains (takings_of_call x.process (newer ++ y ∷ between)) (k, q) → Contains (takings_of_call y.process newer) (m, r) → k < m
 
--- One history: the five together.
+abbrev pub KeepsOrder : Type 0
+KeepsOrder = EachPast λ s past. PlacesKeepOrder past
+
+-- One history: these together.
 pub record OneHistory : Type 0 where
   pub taken : TakenInHistory
   pub answers : AnswersAreTaken
+  pub whole_calls : AnsweredCallsTakeNoMore
+  pub stand : AnswersStandInHistory
   pub once : TakenOnce
   pub cut : CutCallsAreNotAnswered
   pub order : KeepsOrder
 
--- The headline, of every record: the processes go inside one at a time and in the order of their doorways, and their replies are those of one thread that takes the commands of one history.
-pub record Headline : Type 0 where
-  pub mutual_exclusion : MutualExclusion  -- no two are inside together, a failed one among them until its unit lets go
-  pub no_overtaking : NoOvertaking  -- nobody gets inside past one that waits and had finished its doorway before the other began its own
-  pub one_history : OneHistory  -- each reply is the one-thread store's at its command's place, and places keep the order of calls that do not overlap
+-- The headline, of one entry and the past that it is added to: the processes go inside one at a time and in the order of their doorways, and their replies are those of one thread that takes the commands of one history.
+pub record KeepsHeadline (s : Setup) (past : Past) (e : Entry) : Type 0 where
+  pub alone : IsAlone (e ∷ past)  -- no two are inside together, a failed one among them until its unit lets go
+  pub overtakes : OvertakesNobody past e  -- nobody gets inside past one that waits and had finished its doorway before the other began its own
+  pub place : TakesItsPlace s past e  -- what is taken has its place, and the one-thread store's reply there
+  pub stands : StandsInHistory s past e  -- a store answer stands in the history, with its process, command, reply and number
+  pub answers : CallsTakeWhatTheyAnswer (e ∷ past)  -- it is the reply of the one command of its call
+  pub cut : AnswersNoCutCall past e  -- a call that was cut is never answered
+  pub once : CallsTakeOnce (e ∷ past)  -- and is taken at most once
+  pub order : PlacesKeepOrder (e ∷ past)  -- places keep the order of calls that do not overlap
+
+-- The headline: each entry of every record keeps it.
+abbrev pub Headline : Type 0
+Headline = EachEntryGiven KeepsHeadline
+
+-- The headline of one past: each of its entries keeps it.
+abbrev pub KeepsHeadlineThroughout : Setup → Past → Type 0
+KeepsHeadlineThroughout s past = (later earlier : Past) (e : Entry) → past ≡ later ++ e ∷ earlier → KeepsHeadline s earlier e
+
+abbrev pub HeadlineThroughout : Type 0
+HeadlineThroughout = EachPastGiven KeepsHeadlineThroughout
 
 -- a register of a version
 abbrev pub is_version : Field → Bool

@@ -1,12 +1,15 @@
 -- A replay between two lines: what has happened, what was written, and the lines to come.
-use Rattle.std.proofs.Common.{◌≡◌, ℕ, List, [], ◌∷◌, ◌++◌, Option, refl, ap, sym, subst, ◌∙◌, append_assoc}
+use Rattle.std.proofs.Common.{◌≡◌, ℕ, List, [], ◌∷◌, ◌++◌, Option, Ok, refl, ap, sym, subst, ◌∙◌, append_assoc}
 use Rattle.std.specs.Io.KnownBytes.{Appends}
 use Rattle.files.specs.Streams.{WritesFront}
 use Rattle.plain_store.specs.declared.setups.Setup.{Setup}
+use Rattle.plain_store.specs.Setups.{checked}
+use Rattle.record.specs.Given.{AreGiven}
+use Rattle.history_laws.proofs.Headlines.{throughout}
 use Rattle.scenario.specs.declared.lines.Line.{Line}
 use Rattle.replayer.specs.Courses.{CourseState, Follows}
-use Rattle.replayer.specs.Happenings.{Happening}
-use Rattle.replayer.specs.Replays.{CutsLine, MakesLine, Moves}
+use Rattle.replayer.specs.Happenings.{Happening, tried}
+use Rattle.replayer.specs.Replays.{CutsLine, MakesLine, Moves, RunKeepsHeadline}
 use Rattle.replayer.specs.Runs.{Run, run_after, run_at_start, runs}
 use Rattle.replayer.specs.Summaries.{summary_of}
 use Rattle.replayer.specs.Texts.{text_of}
@@ -101,3 +104,13 @@ pub onward_end_torn : (s : Setup) (lines : List Line) (course : CourseState) (su
     WritesFront old new (text_of s (runs s lines run_at_start).happened ++ ending)
 onward_end_torn s lines course summary old mid new ending u last =
     subst (λ l. WritesFront old new (l ++ ending)) (sym u.is ∙ ap (λ (r : Run). text_of s r.happened) u.whole) (front_after old mid new u.text ending u.taken last)
+
+-- the headline of the whole run
+pub onward_headline : (s : Setup) (lines : List Line) (course : CourseState) (summary : Summary) (old new : Option (List ℕ)) → Onward s lines [] course summary old new → RunKeepsHeadline (record { setup = s; lines = lines })
+onward_headline s lines course summary old new u = record { good = good; given = given; headline = throughout s good (tried (runs s lines run_at_start).happened) given }
+  where
+    good : checked s ≡ Ok tt
+    good = subst (λ (s : Setup). checked s ≡ Ok tt) u.setup u.follows.shows.good
+
+    given : AreGiven s (tried (runs s lines run_at_start).happened)
+    given = subst (λ (r : Run). AreGiven s (tried r.happened)) u.whole (subst (λ (s : Setup). AreGiven s (tried u.now.happened)) u.setup u.follows.shows.given)

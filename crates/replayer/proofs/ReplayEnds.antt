@@ -9,7 +9,7 @@ use Rattle.scenario.specs.Reading.{Script, scenario_of}
 use Rattle.files.specs.Streams.{ReadsInput, WritesFront}
 use Rattle.files.specs.declared.faults.Fault.{Fault}
 use Rattle.files.specs.declared.faults.Fault.TheVariants.{Line, Read, Write, Memory}
-use Rattle.replayer.specs.Replays.{IsSummaryOf, ended}
+use Rattle.replayer.specs.Replays.{InputKeepsHeadline, IsSummaryOf, RunKeepsHeadline, ended}
 use Rattle.replayer.specs.Runs.{happenings}
 use Rattle.replayer.specs.Summaries.{summary_of}
 use Rattle.replayer.specs.Texts.{replay_text, replayed}
@@ -51,3 +51,12 @@ replay_numbers (Ok summary) bytes said None new read good is = tt
 replay_numbers (Ok summary) bytes said (Some input) new read good is =
     let same : scenario_of bytes ≡ scenario_of input = input_tells scenario_of input bytes new scenario_tells_at_limit read in
     (said, sym same ∙ good, is)
+
+-- and so is its run
+pub replay_headline : (result : Result Summary Fault) (bytes : List ℕ) (said : Script) (old new : Option (List ℕ)) → ReadsInput old new bytes → scenario_of bytes ≡ Ok said →
+    OnOk result (RunKeepsHeadline said) → OnOk result (InputKeepsHeadline old)
+replay_headline (Err e) bytes said old new read good keeps = tt
+replay_headline (Ok summary) bytes said None new read good keeps = tt
+replay_headline (Ok summary) bytes said (Some input) new read good keeps =
+    let same : scenario_of bytes ≡ scenario_of input = input_tells scenario_of input bytes new scenario_tells_at_limit read in
+    (said, sym same ∙ good, keeps)

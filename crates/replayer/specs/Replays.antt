@@ -1,10 +1,14 @@
 -- What a line of a replay writes, whatever has happened before.
 use Rattle.std.specs.Prelude.{◌≡◌, ℕ, List, Option, IfSome, Result, Ok, Err}
 use Rattle.plain_store.specs.declared.setups.Setup.{Setup}
+use Rattle.plain_store.specs.Setups.{checked}
+use Rattle.record.specs.Given.{AreGiven}
+use Rattle.record.specs.Headline.{KeepsHeadlineThroughout}
 use Rattle.scenario.specs.Reading.{Script, scenario_of}
 use Rattle.files.specs.declared.faults.Fault.{Fault}
 use Rattle.scenario.specs.declared.lines.Line.{Line}
 use Rattle.replayer.specs.Courses.{CourseState, Follows}
+use Rattle.replayer.specs.Happenings.{past_after, tried}
 use Rattle.replayer.specs.Runs.{Run, happenings, run_after}
 use Rattle.replayer.specs.Summaries.{summary_of}
 use Rattle.replayer.specs.Writing.{Counts, Writes, WritesPart}
@@ -35,3 +39,13 @@ ended (Err fault) = Err fault
 -- the three numbers of the whole input's run
 abbrev pub IsSummaryOf : Option (List ℕ) → Summary → Type 0
 IsSummaryOf to_come summary = IfSome to_come (λ input. (said : Script) × (scenario_of input ≡ Ok said) × (summary ≡ summary_of said.setup (happenings said)))
+
+-- The run of a scenario is that of a world, and the headline holds of it: the setup is good, names, values and counts are what their types allow, and each entry of the run's record keeps the headline.
+pub record RunKeepsHeadline (said : Script) : Type 0 where
+  pub good : checked said.setup ≡ Ok tt
+  pub given : AreGiven said.setup (tried (happenings said))
+  pub headline : KeepsHeadlineThroughout said.setup (past_after said.setup (happenings said))
+
+-- that of the whole input
+abbrev pub InputKeepsHeadline : Option (List ℕ) → Type 0
+InputKeepsHeadline to_come = IfSome to_come (λ input. (said : Script) × (scenario_of input ≡ Ok said) × RunKeepsHeadline said)

@@ -1,16 +1,15 @@
 //! The events of a run, and the record of events.
-ghost use Rattle.std.specs.Prelude.{◌≡◌, ◌++◌, true, Ok, IfOk, OnOk};
+ghost use Rattle.std.specs.Prelude.{◌≡◌, ◌++◌, true, Ok, IfOk, OnOk, reverse};
 ghost use Rattle.plain_store.specs.Setups.{checked};
 ghost use Rattle.record.specs.declared.Refusal.TheVariants.{Memory};
-ghost use Rattle.record.specs.Given.{is_event};
-ghost use Rattle.record.specs.Headline.{Headline};
+ghost use Rattle.record.specs.Given.{AreGiven, is_event};
+ghost use Rattle.record.specs.Headline.{KeepsHeadlineThroughout};
 ghost use Rattle.record.specs.Records.{record_of as record_made};
 ghost use Rattle.scenario.specs.Reads.{script};
 ghost use Rattle.replayer.specs.Listings.{ListsLine, RecordsEvent, accepted_events, event_told};
 
 use crate::told::Told;
 use crate::turns::Course;
-use history_laws::headline;
 use plain_store::{NestedTypes, Setup};
 use record::{Entry, Event, Record, Refusal};
 use scenario::{Line, Scenario};
@@ -51,14 +50,14 @@ fn list(told: Told, events: &mut Vec<Event>) -> Result<(), AllocError>
     Ok(())
 }
 
-/// The record of a list of events: an entry for each that is accepted. The one fault is want of memory. Of the
-/// record, as of every one, the headline holds.
+/// The record of a list of events: an entry for each that is accepted. The one fault is want of memory. Names,
+/// values and counts of the events are what their types allow, and of each entry of the record the headline holds.
 pub fn record_of(alloc: Global, setup: &Setup, events: &[Event]) -> Result<Record, AllocError>
     requires { checked setup.now ≡ Ok tt }
     ensures entries { IfOk result (λ made. made ≡ record_made setup.now events.now) }
-    ensures headline { Headline }
+    ensures given { OnOk result (AreGiven setup.now (reverse events.now)) }
+    ensures headline { IfOk result (λ made. KeepsHeadlineThroughout setup.now (reverse made)) }
 {
-    headline();
     let mut world = World::new(alloc, setup)?;
     let mut entries = Vec::new(alloc);
     for event in events {

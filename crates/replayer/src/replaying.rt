@@ -1,11 +1,10 @@
 //! The engine `replay`: the marks of a scenario's run, each written before the next event is made.
 ghost use Rattle.std.specs.Prelude.{◌≡◌, ◌+◌, ◌-◌, ◌^◌, ◌<◌, IfErr, IfOk, OnErr, OnOk};
 ghost use Rattle.std.specs.Io.KnownBytes.{Appends};
-ghost use Rattle.record.specs.Headline.{Headline};
 ghost use Rattle.files.specs.Engines.{Ran};
 ghost use Rattle.scenario.specs.Reads.{script};
 ghost use Rattle.files.specs.Streams.{WritesFront};
-ghost use Rattle.replayer.specs.Replays.{CutsLine, IsSummaryOf, MakesLine, ended};
+ghost use Rattle.replayer.specs.Replays.{CutsLine, InputKeepsHeadline, IsSummaryOf, MakesLine, RunKeepsHeadline, ended};
 ghost use Rattle.replayer.specs.Runs.{happenings};
 ghost use Rattle.replayer.specs.Summaries.{summary_of};
 ghost use Rattle.replayer.specs.Texts.{replay_text, replayed};
@@ -14,14 +13,13 @@ ghost use Rattle.replayer.specs.Writing.{IsWriteFault, failed_write};
 use crate::summaries::Summary;
 use crate::turns::Course;
 use crate::writing::{tell, write_end};
-use history_laws::headline;
 use scenario::{Fault, Line, Scenario, Sink, Source, read_input, read_scenario};
 use std::alloc::Global;
 
 /// Reads a whole file, and then writes the marks of its run, as they are made, and its three numbers.
 ///
-/// Of the record of the run, as of every record, the headline holds: no two processes are inside the critical
-/// section together; nobody overtakes a process whose doorway finished first; every store answer is the
+/// Where all of it is written, the headline holds of each entry of the run: no two processes are inside the
+/// critical section together; nobody overtakes a process whose doorway finished first; every store answer is the
 /// one-thread store's at its place in one history that keeps the order of calls that do not overlap.
 pub fn replay<R: Source, W: Sink>(
     alloc: Global,
@@ -34,9 +32,8 @@ pub fn replay<R: Source, W: Sink>(
         (record { to_come = R.to_come input.old; taken = W.taken output.old; read_failures = R.failures input.old; write_failures = W.failures output.old })
         (record { to_come = R.to_come input.new; taken = W.taken output.new; read_failures = R.failures input.new; write_failures = W.failures output.new }) }
     ensures summary { IfOk result (λ summary. IsSummaryOf (R.to_come input.old) summary) }
-    ensures headline { Headline }
+    ensures headline { OnOk result (InputKeepsHeadline (R.to_come input.old)) }
 {
-    headline();
     let file = read_input(alloc, input)?;
     let scenario = read_scenario(alloc, file.as_slice())?;
     replay_scenario(alloc, &scenario, output)
@@ -52,6 +49,7 @@ fn replay_scenario<W: Sink>(
     ensures ok { OnOk result (Appends (W.taken output.old) (W.taken output.new) (replayed (script scenario.now))) }
     ensures front { WritesFront (W.taken output.old) (W.taken output.new) (replayed (script scenario.now)) }
     ensures summary { IfOk result (λ summary. summary ≡ summary_of scenario.now.setup (happenings (script scenario.now))) }
+    ensures headline { OnOk result (RunKeepsHeadline (script scenario.now)) }
     ensures fault { IfErr result IsWriteFault }
     ensures failures { W.failures output.new ≡ W.failures output.old + failed_write result }
 {

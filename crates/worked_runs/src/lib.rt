@@ -1,5 +1,5 @@
 //! Tests that cross crates, on worked runs: of worlds under events, of what drives these, and of replayed
-//! scenarios.
+//! scenarios; and two uses of the headline, as callers have it.
 #![tactic(auto)]
 
 #[cfg(test)]
@@ -10,3 +10,6 @@ mod replays;
 mod runs;
 #[cfg(test)]
 mod scenarios;
+mod uses;
+
+pub use uses::{printed_replies, two_events};

@@ -2,6 +2,7 @@
 use crate::scenarios::{
     FAILURE_COMMIT_SETTLED_NEW, LONE_WRITE, LONE_WRITE_PRINTS, SCENARIOS, WITHDRAWAL,
 };
+use crate::uses::printed_replies;
 use record::Mark;
 use replayer::{Summary, events_of, record_of, replay};
 use scenario::{Fault, FaultKind, LineFault, read_scenario};
@@ -21,6 +22,19 @@ fn tells_the_three_numbers(rt: HostRuntime) -> Result<(), Fail> {
         replay(rt.alloc(), &mut Tape::new(file.as_bytes()), &mut output),
         Ok(summary)
     );
+    Ok(())
+}
+
+#[test]
+fn prints_true_replies(rt: HostRuntime) -> Result<(), Fail> {
+    let mut output = Paper::new(rt.alloc())?;
+    let summary = printed_replies(
+        rt.alloc(),
+        &mut Tape::new(LONE_WRITE.as_bytes()),
+        &mut output,
+    )?;
+    assert_eq!(rt; output.written.as_slice(), LONE_WRITE_PRINTS.as_bytes());
+    assert_eq!(rt; (summary.events, summary.taken), (761, 1));
     Ok(())
 }
 

@@ -19,6 +19,7 @@ pub mod WorldPending
 pub mod WorldNew
 pub mod WorldOpen
 pub mod WorldMarks
+pub mod WorldHeadline
 pub mod WorldWalks
 pub mod WorldShows
 pub mod WorldGoes

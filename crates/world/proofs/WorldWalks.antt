@@ -1,5 +1,5 @@
 -- A step within a number access at the data, and the world that it leaves.
-use Rattle.std.proofs.Common.{◌≡◌, ℕ, zero, suc, ◌+◌, ◌<◌, ◌≤◌, ◌||◌, Bool, true, false, List, [], ◌∷◌, None, length, map, refl, sym, ap, subst, ◌∙◌, arith}
+use Rattle.std.proofs.Common.{◌≡◌, ℕ, zero, suc, ◌+◌, ◌<◌, ◌≤◌, ◌||◌, Bool, true, false, List, [], ◌∷◌, None, Some, length, map, refl, sym, ap, subst, ◌∙◌, arith}
 use Rattle.std.specs.Prelude.{slice_index_or, slice_set}
 use Rattle.record.specs.declared.events.Event.{Event}
 use Rattle.record.specs.declared.events.Event.TheVariants as event
@@ -7,7 +7,7 @@ use Rattle.record.specs.Doorways.{is_waiting_stage}
 use Rattle.record.specs.Records.{refused_at}
 use Rattle.process.specs.declared.told.Told.TheVariants.{Nothing}
 use Rattle.world.specs.Changes.{pending_in, told}
-use Rattle.world.specs.Events.{KeepsWorld}
+use Rattle.world.specs.Events.{Adds, GoesOn, KeepsWorld}
 use Rattle.flicks.specs.Flicks.{FlickState}
 use Rattle.process.specs.Processes as kept
 use Rattle.world.specs.Seats.{Seat}
@@ -16,6 +16,7 @@ use Rattle.world.specs.Shows.{Shows, WorldState}
 use Rattle.process.specs.Registers.{MayStep, RegistersState, StepsWithin}
 use Rattle.process.specs.Steps.{bits_within, is_at_door}
 use Rattle.world.specs.Walks.{StepsQuietly, Walks, bits_within_at}
+use Rattle.world.proofs.WorldHeadline.{keeps_headline}
 use Rattle.world.proofs.WorldEnds.{IsUsed, step-adds, step-ends, step-on, stepped_world, used-steps}
 use Rattle.world.proofs.WorldNew.{refused-step}
 use Rattle.world.proofs.WorldShows.{SeatSteps, world_with}
@@ -91,14 +92,21 @@ pub quiet-on : (w : WorldState) (p i : ℕ) (flick : Bool) (seat : Seat) (regist
     then ≡ record seat { process = then.process } → StepsWithin w.registers flick seat.process registers then.process → StepsQuietly w p flick (walked_world w i registers then)
 quiet-on w p i flick seat registers then index there seat_is h stays e = record {
   access = e.access;
-  adds = λ events shows. step-adds w (room_of w) p i flick seat e.access Nothing then (used events shows) (quiet-steps w flick seat registers then h stays e) events shows;
-  shows = λ events shows. subst (λ new. Shows new (event.Step p flick ∷ events)) (quiet-world w p i flick seat registers then h e)
-      (step-on w (room_of w) p i flick seat e.access Nothing then (used events shows) (quiet-steps w flick seat registers then h stays e) events shows);
+  adds = adds;
+  shows = shows;
+  headline = keeps_headline w (walked_world w i registers then) (event.Step p flick) p _ adds shows refl;
   setup = refl;
 }
   where
     used : (events : List Event) → Shows w events → IsUsed w (room_of w) (event.Step p flick) i seat
     used events shows = within-used w (room_of w) p i flick seat (keeps_of w events shows) index there seat_is h
+
+    adds : Adds w (event.Step p flick) p (record { access = Some e.access; marks = [] })
+    adds events shows = step-adds w (room_of w) p i flick seat e.access Nothing then (used events shows) (quiet-steps w flick seat registers then h stays e) events shows
+
+    shows : GoesOn w (event.Step p flick) (walked_world w i registers then)
+    shows events shown = subst (λ new. Shows new (event.Step p flick ∷ events)) (quiet-world w p i flick seat registers then h e)
+        (step-on w (room_of w) p i flick seat e.access Nothing then (used events shown) (quiet-steps w flick seat registers then h stays e) events shown)
 
 -- and no more calls are pending
 pub quiet-ends : (w : WorldState) (capacity p i : ℕ) (flick : Bool) (seat : Seat) (registers : RegistersState) (then : Seat) → KeepsWorld w capacity → i ≡ p → i < length w.seats → seat ≡ slice_index_or w.seats i seat → 0 < bits_within seat.process.kept →

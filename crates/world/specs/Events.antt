@@ -5,6 +5,7 @@ use Rattle.record.specs.declared.refusals.Refusal.{Refusal}
 use Rattle.record.specs.declared.refusals.Refusal.TheVariants.{Memory}
 use Rattle.record.specs.Acts.{Act}
 use Rattle.record.specs.Entries.{Entry, Past}
+use Rattle.record.specs.Headline.{KeepsHeadline}
 use Rattle.record.specs.Records.{entry_of, is_call, past_of, refused}
 use Rattle.plain_store.specs.declared.Setup.{Setup}
 use Rattle.record.specs.declared.stages.Stage.{Stage}
@@ -23,6 +24,10 @@ IsRefused w event refusal = (events : List Event) → Shows w events → refused
 -- the act is that of the entry that the event adds
 abbrev pub Adds : WorldState → Event → ℕ → Act → Type 0
 Adds w event p act = (events : List Event) → Shows w events → entry_of w.setup (past_of w.setup events) event ≡ Some (entry_with p act)
+
+-- the headline holds of the entry with this act, and of each record that the world shows before it
+abbrev pub KeepsTheHeadline : WorldState → ℕ → Act → Type 0
+KeepsTheHeadline w p act = (events : List Event) → Shows w events → KeepsHeadline w.setup (past_of w.setup events) (entry_with p act)
 
 -- the world then shows the event too
 abbrev pub GoesOn : WorldState → Event → WorldState → Type 0

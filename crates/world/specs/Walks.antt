@@ -2,7 +2,7 @@
 use Rattle.std.specs.Prelude.{◌≡◌, ℕ, zero, suc, Bool, List, [], None, Some, slice_get}
 use Rattle.safe_number.specs.declared.Access.{Access}
 use Rattle.record.specs.declared.events.Event.TheVariants.{Step}
-use Rattle.world.specs.Events.{Adds, GoesOn}
+use Rattle.world.specs.Events.{Adds, GoesOn, KeepsTheHeadline}
 use Rattle.flicks.specs.Flicks.{FlickState, after_flick, flick_of}
 use Rattle.world.specs.Seats.{Seat}
 use Rattle.world.specs.Shows.{WorldState}
@@ -13,6 +13,7 @@ pub record StepsQuietly (old : WorldState) (p : ℕ) (flick : Bool) (new : World
   pub access : Access
   pub adds : Adds old (Step p flick) p (record { access = Some access; marks = [] })
   pub shows : GoesOn old (Step p flick) new
+  pub headline : KeepsTheHeadline old p (record { access = Some access; marks = [] })
   pub setup : new.setup ≡ old.setup
 
 -- so many of them, each by the flick that is next

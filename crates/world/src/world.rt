@@ -8,13 +8,12 @@ ghost use Rattle.record.specs.declared.Refusal.TheVariants.{Memory};
 ghost use Rattle.record.specs.Doorways.{ahead, is_waiting_stage, is_queued as queued};
 ghost use Rattle.record.specs.Histories.{history};
 ghost use Rattle.plain_store.specs.Commands.{is_command};
-ghost use Rattle.record.specs.Headline.{Headline};
 ghost use Rattle.record.specs.Records.{is_call, past_of, process_of, refused, refused_at};
 ghost use Rattle.world.specs.Changes.{with_taken};
 ghost use Rattle.record.specs.declared.history.Taken.{Taken as Seen};
 ghost use Rattle.world.specs.Cores.{call_in, with_history};
 ghost use Rattle.plain_store.specs.declared.Reply.{Reply as Answered};
-ghost use Rattle.world.specs.Events.{Adds, GoesOn, IsRefused, IsTurnedAway, stage_in};
+ghost use Rattle.world.specs.Events.{Adds, GoesOn, IsRefused, IsTurnedAway, KeepsTheHeadline, stage_in};
 ghost use Rattle.process.specs.Processes.{inside_kept, stage_kept};
 ghost use Rattle.std.specs.List.{list_any};
 ghost use Rattle.record.specs.Newest.{newest};
@@ -74,9 +73,9 @@ impl World {
     /// One event: the entry that it adds to the record, or the first refusal of their order; a refused event
     /// changes nothing. A call reserves what its later steps need, and may be refused for want of memory.
     ///
-    /// Of each record that the world shows the headline holds: no two processes are inside the critical section
-    /// together; nobody overtakes a process whose doorway finished first; every store answer is the one-thread
-    /// store's at its place in one history that keeps the order of calls that do not overlap.
+    /// The act is that of an entry for which the headline holds: with it no two processes are inside the critical
+    /// section together; nobody overtakes a process whose doorway finished first; every store answer is the
+    /// one-thread store's at its place in one history that keeps the order of calls that do not overlap.
     pub fn event(&mut self, event: Event) -> Result<Act, Refusal>
         ensures accepted { IfOk result (λ act. Adds self.old event (process_of event) act) }
         ensures shows { OnOk result (GoesOn self.old event self.new) }
@@ -84,7 +83,7 @@ impl World {
         ensures unchanged { OnErr result (self.new ≡ self.old) }
         ensures setup { OnOk result (self.new.setup ≡ self.old.setup) }
         ensures through { (events : List Happening) → Shows self.old events → refused self.old.setup (past_of self.old.setup events) event ≡ None → is_call event ≡ false → IsOk result }
-        ensures headline { Headline }
+        ensures headline { IfOk result (λ act. KeepsTheHeadline self.old (process_of event) act) }
     {
         let place = self.history.len() as u64;
         let mut effect = Effect::Steps(Told::Nothing);
@@ -103,6 +102,7 @@ impl World {
         ensures unchanged { OnErr result (self.new ≡ self.old) }
         ensures untold { OnErr result (effect.new ≡ effect.old) }
         ensures setup { OnOk result (self.new.setup ≡ self.old.setup) }
+        ensures headline { IfOk result (λ access. KeepsTheHeadline self.old (process_of event.now) (act_of (length self.old.history) (record { access = access; effect = effect.new }))) }
     {
         if let Err(refusal) = reserve(&mut self.history, &self.core, event) {
             return Err(refusal);
@@ -134,6 +134,7 @@ impl World {
         ensures untold { OnErr result (told.new ≡ told.old) }
         ensures setup { OnOk result (self.new.setup ≡ self.old.setup) }
         ensures through { (events : List Happening) → Shows self.old events → refused self.old.setup (past_of self.old.setup events) (Step process flick) ≡ None → IsOk result }
+        ensures headline { IfOk result (λ access. KeepsTheHeadline self.old process (act_of (length self.old.history) (record { access = Some access; effect = Steps told.new }))) }
     {
         match self.core.step(process, flick, told) {
             Ok(access) => {
@@ -145,8 +146,8 @@ impl World {
     }
 
     /// Steps of a process while they are within a number access at the data, at most so many: each as `step` makes
-    /// it, by the flick that is next, and without a mark. It answers how many it has made, and stops where the next
-    /// access is of a last bit, at the door or of the memory unit, or where there is no such process.
+    /// it, by the flick that is next, and without a mark; of each the headline holds. It answers how many it has made,
+    /// and stops where the next access is of a last bit, at the door or of the memory unit, or where there is no such process.
     #[inline(never)]
     pub fn walk(&mut self, process: u8, flicks: &mut Flicks, most: u32) -> u32
         ensures most { result ≤ most }
@@ -154,6 +155,14 @@ impl World {
         ensures stops { result < most → bits_within_at self.new.seats process ≡ 0 }
     {
         self.core.walk(process, flicks, most)
+    }
+
+    /// There are events whose record the world shows. Nothing to do: it hands over what every other clause takes for
+    /// granted, to a caller who was lent the world.
+    pub fn shown(&self)
+        ensures { (events : List Happening) × Shows self.now events }
+    {
+        let _kept = &self.core;
     }
 
     /// Where a process stands; none, if there is no such process.

@@ -1,8 +1,9 @@
 //! Worlds that are driven by single events.
 use crate::scenarios::{ASK_AFTER_TAKEN_CUT_CALL, SCENARIOS};
+use crate::uses::two_events;
 use bstr::ByteSlice;
 use plain_store::{Command, Name, Reply, Setup, Value};
-use record::{Event, Refusal, Stage, Taken};
+use record::{Event, Mark, Refusal, Stage, Taken};
 use replayer::{events_of, replay};
 use scenario::read_scenario;
 use std::alloc::Global;
@@ -144,5 +145,25 @@ fn calls_full(rt: HostRuntime) -> Result<(), Fail> {
     let refusal = refused_after_calls(rt.alloc(), 2)?;
     assert_eq!(rt; refusal, Some(Refusal::CallsFull));
     assert_eq!(rt; refused_after_calls(rt.alloc(), 1)?, None);
+    Ok(())
+}
+
+// Two events have the acts that each would have alone, and the first refusal is told.
+#[test]
+fn makes_two_events(rt: HostRuntime) -> Result<(), Fail> {
+    let mut world = World::new(rt.alloc(), &Setup::one(2, 4, 4, 1))?;
+    let (called, stepped) = two_events(
+        &mut world,
+        Event::Call(1, Command::Ask),
+        Event::Step(1, false),
+    )?;
+    assert_eq!(rt;
+        called.marks.as_slice(),
+        [Mark::Called(Command::Ask)].as_slice()
+    );
+    assert!(rt; called.access.is_none() && stepped.access.is_some());
+    assert_eq!(rt; stepped.marks.len(), 0);
+    let refused = two_events(&mut world, Event::Step(1, false), Event::Step(0, false));
+    assert_eq!(rt; refused.err(), Some(Refusal::NotRunning));
     Ok(())
 }

@@ -1,7 +1,6 @@
 -- Answers tell what was taken.
-use Rattle.record.proofs.Width.{is_good}
-use Rattle.history_laws.proofs.Order.{answers_tell}
+use Rattle.history_laws.proofs.Headlines.{answered_take_no_more, answers_are_taken, stand}
 use Rattle.history_laws.proofs.history.answers_are_taken.Goals as goal
 
 pub returns : goal.returns
-returns x s h events event e is a answered = answers_tell s (is_good s h) events event e is a answered
+returns x = record { answers = answers_are_taken; whole_calls = answered_take_no_more; history = stand }

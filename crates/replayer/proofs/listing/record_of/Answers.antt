@@ -1,7 +1,11 @@
-use Rattle.std.proofs.Common.{◌≡◌, ◌∷◌, ◌+◌, ℕ, List, reverse, take, ap, sym, subst, ◌∙◌}
+use Rattle.std.proofs.Common.{◌≡◌, ◌∷◌, ◌+◌, ℕ, List, reverse, take, ap, sym, subst, ◌∙◌, arith}
+use Rattle.std.proofs.lemmas.List.{reverse-reverse, take_all}
 use Rattle.plain_store.specs.declared.setups.Setup.{Setup}
 use Rattle.record.specs.declared.events.Event.{Event}
+use Rattle.record.specs.Given.{AreGiven}
+use Rattle.record.specs.Headline.{KeepsHeadlineThroughout}
 use Rattle.record.specs.Records.{past_of}
+use Rattle.history_laws.proofs.Headlines.{throughout}
 use Rattle.world.specs.Shows.{Shows}
 use Rattle.replayer.specs.Listings.{Records}
 use Rattle.replayer.proofs.Recorded.{events_more}
@@ -21,3 +25,13 @@ loop-event-preserved c =
       setup = made.setup ∙ c.loop-event.invariant.setup;
       entries = made.entries_are ∙ ap (λ (s : Setup). reverse (past_of s (here ∷ before))) c.loop-event.invariant.setup ∙ ap (λ (l : List Event). reverse (past_of s l)) (sym more);
     }
+
+pub returns-clause-headline : goal.returns-clause-headline
+returns-clause-headline c =
+    let s : Setup = c.args.setup.now in
+    let all : List Event = c.args.events.now in
+    let shows : Shows c.loop-event.world (reverse (take c.loop-event.event-index all)) = c.loop-event.invariant.shows in
+    let whole : take c.loop-event.event-index all ≡ all = take_all c.loop-event.event-index all (omega arith) in
+    let given : AreGiven s (reverse all) = subst (λ (l : List Event). AreGiven s (reverse l)) whole (subst (λ (s : Setup). AreGiven s (reverse (take c.loop-event.event-index all))) c.loop-event.invariant.setup shows.given) in
+    let is : c.loop-event.entries.items ≡ reverse (past_of s (reverse all)) = c.loop-event.invariant.entries ∙ ap (λ (l : List Event). reverse (past_of s (reverse l))) whole in
+    subst (KeepsHeadlineThroughout s) (sym (ap reverse is ∙ reverse-reverse (past_of s (reverse all)))) (throughout s c.requires (reverse all) given)

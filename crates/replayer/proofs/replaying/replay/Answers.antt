@@ -6,7 +6,7 @@ use Rattle.scenario.specs.Reads.{script}
 use Rattle.files.specs.declared.faults.Fault.TheVariants.{Line}
 use Rattle.replayer.specs.Replays.{ended}
 use Rattle.replayer.specs.Texts.{replayed}
-use Rattle.replayer.proofs.ReplayEnds.{ended_err, replay_ran, replay_numbers}
+use Rattle.replayer.proofs.ReplayEnds.{ended_err, replay_headline, replay_numbers, replay_ran}
 use Rattle.replayer.proofs.replaying.replay.Goals as goal
 
 pub returns-in_err-scenario-clause-ran : goal.returns-in_err-scenario-clause-ran
@@ -23,3 +23,8 @@ pub returns-clause-summary : goal.returns-clause-summary
 returns-clause-summary g c =
     replay_numbers c.replay_scenario.result c.in_ok-file.file.items (script c.in_ok-scenario.scenario) _ _
     c.in_ok-file.ensures.ok (rw c.as_slice.ensures.value at c.in_ok-scenario.ensures) c.replay_scenario.ensures.summary
+
+pub returns-clause-headline : goal.returns-clause-headline
+returns-clause-headline g c =
+    replay_headline c.replay_scenario.result c.in_ok-file.file.items (script c.in_ok-scenario.scenario) _ _
+    c.in_ok-file.ensures.ok (rw c.as_slice.ensures.value at c.in_ok-scenario.ensures) c.replay_scenario.ensures.headline

@@ -10,7 +10,7 @@ use Rattle.replayer.specs.Texts.{end_line}
 use Rattle.replayer.specs.Summaries.{summary_of}
 use Rattle.replayer.specs.Runs.{happenings}
 use Rattle.replayer.specs.declared.summaries.Summary.{Summary}
-use Rattle.replayer.proofs.Onwards.{Onward, onward_end, onward_end_torn, onward_numbers, onward_on, onward_torn}
+use Rattle.replayer.proofs.Onwards.{Onward, onward_end, onward_end_torn, onward_headline, onward_numbers, onward_on, onward_torn}
 use Rattle.replayer.proofs.Written.{front_all}
 use Rattle.replayer.proofs.replaying.replay_scenario.Goals as goal
 
@@ -69,3 +69,10 @@ returns-clause-summary g c =
     let u : Onward s lines [] c.loop-line.course c.loop-line.summary (g.W.Sink.taken c.args.output.now) (g.W.Sink.taken c.loop-line.output) =
     subst (λ (rest : List Line). Onward s lines rest c.loop-line.course c.loop-line.summary (g.W.Sink.taken c.args.output.now) (g.W.Sink.taken c.loop-line.output)) (drop_all c.loop-line.line-index lines (omega arith)) c.loop-line.invariant.onward in
     onward_numbers s lines c.loop-line.course c.loop-line.summary c.taken.result _ _ u c.taken.ensures
+
+pub returns-clause-headline : goal.returns-clause-headline
+returns-clause-headline g c =
+    let s : Setup = c.args.scenario.now.setup in
+    let lines : List Line = c.args.scenario.now.lines.items in
+    onward_headline s lines c.loop-line.course c.loop-line.summary _ _
+    (subst (λ (rest : List Line). Onward s lines rest c.loop-line.course c.loop-line.summary (g.W.Sink.taken c.args.output.now) (g.W.Sink.taken c.loop-line.output)) (drop_all c.loop-line.line-index lines (omega arith)) c.loop-line.invariant.onward)

@@ -1,11 +1,13 @@
 use Rattle.std.proofs.Common.{◌≡◌, ◌∷◌, length, Some, None, sym, ap, subst, ◌∙◌}
 use Rattle.record.specs.declared.events.Event.TheVariants.{Step}
+use Rattle.record.specs.Histories.{reply_taken}
 use Rattle.process.specs.declared.told.Effect.TheVariants.{Steps}
-use Rattle.process.specs.Telling.{act_of}
+use Rattle.process.specs.Telling.{act_of, marks_told}
 use Rattle.world.specs.Changes.{with_taken}
 use Rattle.world.specs.Cores.{call_in, with_history}
-use Rattle.world.specs.Events.{Adds, GoesOn, IsRefused}
+use Rattle.world.specs.Events.{Adds, GoesOn, IsRefused, KeepsTheHeadline}
 use Rattle.world.specs.Shows.{Shows, WorldState}
+use Rattle.world.proofs.WorldHeadline.{keeps_headline}
 use Rattle.world.proofs.world.World.step.Goals as goal
 
 pub returns-in-Ok-clause-accepted : goal.returns-in-Ok-clause-accepted
@@ -27,3 +29,11 @@ returns-in-Err-clause-through c = λ events shows none.
     let is : IsRefused c.args.self.now (Step c.args.process c.args.flick) (Some c.in-Err.refusal) = subst (λ (w : WorldState). IsRefused w (Step c.args.process c.args.flick) (Some c.in-Err.refusal)) c.self.view_is (c.in-Err.ensures.refused c.self.inside.history.items) in
     let both : Some c.in-Err.refusal ≡ None = sym (is events shows) ∙ none in
     absurd (cc)
+
+pub returns-in-Ok-clause-headline : goal.returns-in-Ok-clause-headline
+returns-in-Ok-clause-headline c =
+    let before = c.self.inside.history.items in
+    let last = call_in c.step.new.self.seats c.args.process in
+    subst (λ (w : WorldState). KeepsTheHeadline w c.args.process (act_of (length w.history) (record { access = Some c.in-Ok.access; effect = Steps c.step.new.told }))) c.self.view_is
+    (keeps_headline (with_history c.self.inside.core before) (with_history c.step.new.self (with_taken before c.args.process last.0 last.1 (reply_taken (marks_told c.step.new.told)))) (Step c.args.process c.args.flick) c.args.process _
+        (c.in-Ok.ensures.accepted before) (c.in-Ok.ensures.shows.goes before) c.in-Ok.ensures.setup)

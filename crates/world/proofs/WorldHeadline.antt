@@ -1,0 +1,13 @@
+-- The headline of the entry that an event adds, in each record that the world showed.
+use Rattle.std.proofs.Common.{◌≡◌, ℕ, List, ◌∷◌, subst}
+use Rattle.plain_store.specs.declared.Setup.{Setup}
+use Rattle.record.specs.declared.events.Event.{Event}
+use Rattle.record.specs.Acts.{Act}
+use Rattle.record.specs.Given.{AreGiven}
+use Rattle.history_laws.proofs.Headlines.{the_headline}
+use Rattle.world.specs.Events.{Adds, GoesOn, KeepsTheHeadline, entry_with}
+use Rattle.world.specs.Shows.{WorldState}
+
+pub keeps_headline : (old new : WorldState) (event : Event) (p : ℕ) (act : Act) → Adds old event p act → GoesOn old event new → new.setup ≡ old.setup → KeepsTheHeadline old p act
+keeps_headline old new event p act adds goes same events shows =
+    the_headline old.setup shows.good events event (entry_with p act) (subst (λ (s : Setup). AreGiven s (event ∷ events)) same (goes events shows).given) (adds events shows)
