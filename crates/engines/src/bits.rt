@@ -2,6 +2,7 @@
 ghost use Rattle.std.specs.Prelude.{◌≡◌, ◌^◌, ◌-◌, ◌<◌, true, IfOk, Ok};
 ghost use Rattle.std.specs.String.{string_bytes};
 ghost use Rattle.files.specs.Engines.{Ran};
+ghost use Rattle.files.specs.Streams.{ReadsFront};
 ghost use Rattle.engines.specs.BitCells.{can_take, made, made_text, bit_after, bit_line_text};
 ghost use Rattle.engines.specs.Bits.{bits_printed, bits_text};
 
@@ -65,7 +66,8 @@ fn text_of(alloc: Global, lines: &[BitLine]) -> Result<String, AllocError>
 
 /// Reads a whole bits file, and then writes a line for each read that ended and each call that was refused.
 /// A fault of a line, or of reading, is told before a byte is written; where writing fails, or memory is wanting,
-/// a front of the text may have been written.
+/// a front of the text may have been written. However it ends, at most `INPUT_LIMIT` bytes are taken from the
+/// front of the input.
 pub fn run_bits<R: Source, W: Sink>(
     alloc: Global,
     input: &mut R,
@@ -73,9 +75,10 @@ pub fn run_bits<R: Source, W: Sink>(
 ) -> Result<(), Fault>
     requires reads { R.failures input.old < 2 ^ 64 - 1 }
     requires writes { W.failures output.old < 2 ^ 64 - 1 }
-    ensures { Ran bits_text result
+    ensures ran { Ran bits_text result
         (record { to_come = R.to_come input.old; taken = W.taken output.old; read_failures = R.failures input.old; write_failures = W.failures output.old })
         (record { to_come = R.to_come input.new; taken = W.taken output.new; read_failures = R.failures input.new; write_failures = W.failures output.new }) }
+    ensures input { ReadsFront (R.to_come input.old) (R.to_come input.new) }
 {
     let file = read_input(alloc, input)?;
     let lines = read_bits(alloc, file.as_slice())?;

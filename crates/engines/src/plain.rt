@@ -4,6 +4,7 @@ ghost use Rattle.std.specs.String.{string_bytes};
 ghost use Rattle.plain_store.specs.Setups.{checked};
 ghost use Rattle.plain_store.specs.Shown.{reply_text};
 ghost use Rattle.files.specs.Engines.{Ran};
+ghost use Rattle.files.specs.Streams.{ReadsFront};
 ghost use Rattle.engines.specs.Plain.{line_text, run_after, text_from, run_at_start, plain_text, call_text, called, applied_text, applied, caller_of, counted, reply_line as line_of_reply};
 
 use plain_store::{Caller, Command, PlainStore, Reply, Setup, Store, opened, show_line};
@@ -143,7 +144,8 @@ fn text_of(alloc: Global, scenario: &Scenario) -> Result<String, AllocError>
 
 /// Reads a whole scenario file, and then writes a line for each call and each `show`; other lines do nothing.
 /// A fault of a line, or of reading, is told before a byte is written; where writing fails, or memory is wanting,
-/// a front of the text may have been written.
+/// a front of the text may have been written. However it ends, at most `INPUT_LIMIT` bytes are taken from the
+/// front of the input.
 pub fn run_plain<R: Source, W: Sink>(
     alloc: Global,
     input: &mut R,
@@ -151,9 +153,10 @@ pub fn run_plain<R: Source, W: Sink>(
 ) -> Result<(), Fault>
     requires reads { R.failures input.old < 2 ^ 64 - 1 }
     requires writes { W.failures output.old < 2 ^ 64 - 1 }
-    ensures { Ran plain_text result
+    ensures ran { Ran plain_text result
         (record { to_come = R.to_come input.old; taken = W.taken output.old; read_failures = R.failures input.old; write_failures = W.failures output.old })
         (record { to_come = R.to_come input.new; taken = W.taken output.new; read_failures = R.failures input.new; write_failures = W.failures output.new }) }
+    ensures input { ReadsFront (R.to_come input.old) (R.to_come input.new) }
 {
     let file = read_input(alloc, input)?;
     let scenario = read_scenario(alloc, file.as_slice())?;

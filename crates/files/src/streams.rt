@@ -128,12 +128,12 @@ impl<W: Write> Sink for IntoWrite<W> {
 pub const INPUT_LIMIT: usize = 532_481;
 
 /// The bytes to come, up to the end or to `INPUT_LIMIT` of them. It fails with `Read` where a call failed,
-/// and with `Memory`; then some bytes from the front are gone, no more than `INPUT_LIMIT`.
+/// and with `Memory`; then too only bytes from the front are gone, no more than `INPUT_LIMIT`.
 #[tactic(auto, using(crate::proofs::Appending::front_read))]
 pub fn read_input<R: Source>(alloc: Global, input: &mut R) -> Result<Vec<u8>, Fault>
     requires { R.failures input.old < 2 ^ 64 - 1 }
     ensures ok { IfOk result (λ bytes. ReadsInput (R.to_come input.old) (R.to_come input.new) bytes.items) }
-    ensures front { OnErr result (ReadsFront (R.to_come input.old) (R.to_come input.new)) }
+    ensures front { ReadsFront (R.to_come input.old) (R.to_come input.new) }
     ensures fault { IfErr result IsReadFault }
     ensures failures { R.failures input.new ≡ R.failures input.old + failed_reading result }
 {

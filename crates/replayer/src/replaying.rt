@@ -3,7 +3,7 @@ ghost use Rattle.std.specs.Prelude.{◌≡◌, ◌+◌, ◌-◌, ◌^◌, ◌<�
 ghost use Rattle.std.specs.Io.KnownBytes.{Appends};
 ghost use Rattle.files.specs.Engines.{Ran};
 ghost use Rattle.scenario.specs.Reads.{script};
-ghost use Rattle.files.specs.Streams.{WritesFront};
+ghost use Rattle.files.specs.Streams.{ReadsFront, WritesFront};
 ghost use Rattle.replayer.specs.Replays.{CutsLine, InputKeepsHeadline, IsSummaryOf, MakesLine, RunKeepsHeadline, ended};
 ghost use Rattle.replayer.specs.Runs.{happenings};
 ghost use Rattle.replayer.specs.Summaries.{summary_of};
@@ -16,7 +16,8 @@ use crate::writing::{tell, write_end};
 use scenario::{Fault, Line, Scenario, Sink, Source, read_input, read_scenario};
 use std::alloc::Global;
 
-/// Reads a whole file, and then writes the marks of its run, as they are made, and its three numbers.
+/// Reads a whole file, and then writes the marks of its run, as they are made, and its three numbers. However it
+/// ends, at most `INPUT_LIMIT` bytes are taken from the front of the input.
 ///
 /// Where all of it is written, the headline holds of each entry of the run: no two processes are inside the
 /// critical section together; nobody overtakes a process whose doorway finished first; every store answer is the
@@ -31,6 +32,7 @@ pub fn replay<R: Source, W: Sink>(
     ensures ran { Ran replay_text (ended result)
         (record { to_come = R.to_come input.old; taken = W.taken output.old; read_failures = R.failures input.old; write_failures = W.failures output.old })
         (record { to_come = R.to_come input.new; taken = W.taken output.new; read_failures = R.failures input.new; write_failures = W.failures output.new }) }
+    ensures input { ReadsFront (R.to_come input.old) (R.to_come input.new) }
     ensures summary { IfOk result (λ summary. IsSummaryOf (R.to_come input.old) summary) }
     ensures headline { OnOk result (InputKeepsHeadline (R.to_come input.old)) }
 {

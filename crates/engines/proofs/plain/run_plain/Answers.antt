@@ -6,13 +6,13 @@ use Rattle.files.proofs.EngineEnds.{kept, ran_to_line, ran_to_end}
 use Rattle.engines.specs.Plain.{printed}
 use Rattle.engines.proofs.plain.run_plain.Goals as goal
 
-pub returns-in_err-scenario : goal.returns-in_err-scenario
-returns-in_err-scenario g c =
+pub returns-in_err-scenario-clause-ran : goal.returns-in_err-scenario-clause-ran
+returns-in_err-scenario-clause-ran g c =
     ran_to_line scenario_of printed scenario_tells_at_limit c.from_residual-in_err-scenario.result c.in_err-scenario.field-0.0 c.in_ok-file.file.items _ _
     c.from_residual-in_err-scenario.ensures.1 c.in_ok-file.ensures.ok (rw c.as_slice.ensures.value at c.in_err-scenario.ensures) (kept _)
 
-pub returns : goal.returns
-returns g c =
+pub returns-clause-ran : goal.returns-clause-ran
+returns-clause-ran g c =
     let text : c.as_bytes.result.now ≡ printed (script c.in_ok-scenario.scenario) = c.as_bytes.ensures.value ∙ c.in_ok-text.ensures in
     ran_to_end scenario_of printed scenario_tells_at_limit c.write_all.result c.in_ok-file.file.items (script c.in_ok-scenario.scenario) _ _
     c.in_ok-file.ensures.ok (rw c.as_slice.ensures.value at c.in_ok-scenario.ensures) (rw text at c.write_all.ensures.ok) (rw text at c.write_all.ensures.front) c.write_all.ensures.fault c.write_all.ensures.failures
