@@ -18,7 +18,7 @@ use Rattle.record.specs.declared.marks.Mark.TheVariants.{Answered}
 use Rattle.record.specs.Calls.{called_in, last_call, last_command}
 use Rattle.record.specs.Entries.{Entry, Past, own, has, since, is_called}
 use Rattle.record.specs.Given.{AreGiven}
-use Rattle.record.specs.Headline.{IsAnswerTo, StandsAt, StandsInHistory, TakenInHistory, call_of}
+use Rattle.record.specs.Headline.{IsAnswerTo, StandsInHistory, TakenInHistory, call_of}
 use Rattle.record.specs.Histories.{history, reply_taken, store_after}
 use Rattle.record.specs.Records.{entry_of, past_of}
 use Rattle.record.specs.Scripts.{Call, caller}

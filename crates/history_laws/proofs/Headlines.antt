@@ -1,5 +1,5 @@
 -- One history, and the headline, put together.
-use Rattle.std.proofs.Common.{◌≡◌, ℕ, List, [], ◌∷◌, ◌++◌, Option, None, Some, Ok, refl, ap, subst}
+use Rattle.std.proofs.Common.{◌≡◌, List, [], ◌∷◌, ◌++◌, Option, None, Some, Ok, refl, ap, subst}
 use Rattle.plain_store.specs.declared.Setup.{Setup}
 use Rattle.plain_store.specs.Setups.{checked}
 use Rattle.record.specs.declared.events.Event.{Event}
@@ -11,7 +11,7 @@ use Rattle.record.proofs.Width.{is_good}
 use Rattle.laws.proofs.Always.{inv_of}
 use Rattle.laws.proofs.Theorems as lock
 use Rattle.history_laws.proofs.Answered.{answered_whole, answers_stand}
-use Rattle.history_laws.proofs.CallSpans.{before, older}
+use Rattle.history_laws.proofs.CallSpans.{before}
 use Rattle.history_laws.proofs.DataHeadline.{taken}
 use Rattle.history_laws.proofs.Given.{given_before}
 use Rattle.history_laws.proofs.Order as history

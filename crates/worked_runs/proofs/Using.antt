@@ -1,12 +1,12 @@
 -- What the contracts of a world and of a replay give, put together for one caller.
-use Rattle.std.proofs.Common.{◌≡◌, ℕ, List, [], ◌∷◌, ◌++◌, Option, None, Some, Result, Ok, Err, IfSome, OnOk, ap, subst, sym, ◌∙◌}
+use Rattle.std.proofs.Common.{◌≡◌, ℕ, List, ◌∷◌, Option, None, Some, Result, Ok, Err, IfSome, OnOk, ap, subst, sym, ◌∙◌}
 use Rattle.std.specs.Io.KnownBytes.{Appends}
 use Rattle.plain_store.specs.declared.Setup.{Setup}
 use Rattle.record.specs.declared.events.Event.{Event}
 use Rattle.record.specs.Acts.{Act}
 use Rattle.record.specs.Entries.{Entry, Past}
 use Rattle.record.specs.Headline.{IsAlone}
-use Rattle.record.specs.Records.{entry_of, past_of}
+use Rattle.record.specs.Records.{past_of}
 use Rattle.files.specs.Engines.{Streams, Ran}
 use Rattle.scenario.specs.Reading.{Script, scenario_of}
 use Rattle.files.specs.Checks.{◌>>=◌}

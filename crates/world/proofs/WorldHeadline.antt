@@ -1,5 +1,5 @@
 -- The headline of the entry that an event adds, in each record that the world showed.
-use Rattle.std.proofs.Common.{◌≡◌, ℕ, List, ◌∷◌, subst}
+use Rattle.std.proofs.Common.{◌≡◌, ℕ, ◌∷◌, subst}
 use Rattle.plain_store.specs.declared.Setup.{Setup}
 use Rattle.record.specs.declared.events.Event.{Event}
 use Rattle.record.specs.Acts.{Act}

@@ -49,4 +49,4 @@ returns-in-Ok-clause-headline c =
     let last = call_in c.event.new.self.seats p in
     subst (λ (w : WorldState). KeepsTheHeadline w p (act_of (length w.history) (record { access = c.in-Ok.access; effect = c.event.new.effect }))) c.self.view_is
     (keeps_headline (with_history i.core i.history.items) (with_history c.event.new.self (with_taken i.history.items p last.0 last.1 (reply_taken (marks_of c.event.new.effect)))) c.args.event.now p _
-        (c.in-Ok.ensures.accepted i.history.items) (c.in-Ok.ensures.shows.goes i.history.items) c.in-Ok.ensures.setup)
+    (c.in-Ok.ensures.accepted i.history.items) (c.in-Ok.ensures.shows.goes i.history.items) c.in-Ok.ensures.setup)

@@ -36,4 +36,4 @@ returns-in-Ok-clause-headline c =
     let last = call_in c.step.new.self.seats c.args.process in
     subst (λ (w : WorldState). KeepsTheHeadline w c.args.process (act_of (length w.history) (record { access = Some c.in-Ok.access; effect = Steps c.step.new.told }))) c.self.view_is
     (keeps_headline (with_history c.self.inside.core before) (with_history c.step.new.self (with_taken before c.args.process last.0 last.1 (reply_taken (marks_told c.step.new.told)))) (Step c.args.process c.args.flick) c.args.process _
-        (c.in-Ok.ensures.accepted before) (c.in-Ok.ensures.shows.goes before) c.in-Ok.ensures.setup)
+    (c.in-Ok.ensures.accepted before) (c.in-Ok.ensures.shows.goes before) c.in-Ok.ensures.setup)

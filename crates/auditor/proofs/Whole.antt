@@ -1,0 +1,46 @@
+-- Pasts in which each entry keeps all laws are those of lists of events.
+use Rattle.std.proofs.Common.{◌≡◌, List, [], ◌∷◌, reverse, Option, Some, None, refl, sym, ap, subst, ◌∙◌}
+use Rattle.std.proofs.lemmas.List.{reverse-reverse}
+use Rattle.plain_store.specs.declared.Setup.{Setup}
+use Rattle.record.specs.declared.events.Event.{Event}
+use Rattle.record.specs.Entries.{Entry, Past}
+use Rattle.record.specs.Records.{entry_of, past_of}
+use Rattle.world.proofs.WorldShows.{past-after}
+use Rattle.auditor.specs.Hearing.{AuditorState, HasHeard}
+use Rattle.auditor.specs.Verdicts.{AllKeep, GoodIsOfEvents, IsOfEvent, IsTrueRecord, OfEventsIsGood}
+use Rattle.record.specs.Given.{AreGiven}
+use Rattle.record.specs.Headline.{KeepsHeadlineThroughout}
+use Rattle.history_laws.proofs.Given.{given_before}
+use Rattle.history_laws.proofs.Headlines.{throughout}
+use Rattle.auditor.proofs.Obeys.{obeys}
+use Rattle.auditor.proofs.Recovers.{recovers}
+
+pub of_events : (s : Setup) → (past : Past) → AllKeep s past → (events : List Event) × (past_of s events ≡ past)
+of_events s [] kept = ([], refl)
+of_events s (e ∷ past) kept =
+    let before : (events : List Event) × (past_of s events ≡ past) = of_events s past kept.1 in
+    let here : IsOfEvent s past e = recovers s past e kept.0 in
+    (here.0 ∷ before.0, past-after s before.0 here.0 e (ap (λ l. entry_of s l here.0) before.1 ∙ here.1) ∙ ap (λ l. e ∷ l) before.1)
+
+-- A record that an auditor has heard whole is that of the events that its core shows.
+pub true_record : (a : AuditorState) (s : Setup) (entries : List Entry) → a.core.setup ≡ s → HasHeard a (reverse entries) → IsTrueRecord s entries
+true_record a s entries same heard = subst (λ s. IsTrueRecord s entries) same (record {
+  events = reverse heard.events;
+  record_is = ap (λ l. reverse (past_of a.core.setup l)) twice ∙ ap reverse heard.past_is ∙ reverse-reverse entries;
+  given = subst (AreGiven a.core.setup) (sym twice) heard.shows.given;
+  headline = subst (KeepsHeadlineThroughout a.core.setup) heard.past_is (throughout a.core.setup heard.shows.good heard.events heard.shows.given);
+})
+  where
+    twice : reverse (reverse heard.events) ≡ heard.events
+    twice = reverse-reverse heard.events
+
+pub is_good_of : GoodIsOfEvents
+is_good_of s good past kept = of_events s past kept
+
+pub good_of : OfEventsIsGood
+good_of s good [] given = tt
+good_of s good (what ∷ events) given = go (entry_of s (past_of s events) what) refl (good_of s good events (given_before s what events given))
+  where
+    go : (o : Option Entry) → entry_of s (past_of s events) what ≡ o → AllKeep s (past_of s events) → AllKeep s (past_of s (what ∷ events))
+    go None k before = subst (AllKeep s) (sym (ap (λ o. elim o as (λ _. Past) [ None ↦ past_of s events | Some e ↦ e ∷ past_of s events ]) k)) before
+    go (Some e) k before = subst (AllKeep s) (sym (past-after s events what e k)) (obeys s good events what e given k, before)

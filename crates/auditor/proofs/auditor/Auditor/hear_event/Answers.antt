@@ -1,0 +1,19 @@
+use Rattle.std.proofs.Common.{None, Some, sym, subst}
+use Rattle.auditor.specs.declared.verdicts.Law.TheVariants as law
+use Rattle.auditor.specs.Hearing.{AuditorState, HasHeard, IsHeard}
+use Rattle.auditor.proofs.Hearing.{heard_event, heard_refused_event}
+use Rattle.auditor.proofs.auditor.Auditor.hear_event.Goals as goal
+
+pub returns-in_default-clause-heard : goal.returns-in_default-clause-heard
+returns-in_default-clause-heard c = λ past e is h. subst (λ (x : AuditorState). IsHeard x.core.setup past e x (Some law.Program)) c.self.view_is
+    (heard_refused_event (record { core = c.self.inside.core; taken = c.self.inside.taken }) past e c.args.event.now c.in_default.field-0 (subst (λ (x : AuditorState). HasHeard x past) (sym c.self.view_is) h) is c.in_default.ensures.refused)
+
+pub returns-clause-heard : goal.returns-clause-heard
+returns-clause-heard c = λ past e is h. subst (λ (x : AuditorState). IsHeard x.core.setup past e (record { core = c.event.new.self; taken = c.self.inside.taken }) None) c.self.view_is
+    (heard_event (record { core = c.self.inside.core; taken = c.self.inside.taken }) past e c.args.event.now c.in-Ok._access c.event.new.effect c.event.new.self (record {
+      heard = subst (λ (x : AuditorState). HasHeard x past) (sym c.self.view_is) h;
+      is = is;
+      adds = c.in-Ok.ensures.accepted;
+      makes = c.in-Ok.ensures.shows;
+      setup = c.in-Ok.ensures.setup;
+    }))

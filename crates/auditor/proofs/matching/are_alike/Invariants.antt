@@ -1,0 +1,8 @@
+use Rattle.std.proofs.Common.{◌≡◌, ℕ, ◌<◌, slice_index_or}
+use Rattle.record.specs.declared.marks.Mark.{Mark}
+use Rattle.record.specs.Records.{placed}
+use Rattle.auditor.proofs.matching.are_alike.Given as goal
+
+-- the marks before the present one are the same
+abbrev pub invariant-loop-at : goal.invariant-loop-at
+invariant-loop-at l = (k : ℕ) (d : Mark) → k < l.at → placed 0 (slice_index_or l.marks k d) ≡ placed 0 (slice_index_or l.others k d)

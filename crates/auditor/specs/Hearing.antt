@@ -1,0 +1,90 @@
+-- What an auditor keeps, and what it answers to an entry.
+use Rattle.std.specs.Prelude.{◌≡◌, ℕ, ◌+◌, ◌<◌, ◌≤◌, ◌^◌, Bool, true, false, Contains, List, [], ◌∷◌, length, Option, None, Some}
+use Rattle.safe_bit.specs.declared.Move.TheVariants.{BeginWrite, EndWrite, BeginRead, EndRead, Settle}
+use Rattle.safe_number.specs.declared.Access.{Access}
+use Rattle.plain_store.specs.declared.Setup.{Setup}
+use Rattle.record.specs.declared.events.Event.{Event}
+use Rattle.record.specs.declared.events.Event.TheVariants.{Call, Fail, Withdraw, Restart}
+use Rattle.record.specs.declared.marks.Mark.{Mark}
+use Rattle.record.specs.declared.marks.Mark.TheVariants.{Called, Failed, Withdrew, Restarted}
+use Rattle.record.specs.Entries.{Entry, Past}
+use Rattle.record.specs.Histories.{history}
+use Rattle.record.specs.Records.{past_of}
+use Rattle.record.specs.Spans.{takings}
+use Rattle.plain_store.specs.declared.Reply.{Reply}
+use Rattle.world.specs.Cores.{CoreState, with_history}
+use Rattle.world.specs.Shows.{Shows}
+use Rattle.process.specs.declared.told.Told.{Told}
+use Rattle.process.specs.Telling.{marks_told}
+use Rattle.auditor.specs.declared.verdicts.Law.{Law}
+use Rattle.auditor.specs.declared.verdicts.Law.TheVariants as law
+use Rattle.auditor.specs.Verdicts.{Keeps, KeepsAll, number_of}
+
+-- the flick that an access tells: the value with which a read ends, or a write begins or is settled
+abbrev pub flick_in : Option Access → Bool
+flick_in None = false
+flick_in (Some a) = elim a.how [ BeginWrite v ↦ v | EndWrite ↦ false | BeginRead ↦ false | EndRead v ↦ v | Settle v ↦ v ]
+
+-- how many commands were taken: a number, or none from 2^64 on
+abbrev pub IsCount : Option ℕ → ℕ → Type 0
+IsCount None n = 2 ^ 64 ≤ n
+IsCount (Some k) n = k ≡ n
+
+-- what an auditor keeps: a core, and how many commands were taken
+pub record AuditorState : Type 0 where
+  pub core : CoreState
+  pub taken : Option ℕ
+
+-- it has heard these entries, and no law was broken
+pub record HasHeard (a : AuditorState) (past : Past) : Type 0 where
+  pub events : List Event
+  pub past_is : past_of a.core.setup events ≡ past
+  pub shows : Shows (with_history a.core (history a.core.setup past)) events
+  pub counted : IsCount a.taken (length (history a.core.setup past))
+
+-- a law is the first after `Safe` that an entry breaks
+pub record BreaksNext (l : Law) (s : Setup) (past : Past) (e : Entry) : Type 0 where
+  pub later : 0 < number_of l
+  pub broken : Keeps l s past e → ⊥
+  pub before : (k : Law) → 0 < number_of k → number_of k < number_of l → Keeps k s past e
+
+-- what is answered to an entry: none if it keeps all laws, else the first after `Safe` that it breaks
+abbrev pub IsHeard : Setup → Past → Entry → AuditorState → Option Law → Type 0
+IsHeard s past e then None = KeepsAll s past e × HasHeard then (e ∷ past)
+IsHeard s past e then (Some l) = BreaksNext l s past e
+
+-- the event of a process that one mark alone tells, if it tells one
+abbrev pub event_marked : ℕ → List Mark → Option Event
+event_marked p (Called c ∷ []) = Some (Call p c)
+event_marked p (Failed ∷ []) = Some (Fail p)
+event_marked p (Withdrew ∷ []) = Some (Withdraw p)
+event_marked p (Restarted ∷ []) = Some (Restart p)
+event_marked p _ = None
+
+-- the event other than a step that an entry may be of
+abbrev pub event_in : Entry → Option Event
+event_in e = elim e.access [ None ↦ event_marked e.process e.marks | Some a ↦ None ]
+
+-- one more, if a command is taken
+abbrev pub with_reply : ℕ → Option Reply → ℕ
+with_reply n None = n
+with_reply n (Some r) = n + 1
+
+-- each command that marks take has this place
+abbrev pub AreAt : ℕ → List Mark → Type 0
+AreAt n ms = (k : ℕ) (r : Reply) → Contains (takings ms) (k, r) → k ≡ n
+
+-- the law that an entry breaks which is not the step's of its process, but for places: by whether it has the mark of an event, and whether its process is settling
+abbrev pub law_of_wrong : Bool → Bool → Law
+law_of_wrong true settles = law.Program
+law_of_wrong false true = law.Unit
+law_of_wrong false false = law.Program
+
+-- and one whose places are wrong
+abbrev pub law_of_misplaced : Bool → Law
+law_of_misplaced true = law.Program
+law_of_misplaced false = law.History
+
+-- the entry of a step that has this access and leads to this, its place left open
+abbrev pub stepped_as : ℕ → Access → Told → Entry
+stepped_as p a t = record { process = p; access = Some a; marks = marks_told t }

@@ -1,0 +1,4 @@
+pub mod Verdicts
+pub mod Shown
+pub mod Hearing
+pub mod Looks

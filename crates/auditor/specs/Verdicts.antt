@@ -1,0 +1,144 @@
+-- The laws that an entry keeps, by looking back over the entries before it, and the verdict on a record.
+use Rattle.std.specs.Prelude.{◌≡◌, ℕ, ◌<◌, Bool, true, false, List, [], ◌∷◌, ◌++◌, length, map, reverse, Some, Ok, IsTrue}
+use Rattle.safe_bit.specs.declared.Move.TheVariants.{EndRead}
+use Rattle.safe_bit.specs.SafeRule.{MayEndWith}
+use Rattle.safe_number.specs.declared.Access.{Access}
+use Rattle.plain_store.specs.declared.Setup.{Setup}
+use Rattle.plain_store.specs.Setups.{checked}
+use Rattle.record.specs.declared.events.Event.{Event}
+use Rattle.record.specs.declared.marks.Mark.{Mark}
+use Rattle.record.specs.declared.marks.Mark.TheVariants.{Called, Failed, Withdrew, Restarted}
+use Rattle.record.specs.declared.stages.Stage.{Stage}
+use Rattle.record.specs.declared.stages.Stage.TheVariants.{Idle, Settling, Down}
+use Rattle.record.specs.Entries.{Entry, Past, has, is_entered}
+use Rattle.record.specs.Given.{AreGiven}
+use Rattle.record.specs.Headline.{KeepsHeadlineThroughout, OvertakesNobody, TakesItsPlace}
+use Rattle.record.specs.Moves.{begins_read, moves_of}
+use Rattle.record.specs.Records.{entry_of, past_of, placed, record_of, stepped}
+use Rattle.record.specs.Registers.{opening_bit}
+use Rattle.record.specs.Stages.{inside, stage}
+use Rattle.auditor.specs.declared.verdicts.Law.{Law}
+use Rattle.auditor.specs.declared.verdicts.Law.TheVariants as law
+use Rattle.auditor.specs.declared.verdicts.Verdict.{Verdict}
+use Rattle.auditor.specs.declared.verdicts.Verdict.TheVariants.{Good, Bad}
+
+-- The laws.
+
+-- A read that no write of its bit overlapped ends with the value last written or settled before it began, and else with the opening value. The read is the one of its bit that began last, whoever began it.
+abbrev pub KeepsSafe : Setup → Past → Entry → Type 0
+KeepsSafe s past e = (a : Access) (v : Bool) → e.access ≡ Some a → a.how ≡ EndRead v → begins_read (moves_of a past) ≡ true → MayEndWith (opening_bit s a) (moves_of a past) v
+
+-- with these marks an event is told that is no step
+abbrev pub tells_event : Mark → Bool
+tells_event (Called c) = true
+tells_event Failed = true
+tells_event Withdrew = true
+tells_event Restarted = true
+tells_event _ = false
+
+-- two entries are the same, but for the places of commands taken
+pub record IsAlike (e other : Entry) : Type 0 where
+  pub process : e.process ≡ other.process
+  pub access : e.access ≡ other.access
+  pub marks : map (placed 0) e.marks ≡ map (placed 0) other.marks
+
+-- for some flick the program that its process is in makes this entry, but for the places of commands taken
+abbrev pub IsMade : Setup → Past → Entry → Type 0
+IsMade s past e = (flick : Bool) × (made : Entry) × (stepped s past e.process flick ≡ Some made) × IsAlike e made
+
+-- an entry with the mark of an event is the entry of an event that is not refused
+abbrev pub IsOfEvent : Setup → Past → Entry → Type 0
+IsOfEvent s past e = (event : Event) × (entry_of s past event ≡ Some e)
+
+-- what a process owes at a stage: none at rest, or down; while its memory unit settles, that is the law `Unit`'s
+abbrev pub OwesAt : Stage → Setup → Past → Entry → Type 0
+OwesAt Idle s past e = ⊥
+OwesAt Down s past e = ⊥
+OwesAt Settling s past e = Unit {0}
+OwesAt _ s past e = IsMade s past e
+
+-- A process that there is makes what its local program tells, and nothing else; the mark of a call, a failure, a withdrawal or a restart stands alone, where that event is not refused.
+abbrev pub KeepsProgram : Setup → Past → Entry → Type 0
+KeepsProgram s past e = (e.process < s.processes) × elim (has tells_event e) as (λ _. Type 0) [ true ↦ IsOfEvent s past e | false ↦ OwesAt (stage e.process past) s past e ]
+
+-- The memory unit of a process that failed makes what the failure rule tells.
+abbrev pub KeepsUnit : Setup → Past → Entry → Type 0
+KeepsUnit s past e = stage e.process past ≡ Settling → IsMade s past e
+
+-- Nobody gets inside while another is inside.
+abbrev pub KeepsTogether : Past → Entry → Type 0
+KeepsTogether past e = IsTrue (has is_entered e) → (j : ℕ) → IsTrue (inside j past) → j ≡ e.process
+
+-- The verdict.
+
+-- an entry keeps a law, by the entries before it; the last two laws are the headline's
+abbrev pub Keeps : Law → Setup → Past → Entry → Type 0
+Keeps law.Safe s past e = KeepsSafe s past e
+Keeps law.Program s past e = KeepsProgram s past e
+Keeps law.Unit s past e = KeepsUnit s past e
+Keeps law.Together s past e = KeepsTogether past e
+Keeps law.Overtaken s past e = OvertakesNobody past e
+Keeps law.History s past e = TakesItsPlace s past e
+
+-- the laws in their order, counted from 0
+abbrev pub number_of : Law → ℕ
+number_of law.Safe = 0
+number_of law.Program = 1
+number_of law.Unit = 2
+number_of law.Together = 3
+number_of law.Overtaken = 4
+number_of law.History = 5
+
+-- it keeps all laws
+abbrev pub KeepsAll : Setup → Past → Entry → Type 0
+KeepsAll s past e = (l : Law) → Keeps l s past e
+
+-- a law is the first that it breaks
+pub record BreaksFirst (l : Law) (s : Setup) (past : Past) (e : Entry) : Type 0 where
+  pub broken : Keeps l s past e → ⊥
+  pub before : (k : Law) → number_of k < number_of l → Keeps k s past e
+
+-- each entry keeps all laws
+abbrev pub AllKeep : Setup → Past → Type 0
+AllKeep s [] = Unit {0}
+AllKeep s (e ∷ past) = KeepsAll s past e × AllKeep s past
+
+-- an entry of a record, the entries before it and those after it, each the newest first
+pub record IsAt (entries : List Entry) (k : ℕ) (e : Entry) (past : Past) : Type 0 where
+  pub later : Past
+  pub splits : reverse entries ≡ later ++ e ∷ past
+  pub number : length past ≡ k
+
+-- an entry is the lowest that breaks a law, and this is the first that it breaks
+pub record IsBadAt (s : Setup) (entries : List Entry) (k : ℕ) (l : Law) : Type 0 where
+  pub entry : Entry
+  pub past : Past
+  pub at : IsAt entries k entry past
+  pub before : AllKeep s past
+  pub breaks : BreaksFirst l s past entry
+
+-- the verdict on a record
+abbrev pub IsVerdict : Setup → List Entry → Verdict → Type 0
+IsVerdict s entries Good = AllKeep s (reverse entries)
+IsVerdict s entries (Bad k l) = IsBadAt s entries k l
+
+-- What verdicts say.
+
+-- the entries are the record of some list of events, whose names, values and counts are what their types allow; so the headline holds of each entry
+pub record IsTrueRecord (s : Setup) (entries : List Entry) : Type 0 where
+  pub events : List Event
+  pub record_is : record_of s events ≡ entries
+  pub given : AreGiven s (reverse events)
+  pub headline : KeepsHeadlineThroughout s (reverse entries)
+
+-- A past in which each entry keeps all laws is that of some list of events.
+abbrev pub GoodIsOfEvents : Type 0
+GoodIsOfEvents = (s : Setup) → checked s ≡ Ok tt → (past : Past) → AllKeep s past → (events : List Event) × (past_of s events ≡ past)
+
+-- In the past of every list of events each entry keeps all laws.
+abbrev pub OfEventsIsGood : Type 0
+OfEventsIsGood = (s : Setup) → checked s ≡ Ok tt → (events : List Event) → AreGiven s events → AllKeep s (past_of s events)
+
+-- A record has one verdict.
+abbrev pub VerdictsAreUnique : Type 0
+VerdictsAreUnique = (s : Setup) (entries : List Entry) (v w : Verdict) → IsVerdict s entries v → IsVerdict s entries w → v ≡ w

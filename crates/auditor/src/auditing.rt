@@ -1,0 +1,52 @@
+ghost use Rattle.std.specs.Prelude.{◌≡◌, IfOk, Ok, reverse};
+ghost use Rattle.plain_store.specs.Setups.{checked};
+ghost use Rattle.auditor.specs.Hearing.{BreaksNext};
+ghost use Rattle.auditor.specs.declared.verdicts.Verdict.TheVariants.{Good};
+ghost use Rattle.auditor.specs.Verdicts.{BreaksFirst, IsTrueRecord, IsVerdict};
+
+use crate::auditor::Auditor;
+use crate::looking::is_unsafe;
+use crate::verdicts::{Law, Verdict};
+use plain_store::Setup;
+use record::{Entry, Record};
+use std::alloc::{AllocError, Global};
+
+/// The verdict on a record: the lowest entry that breaks a law, and the first law that it breaks. The one fault is want
+/// of memory. It takes the entries one by one, and looks back at most once. A good record is that of some list of
+/// events, and the headline holds of each of its entries.
+pub fn audit(alloc: Global, setup: &Setup, given: &Record) -> Result<Verdict, AllocError>
+    requires { checked setup.now ≡ Ok tt }
+    ensures verdict { IfOk result (λ verdict. IsVerdict setup.now given.now verdict) }
+    ensures good { IfOk result (λ verdict. verdict ≡ Good → IsTrueRecord setup.now given.now) }
+{
+    audit_all(alloc, setup, &given.entries)
+}
+
+fn audit_all(alloc: Global, setup: &Setup, entries: &[Entry]) -> Result<Verdict, AllocError>
+    requires { checked setup.now ≡ Ok tt }
+    ensures verdict { IfOk result (λ verdict. IsVerdict setup.now entries.now verdict) }
+    ensures good { IfOk result (λ verdict. verdict ≡ Good → IsTrueRecord setup.now entries.now) }
+{
+    let mut auditor = Auditor::new(alloc, setup)?;
+    for (number, entry) in entries.iter().enumerate() {
+        if let Some(law) = auditor.hear(entry) {
+            let before = &entries[..number];
+            let first = first_law(setup, before, entry, law)?;
+            return Ok(Verdict::Bad(number as u64, first));
+        }
+    }
+    Ok(Verdict::Good)
+}
+
+/// The first law that an entry breaks, which breaks this one first after `Safe`.
+fn first_law(setup: &Setup, before: &[Entry], entry: &Entry, law: Law) -> Result<Law, AllocError>
+    requires good { checked setup.now ≡ Ok tt }
+    requires breaks { BreaksNext law setup.now (reverse before.now) entry.now }
+    ensures { IfOk result (λ first. BreaksFirst first setup.now (reverse before.now) entry.now) }
+{
+    if is_unsafe(setup, before, entry)? {
+        Ok(Law::Safe)
+    } else {
+        Ok(law)
+    }
+}

@@ -1,0 +1,158 @@
+ghost use Rattle.std.specs.Prelude.{◌≡◌, ◌↔◌, true, IfOk, IsTrue, Ok, Some, None, List, [], nat_lt};
+ghost use Rattle.std.specs.List.{list_any};
+ghost use Rattle.plain_store.specs.Setups.{checked};
+ghost use Rattle.record.specs.declared.events.Event.{Event as Happening};
+ghost use Rattle.record.specs.declared.history.Taken.{Taken as Seen};
+ghost use Rattle.record.specs.declared.stages.Stage.TheVariants.{Settling};
+ghost use Rattle.record.specs.Entries.{Entry as Noted, Past};
+ghost use Rattle.record.specs.Records.{past_of};
+ghost use Rattle.record.specs.Stages.{stage as stage_then};
+ghost use Rattle.world.specs.Cores.{with_history};
+ghost use Rattle.world.specs.Shows.{Shows};
+ghost use Rattle.auditor.specs.Hearing.{HasHeard, IsHeard, event_in, law_of_misplaced, law_of_wrong};
+ghost use Rattle.auditor.specs.Verdicts.{tells_event};
+
+use crate::matching::{are_at, event_in, flick_in, is_alike, more, tells};
+use crate::verdicts::Law;
+use plain_store::Setup;
+use record::{Entry, Event, Mark, Stage};
+use safe_number::Access;
+use std::alloc::{AllocError, Global};
+use std::marker::Model;
+use world::{Core, Effect, Told};
+
+/// An audit that goes on. It takes the entries of a record one at a time and keeps what a world keeps beside its
+/// history, and how many commands were taken: so it needs the same memory however long the record is.
+///
+/// As long as no entry breaks a law the entries are those of a list of events, and the auditor's core is that of
+/// the world that shows them. Each entry tells the event that it can only be of; that one is made, and what it adds
+/// is compared with the entry.
+#[derive(Drop)]
+pub struct Auditor {
+    alloc: Global,
+    core: Core,
+    taken: Option<u64>,
+}
+
+impl Model for Auditor {
+    ghost use Rattle.auditor.specs.Hearing.{AuditorState};
+
+    ghost Value = { AuditorState };
+
+    ghost view = { λ a. record { core = a.core; taken = a.taken } };
+}
+
+impl Auditor {
+    /// Before the first entry. The one fault is want of memory.
+    pub fn new(alloc: Global, setup: &Setup) -> Result<Auditor, AllocError>
+        requires { checked setup.now ≡ Ok tt }
+        ensures setup { IfOk result (λ a. a.core.setup ≡ setup.now) }
+        ensures heard { IfOk result (λ a. HasHeard a []) }
+    {
+        Ok(Auditor {
+            alloc,
+            core: Core::new(alloc, setup)?,
+            taken: Some(0),
+        })
+    }
+
+    /// One more entry: none, if it keeps all laws; else the first law after `Safe` that it breaks. An entry that breaks
+    /// `Safe` breaks `Program` or `Unit` too; whether it does is looked up in the entries before. After an entry that
+    /// broke a law nothing is known of the auditor.
+    pub fn hear(&mut self, entry: &Entry) -> Option<Law>
+        ensures setup { result ≡ None → self.new.core.setup ≡ self.old.core.setup }
+        ensures heard { (past : Past) → HasHeard self.old past → IsHeard self.old.core.setup past entry.now self.new result }
+    {
+        self.hear_parts(entry.process, &entry.act.access, &entry.act.marks)
+    }
+
+    /// The same of an entry that is given by its parts, for a run whose entries stand nowhere: most of its steps have
+    /// no mark, and an act has room for three.
+    #[inline]
+    pub fn hear_parts(
+        &mut self,
+        process: u8,
+        access: &Option<Access>,
+        marks: &[Mark],
+    ) -> Option<Law>
+        ensures setup { result ≡ None → self.new.core.setup ≡ self.old.core.setup }
+        ensures heard { (past : Past) → HasHeard self.old past → IsHeard self.old.core.setup past (record { process = process; access = access.now; marks = marks.now }) self.new result }
+    {
+        match event_in(process, access, marks) {
+            Some(event) => self.hear_event(&event),
+            None => self.hear_step(process, access, marks),
+        }
+    }
+
+    /// An entry that tells an event which is no step.
+    fn hear_event(&mut self, event: &Event) -> Option<Law>
+        ensures setup { result ≡ None → self.new.core.setup ≡ self.old.core.setup }
+        ensures heard { (past : Past) (e : Noted) → event_in e ≡ Some event.now → HasHeard self.old past → IsHeard self.old.core.setup past e self.new result }
+    {
+        let mut effect = Effect::Steps(Told::Nothing);
+        let Ok(_access) = self.core.event(event, &mut effect) else {
+            return Some(Law::Program);
+        };
+        None
+    }
+
+    /// An entry that tells no event but a step.
+    fn hear_step(&mut self, process: u8, access: &Option<Access>, marks: &[Mark]) -> Option<Law>
+        requires { event_in (record { process = process; access = access.now; marks = marks.now }) ≡ None }
+        ensures setup { result ≡ None → self.new.core.setup ≡ self.old.core.setup }
+        ensures heard { (past : Past) → HasHeard self.old past → IsHeard self.old.core.setup past (record { process = process; access = access.now; marks = marks.now }) self.new result }
+    {
+        let settles = settles(&self.core, process);
+        let mut told = Told::Nothing;
+        let Ok(made) = self.core.step(process, flick_in(access), &mut told) else {
+            return Some(Law::Program);
+        };
+        if !is_alike(self.alloc, access, marks, &made, &told) {
+            return Some(wrong(marks, settles));
+        }
+        if !are_at(marks, self.taken) {
+            return Some(misplaced(marks));
+        }
+        self.taken = more(self.taken, &told);
+        None
+    }
+}
+
+/// The law that is broken by an entry with these marks that is not the step's of its process.
+fn wrong(marks: &[Mark], settles: bool) -> Law
+    ensures { result ≡ law_of_wrong (list_any tells_event marks.now) settles }
+{
+    if tells(marks) || !settles {
+        Law::Program
+    } else {
+        Law::Unit
+    }
+}
+
+/// The law that is broken by one that is but for the place of the command that is taken.
+fn misplaced(marks: &[Mark]) -> Law
+    ensures { result ≡ law_of_misplaced (list_any tells_event marks.now) }
+{
+    if tells(marks) {
+        Law::Program
+    } else {
+        Law::History
+    }
+}
+
+/// Whether a process that is there settles.
+#[inline]
+fn settles(core: &Core, process: u8) -> bool
+    ensures { (taken : List Seen) (events : List Happening) → Shows (with_history core.now taken) events → nat_lt process core.now.setup.processes ≡ true → IsTrue result ↔ (stage_then process (past_of core.now.setup events) ≡ Settling) }
+{
+    match core.stage(process) {
+        Some(stage) => is_settling(stage),
+        None => false,
+    }
+}
+
+fn is_settling(stage: Stage) -> bool
+    ensures { IsTrue result ↔ (stage ≡ Settling) }
+{
+    stage == Stage::Settling
+}

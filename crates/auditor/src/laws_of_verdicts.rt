@@ -1,0 +1,17 @@
+//! What verdicts say of records. Each law is a function with nothing to do, whose contract is the law.
+ghost use Rattle.auditor.specs.Verdicts.{GoodIsOfEvents, OfEventsIsGood, VerdictsAreUnique};
+
+/// A record in which each entry keeps each law is the record of some list of events. So the headline holds of it.
+pub fn good_records_are_of_events()
+    ensures { GoodIsOfEvents }
+{}
+
+/// In the record of every list of events each entry keeps each law.
+pub fn records_of_events_are_good()
+    ensures { OfEventsIsGood }
+{}
+
+/// A record has one verdict.
+pub fn records_have_one_verdict()
+    ensures { VerdictsAreUnique }
+{}

@@ -1,0 +1,20 @@
+//! Verdicts on given records: which entry is the first that breaks a law, and which law it breaks.
+#![tactic(auto)]
+
+mod auditing;
+mod auditor;
+mod laws_of_verdicts;
+mod looking;
+mod matching;
+mod shown;
+#[cfg(test)]
+mod tests;
+mod verdicts;
+
+pub use auditing::audit;
+pub use auditor::Auditor;
+pub use laws_of_verdicts::{
+    good_records_are_of_events, records_have_one_verdict, records_of_events_are_good,
+};
+pub use record::{Entry, Record};
+pub use verdicts::{Audited, Law, Verdict};

@@ -1,0 +1,167 @@
+//! Whether an entry is the one that is expected.
+ghost use Rattle.std.specs.Prelude.{◌≡◌, ◌↔◌, ℕ, ◌+◌, Bool, true, false, IsTrue, Option, Some, None, map, length};
+ghost use Rattle.std.specs.List.{list_any};
+ghost use Rattle.record.specs.Entries.{has};
+ghost use Rattle.record.specs.Histories.{reply_taken};
+ghost use Rattle.record.specs.Records.{placed};
+ghost use Rattle.process.specs.Telling.{marks_told};
+ghost use Rattle.auditor.specs.Hearing.{IsCount, event_in, flick_in, with_reply};
+ghost use Rattle.auditor.specs.Verdicts.{tells_event};
+ghost use Rattle.auditor.specs.Hearing.{AreAt, stepped_as};
+ghost use Rattle.auditor.specs.Verdicts.{IsAlike};
+
+use plain_store::{Answer, Command, Name, Reply, Text, Value};
+use record::{Entry, Event, Mark};
+use safe_bit::Move;
+use safe_number::{Access, Field};
+use std::alloc::Global;
+use world::Told;
+
+/// The flick that an access tells: the value with which a read ends, or a write begins or is settled.
+#[inline]
+pub(crate) fn flick_in(access: &Option<Access>) -> bool
+    ensures { result ≡ flick_in access.now }
+{
+    match access {
+        None => false,
+        Some(access) => match access.how {
+            Move::BeginWrite(value) | Move::EndRead(value) | Move::Settle(value) => value,
+            Move::EndWrite | Move::BeginRead => false,
+        },
+    }
+}
+
+/// The event other than a step that an entry may be of.
+#[inline]
+pub(crate) fn event_in(process: u8, access: &Option<Access>, marks: &[Mark]) -> Option<Event>
+    ensures { result ≡ event_in (record { process = process; access = access.now; marks = marks.now }) }
+{
+    if access.is_some() || marks.len() != 1 {
+        return None;
+    }
+    match marks[0] {
+        Mark::Called(command) => Some(Event::Call(process, command)),
+        Mark::Failed => Some(Event::Fail(process)),
+        Mark::Withdrew => Some(Event::Withdraw(process)),
+        Mark::Restarted => Some(Event::Restart(process)),
+        _ => None,
+    }
+}
+
+/// Whether one of the marks is that of an event which is no step.
+pub(crate) fn tells(marks: &[Mark]) -> bool
+    ensures { result ≡ list_any tells_event marks.now }
+{
+    marks.iter().any(|mark| {
+        matches!(
+            mark,
+            Mark::Called(_) | Mark::Failed | Mark::Withdrew | Mark::Restarted
+        )
+    })
+}
+
+/// Whether an entry with this access and these marks is, but for places, that of a step which made this access and
+/// leads to this.
+#[inline]
+pub(crate) fn is_alike(
+    alloc: Global,
+    access: &Option<Access>,
+    marks: &[Mark],
+    made: &Access,
+    told: &Told,
+) -> bool
+    ensures { (p : ℕ) → IsTrue result ↔ IsAlike (record { process = p; access = access.now; marks = marks.now }) (stepped_as p made.now told.now) }
+{
+    is_access(access, made) && are_told(alloc, marks, told)
+}
+
+/// Whether the access is this one.
+fn is_access(told: &Option<Access>, access: &Access) -> bool
+    ensures { IsTrue result ↔ (told.now ≡ Some access.now) }
+{
+    match told {
+        None => false,
+        Some(told) => told == access,
+    }
+}
+
+/// Whether the marks are those that a step leads to, but for places.
+fn are_told(alloc: Global, marks: &[Mark], told: &Told) -> bool
+    ensures { IsTrue result ↔ (map (placed 0) marks.now ≡ map (placed 0) (marks_told told.now)) }
+{
+    if matches!(told, Told::Nothing) {
+        return marks.is_empty();
+    }
+    are_alike(marks, &told.marks(alloc, 0))
+}
+
+/// Whether marks are the same, but for places.
+fn are_alike(marks: &[Mark], others: &[Mark]) -> bool
+    ensures { IsTrue result ↔ (map (placed 0) marks.now ≡ map (placed 0) others.now) }
+{
+    if marks.len() != others.len() {
+        return false;
+    }
+    for at in 0..marks.len() {
+        if !is_same(&unplaced(&marks[at]), &unplaced(&others[at])) {
+            return false;
+        }
+    }
+    true
+}
+
+/// Whether two marks are the same.
+fn is_same(mark: &Mark, other: &Mark) -> bool
+    ensures { IsTrue result ↔ (mark.now ≡ other.now) }
+{
+    mark == other
+}
+
+/// The mark, with the place 0 if it has one.
+fn unplaced(mark: &Mark) -> Mark
+    ensures { result ≡ placed 0 mark.now }
+{
+    match mark {
+        Mark::Taken(_, reply) => Mark::Taken(0, *reply),
+        other => *other,
+    }
+}
+
+/// Whether so many commands were taken.
+fn is_count(taken: Option<u64>, count: u64) -> bool
+    ensures { (n : ℕ) → IsCount taken n → IsTrue result ↔ (count ≡ n) }
+{
+    match taken {
+        None => false,
+        Some(taken) => count == taken,
+    }
+}
+
+/// Whether each command that is taken has the place after so many.
+#[inline]
+pub(crate) fn are_at(marks: &[Mark], taken: Option<u64>) -> bool
+    ensures { (n : ℕ) → IsCount taken n → IsTrue result ↔ AreAt n marks.now }
+{
+    for mark in marks {
+        if let Mark::Taken(place, _) = mark {
+            if !is_count(taken, *place) {
+                return false;
+            }
+        }
+    }
+    true
+}
+
+/// How many commands were taken, after what a step leads to.
+#[inline]
+pub(crate) fn more(taken: Option<u64>, told: &Told) -> Option<u64>
+    ensures { (n : ℕ) → IsCount taken n → IsCount result (with_reply n (reply_taken (marks_told told.now))) }
+{
+    if told.reply().is_none() {
+        return taken;
+    }
+    match taken {
+        None => None,
+        Some(count) => count.checked_add(1),
+    }
+}
