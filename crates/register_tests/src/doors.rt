@@ -1,6 +1,7 @@
 //! The doorways, waits and withdrawals of the worked runs, driven by hand: the cursors of two processes over a
 //! plain memory.
-ghost use Rattle.std.specs.Prelude.{◌≡◌, true};
+ghost use Rattle.std.specs.Prelude.{◌≡◌, ◌<◌, zero, true, Ok};
+ghost use Rattle.plain_store.specs.Setups.{checked};
 ghost use Rattle.bakery.specs.Doors.{is_going, is_waiting, goes_on, tells_wait};
 ghost use Rattle.bakery.specs.Leavings.{is_leaving};
 
@@ -23,7 +24,6 @@ fn walk(
     door: &mut Door,
     told: DoorProgress,
     steps: u32,
-    flick: bool,
 ) -> DoorProgress
     requires going { goes_on told ≡ true → is_going door.old ≡ true }
     requires waiting { tells_wait told ≡ true → is_waiting door.old ≡ true }
@@ -34,13 +34,22 @@ fn walk(
     for _ in 0..steps {
         match told {
             DoorProgress::Doorway | DoorProgress::Waiting(_) => {
-                let value = memory.make(rt, door.next(false), flick);
+                let value = memory.make(rt, door.next(false), false);
                 told = door.advance(value);
             }
             _ => panic!(rt; "the door was passed: {told:?}"),
         }
     }
     told
+}
+
+/// Starts a door and makes so many accesses of it, and answers what the last one tells.
+fn enter(rt: &impl Abort, memory: &mut Memory, door: &mut Door, steps: u32) -> DoorProgress
+    ensures going { goes_on result ≡ true → is_going door.new ≡ true }
+    ensures waiting { tells_wait result ≡ true → is_waiting door.new ≡ true }
+{
+    door.start();
+    walk(rt, memory, door, START, steps)
 }
 
 /// Makes accesses of a door, where `told` was told last, and answers what the last one tells. They have to be
@@ -94,6 +103,26 @@ fn leave(
     progress
 }
 
+/// Clears the ticket of process 0, of 2 bits with copies for 2 readers, which takes 8 accesses.
+fn clear_ticket(rt: &impl Abort, memory: &mut Memory, setup: &Setup)
+    requires setup { checked setup.now ≡ Ok tt }
+    requires process { 0 < setup.now.processes }
+{
+    let mut leaving = Leaving::new(0, setup);
+    let progress = leave(rt, memory, &mut leaving, Progress::Going, 7);
+    assert_eq!(rt; progress, Progress::Going);
+    let progress = leave(rt, memory, &mut leaving, progress, 1);
+    assert_eq!(rt; progress, Progress::Done);
+}
+
+/// Begins a call of a door, which announces itself first.
+fn begin_anew(rt: &impl Abort, memory: &mut Memory, door: &mut Door) {
+    door.start();
+    let first = [(Field::Choosing, 0, Move::BeginWrite(true))];
+    let told = walk_by(rt, memory, door, START, &first);
+    assert_eq!(rt; told, DoorProgress::Doorway);
+}
+
 // Alone, a process is inside after the 8 accesses of its doorway, with the ticket 1.
 #[test]
 fn lone_write(rt: HostRuntime) -> Result<(), Fail> {
@@ -124,15 +153,13 @@ fn tickets_full(rt: HostRuntime) -> Result<(), Fail> {
     let mut memory = Memory::new(rt.alloc())?;
     let mut first = Door::new(rt.alloc(), 0, &setup)?;
     let mut second = Door::new(rt.alloc(), 1, &setup)?;
-    first.start();
-    let told = walk(&rt, &mut memory, &mut first, START, 14, false);
+    let told = enter(&rt, &mut memory, &mut first, 14);
     assert_eq!(rt; told, DoorProgress::Waiting(1));
-    second.start();
-    let other = walk(&rt, &mut memory, &mut second, START, 9, false);
+    let other = enter(&rt, &mut memory, &mut second, 9);
     assert_eq!(rt; other, DoorProgress::Doorway);
-    let other = walk(&rt, &mut memory, &mut second, other, 1, false);
+    let other = walk(&rt, &mut memory, &mut second, other, 1);
     assert_eq!(rt; other, DoorProgress::Full { process: 0 });
-    let told = walk(&rt, &mut memory, &mut first, told, 4, false);
+    let told = walk(&rt, &mut memory, &mut first, told, 4);
     assert_eq!(rt; told, DoorProgress::Inside(1));
     Ok(())
 }
@@ -146,13 +173,11 @@ fn withdrawal(rt: HostRuntime) -> Result<(), Fail> {
     let mut locks = Locks::new(rt.alloc(), &setup)?;
     let mut first = Door::new(rt.alloc(), 0, &setup)?;
     let mut second = Door::new(rt.alloc(), 1, &setup)?;
-    first.start();
-    let told = walk(&rt, &mut memory, &mut first, START, 20, false);
+    let told = enter(&rt, &mut memory, &mut first, 20);
     assert_eq!(rt; told, DoorProgress::Waiting(1));
-    second.start();
-    let other = walk(&rt, &mut memory, &mut second, START, 20, false);
+    let other = enter(&rt, &mut memory, &mut second, 20);
     assert_eq!(rt; other, DoorProgress::Waiting(2));
-    let told = walk(&rt, &mut memory, &mut first, told, 1, false);
+    let told = walk(&rt, &mut memory, &mut first, told, 1);
     let DoorProgress::Waiting(1) = told else {
         panic!(rt; "process 0 does not wait with the ticket 1: {told:?}");
     };
@@ -168,19 +193,12 @@ fn withdrawal(rt: HostRuntime) -> Result<(), Fail> {
         panic!(rt; "process 0 does not read whether process 1 is choosing: {next:?}");
     };
     first.withdraw(&mut locks);
-    let mut leaving = Leaving::new(0, &setup);
-    let progress = leave(&rt, &mut memory, &mut leaving, Progress::Going, 7);
-    assert_eq!(rt; progress, Progress::Going);
-    let progress = leave(&rt, &mut memory, &mut leaving, progress, 1);
-    assert_eq!(rt; progress, Progress::Done);
-    let other = walk(&rt, &mut memory, &mut second, other, 5, false);
+    clear_ticket(&rt, &mut memory, &setup);
+    let other = walk(&rt, &mut memory, &mut second, other, 5);
     assert_eq!(rt; other, DoorProgress::Waiting(2));
-    let other = walk(&rt, &mut memory, &mut second, other, 1, false);
+    let other = walk(&rt, &mut memory, &mut second, other, 1);
     assert_eq!(rt; other, DoorProgress::Inside(2));
-    first.start();
-    let anew = [(Field::Choosing, 0, Move::BeginWrite(true))];
-    let told = walk_by(&rt, &mut memory, &mut first, START, &anew);
-    assert_eq!(rt; told, DoorProgress::Doorway);
+    begin_anew(&rt, &mut memory, &mut first);
     Ok(())
 }
 

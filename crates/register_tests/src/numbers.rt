@@ -1,4 +1,8 @@
+ghost use Rattle.std.specs.Prelude.{◌≡◌, [], ◌∷◌, IfOk};
+ghost use Rattle.register_tests.specs.Copies.{written_copy};
+
 use safe_number::{NumberFault, ReadRun, Register, WriteRun, bits_of, number_of};
+use std::alloc::Global;
 
 // Of the widths only those from 1 to 1728 are accepted, by registers and by reads.
 #[test]
@@ -42,34 +46,57 @@ fn presets_a_register(rt: HostRuntime) -> Result<(), NumberFault> {
     Ok(())
 }
 
-// A bit that is written and then read by accesses that tell nothing has the value that was written.
-#[test]
-fn goes_on_untold(rt: HostRuntime) -> Result<(), NumberFault> {
-    let mut register = Register::new(rt.alloc(), 1, 1)?;
+/// Reads a register of one bit and one copy, in which 1 was written, by accesses that tell nothing.
+fn read_untold(alloc: Global, register: &mut Register) -> Result<ReadRun, NumberFault>
+    requires { register.old ≡ (written_copy ∷ []) ∷ [] }
+    ensures { IfOk result (λ read. read.room ≡ 1) }
+{
+    let mut read = ReadRun::new(alloc, 1)?;
+    register.read_on(0, &mut read, false);
+    register.read_on(0, &mut read, false);
+    Ok(read)
+}
+
+/// A register of one bit and one copy, in which 1 was written by accesses that tell nothing.
+fn written_untold(alloc: Global) -> Result<Register, NumberFault>
+    ensures { IfOk result (λ register. register ≡ (written_copy ∷ []) ∷ []) }
+{
+    let mut register = Register::new(alloc, 1, 1)?;
     let mut write = WriteRun::new(1);
     register.write_on(1, &mut write, &[1]);
     register.write_on(1, &mut write, &[1]);
-    let mut read = ReadRun::new(rt.alloc(), 1)?;
-    register.read_on(0, &mut read, false);
-    register.read_on(0, &mut read, false);
+    Ok(register)
+}
+
+// A bit that is written and then read by accesses that tell nothing has the value that was written.
+#[test]
+fn goes_on_untold(rt: HostRuntime) -> Result<(), NumberFault> {
+    let mut register = written_untold(rt.alloc())?;
+    let read = read_untold(rt.alloc(), &mut register)?;
     assert_eq!(rt; number_of(read.bytes()), 1);
     Ok(())
 }
 
-// A register that is set from another goes on with the write that is open there, and a read with what was read there.
+/// A register of one bit and one copy that was set from another within a write of 1, which it then ended.
 #[tactic(auto, using(crate::proofs::Shapes::shape_after))]
-#[test]
-fn sets_registers_and_reads(rt: HostRuntime) -> Result<(), NumberFault> {
-    let mut register = Register::new(rt.alloc(), 1, 1)?;
-    let mut other = Register::new(rt.alloc(), 1, 1)?;
+fn set_within_a_write(alloc: Global) -> Result<Register, NumberFault>
+    ensures { IfOk result (λ register. register ≡ (written_copy ∷ []) ∷ []) }
+{
+    let mut register = Register::new(alloc, 1, 1)?;
+    let mut other = Register::new(alloc, 1, 1)?;
     let mut write = WriteRun::new(1);
     other.write_on(1, &mut write, &[1]);
     register.copy_from(&other);
     register.write_on(1, &mut write, &[1]);
+    Ok(register)
+}
+
+// A register that is set from another goes on with the write that is open there, and a read with what was read there.
+#[test]
+fn sets_registers_and_reads(rt: HostRuntime) -> Result<(), NumberFault> {
+    let mut register = set_within_a_write(rt.alloc())?;
     assert!(rt; register.bit(0));
-    let mut read = ReadRun::new(rt.alloc(), 1)?;
-    register.read_on(0, &mut read, false);
-    register.read_on(0, &mut read, false);
+    let read = read_untold(rt.alloc(), &mut register)?;
     let mut set = ReadRun::new(rt.alloc(), 1)?;
     set.copy_from(&read);
     assert_eq!(rt; number_of(set.bytes()), 1);

@@ -1,5 +1,6 @@
 //! The units of the worked failures, driven by hand: their accesses from the failure to the mark `Down`.
-ghost use Rattle.std.specs.Prelude.{◌≡◌, zero};
+ghost use Rattle.std.specs.Prelude.{◌≡◌, zero, true};
+ghost use Rattle.safe_number.specs.declared.Field.TheVariants.{Commit};
 ghost use Rattle.failure.specs.Units.{goes_on, is_going};
 
 use bakery::Locks;
@@ -47,6 +48,27 @@ const ALONE: [Step; 8] = [
     (3, 0, Move::EndWrite),
 ];
 
+/// The access of process 0 to a register that a step makes.
+fn access_of(field: Field, step: &Step) -> Access {
+    let (bit, reader, how) = *step;
+    Access {
+        owner: 0,
+        field,
+        bit,
+        reader,
+        how,
+    }
+}
+
+/// Makes the next access of a unit, which has to be this one, and answers what remains.
+fn make(rt: &impl Abort, unit: &mut Unit, access: Access, flick: bool) -> UnitProgress
+    requires { is_going unit.old ≡ true }
+    ensures { is_going unit.new ≡ goes_on result }
+{
+    assert_eq!(rt; unit.next(flick), access);
+    unit.advance(flick)
+}
+
 /// Makes these accesses to a register, which have to be the unit's next ones, where `told` was told last.
 /// The first is made with this flick and each other one with the other flick. Answers what remains.
 fn walk(
@@ -62,72 +84,60 @@ fn walk(
 {
     let mut told = told;
     let mut flick = flick;
-    for (bit, reader, how) in steps {
-        match told {
-            UnitProgress::Down => panic!(rt; "the process is down"),
-            UnitProgress::Settling | UnitProgress::Clearing => {
-                let access = Access {
-                    owner: 0,
-                    field,
-                    bit: *bit,
-                    reader: *reader,
-                    how: *how,
-                };
-                assert_eq!(rt; unit.next(flick), access);
-                told = unit.advance(flick);
-                flick = !flick;
-            }
+    for step in steps {
+        if let UnitProgress::Down = told {
+            panic!(rt; "the process is down");
         }
+        told = make(rt, unit, access_of(field, step), flick);
+        flick = !flick;
     }
     told
 }
 
-/// The bit of a register whose write was cut.
-fn torn_bit(rt: &impl Abort, field: Field, bit: u16, write: CopyWrite) -> TornBit
-    ensures bit { (result.field ≡ field) × (result.bit ≡ bit) }
+/// The commit bit of process 0, of which the write of 1 was cut while the copy of reader 1 was open.
+fn torn_commit(rt: &impl Abort) -> TornBit
+    ensures bit { (result.field ≡ Commit) × (result.bit ≡ 0) }
     ensures torn { result.torn.reader ≡ 0 }
 {
+    let mut write = CopyWrite::new(true);
+    let _ = write.advance(2);
+    let _ = write.advance(2);
+    let _ = write.advance(2);
     match write.torn() {
-        Some(torn) => TornBit { field, bit, torn },
+        Some(torn) => TornBit {
+            field: Field::Commit,
+            bit: 0,
+            torn,
+        },
         None => panic!(rt; "no copy of the bit was begun, or all were ended"),
     }
+}
+
+/// Clears the ticket and then the choosing bit of a process of 2, where `told` was told last.
+fn clear(rt: &impl Abort, unit: &mut Unit, told: UnitProgress)
+    requires { is_going unit.old ≡ goes_on told }
+{
+    let told = walk(rt, unit, told, Field::Ticket, true, &TICKET_OF_TWO);
+    assert_eq!(rt; told, UnitProgress::Clearing);
+    let told = walk(rt, unit, told, Field::Choosing, true, &CHOOSING_OF_TWO);
+    assert_eq!(rt; told, UnitProgress::Down);
 }
 
 // The second copy of the commit bit is open, and both are settled at the old value: the first by begin and
 // end of a write, the second by one access.
 #[test]
 fn torn_commit_settled_old(rt: HostRuntime) {
-    let mut write = CopyWrite::new(true);
-    let _ = write.advance(2);
-    let _ = write.advance(2);
-    let _ = write.advance(2);
-    let torn = torn_bit(&rt, Field::Commit, 0, write);
+    let torn = torn_commit(&rt);
     let mut unit = Unit::start(0, &Setup::one(2, 2, 2, 1), Some(torn));
     let settling = [
         (0, 0, Move::BeginWrite(false)),
         (0, 0, Move::EndWrite),
         (0, 1, Move::Settle(false)),
     ];
-    let told = walk(
-        &rt,
-        &mut unit,
-        UnitProgress::Settling,
-        Field::Commit,
-        false,
-        &settling,
-    );
+    let begun = UnitProgress::Settling;
+    let told = walk(&rt, &mut unit, begun, Field::Commit, false, &settling);
     assert_eq!(rt; told, UnitProgress::Clearing);
-    let told = walk(&rt, &mut unit, told, Field::Ticket, true, &TICKET_OF_TWO);
-    assert_eq!(rt; told, UnitProgress::Clearing);
-    let told = walk(
-        &rt,
-        &mut unit,
-        told,
-        Field::Choosing,
-        true,
-        &CHOOSING_OF_TWO,
-    );
-    assert_eq!(rt; told, UnitProgress::Down);
+    clear(&rt, &mut unit, told);
 }
 
 // A process that failed before its first access has torn no bit: 8 accesses clear its ticket of 4 bits, and

@@ -1,15 +1,13 @@
 use Rattle.std.proofs.Common.{◌≡◌, true, false, [], sym, ap, ◌∙◌, subst, refl, arith}
-use Rattle.std.specs.Prelude.{slice_set}
 use Rattle.safe_bit.specs.declared.Move.TheVariants.{BeginWrite}
 use Rattle.safe_number.specs.declared.Access.{Access}
 use Rattle.safe_number.specs.declared.Field.TheVariants.{Commit}
 use Rattle.plain_store.specs.declared.Command.{Command}
 use Rattle.plain_store.specs.declared.Command.TheVariants.{Read}
 use Rattle.plain_store.specs.declared.Setup.{Setup}
-use Rattle.reader_copies.specs.Row.{row_after}
 use Rattle.record.specs.Places.{Place, access_at, place_after, value_of}
 use Rattle.record.specs.Scripts.{Call}
-use Rattle.critical.specs.Registers.{Data, DataRow, data_of, register_of, with_register, made_of, row_from, opening_cell, after_access, answered, MayMake}
+use Rattle.critical.specs.Registers.{DataRow, row_from, opening_cell, after_access, answered, MayMake}
 use Rattle.critical.specs.Sections.{Section, section_at, inside_place, started}
 use Rattle.register_tests.proofs.sections.steps_on_registers.Goals as goal
 
@@ -41,12 +39,6 @@ first k = record { owner_in = omega arith; can = record { there = record { reade
 second : (k : Command) → (let s : Setup = record { version = 1; processes = 1; ticket_bits = 2; stamp_bits = 2; slots = 1; opening = [] } in MayThen (call_of s k) (row_of s) (next_on (call_of s k) (row_of s)))
 second k = record { owner_in = omega arith; can = record { there = record { reader_in = omega arith; bit_in = omega arith }; turn = (refl, λ e. absurd (cc)) } }
 
--- the registers on which a write was begun
-begun : (s : Setup) (row : DataRow) (part part' : Data) → row ≡ row_from (opening_cell s) s → part ≡ data_of row 0 → part' ≡ with_register part Commit (row_after (register_of part Commit) 0 (made_of begins)) → (let r : DataRow = record { setup = row.setup; parts = slice_set row.parts 0 part' } in r) ≡ row_of s
-begun s row part part' opens own made =
-    let set : Data → DataRow = λ d. record { setup = row.setup; parts = slice_set row.parts 0 d } in
-    ap set (made ∙ ap (λ (d : Data). with_register d Commit (row_after (register_of d Commit) 0 (made_of begins))) own) ∙ ap (λ r. after_access r begins) opens
-
 pub step-progress-requires-clause-may : goal.step-progress-requires-clause-may
 step-progress-requires-clause-may g c =
     let s = c.one-setup.result in
@@ -55,7 +47,7 @@ step-progress-requires-clause-may g c =
       call = call_of s k;
       place = inside_place (call_of s k);
       is_shown = c.start.ensures.place ∙ ap (λ (x : Section). section_at (started x k 0) (inside_place (started x k 0))) c.in_ok-section.ensures;
-      may = subst (May (call_of s k) (inside_place (call_of s k))) (sym (begun s c.in_ok-row.row c.own.result.now c.apply.new.self c.in_ok-row.ensures c.own.ensures.part c.apply.ensures))
+      may = subst (May (call_of s k) (inside_place (call_of s k))) (sym c.in_ok-row.ensures)
           (subst (λ s. May (call_of s k) (inside_place (call_of s k)) (row_of s)) (sym c.one-setup.ensures) (first k));
     }
 
@@ -64,9 +56,9 @@ step-progress-requires-2-clause-may g c =
     let s = c.one-setup.result in
     let k : Command = Read c.in_ok-name.field-0 in
     let call : Call = call_of s k in
-    let row : DataRow = record { setup = c.in_ok-row.row.setup; parts = slice_set c.in_ok-row.row.parts 0 c.apply.new.self } in
+    let row : DataRow = c.in_ok-row.row in
     let is = c.start.ensures.place ∙ ap (λ (x : Section). section_at (started x k 0) (inside_place (started x k 0))) c.in_ok-section.ensures in
-    let same : row ≡ row_of s = begun s c.in_ok-row.row c.own.result.now c.apply.new.self c.in_ok-row.ensures c.own.ensures.part c.apply.ensures in
+    let same : row ≡ row_of s = c.in_ok-row.ensures in
     let access : c.step-progress.result.0 ≡ next_on call row = c.step-progress.ensures.access call (inside_place call) is in
     let P : Setup → Type 0 = λ t. MayThen (call_of t k) (row_of t) (next_on (call_of t k) (row_of t)) in
     let Q : DataRow → Type 0 = λ r. MayThen call r (next_on call r) in

@@ -3,5 +3,5 @@ use Rattle.std.proofs.Common.{◌≡◌}
 use Rattle.failure.specs.Units.{goes_on, is_going}
 use Rattle.register_tests.proofs.units.walk.Given as goal
 
-abbrev pub invariant-loop-bit : goal.invariant-loop-bit
-invariant-loop-bit g l = is_going l.unit ≡ goes_on l.told
+abbrev pub invariant-loop-step : goal.invariant-loop-step
+invariant-loop-step g l = is_going l.unit ≡ goes_on l.told
