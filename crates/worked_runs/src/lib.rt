@@ -1,15 +1,14 @@
 //! Tests that cross crates, on worked runs: of worlds under events, of what drives these, and of replayed
-//! scenarios; and two uses of the headline, as callers have it.
+//! scenarios; the scenarios themselves; and two uses of the headline, as callers have it.
 #![tactic(auto)]
 
 #[cfg(test)]
-mod flicks;
+mod picks;
 #[cfg(test)]
 mod replays;
 #[cfg(test)]
 mod runs;
-#[cfg(test)]
-mod scenarios;
+pub mod scenarios;
 mod uses;
 
 pub use uses::{printed_replies, two_events};
