@@ -1,5 +1,5 @@
 //! N processes over one set of registers, without a history.
-ghost use Rattle.std.specs.Prelude.{◌≡◌, ◌+◌, ◌<◌, ◌≤◌, Bool, false, true, List, length, None, Some, IfOk, IfErr, IsOk, OnErr, OnOk, Ok, [], option_map};
+ghost use Rattle.std.specs.Prelude.{◌≡◌, ◌+◌, ◌<◌, ◌≤◌, Bool, false, true, List, length, None, Some, IfOk, IfErr, IfSome, IsOk, OnErr, OnOk, Ok, [], option_map};
 ghost use Rattle.plain_store.specs.Setups.{checked};
 ghost use Rattle.plain_store.specs.Commands.{is_command};
 ghost use Rattle.store_image.specs.Image.{image_of};
@@ -13,7 +13,7 @@ ghost use Rattle.process.specs.declared.told.Effect.TheVariants.{Steps};
 ghost use Rattle.process.specs.Telling.{act_of};
 ghost use Rattle.world.specs.Changes.{pending_in};
 ghost use Rattle.world.specs.Cores.{CoreGoesOn, CoreMakes, CoreRefuses, CoreSteps, CoreWalks, call_in, taking, with_history};
-ghost use Rattle.world.specs.Events.{Adds, stage_in};
+ghost use Rattle.world.specs.Events.{Adds, WantsNoMemory, stage_in};
 ghost use Rattle.world.specs.Shows.{Shows};
 ghost use Rattle.world.specs.Walks.{bits_within_at};
 
@@ -135,7 +135,8 @@ impl Core {
 
     /// Why an event is refused, if it is.
     pub fn refusal(&self, event: &Event) -> Option<Refusal>
-        ensures { CoreRefuses self.now event.now result }
+        ensures refused { CoreRefuses self.now event.now result }
+        ensures never { IfSome result WantsNoMemory }
     {
         let at = usize::from(event.process());
         if self.seats.len() <= at {
@@ -160,6 +161,7 @@ impl Core {
         ensures pending { OnOk result (is_call event.now ≡ false → pending_in self.new.seats + taking effect.new ≤ pending_in self.old.seats) }
         ensures few { OnOk result (pending_in self.new.seats + taking effect.new ≤ length self.old.seats) }
         ensures refused { IfErr result (λ refusal. CoreRefuses self.old event.now (Some refusal)) }
+        ensures never { IfErr result WantsNoMemory }
         ensures unchanged { OnErr result (self.new ≡ self.old) }
         ensures untold { OnErr result (effect.new ≡ effect.old) }
         ensures setup { OnOk result (self.new.setup ≡ self.old.setup) }
@@ -207,6 +209,7 @@ impl Core {
         ensures shows { OnOk result (CoreSteps self.old process flick told.new self.new) }
         ensures pending { OnOk result (pending_in self.new.seats + taking (Steps told.new) ≤ pending_in self.old.seats) }
         ensures refused { IfErr result (λ refusal. CoreRefuses self.old (Step process flick) (Some refusal)) }
+        ensures never { IfErr result WantsNoMemory }
         ensures unchanged { OnErr result (self.new ≡ self.old) }
         ensures untold { OnErr result (told.new ≡ told.old) }
         ensures setup { OnOk result (self.new.setup ≡ self.old.setup) }
@@ -221,7 +224,8 @@ impl Core {
     /// Why a step of a process is refused, if it is: the same without an event.
     #[inline]
     fn step_refusal(&self, process: u8) -> Option<Refusal>
-        ensures { (flick : Bool) → CoreRefuses self.now (Step process flick) result }
+        ensures refused { (flick : Bool) → CoreRefuses self.now (Step process flick) result }
+        ensures never { IfSome result WantsNoMemory }
     {
         let at = usize::from(process);
         if self.seats.len() <= at {

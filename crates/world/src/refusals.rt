@@ -1,14 +1,16 @@
 //! Why an event is refused.
-ghost use Rattle.std.specs.Prelude.{◌≡◌, ◌==◌, ◌&&◌, ◌<◌, nat_le};
+ghost use Rattle.std.specs.Prelude.{◌≡◌, ◌==◌, ◌&&◌, ◌<◌, IfSome, nat_le};
 ghost use Rattle.record.specs.Records.{is_call, refused_at};
 ghost use Rattle.world.specs.Changes.{next_number};
+ghost use Rattle.world.specs.Events.{WantsNoMemory};
 
 use plain_store::Setup;
 use record::{Event, Refusal, Stage};
 
 /// The refusal that the stage of the process gives.
 pub(crate) fn refusal_at(event: &Event, stage: Stage) -> Option<Refusal>
-    ensures { result ≡ refused_at event.now stage }
+    ensures refused { result ≡ refused_at event.now stage }
+    ensures never { IfSome result WantsNoMemory }
 {
     match event {
         Event::Call(..) => match stage {
