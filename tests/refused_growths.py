@@ -1,5 +1,5 @@
 #!/usr/bin/env python3
-"""Refuses each growth in turn: of `plain`, of `bits` and of `replay` on every file of a folder and on its worked
+"""Refuses each growth in turn: of `plain`, of `bits`, of `replay` and of `audit` on every file of a folder and on its worked
 scenarios (examples/, if none is given), of a long replay, and of the tests of the crates.
 
 A run whose growth was refused must end with status 4 and tell `out of memory`, or `memory` on a line, and must have
@@ -19,7 +19,7 @@ from concurrent.futures import ThreadPoolExecutor
 
 TOP = pathlib.Path(__file__).resolve().parent.parent
 PROGRAM = TOP / "crates" / "bakerystore" / "out" / "bakerystore"
-ENGINES = ["plain", "bits", "replay"]
+ENGINES = ["plain", "bits", "replay", "audit"]
 MOST_GROWTHS = 10_000
 WANT_OF_MEMORY = re.compile(r"out of memory\n|line \d+: memory\n")
 # how a test tells it: as its own error, or as the one that it found in place of what it asserts

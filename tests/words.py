@@ -9,10 +9,11 @@ import sys
 import tempfile
 
 PROGRAM = pathlib.Path(__file__).resolve().parent.parent / "crates" / "bakerystore" / "out" / "bakerystore"
-USAGE = "usage: bakerystore [plain|bits|replay FILE]  (FILE - is standard input; without words: plain -)\n"
+USAGE = "usage: bakerystore [plain|bits|replay|audit FILE]  (FILE - is standard input; without words: plain -)\n"
 SCENARIO = "bakery 1\ncall 0 add a 1\n"
 PLAIN = (0, "0 0 no-name\n", "")
 REPLAY = (0, "0 0 call add a 1\nend events 1 taken 0 refused 0\n", "")
+AUDIT = (0, "good 1\n", "")
 
 # the words, standard input, and what is wanted: exit status, standard output, standard error
 CASES = [
@@ -20,6 +21,8 @@ CASES = [
     (["plain", "-"], SCENARIO, PLAIN),
     (["plain", "a file"], "", PLAIN),
     (["replay", "-"], SCENARIO, REPLAY),
+    (["audit", "-"], SCENARIO, AUDIT),
+    (["audit", "a file"], "", AUDIT),
     (["bits", "-"], "bits 1\nend\n", (0, "refused\n", "")),
     (["bits", "a file"], "", (1, "", "line 1: not-first\n")),
     (["plain"], SCENARIO, (2, "", USAGE)),
@@ -31,8 +34,10 @@ CASES = [
     (["plain", "no such file"], SCENARIO, (1, "", "read fault\n")),
     (["plain", ""], SCENARIO, (1, "", "read fault\n")),
     (["replay", "."], SCENARIO, (1, "", "read fault\n")),
+    (["audit", "."], SCENARIO, (1, "", "read fault\n")),
     (["plain", "-"], "", (1, "", "line 1: not-first\n")),
     (["replay", "-"], "bakery 1\nprocesses 0\n", (1, "", "line 2: bad-setup\n")),
+    (["audit", "-"], "bakery 1\nprocesses 0\n", (1, "", "line 2: bad-setup\n")),
 ]
 
 
@@ -51,7 +56,7 @@ def main():
         for words, text, want in CASES:
             compare(words, subprocess.run([PROGRAM, *words], input=text, capture_output=True, text=True, cwd=folder), want)
         with open("/dev/full", "w") as full:
-            for command in ["plain", "replay"]:
+            for command in ["plain", "replay", "audit"]:
                 ran = subprocess.run([PROGRAM, command, "-"], input=SCENARIO, stdout=full, stderr=subprocess.PIPE, text=True)
                 compare(f"{command} to a full device", ran, (1, "", "write fault\n"))
     print(f"{passed} passed, {failed} failed")

@@ -12,6 +12,8 @@ pub enum Engine {
     Bits,
     /// The run of a scenario, mark by mark.
     Replay,
+    /// The verdict on the record of a scenario's run.
+    Audit,
 }
 
 impl Engine {
@@ -21,6 +23,7 @@ impl Engine {
             "plain" => Some(Engine::Plain),
             "bits" => Some(Engine::Bits),
             "replay" => Some(Engine::Replay),
+            "audit" => Some(Engine::Audit),
             _ => None,
         }
     }

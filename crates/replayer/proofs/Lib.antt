@@ -14,6 +14,8 @@ pub mod Images
 -- Events and their record
 pub mod Listed
 pub mod Recorded
+-- What an auditor hears
+pub mod Heard
 -- A replay, from line to line to its end
 pub mod Underways
 pub mod Onwards

@@ -1,3 +1,4 @@
+pub mod Audits
 pub mod Courses
 pub mod Happenings
 pub mod Listings

@@ -31,9 +31,9 @@ abbrev pub CutsLine : Line → CourseState → Summary → Option (List ℕ) →
 CutsLine line old had taken then =
     (run : Run) → Follows old run → Counts old.world.setup run had → WritesPart old.world.setup run.happened (run_after old.world.setup line run).happened taken then
 
--- how a replay ended, without its numbers
-abbrev pub ended : Result Summary Fault → Result (Unit {0}) Fault
-ended (Ok summary) = Ok tt
+-- how an engine ended, without what it answers
+abbrev pub ended : {A : Type 0} → Result A Fault → Result (Unit {0}) Fault
+ended (Ok answer) = Ok tt
 ended (Err fault) = Err fault
 
 -- the three numbers of the whole input's run

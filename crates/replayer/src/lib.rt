@@ -1,6 +1,8 @@
-//! One run of a scenario, replayed: its text, its accepted events, and their record.
+//! One run of a scenario, replayed: its text, its accepted events, and their record; audited as it is made, or from a
+//! record that is given.
 #![tactic(auto)]
 
+mod auditing;
 mod listing;
 mod replaying;
 mod store_line;
@@ -9,6 +11,11 @@ mod told;
 mod turns;
 mod writing;
 
+pub use auditing::{run_audit, status_of};
+pub use auditor::{
+    Audited, Auditor, Law, Verdict, audit, good_records_are_of_events, records_have_one_verdict,
+    records_of_events_are_good,
+};
 pub use listing::{events_of, record_of};
 pub use record::{Entry, Record};
 pub use replaying::replay;

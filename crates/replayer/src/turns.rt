@@ -149,10 +149,11 @@ impl Course {
         let place = self.world.history().len() as u64;
         let mut effect = Effect::Steps(world::Told::Nothing);
         match self.world.make(&event, &mut effect) {
-            Ok(_) => {
+            Ok(access) => {
                 let made = Accepted {
                     event,
                     place,
+                    access,
                     effect,
                 };
                 Ok(Turns::one(Told::Accepted(made)))

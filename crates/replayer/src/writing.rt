@@ -56,7 +56,10 @@ fn write_marks<W: Sink>(
 }
 
 /// Writes a line, unless there was no memory for it.
-fn write_line<W: Sink>(output: &mut W, line: Result<String, AllocError>) -> Result<(), Fault>
+pub(crate) fn write_line<W: Sink>(
+    output: &mut W,
+    line: Result<String, AllocError>,
+) -> Result<(), Fault>
     requires { W.failures output.old < 2 ^ 64 - 1 }
     ensures ok { OnOk result (IfOk line (λ text. Appends (W.taken output.old) (W.taken output.new) (string_bytes text))) }
     ensures made { OnOk result (IsOk line) }

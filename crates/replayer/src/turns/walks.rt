@@ -211,9 +211,10 @@ fn told_of(
 {
     let _nested: NestedTypes = None;
     match stepped {
-        Ok(_) => Told::Accepted(Accepted {
+        Ok(access) => Told::Accepted(Accepted {
             event: Event::Step(process, flick),
             place,
+            access: Some(*access),
             effect: Effect::Steps(*leads),
         }),
         Err(refusal) => Told::Refused {

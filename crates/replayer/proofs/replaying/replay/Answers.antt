@@ -6,7 +6,7 @@ use Rattle.scenario.specs.Reads.{script}
 use Rattle.files.specs.declared.faults.Fault.TheVariants.{Line}
 use Rattle.replayer.specs.Replays.{ended}
 use Rattle.replayer.specs.Texts.{replayed}
-use Rattle.replayer.proofs.ReplayEnds.{ended_err, replay_headline, replay_numbers, replay_ran}
+use Rattle.replayer.proofs.ReplayEnds.{ended_err, engine_ran, replay_headline, replay_numbers}
 use Rattle.replayer.proofs.replaying.replay.Goals as goal
 
 pub returns-in_err-scenario-clause-ran : goal.returns-in_err-scenario-clause-ran
@@ -16,7 +16,7 @@ returns-in_err-scenario-clause-ran g c =
 
 pub returns-clause-ran : goal.returns-clause-ran
 returns-clause-ran g c =
-    replay_ran c.replay_scenario.result c.in_ok-file.file.items (script c.in_ok-scenario.scenario) _ _
+    engine_ran replayed c.replay_scenario.result c.in_ok-file.file.items (script c.in_ok-scenario.scenario) _ _
     c.in_ok-file.ensures.ok (rw c.as_slice.ensures.value at c.in_ok-scenario.ensures) c.replay_scenario.ensures.ok c.replay_scenario.ensures.front c.replay_scenario.ensures.fault c.replay_scenario.ensures.failures
 
 pub returns-clause-summary : goal.returns-clause-summary
