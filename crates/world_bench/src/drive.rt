@@ -20,6 +20,17 @@ pub struct Calls {
     pub others: Command,
 }
 
+impl Calls {
+    /// What a process calls.
+    pub fn of(&self, process: u8) -> Command {
+        if process == 0 {
+            self.first
+        } else {
+            self.others
+        }
+    }
+}
+
 /// A world, what its processes call, and how many events it has accepted.
 #[derive(Drop)]
 pub struct Driver {
@@ -133,11 +144,7 @@ impl Driver {
     }
 
     fn call(&mut self, process: u8) -> Result<(), Refusal> {
-        let command = if process == 0 {
-            self.calls.first
-        } else {
-            self.calls.others
-        };
+        let command = self.calls.of(process);
         self.world.event(Event::Call(process, command))?;
         self.events = self.events.wrapping_add(1);
         Ok(())

@@ -1,11 +1,15 @@
-//! How long an event of a world takes: of a process that calls alone, and of a crowd whose steps are picked.
+//! How long an event of a world takes, of a process that calls alone, and of a crowd whose steps are picked; and how
+//! long an auditor takes to hear an entry of a record.
 #![tactic(auto)]
 
 mod drive;
+mod hearings;
 mod setups;
 
 use anyhow::Result;
+use auditor::Auditor;
 use drive::Driver;
+use hearings::{hear_all, recorded};
 use plain_store::Setup;
 use setups::{counted, written};
 use std::env::{self, Env};
@@ -13,8 +17,8 @@ use std::rt::Clock;
 use std::time::Instant;
 
 /// Prints what each run leaves, first those of two worked examples. The first word is how many calls a lone
-/// process makes, the second how many each process of a crowd makes; each is 1 if not said. The events and the
-/// nanoseconds of a run go to standard error.
+/// process makes, and how many times each record is heard; the second how many calls each process of a crowd
+/// makes; each is 1 if not said. The events, or entries, and the nanoseconds of a run go to standard error.
 fn main(rt: HostRuntime) -> Result<()> {
     let calls = word(&rt, 1)?;
     let rounds = word(&rt, 2)?;
@@ -25,6 +29,9 @@ fn main(rt: HostRuntime) -> Result<()> {
     }
     for processes in [2, 8, 16] {
         crowd(&rt, processes, rounds)?;
+    }
+    for (processes, callers) in [(2, 1), (2, 2), (16, 1), (16, 16)] {
+        audits(&rt, processes, callers, calls)?;
     }
     Ok(())
 }
@@ -87,5 +94,28 @@ fn crowd<T: Print + Eprint + Clock + AllocGlobal>(
     let (events, taken, value) = (driver.events(), driver.taken(), driver.value()?);
     println!(rt; "crowd of {processes}: {taken} taken, a={value}")?;
     eprintln!(rt; "crowd {processes} 1 {events} {}", passed.as_nanos())?;
+    Ok(())
+}
+
+/// A record in which so many of the processes call is heard so many times.
+fn audits<T: Print + Eprint + Clock + AllocGlobal>(
+    rt: &T,
+    processes: u8,
+    callers: u8,
+    times: u16,
+) -> Result<()> {
+    let (setup, adds) = counted(processes, 8)?;
+    let record = recorded(rt.alloc(), &setup, callers, adds)?;
+    let mut passed = 0u128;
+    for _ in 0..times {
+        let mut auditor = Auditor::new(rt.alloc(), &setup)?;
+        let start = Instant::now(rt)?;
+        hear_all(&mut auditor, &record)?;
+        passed = passed.wrapping_add(start.elapsed(rt)?.as_nanos());
+    }
+    let entries = record.entries.len();
+    println!(rt; "audit of {processes}, {callers} calling: {entries} entries")?;
+    let heard = (entries as u64).wrapping_mul(u64::from(times));
+    eprintln!(rt; "audit {processes} {callers} {heard} {passed}")?;
     Ok(())
 }
