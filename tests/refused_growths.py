@@ -4,7 +4,8 @@ scenarios (examples/, if none is given), of a long replay, and of the tests of t
 
 A run whose growth was refused must end with status 4 and tell `out of memory`, or `memory` on a line, and must have
 printed a front of what the file prints with ample memory. A test whose growth was refused must pass, or fail and tell
-want of memory; left out are the tests of the program, four of the scenario files, and each with more than 10,000 growths. It needs
+want of memory; left out are the tests of the program, four of the scenario files, one of refused events, and each with more
+than 20,000 growths. It needs
 `cc`, and the programs that `rt ci` leaves: the proved program and the crates' tests. The growths are those of the compiled
 programs, which a library loaded before them counts and refuses.
 """
@@ -20,14 +21,15 @@ from concurrent.futures import ThreadPoolExecutor
 TOP = pathlib.Path(__file__).resolve().parent.parent
 PROGRAM = TOP / "crates" / "bakerystore" / "out" / "bakerystore"
 ENGINES = ["plain", "bits", "replay", "audit"]
-MOST_GROWTHS = 10_000
+MOST_GROWTHS = 20_000
 WANT_OF_MEMORY = re.compile(r"out of memory\n|line \d+: memory\n")
 # how a test tells it: as its own error, or as the one that it found in place of what it asserts
 TEST_WANTS_MEMORY = re.compile(r"\b(AllocError|Memory)\b")
 # tests that take memory of their own where what they assert does not tell it
 LEFT_OUT = re.compile(
     r"store_tests_tests (scenarios::writes_outputs|printing::"
-    r"(bounds_the_lines_of_bits_files|reads_cut_files|tells_faults_of_bits_files))"
+    r"(bounds_the_lines_of_bits_files|reads_cut_files|tells_faults_of_bits_files))|"
+    r"worked_runs_tests runs::events::refuses_events"
 )
 
 
