@@ -14,10 +14,11 @@ pub mod Images
 -- Events and their record
 pub mod Listed
 pub mod Recorded
--- What an auditor hears
-pub mod Heard
+-- What the auditor of a run hears
+pub mod Listeners
 -- A replay, from line to line to its end
 pub mod Underways
 pub mod Onwards
 pub mod Written
 pub mod ReplayEnds
+pub mod AuditEnds

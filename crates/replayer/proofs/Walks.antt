@@ -88,13 +88,13 @@ step_follows w w' flicks left left' p flick run is on follows = record {
   flicks = ap after_flick follows.flicks;
 }
 
--- it adds its entry
+-- it adds its marks
 step_adds : (w : WorldState) (flicks : FlickState) (left p place : ℕ) (flick : Bool) (made : Made) (marks : List Mark) (run : Run) → flick ≡ flick_of flicks → Adds w (event.Step p flick) p (act_of place made) → map (placed place) (marks_of made.effect) ≡ marks → Follows (course w flicks left) run →
-    entry_of w.setup (past_in w.setup run) (next_step p run) ≡ Some (entry_by (next_step p run) made.access marks)
+    AddsMarks w.setup (past_in w.setup run) (next_step p run) marks
 step_adds w flicks left p place flick made marks run is adds are follows =
     let entry : entry_of w.setup (past_in w.setup run) (event.Step p flick) ≡ Some (entry_with p (act_of place made)) = adds (tried run.happened) follows.shows in
-    let family : Bool → List Mark → Type 0 = λ b marks. entry_of w.setup (past_in w.setup run) (event.Step p b) ≡ Some (entry_by (event.Step p b) made.access marks) in
-    let first : family flick (map (placed place) (marks_of made.effect)) = entry in
+    let family : Bool → List Mark → Type 0 = λ b marks. AddsMarks w.setup (past_in w.setup run) (event.Step p b) marks in
+    let first : family flick (map (placed place) (marks_of made.effect)) = (made.access, entry) in
     subst (λ b. family b marks) (is ∙ ap flick_of follows.flicks) (subst (λ marks. family flick marks) are first)
 
 -- a Step without a mark
@@ -108,7 +108,7 @@ pub quiet_made : (w w' : WorldState) (flicks : FlickState) (left left' p : ℕ) 
     (run : Run) → Follows (course w flicks left) run → QuietStep w w' flicks left' p run
 quiet_made w w' flicks left left' p flick (Err r) is adds on setup quiet run follows = absurd (cc)
 quiet_made w w' flicks left left' p flick (Ok made) is adds on setup quiet run follows = record {
-  adds = (made.access, step_adds w flicks left p (length w.history) flick made [] run is adds (ap (map (placed (length w.history))) (no_marks made.effect quiet)) follows);
+  adds = step_adds w flicks left p (length w.history) flick made [] run is adds (ap (map (placed (length w.history))) (no_marks made.effect quiet)) follows;
   follows = step_follows w w' flicks left left' p flick run is on follows;
   setup = setup;
 }
@@ -222,7 +222,7 @@ left_err (Ok made) left is = absurd (cc)
 left_err (Err r) left is = refl
 
 step_turn_left : (s : Setup) (p left place : ℕ) (flick : Bool) (run : Run) (result : Result Made Refusal) → TellsOf s (past_in s run) (Tries (next_step p run)) (told_step p flick place result) → step_turn s p left run ≡ made_turn p (left_after result left) run
-step_turn_left s p left place flick run (Ok made) tells = step_turn_made s p left run (map (placed place) (marks_of made.effect)) (made.access, tells.1)
+step_turn_left s p left place flick run (Ok made) tells = step_turn_made s p left run (map (placed place) (marks_of made.effect)) tells.1
 step_turn_left s p left place flick run (Err r) tells = step_turn_refused s p left run r tells.1
 
 -- turns without a mark after turns without a mark

@@ -1,6 +1,7 @@
 pub mod Audits
 pub mod Courses
 pub mod Happenings
+pub mod Hearing
 pub mod Listings
 pub mod Replays
 pub mod Runs

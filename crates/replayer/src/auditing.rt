@@ -1,23 +1,21 @@
 //! The engine `audit`: the verdict on the record of a scenario's run, of which an auditor hears each entry as the
 //! run makes it. No record is held.
-ghost use Rattle.std.specs.Prelude.{◌≡◌, ◌+◌, ◌-◌, ◌^◌, ◌<◌, ◌≤◌, IfErr, IfOk, OnOk, Ok, [], length};
+ghost use Rattle.std.specs.Prelude.{◌≡◌, ◌+◌, ◌-◌, ◌^◌, ◌<◌, IfErr, IfOk, OnOk, None, length};
 ghost use Rattle.std.specs.String.{string_bytes};
 ghost use Rattle.std.specs.Io.KnownBytes.{Appends};
-ghost use Rattle.plain_store.specs.Setups.{checked};
-ghost use Rattle.auditor.specs.declared.verdicts.Verdict.TheVariants.{Bad, Good};
+ghost use Rattle.auditor.specs.declared.verdicts.Verdict.TheVariants.{Good};
 ghost use Rattle.auditor.specs.Verdicts.{IsVerdict};
 ghost use Rattle.files.specs.Engines.{Ran};
 ghost use Rattle.files.specs.Streams.{ReadsFront, WritesFront};
 ghost use Rattle.scenario.specs.Reads.{script};
-ghost use Rattle.replayer.specs.Audits.{HeardPast, HearsLine, HearsTold, InputTellsVerdict, TellsVerdict, audit_text, audited, run_record, status_of_verdict, verdict_line as line_of_verdict};
-ghost use Rattle.replayer.specs.Replays.{ended};
+ghost use Rattle.replayer.specs.Audits.{InputTellsVerdict, TellsVerdict, audit_text, audited, run_record, status_of_verdict, verdict_line as line_of_verdict};
+ghost use Rattle.replayer.specs.Replays.{MakesLine, ended};
 ghost use Rattle.replayer.specs.Writing.{IsWriteFault, failed_write};
 
-use crate::told::Told;
+use crate::summaries::Summary;
 use crate::turns::Course;
 use crate::writing::write_line;
-use auditor::{Audited, Auditor, Law, Verdict};
-use plain_store::Setup;
+use auditor::{Audited, Verdict};
 use scenario::{DONE, Fault, Line, Scenario, Sink, Source, read_input, read_scenario};
 use std::alloc::{AllocError, Global};
 
@@ -69,107 +67,39 @@ fn audit_scenario<W: Sink>(alloc: Global, scenario: &Scenario, output: &mut W) -
     Ok(status_of(&audited.verdict))
 }
 
-/// Makes a scenario's run, and judges its record. The one fault is want of memory.
-///
-/// A run's entries break no law, which is proved; the auditor's answer decides all the same. The law that it would
-/// tell is the first one after `Safe`, for which it would need the entries before.
+/// Makes a scenario's run, of which an auditor hears each entry. The one fault is want of memory.
 fn audit_run(alloc: Global, scenario: &Scenario) -> Result<Audited, AllocError>
     ensures verdict { IfOk result (λ audited. IsVerdict scenario.now.setup (run_record (script scenario.now)) audited.verdict) }
     ensures good { IfOk result (λ audited. audited.verdict ≡ Good) }
     ensures entries { IfOk result (λ audited. audited.entries ≡ length (run_record (script scenario.now))) }
 {
-    let mut course = Course::new(alloc, &scenario.setup)?;
-    let mut hearing = Hearing::new(alloc, &scenario.setup)?;
+    let mut course = Course::audited(alloc, &scenario.setup)?;
+    let mut summary = Summary::new();
     for line in &scenario.lines {
-        if let Some(law) = hear_line(alloc, &mut course, line, &mut hearing)? {
-            return Ok(hearing.bad(law));
-        }
+        count_line(&mut course, line, &mut summary)?;
     }
-    Ok(hearing.good())
+    Ok(Audited {
+        verdict: course.verdict(),
+        entries: summary.events,
+    })
 }
 
-/// Makes the turns of a line, and lets the entry of each event that is accepted be heard; the law that an entry
-/// breaks, if one does.
-fn hear_line(
-    alloc: Global,
-    course: &mut Course,
-    line: &Line,
-    hearing: &mut Hearing,
-) -> Result<Option<Law>, AllocError>
-    requires { hearing.old.entries < 2 ^ 63 }
-    ensures heard { IfOk result (λ law. HearsLine line.now course.old course.new hearing.old hearing.new law) }
-    ensures few { OnOk result (hearing.new.entries < hearing.old.entries + 2 ^ 32) }
+/// Makes the turns of a line, and counts them.
+fn count_line(course: &mut Course, line: &Line, summary: &mut Summary) -> Result<(), AllocError>
+    requires events { summary.old.events < 2 ^ 63 }
+    requires refused { summary.old.refused < 2 ^ 63 }
+    ensures ok { OnOk result (MakesLine line.now course.old course.new summary.old summary.new None None) }
+    ensures events { OnOk result (summary.new.events < summary.old.events + 2 ^ 32) }
+    ensures refused { OnOk result (summary.new.refused < summary.old.refused + 2 ^ 32) }
 {
     course.begin(line);
-    'turns: while let Some(told) = course.turn(line)? {
-        if let Some(law) = hearing.hear(alloc, &told) {
-            return Ok(Some(law));
-        }
-    }
-    Ok(None)
-}
-
-/// An audit that goes on.
-#[derive(Drop)]
-pub(crate) struct Hearing {
-    auditor: Auditor,
-    /// How many entries it has heard.
-    entries: u64,
-}
-
-impl Hearing {
-    /// Nothing was heard.
-    fn new(alloc: Global, setup: &Setup) -> Result<Hearing, AllocError>
-        requires { checked setup.now ≡ Ok tt }
-        ensures { IfOk result (HeardPast setup.now []) }
-    {
-        Ok(Hearing {
-            auditor: Auditor::new(alloc, setup)?,
-            entries: 0,
-        })
-    }
-
-    /// Hears the entry of the event that is told, if one is; the law that it breaks, if it breaks one.
-    fn hear(&mut self, alloc: Global, told: &Told) -> Option<Law>
-        requires { self.old.entries < 2 ^ 64 - 1 }
-        ensures heard { HearsTold told.now self.old self.new result }
-        ensures few { self.new.entries ≤ self.old.entries + 1 }
-    {
-        let Told::Accepted(made) = told else {
-            return None;
+    'turns: loop {
+        let turns = course.turns(line)?;
+        summary.events += u64::from(turns.quiet);
+        let Some(told) = turns.told else {
+            return Ok(());
         };
-        let marks = made.marks(alloc);
-        let process = made.event.process();
-        match self
-            .auditor
-            .hear_parts(process, &made.access, marks.as_slice())
-        {
-            None => {
-                self.entries += 1;
-                None
-            }
-            Some(law) => Some(law),
-        }
-    }
-
-    /// What is found where no entry has broken a law.
-    fn good(&self) -> Audited
-        ensures { result ≡ record { verdict = Good; entries = self.now.entries } }
-    {
-        Audited {
-            verdict: Verdict::Good,
-            entries: self.entries,
-        }
-    }
-
-    /// What is found where the next entry breaks this law.
-    fn bad(&self, law: Law) -> Audited
-        ensures { result ≡ record { verdict = Bad self.now.entries law; entries = self.now.entries } }
-    {
-        Audited {
-            verdict: Verdict::Bad(self.entries, law),
-            entries: self.entries,
-        }
+        summary.count(&told);
     }
 }
 

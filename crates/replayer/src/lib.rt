@@ -3,6 +3,7 @@
 #![tactic(auto)]
 
 mod auditing;
+mod heard;
 mod listing;
 mod replaying;
 mod store_line;

@@ -4,7 +4,6 @@ ghost use Rattle.replayer.specs.Telling.{marks_made};
 
 use plain_store::NestedTypes;
 use record::{Event, Mark, Refusal};
-use safe_number::Access;
 use smallvec::SmallVec;
 use std::alloc::Global;
 use world::Effect;
@@ -14,7 +13,6 @@ use world::Effect;
 pub(crate) struct Accepted {
     pub event: Event,
     pub place: u64,
-    pub access: Option<Access>,
     pub effect: Effect,
 }
 

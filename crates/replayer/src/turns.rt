@@ -9,6 +9,7 @@ ghost use Rattle.record.specs.Histories.{history};
 ghost use Rattle.record.specs.Records.{past_of};
 ghost use Rattle.flicks.specs.Flicks.{constant_flicks};
 ghost use Rattle.world.specs.Shows.{Shows};
+ghost use Rattle.auditor.specs.declared.verdicts.Verdict.TheVariants.{Good};
 ghost use Rattle.replayer.specs.Courses.{Follows, Makes, MakesTurns, CourseState};
 ghost use Rattle.replayer.specs.Happenings.{Tries};
 ghost use Rattle.replayer.specs.Runs.{Run, is_there as is_target, past_in, run_at_start, set_to as seed_set};
@@ -17,15 +18,17 @@ ghost use Rattle.replayer.specs.Turns.{happens, turn_of, turns_in as turns_of};
 
 mod walks;
 
+use crate::heard::HeardWorld;
 use crate::store_line::newest_line;
 use crate::told::{Accepted, Told, Turns};
+use auditor::Verdict;
 use plain_store::{NestedTypes, Setup};
 use record::{Event, Refusal};
 use scenario::{Flick, Line};
 use std::alloc::{AllocError, Global};
 use std::marker::Model;
 use store_image::Image;
-use world::{Effect, Flicks, World};
+use world::{Effect, Flicks};
 
 /// The Steps that a `go` makes at most.
 const GO_LIMIT: u32 = 65_536;
@@ -36,7 +39,7 @@ const GO_LIMIT: u32 = 65_536;
 pub(crate) struct Course {
     alloc: Global,
     processes: u8,
-    world: World,
+    world: HeardWorld,
     flicks: Flicks,
     left: u32,
 }
@@ -61,10 +64,32 @@ impl Course {
         Ok(Course {
             alloc,
             processes: setup.processes,
-            world: World::new(alloc, setup)?,
+            world: HeardWorld::new(alloc, setup)?,
             flicks: Flicks::constant(false),
             left: 0,
         })
+    }
+
+    /// One of which an auditor hears each entry.
+    pub fn audited(alloc: Global, setup: &Setup) -> Result<Course, AllocError>
+        requires { checked setup.now ≡ Ok tt }
+        ensures setup { IfOk result (λ course. course.world.setup ≡ setup.now) }
+        ensures follows { IfOk result (λ course. Follows course run_at_start) }
+    {
+        Ok(Course {
+            alloc,
+            processes: setup.processes,
+            world: HeardWorld::audited(alloc, setup)?,
+            flicks: Flicks::constant(false),
+            left: 0,
+        })
+    }
+
+    /// The verdict of the auditor, which is that each entry keeps each law.
+    pub fn verdict(&self) -> Verdict
+        ensures { result ≡ Good }
+    {
+        self.world.verdict()
     }
 
     /// How many commands were taken.
@@ -149,11 +174,10 @@ impl Course {
         let place = self.world.history().len() as u64;
         let mut effect = Effect::Steps(world::Told::Nothing);
         match self.world.make(&event, &mut effect) {
-            Ok(access) => {
+            Ok(_) => {
                 let made = Accepted {
                     event,
                     place,
-                    access,
                     effect,
                 };
                 Ok(Turns::one(Told::Accepted(made)))

@@ -8,13 +8,14 @@ ghost use Rattle.replayer.specs.Runs.{Run, has_step, is_there as is_target, move
 ghost use Rattle.replayer.specs.Telling.{is_quiet as has_no_mark, told_step, with_told};
 
 use super::Course;
+use crate::heard::HeardWorld;
 use crate::told::{Accepted, Told, Turns};
 use plain_store::NestedTypes;
 use record::{Event, Refusal, Stage};
 use safe_number::Access;
 use scenario::Target;
 use smallvec::SmallVec;
-use world::{Effect, Flicks, World};
+use world::{Effect, Flicks};
 
 impl Course {
     /// Steps of this process, while more than so many turns are left, up to the first that is told; one that is
@@ -148,7 +149,7 @@ impl Course {
 /// many; none, if each Step is to be told.
 #[inline]
 fn stroll(
-    world: &mut World,
+    world: &mut HeardWorld,
     flicks: &mut Flicks,
     left: &mut u32,
     process: u8,
@@ -211,10 +212,9 @@ fn told_of(
 {
     let _nested: NestedTypes = None;
     match stepped {
-        Ok(access) => Told::Accepted(Accepted {
+        Ok(_) => Told::Accepted(Accepted {
             event: Event::Step(process, flick),
             place,
-            access: Some(*access),
             effect: Effect::Steps(*leads),
         }),
         Err(refusal) => Told::Refused {

@@ -1,10 +1,11 @@
-use Rattle.std.proofs.Common.{◌*◌, ◌^◌, ◌≤◌, drop}
-use Rattle.replayer.proofs.Heard.{HeardLines}
+use Rattle.std.proofs.Common.{None, ◌*◌, ◌^◌, ◌≤◌, drop}
+use Rattle.replayer.proofs.Onwards.{Onward}
 use Rattle.replayer.proofs.auditing.audit_run.Given as goal
 
--- the entries of the lines before the present one were heard
+-- what has happened was counted, and the lines to come follow
 abbrev pub invariant-loop-line : goal.invariant-loop-line
 invariant-loop-line l = record {
-  heard : HeardLines l.scenario.setup l.scenario.lines.items (drop l.line-index l.scenario.lines.items) l.course l.hearing;
-  entries : l.hearing.entries ≤ l.line-index * 2 ^ 32;
+  onward : Onward l.scenario.setup l.scenario.lines.items (drop l.line-index l.scenario.lines.items) l.course l.summary None None;
+  events : l.summary.events ≤ l.line-index * 2 ^ 32;
+  refused : l.summary.refused ≤ l.line-index * 2 ^ 32;
 }

@@ -1,0 +1,25 @@
+use Rattle.std.proofs.Common.{Some, length, subst}
+use Rattle.record.specs.declared.events.Event.TheVariants.{Step}
+use Rattle.process.specs.declared.told.Effect.TheVariants.{Steps}
+use Rattle.process.specs.Telling.{act_of}
+use Rattle.world.specs.Events.{Adds, GoesOn, IsRefused}
+use Rattle.world.specs.Shows.{WorldState}
+use Rattle.replayer.proofs.Listeners.{adds_entry}
+use Rattle.replayer.proofs.heard.HeardWorld.step.Goals as goal
+
+pub invariant_of-self : goal.invariant_of-self
+invariant_of-self c =
+    c.hear_step.ensures c.self.inside.world c.step.new.self
+    (adds_entry c.self.inside.world c.step.new.self (Step c.args.process c.args.flick) c.args.process (Some c.in-Ok.access) (Steps c.step.new.told) c.history.result.now
+    c.shown.ensures c.history.ensures c.in-Ok.ensures.accepted c.in-Ok.ensures.shows c.in-Ok.ensures.setup)
+    c.self.invariant
+
+pub returns-in-Ok-clause-accepted : goal.returns-in-Ok-clause-accepted
+returns-in-Ok-clause-accepted c =
+    subst (λ (w : WorldState). Adds w (Step c.args.process c.args.flick) c.args.process (act_of (length w.history) (record { access = Some c.in-Ok.access; effect = Steps c.step.new.told }))) c.self.view_is c.in-Ok.ensures.accepted
+
+pub returns-in-Ok-clause-shows : goal.returns-in-Ok-clause-shows
+returns-in-Ok-clause-shows c = subst (λ (w : WorldState). GoesOn w (Step c.args.process c.args.flick) c.step.new.self) c.self.view_is c.in-Ok.ensures.shows
+
+pub returns-in-Err-clause-refused : goal.returns-in-Err-clause-refused
+returns-in-Err-clause-refused c = subst (λ (w : WorldState). IsRefused w (Step c.args.process c.args.flick) (Some c.in-Err.refusal)) c.self.view_is c.in-Err.ensures.refused

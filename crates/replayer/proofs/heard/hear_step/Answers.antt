@@ -1,0 +1,15 @@
+use Rattle.std.proofs.Common.{Some, List, map, sym, subst, ◌∙◌}
+use Rattle.record.specs.declared.marks.Mark.{Mark}
+use Rattle.record.specs.Records.{placed}
+use Rattle.process.specs.declared.told.Told.{Told}
+use Rattle.process.specs.Telling.{marks_told}
+use Rattle.replayer.specs.Hearing.{AddsEntry}
+use Rattle.replayer.proofs.heard.hear_step.Goals as goal
+
+pub returns-in-Nothing : goal.returns-in-Nothing
+returns-in-Nothing c = λ old new adds listens.
+    c.hear.ensures old new (subst (λ (told : Told). AddsEntry old (record { process = c.args.process; access = Some c.args.access; marks = map (placed c.args.place) (marks_told told) }) new) c.in-Nothing.is adds) listens
+
+pub returns-in_default : goal.returns-in_default
+returns-in_default c = λ old new adds listens.
+    c.hear-in_default.ensures old new (subst (λ (ms : List Mark). AddsEntry old (record { process = c.args.process; access = Some c.args.access; marks = ms }) new) (sym (c.as_slice-in_default.ensures ∙ c.marks.ensures)) adds) listens
