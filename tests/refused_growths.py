@@ -4,10 +4,9 @@ scenarios (examples/, if none is given), of a long replay, and of the tests of t
 
 A run whose growth was refused must end with status 4 and tell `out of memory`, or `memory` on a line, and must have
 printed a front of what the file prints with ample memory. A test whose growth was refused must pass, or fail and tell
-want of memory; left out are the tests of the program, four of the scenario files, one of refused events, and each with more
-than 20,000 growths. It needs
-`cc`, and the programs that `rt ci` leaves: the proved program and the crates' tests. The growths are those of the compiled
-programs, which a library loaded before them counts and refuses.
+want of memory; left out are the tests of the program, four of the scenario files, and each with more than 20,000 growths. It
+needs `cc`, and the programs that `rt ci` leaves: the proved program and the crates' tests. The growths are those of the
+compiled programs, which a library loaded before them counts and refuses.
 """
 
 import os
@@ -28,8 +27,7 @@ TEST_WANTS_MEMORY = re.compile(r"\b(AllocError|Memory)\b")
 # tests that take memory of their own where what they assert does not tell it
 LEFT_OUT = re.compile(
     r"store_tests_tests (scenarios::writes_outputs|printing::"
-    r"(bounds_the_lines_of_bits_files|reads_cut_files|tells_faults_of_bits_files))|"
-    r"worked_runs_tests runs::events::refuses_events"
+    r"(bounds_the_lines_of_bits_files|reads_cut_files|tells_faults_of_bits_files))"
 )
 
 

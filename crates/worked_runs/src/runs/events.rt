@@ -116,7 +116,7 @@ fn refuses_events(rt: HostRuntime) -> Result<(), Fail> {
         (Event::Call(1, read), Some(Refusal::IsDown)),
     ] {
         let refused = world.event(event).err();
-        assert!(rt; refused == refusal, "{event:?}");
+        assert_eq!(rt; refused, refusal, "{event:?}");
     }
     Ok(())
 }
