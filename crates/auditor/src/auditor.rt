@@ -78,6 +78,24 @@ impl Auditor {
         ensures setup { result ≡ None → self.new.core.setup ≡ self.old.core.setup }
         ensures heard { (past : Past) → HasHeard self.old past → IsHeard self.old.core.setup past (record { process = process; access = access.now; marks = marks.now }) self.new result }
     {
+        if access.is_some() {
+            self.hear_step(process, access, marks)
+        } else {
+            self.hear_without_access(process, access, marks)
+        }
+    }
+
+    /// An entry without an access, which no step adds.
+    #[inline(never)]
+    fn hear_without_access(
+        &mut self,
+        process: u8,
+        access: &Option<Access>,
+        marks: &[Mark],
+    ) -> Option<Law>
+        ensures setup { result ≡ None → self.new.core.setup ≡ self.old.core.setup }
+        ensures heard { (past : Past) → HasHeard self.old past → IsHeard self.old.core.setup past (record { process = process; access = access.now; marks = marks.now }) self.new result }
+    {
         match event_in(process, access, marks) {
             Some(event) => self.hear_event(&event),
             None => self.hear_step(process, access, marks),

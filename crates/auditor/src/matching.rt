@@ -86,12 +86,21 @@ fn is_access(told: &Option<Access>, access: &Access) -> bool
 }
 
 /// Whether the marks are those that a step leads to, but for places.
+#[inline]
 fn are_told(alloc: Global, marks: &[Mark], told: &Told) -> bool
     ensures { IsTrue result ↔ (map (placed 0) marks.now ≡ map (placed 0) (marks_told told.now)) }
 {
-    if matches!(told, Told::Nothing) {
-        return marks.is_empty();
+    match told {
+        Told::Nothing => marks.is_empty(),
+        _ => are_those_of(alloc, marks, told),
     }
+}
+
+/// The same of a step which leads to something. Few do, and the others are to have no room made for marks.
+#[inline(never)]
+fn are_those_of(alloc: Global, marks: &[Mark], told: &Told) -> bool
+    ensures { IsTrue result ↔ (map (placed 0) marks.now ≡ map (placed 0) (marks_told told.now)) }
+{
     are_alike(marks, &told.marks(alloc, 0))
 }
 

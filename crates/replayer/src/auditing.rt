@@ -73,7 +73,7 @@ fn audit_run(alloc: Global, scenario: &Scenario) -> Result<Audited, AllocError>
     ensures good { IfOk result (λ audited. audited.verdict ≡ Good) }
     ensures entries { IfOk result (λ audited. audited.entries ≡ length (run_record (script scenario.now))) }
 {
-    let mut course = Course::audited(alloc, &scenario.setup)?;
+    let mut course = Course::new(alloc, &scenario.setup, true)?;
     let mut summary = Summary::new();
     for line in &scenario.lines {
         count_line(&mut course, line, &mut summary)?;

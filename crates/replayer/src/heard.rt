@@ -45,35 +45,26 @@ impl Model for HeardWorld {
 }
 
 impl HeardWorld {
-    /// A world in which nothing has happened, and to which nobody listens.
-    pub fn new(alloc: Global, setup: &Setup) -> Result<HeardWorld, AllocError>
-        requires good { checked setup.now ≡ Ok tt }
-        ensures setup { IfOk result (λ w. w.setup ≡ setup.now) }
-        ensures shows { IfOk result (λ w. Shows w []) }
-    {
-        Ok(HeardWorld {
-            alloc,
-            world: World::new(alloc, setup)?,
-            listener: None,
-        })
-    }
-
-    /// One to which an auditor listens.
-    pub fn audited(alloc: Global, setup: &Setup) -> Result<HeardWorld, AllocError>
+    /// A world in which nothing has happened; `audited`: an auditor listens to it.
+    pub fn new(alloc: Global, setup: &Setup, audited: bool) -> Result<HeardWorld, AllocError>
         requires good { checked setup.now ≡ Ok tt }
         ensures setup { IfOk result (λ w. w.setup ≡ setup.now) }
         ensures shows { IfOk result (λ w. Shows w []) }
     {
         let world = World::new(alloc, setup)?;
-        let listener = Listener::new(alloc, setup)?;
+        let listener = if audited {
+            Some(Listener::new(alloc, setup)?)
+        } else {
+            None
+        };
         Ok(HeardWorld {
             alloc,
             world,
-            listener: Some(listener),
+            listener,
         })
     }
 
-    /// The verdict on what was heard.
+    /// The auditor's verdict on the entries so far; good, if none listens.
     pub fn verdict(&self) -> Verdict
         ensures { result ≡ Good }
     {
@@ -91,6 +82,7 @@ impl HeardWorld {
         ensures unchanged { OnErr result (self.new ≡ self.old) }
         ensures setup { OnOk result (self.new.setup ≡ self.old.setup) }
     {
+        // the world shows some record, to which the entry is added
         self.world.shown();
         let place = self.world.history().len() as u64;
         match self.world.make(event, effect) {
@@ -119,6 +111,7 @@ impl HeardWorld {
         ensures unchanged { OnErr result (self.new ≡ self.old) }
         ensures setup { OnOk result (self.new.setup ≡ self.old.setup) }
     {
+        // the world shows some record, to which the entry is added
         self.world.shown();
         let place = self.world.history().len() as u64;
         match self.world.step(process, flick, told) {
@@ -219,7 +212,9 @@ fn hear(listener: &mut Option<Listener>, process: u8, access: &Option<Access>, m
     listener.hear(process, access, marks);
 }
 
-/// The same of an event that leads to this, where a command that it takes gets this place.
+/// The same of an event that leads to this, where a command that it takes gets this place. Its marks take room, which
+/// is not to be made for the steps without one.
+#[inline(never)]
 fn hear_event(
     listener: &mut Option<Listener>,
     alloc: Global,
@@ -234,7 +229,7 @@ fn hear_event(
     hear(listener, process, access, marks.as_slice());
 }
 
-/// The same of a step. Nearly all have no mark.
+/// The same of a step.
 #[inline]
 fn hear_step(
     listener: &mut Option<Listener>,
@@ -246,13 +241,12 @@ fn hear_step(
 )
     ensures { (old new : WorldState) → AddsEntry old (record { process = process; access = Some access; marks = map (placed place) (marks_told told.now) }) new → Listens old listener.old → Listens new listener.new }
 {
+    let access = Some(access);
     match told {
-        Told::Nothing => hear(listener, process, &Some(access), &[]),
-        _ => hear(
-            listener,
-            process,
-            &Some(access),
-            told.marks(alloc, place).as_slice(),
-        ),
+        Told::Nothing => hear(listener, process, &access, &[]),
+        _ => {
+            let effect = Effect::Steps(*told);
+            hear_event(listener, alloc, process, &access, &effect, place);
+        }
     }
 }

@@ -20,7 +20,7 @@ use world::World;
 pub fn events_of(alloc: Global, scenario: &Scenario) -> Result<Vec<Event>, AllocError>
     ensures { IfOk result (λ events. events.items ≡ accepted_events (script scenario.now)) }
 {
-    let mut course = Course::new(alloc, &scenario.setup)?;
+    let mut course = Course::new(alloc, &scenario.setup, false)?;
     let mut events = Vec::new(alloc);
     for line in &scenario.lines {
         list_line(&mut course, line, &mut events)?;

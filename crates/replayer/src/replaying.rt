@@ -55,7 +55,7 @@ fn replay_scenario<W: Sink>(
     ensures fault { IfErr result IsWriteFault }
     ensures failures { W.failures output.new ≡ W.failures output.old + failed_write result }
 {
-    let mut course = Course::new(alloc, &scenario.setup)?;
+    let mut course = Course::new(alloc, &scenario.setup, false)?;
     let mut summary = Summary::new();
     for line in &scenario.lines {
         replay_line(alloc, &mut course, line, &mut summary, output)?;

@@ -55,8 +55,8 @@ impl Model for Course {
 }
 
 impl Course {
-    /// A run in which nothing has happened.
-    pub fn new(alloc: Global, setup: &Setup) -> Result<Course, AllocError>
+    /// A run in which nothing has happened; `audited`: an auditor hears each entry.
+    pub fn new(alloc: Global, setup: &Setup, audited: bool) -> Result<Course, AllocError>
         requires { checked setup.now ≡ Ok tt }
         ensures setup { IfOk result (λ course. course.world.setup ≡ setup.now) }
         ensures follows { IfOk result (λ course. Follows course run_at_start) }
@@ -64,28 +64,13 @@ impl Course {
         Ok(Course {
             alloc,
             processes: setup.processes,
-            world: HeardWorld::new(alloc, setup)?,
+            world: HeardWorld::new(alloc, setup, audited)?,
             flicks: Flicks::constant(false),
             left: 0,
         })
     }
 
-    /// One of which an auditor hears each entry.
-    pub fn audited(alloc: Global, setup: &Setup) -> Result<Course, AllocError>
-        requires { checked setup.now ≡ Ok tt }
-        ensures setup { IfOk result (λ course. course.world.setup ≡ setup.now) }
-        ensures follows { IfOk result (λ course. Follows course run_at_start) }
-    {
-        Ok(Course {
-            alloc,
-            processes: setup.processes,
-            world: HeardWorld::audited(alloc, setup)?,
-            flicks: Flicks::constant(false),
-            left: 0,
-        })
-    }
-
-    /// The verdict of the auditor, which is that each entry keeps each law.
+    /// The auditor's verdict on the entries so far; good, if there is none.
     pub fn verdict(&self) -> Verdict
         ensures { result ≡ Good }
     {

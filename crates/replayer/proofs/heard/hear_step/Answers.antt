@@ -1,5 +1,4 @@
-use Rattle.std.proofs.Common.{Some, List, map, sym, subst, ◌∙◌}
-use Rattle.record.specs.declared.marks.Mark.{Mark}
+use Rattle.std.proofs.Common.{Some, map, subst}
 use Rattle.record.specs.Records.{placed}
 use Rattle.process.specs.declared.told.Told.{Told}
 use Rattle.process.specs.Telling.{marks_told}
@@ -11,5 +10,4 @@ returns-in-Nothing c = λ old new adds listens.
     c.hear.ensures old new (subst (λ (told : Told). AddsEntry old (record { process = c.args.process; access = Some c.args.access; marks = map (placed c.args.place) (marks_told told) }) new) c.in-Nothing.is adds) listens
 
 pub returns-in_default : goal.returns-in_default
-returns-in_default c = λ old new adds listens.
-    c.hear-in_default.ensures old new (subst (λ (ms : List Mark). AddsEntry old (record { process = c.args.process; access = Some c.args.access; marks = ms }) new) (sym (c.as_slice-in_default.ensures ∙ c.marks.ensures)) adds) listens
+returns-in_default c = λ old new adds listens. c.hear_event.ensures old new adds listens
