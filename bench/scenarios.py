@@ -7,6 +7,9 @@ bytes of line end, of which 4,000 are lines after the headings.
 For `replay`, each with 32 ticket and 32 stamp bits and a counter that each call adds 1 to: `lone-N` where process 0 of N
 calls again and again and `go`es until it is idle, on 8 slots; `turns-N` where the N processes do so one after the other,
 each by `wander`, so that no read is overlapped; `crowd-N` where all call at once and `wander`, with seeded flicks.
+
+For `sweep`, of the same kind: `swept-2` where both of 2 processes call twice, and `swept-4` where three of 4 call once, and
+`wander`, with seeded flicks.
 """
 
 import pathlib
@@ -51,10 +54,17 @@ def turns(processes):
 def crowd(processes):
     """Rounds in which each process calls once, and as many turns as such a round may want: a process inside makes some
     1,500 Steps for each process, and is picked for one Step in as many."""
-    rounds = {2: 600, 8: 20, 16: 5}[processes]
-    wanders = {2: 1, 8: 10, 16: 80}[processes]
+    rounds = {2: 600, 4: 100, 8: 20, 16: 5}[processes]
+    wanders = {2: 1, 4: 3, 8: 10, 16: 80}[processes]
     calls = [f"call {p} add a 1" for p in range(processes)]
     return counting(processes, 1, ["flick pcg 1"] + (calls + ["wander 100000"] * wanders) * rounds)
+
+
+def swept(processes):
+    """Some 11,000 events of 2 processes, and 20,000 of 4. A sweep over them has twice as many runs."""
+    callers, rounds = {2: (2, 2), 4: (3, 1)}[processes]
+    calls = [f"call {p} add a 1" for p in range(callers)]
+    return counting(processes, 1, ["flick pcg 1"] + (calls + ["wander 100000"]) * rounds)
 
 
 def main():
@@ -62,7 +72,7 @@ def main():
     folder.mkdir(parents=True, exist_ok=True)
     (folder / "calls").write_bytes(calls().encode())
     (folder / "largest").write_bytes(largest().encode())
-    for name, scenario, sizes in [("lone", lone, [2, 16]), ("turns", turns, [2, 8, 16]), ("crowd", crowd, [2, 8, 16])]:
+    for name, scenario, sizes in [("lone", lone, [2, 16]), ("turns", turns, [2, 8, 16]), ("crowd", crowd, [2, 4, 8, 16]), ("swept", swept, [2, 4])]:
         for processes in sizes:
             (folder / f"{name}-{processes}").write_bytes(scenario(processes).encode())
 

@@ -1,6 +1,7 @@
 #!/usr/bin/env python3
 """Refuses each growth in turn: of `plain`, of `bits`, of `replay` and of `audit` on every file of a folder and on its worked
-scenarios (examples/, if none is given), of a long replay, and of the tests of the crates.
+scenarios (examples/, if none is given), of `sweep` on these where a worked scenario has its output (others take minutes), of
+a long replay, and of the tests of the crates.
 
 A run whose growth was refused must end with status 4 and tell `out of memory`, or `memory` on a line, and must have
 printed a front of what the file prints with ample memory. A test whose growth was refused must pass, or fail and tell
@@ -19,7 +20,7 @@ from concurrent.futures import ThreadPoolExecutor
 
 TOP = pathlib.Path(__file__).resolve().parent.parent
 PROGRAM = TOP / "crates" / "bakerystore" / "out" / "bakerystore"
-ENGINES = ["plain", "bits", "replay", "audit"]
+ENGINES = ["plain", "bits", "replay", "audit", "sweep"]
 MOST_GROWTHS = 20_000
 WANT_OF_MEMORY = re.compile(r"out of memory\n|line \d+: memory\n")
 # how a test tells it: as its own error, or as the one that it found in place of what it asserts
@@ -66,6 +67,8 @@ def file_runs(refuser, folder):
     files = sorted(path for path in folder.iterdir() if path.is_file()) + sorted(folder.glob("worked/*/scenario"))
     for engine in ENGINES:
         for file in files:
+            if engine == "sweep" and file.name == "scenario" and not (file.parent / "sweep").exists():
+                continue
             whole, runs = refuser.each([PROGRAM, engine, file])
             wrong = [k for k, ran in enumerate(runs, 1) if not is_lost(ran, whole)]
             yield f"{engine} {file.relative_to(folder)}", len(runs), wrong

@@ -9,11 +9,12 @@ import sys
 import tempfile
 
 PROGRAM = pathlib.Path(__file__).resolve().parent.parent / "crates" / "bakerystore" / "out" / "bakerystore"
-USAGE = "usage: bakerystore [plain|bits|replay|audit FILE]  (FILE - is standard input; without words: plain -)\n"
+USAGE = "usage: bakerystore [plain|bits|replay|audit|sweep FILE]  (FILE - is standard input; without words: plain -)\n"
 SCENARIO = "bakery 1\ncall 0 add a 1\n"
 PLAIN = (0, "0 0 no-name\n", "")
 REPLAY = (0, "0 0 call add a 1\nend events 1 taken 0 refused 0\n", "")
 AUDIT = (0, "good 1\n", "")
+SWEEP = (0, "sweep runs 2 good 2 stuck 0\n", "")
 
 # the words, standard input, and what is wanted: exit status, standard output, standard error
 CASES = [
@@ -23,6 +24,8 @@ CASES = [
     (["replay", "-"], SCENARIO, REPLAY),
     (["audit", "-"], SCENARIO, AUDIT),
     (["audit", "a file"], "", AUDIT),
+    (["sweep", "-"], SCENARIO, SWEEP),
+    (["sweep", "a file"], "", SWEEP),
     (["bits", "-"], "bits 1\nend\n", (0, "refused\n", "")),
     (["bits", "a file"], "", (1, "", "line 1: not-first\n")),
     (["plain"], SCENARIO, (2, "", USAGE)),
@@ -35,9 +38,11 @@ CASES = [
     (["plain", ""], SCENARIO, (1, "", "read fault\n")),
     (["replay", "."], SCENARIO, (1, "", "read fault\n")),
     (["audit", "."], SCENARIO, (1, "", "read fault\n")),
+    (["sweep", "."], SCENARIO, (1, "", "read fault\n")),
     (["plain", "-"], "", (1, "", "line 1: not-first\n")),
     (["replay", "-"], "bakery 1\nprocesses 0\n", (1, "", "line 2: bad-setup\n")),
     (["audit", "-"], "bakery 1\nprocesses 0\n", (1, "", "line 2: bad-setup\n")),
+    (["sweep", "-"], "bakery 1\nprocesses 0\n", (1, "", "line 2: bad-setup\n")),
 ]
 
 
@@ -56,7 +61,7 @@ def main():
         for words, text, want in CASES:
             compare(words, subprocess.run([PROGRAM, *words], input=text, capture_output=True, text=True, cwd=folder), want)
         with open("/dev/full", "w") as full:
-            for command in ["plain", "replay", "audit"]:
+            for command in ["plain", "replay", "audit", "sweep"]:
                 ran = subprocess.run([PROGRAM, command, "-"], input=SCENARIO, stdout=full, stderr=subprocess.PIPE, text=True)
                 compare(f"{command} to a full device", ran, (1, "", "write fault\n"))
     print(f"{passed} passed, {failed} failed")

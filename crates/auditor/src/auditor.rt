@@ -56,6 +56,16 @@ impl Auditor {
         })
     }
 
+    /// Becomes as the other, of the same setup: it has heard the same entries. So an audit can go on from here more than
+    /// once. It takes no memory.
+    pub fn copy_from(&mut self, other: &Auditor)
+        requires setup { self.old.core.setup ≡ other.now.core.setup }
+        ensures { self.new ≡ other.now }
+    {
+        self.core.copy_from(&other.core);
+        self.taken = other.taken;
+    }
+
     /// One more entry: none, if it keeps all laws; else the first law after `Safe` that it breaks. An entry that breaks
     /// `Safe` breaks `Program` or `Unit` too; whether it does is looked up in the entries before. After an entry that
     /// broke a law nothing is known of the auditor.

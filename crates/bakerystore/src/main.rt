@@ -4,7 +4,7 @@
 mod words;
 
 use engines::{run_bits, run_plain};
-use replayer::{replay, run_audit};
+use replayer::{replay, run_audit, run_sweep};
 use scenario::{Fault, FromRead, IntoWrite, ended, fault_status};
 use std::alloc::{AllocError, Global};
 use std::env::{self, Env};
@@ -16,7 +16,7 @@ use words::{Engine, Request, read_words};
 
 /// What is printed where the words ask for nothing that there is.
 const USAGE: &str =
-    "usage: bakerystore [plain|bits|replay|audit FILE]  (FILE - is standard input; without words: plain -)";
+    "usage: bakerystore [plain|bits|replay|audit|sweep FILE]  (FILE - is standard input; without words: plain -)";
 
 /// The exit status where the words ask for nothing that there is.
 const USAGE_STATUS: u8 = 2;
@@ -99,6 +99,7 @@ fn run_engine<R: Read + Drop, W: Write>(
         Engine::Bits => ended(run_bits(alloc, &mut input, &mut output)),
         Engine::Replay => ended(replay(alloc, &mut input, &mut output)),
         Engine::Audit => run_audit(alloc, &mut input, &mut output),
+        Engine::Sweep => run_sweep(alloc, &mut input, &mut output),
     }
 }
 

@@ -14,6 +14,8 @@ pub enum Engine {
     Replay,
     /// The verdict on the record of a scenario's run.
     Audit,
+    /// The runs in which a process fails after one event of a scenario's run, counted.
+    Sweep,
 }
 
 impl Engine {
@@ -24,6 +26,7 @@ impl Engine {
             "bits" => Some(Engine::Bits),
             "replay" => Some(Engine::Replay),
             "audit" => Some(Engine::Audit),
+            "sweep" => Some(Engine::Sweep),
             _ => None,
         }
     }

@@ -16,6 +16,8 @@ pub mod Listed
 pub mod Recorded
 -- What the auditor of a run hears
 pub mod Listeners
+-- What a sweep finds
+pub mod Sweepings
 -- A replay, from line to line to its end
 pub mod Underways
 pub mod Onwards

@@ -6,6 +6,7 @@ pub mod Listings
 pub mod Replays
 pub mod Runs
 pub mod Summaries
+pub mod Sweepings
 pub mod Telling
 pub mod Texts
 pub mod Turns

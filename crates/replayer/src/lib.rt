@@ -1,5 +1,5 @@
 //! One run of a scenario, replayed: its text, its accepted events, and their record; audited as it is made, or from a
-//! record that is given.
+//! record that is given; and swept by failures.
 #![tactic(auto)]
 
 mod auditing;
@@ -8,6 +8,7 @@ mod listing;
 mod replaying;
 mod store_line;
 mod summaries;
+mod sweeping;
 mod told;
 mod turns;
 mod writing;
@@ -21,3 +22,7 @@ pub use listing::{events_of, record_of};
 pub use record::{Entry, Record};
 pub use replaying::replay;
 pub use summaries::Summary;
+pub use sweeper::{
+    BadRun, Swept, fails_are_of_whom_stands, steps_are_of_whom_moves, sweep, swept_runs_are_good,
+};
+pub use sweeping::{run_sweep, status_of_sweep};

@@ -1,5 +1,5 @@
 //! Tests that cross crates, on worked runs: of worlds under events, of what drives these, and of replayed
-//! scenarios; the scenarios themselves; and two uses of the headline, as callers have it.
+//! scenarios, audits and sweeps; the scenarios themselves; and two uses of the headline, as callers have it.
 #![tactic(auto)]
 
 #[cfg(test)]
@@ -11,6 +11,8 @@ mod replays;
 #[cfg(test)]
 mod runs;
 pub mod scenarios;
+#[cfg(test)]
+mod sweeps;
 mod uses;
 
 pub use uses::{printed_replies, two_events};

@@ -1,0 +1,41 @@
+-- Whether an event is accepted, by what it adds; and what a refused one leaves.
+use Rattle.std.proofs.Common.{◌≡◌, true, false, List, ◌∷◌, Option, None, Some, refl, ap, sym, ◌∙◌}
+use Rattle.std.specs.Prelude.{is_none}
+use Rattle.std.proofs.lemmas.Bool.{and_from}
+use Rattle.std.specs.List.{list_all}
+use Rattle.plain_store.specs.declared.Setup.{Setup}
+use Rattle.record.specs.declared.events.Event.{Event}
+use Rattle.record.specs.declared.refusals.Refusal.{Refusal}
+use Rattle.record.specs.Entries.{Entry, Past}
+use Rattle.record.specs.Given.{is_event}
+use Rattle.record.specs.Records.{added, entry_of, past_of, refused}
+use Rattle.world.specs.Shows.{Shows, WorldState, world_of}
+use Rattle.sweeper.specs.Sweeps.{is_accepted}
+
+-- an event that adds an entry is accepted
+pub adds_accepted : (s : Setup) (events : List Event) (event : Event) (e : Entry) → entry_of s (past_of s events) event ≡ Some e → is_accepted s events event ≡ true
+adds_accepted s events event e is = by (refused s (past_of s events) event) refl
+  where
+    by : (o : Option Refusal) → refused s (past_of s events) event ≡ o → is_accepted s events event ≡ true
+    by None h = ap is_none h
+    by (Some r) h =
+        let no : None ≡ Some e = sym (ap (λ (o : Option Refusal). elim o as (λ _. Option Entry) [ Some _ ↦ None | None ↦ added s (past_of s events) event ]) h) ∙ is in
+        absurd (cc)
+
+-- one that is refused is not
+pub refused_not : (s : Setup) (events : List Event) (event : Event) (r : Refusal) → refused s (past_of s events) event ≡ Some r → is_accepted s events event ≡ false
+refused_not s events event r is = ap is_none is
+
+-- and it leaves the past
+pub past_kept : (s : Setup) (events : List Event) (event : Event) (r : Refusal) → refused s (past_of s events) event ≡ Some r → past_of s (event ∷ events) ≡ past_of s events
+past_kept s events event r is =
+    ap (λ (o : Option Entry). elim o as (λ _. Past) [ None ↦ past_of s events | Some e ↦ e ∷ past_of s events ])
+    (ap (λ (o : Option Refusal). elim o as (λ _. Option Entry) [ Some _ ↦ None | None ↦ added s (past_of s events) event ]) is)
+
+-- so a world that shows some events shows it too
+pub shows_refused : (w : WorldState) (events : List Event) (event : Event) (r : Refusal) → Shows w events → is_event event ≡ true → refused w.setup (past_of w.setup events) event ≡ Some r → Shows w (event ∷ events)
+shows_refused w events event r shows given is = record {
+  good = shows.good;
+  given = record { opening = shows.given.opening; commands = and_from (is_event event) (list_all is_event events) given shows.given.commands };
+  shown = shows.shown ∙ ap (world_of w.setup) (sym (past_kept w.setup events event r is));
+}

@@ -1,0 +1,75 @@
+-- What a runner does again and again as long as a test holds, and over a range of processes.
+use Rattle.std.proofs.Common.{◌≡◌, ℕ, zero, suc, ◌+◌, ◌-◌, ◌<◌, ◌||◌, Bool, true, false, cond, List, [], ◌∷◌, ◌++◌, fold, slice_index_or, refl, ap, sym, subst, ◌∙◌, arith}
+use Rattle.std.proofs.lemmas.List.Folds.{list_any-append, list_any_at}
+use Rattle.std.proofs.lemmas.List.FromFn.{get_or-range_with_len, length-range_with_len}
+use Rattle.std.proofs.lemmas.List.Sums.{fold-append}
+use Rattle.std.specs.List.{list_any, range_with_len}
+use Rattle.record.specs.declared.events.Event.{Event}
+use Rattle.record.specs.declared.events.Event.TheVariants.{Step}
+use Rattle.sweeper.specs.Runners.{Follows, RunnerState, RunsOn}
+use Rattle.sweeper.specs.Sweeps.{as_long_as}
+
+-- some of it is done: what is left makes of the present run what all makes of the first
+pub record Going (test : List Event → Bool) (on : List Event → List Event) (most : ℕ) (events : List Event) (r : RunnerState) (left : ℕ) : Type 0 where
+  pub now : List Event
+  pub follows : Follows r now
+  pub whole : as_long_as test on left now ≡ as_long_as test on most events
+
+-- one thing more
+again : (test : List Event → Bool) (on : List Event → List Event) (left : ℕ) (now : List Event) → 0 < left → test now ≡ true → as_long_as test on left now ≡ as_long_as test on (left - 1) (on now)
+again test on zero now some holds = absurd (omega (arith, some))
+again test on (suc n) now some holds =
+    let less : n ≡ suc n - 1 = omega arith in
+    ap (λ b. cond b (as_long_as test on n (on now)) now) holds ∙ ap (λ n. as_long_as test on n (on now)) less
+
+-- the test fails
+ended : (test : List Event → Bool) (on : List Event → List Event) (left : ℕ) (now : List Event) → test now ≡ false → as_long_as test on left now ≡ now
+ended test on zero now fails = refl
+ended test on (suc n) now fails = ap (λ b. cond b (as_long_as test on n (on now)) now) fails
+
+module _ (test : List Event → Bool) (on : List Event → List Event) (most : ℕ) (events : List Event) (r : RunnerState) (left : ℕ) where
+  pub going_on : (new : RunnerState) → 0 < left → ((now : List Event) → Follows r now → test now ≡ true) → RunsOn r new on → Going test on most events r left → Going test on most events new (left - 1)
+  going_on new some holds makes g = record {
+    now = on g.now;
+    follows = makes g.now g.follows;
+    whole = sym (again test on left g.now some (holds g.now g.follows)) ∙ g.whole;
+  }
+
+  pub going_ended : ((now : List Event) → Follows r now → test now ≡ false) → Going test on most events r left → Follows r (as_long_as test on most events)
+  going_ended fails g = subst (Follows r) (sym (ended test on left g.now (fails g.now g.follows)) ∙ g.whole) g.follows
+
+  pub going_over : left ≡ 0 → Going test on most events r left → Follows r (as_long_as test on most events)
+  going_over none g = subst (Follows r) (sym (ap (λ n. as_long_as test on n g.now) none) ∙ g.whole) g.follows
+
+-- Over a range.
+
+-- one number more
+more_from : (a n j : ℕ) → a + n ≡ j → range_with_len a (suc n) ≡ range_with_len a n ++ j ∷ []
+more_from a zero j is = let here : a ≡ j = omega (arith, is) in ap (λ x. x ∷ []) here
+more_from a (suc n) j is = ap (λ l. a ∷ l) (more_from (a + 1) n j (omega (arith, is)))
+
+range_more : (k : ℕ) → range_with_len 0 (k + 1) ≡ range_with_len 0 k ++ k ∷ []
+range_more k = let on : k + 1 ≡ suc k = omega arith in ap (range_with_len 0) on ∙ more_from 0 k k (omega arith)
+
+-- no process of it, and one more, passes a test
+pub none_more : (f : ℕ → Bool) (k : ℕ) → list_any f (range_with_len 0 k) ≡ false → f k ≡ false → list_any f (range_with_len 0 (k + 1)) ≡ false
+none_more f k none here =
+    ap (list_any f) (range_more k) ∙ list_any-append f (range_with_len 0 k) (k ∷ []) ∙ both (list_any f (range_with_len 0 k)) (f k) none here
+  where
+    both : (a b : Bool) → a ≡ false → b ≡ false → (a || (b || false)) ≡ false
+    both false false x y = refl
+    both true b x y = absurd (cc)
+    both false true x y = absurd (cc)
+
+-- one of it passes
+pub any_here : (f : ℕ → Bool) (k n : ℕ) → k < n → f k ≡ true → list_any f (range_with_len 0 n) ≡ true
+any_here f k n below passes =
+    let start : 0 + k ≡ k = omega arith in
+    let at : slice_index_or (range_with_len 0 n) k 0 ≡ k = get_or-range_with_len 0 n k 0 below ∙ start in
+    let long = length-range_with_len 0 n in
+    list_any_at f (range_with_len 0 n) k 0 (omega (arith, long, below)) (ap f at ∙ passes)
+
+-- a step of each, and of one more
+pub round_more : (v : Bool) (k : ℕ) (events : List Event) → Step k v ∷ fold (λ events p. Step p v ∷ events) events (range_with_len 0 k) ≡ fold (λ events p. Step p v ∷ events) events (range_with_len 0 (k + 1))
+round_more v k events =
+    sym (ap (fold (λ events p. Step p v ∷ events) events) (range_more k) ∙ fold-append (λ events p. Step p v ∷ events) events (range_with_len 0 k) (k ∷ []))

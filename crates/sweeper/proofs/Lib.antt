@@ -1,0 +1,13 @@
+-- A runner makes an event
+pub mod Accepted
+pub mod Movers
+pub mod Making
+pub mod Dues
+-- It goes on
+pub mod Going
+pub mod Onward
+-- Every run is good
+pub mod Soundness
+pub mod Goods
+-- What is counted
+pub mod Counting

@@ -1,0 +1,136 @@
+-- A runner makes an event, and its auditor hears the entry, which keeps all laws.
+use Rattle.std.proofs.Common.{◌≡◌, ℕ, ◌+◌, Bool, true, false, List, ◌∷◌, length, map, Option, None, Some, refl, ap, sym, subst, ◌∙◌}
+use Rattle.std.specs.Prelude.{is_none, is_some, not}
+use Rattle.safe_number.specs.declared.Access.{Access}
+use Rattle.plain_store.specs.declared.Setup.{Setup}
+use Rattle.record.specs.declared.events.Event.{Event}
+use Rattle.record.specs.declared.history.Taken.{Taken}
+use Rattle.record.specs.declared.marks.Mark.{Mark}
+use Rattle.record.specs.declared.refusals.Refusal.{Refusal}
+use Rattle.record.specs.Entries.{Entry, Past}
+use Rattle.record.specs.Given.{AreGiven, is_event}
+use Rattle.record.specs.Histories.{history, reply_taken}
+use Rattle.record.specs.Records.{entry_of, past_of, placed, process_of}
+use Rattle.process.specs.declared.told.Effect.{Effect}
+use Rattle.process.specs.Telling.{act_of, marks_of}
+use Rattle.world.specs.Changes.{with_taken}
+use Rattle.world.specs.Cores.{CoreMakes, CoreRefuses, CoreState, call_in, taking, with_history}
+use Rattle.world.specs.Events.{Adds, entry_with}
+use Rattle.world.specs.Shows.{Shows, WorldState}
+use Rattle.world.proofs.CoreKeeps.{taken_length}
+use Rattle.world.proofs.WorldShows.{past-after}
+use Rattle.auditor.specs.declared.verdicts.Law.{Law}
+use Rattle.auditor.specs.Hearing.{AuditorState, HasHeard, IsHeard}
+use Rattle.auditor.specs.Verdicts.{KeepsAll}
+use Rattle.auditor.proofs.Obeys.{obeys}
+use Rattle.sweeper.specs.Runners.{Follows, RunnerState}
+use Rattle.sweeper.specs.Sweeps.{is_accepted}
+use Rattle.sweeper.proofs.Accepted.{adds_accepted, past_kept, refused_not, shows_refused}
+
+-- with a history the core shows events: so it is theirs
+history_of : (c : CoreState) (taken : List Taken) (events : List Event) → Shows (with_history c taken) events → taken ≡ history c.setup (past_of c.setup events)
+history_of c taken events shows = ap (λ (w : WorldState). w.history) shows.shown
+
+-- what a core tells of an event is whether it is accepted
+pub accepts_is : (r : RunnerState) (event : Event) (o : Option Refusal) (b : Bool) → CoreRefuses r.core event o → is_some o ≡ not b → (events : List Event) → Follows r events → b ≡ is_accepted r.core.setup events event
+accepts_is r event o b told is events follows = by o b is ∙ sym (ap is_none (told (history r.core.setup (past_of r.core.setup events)) events follows.shows))
+  where
+    by : (o : Option Refusal) (b : Bool) → is_some o ≡ not b → b ≡ is_none o
+    by None true is = refl
+    by None false is = absurd (cc)
+    by (Some x) true is = absurd (cc)
+    by (Some x) false is = refl
+
+-- the core has made an event
+pub record IsMade (old : RunnerState) (event : Event) (access : Option Access) (effect : Effect) (core : CoreState) : Type 0 where
+  pub adds : (taken : List Taken) → Adds (with_history old.core taken) event (process_of event) (act_of (length taken) (record { access = access; effect = effect }))
+  pub makes : CoreMakes old.core event effect core
+  pub setup : core.setup ≡ old.core.setup
+
+-- the entry that is told to the auditor
+abbrev pub entry_told : ℕ → Option Access → List Mark → Entry
+entry_told p access marks = record { process = p; access = access; marks = marks }
+
+-- an auditor has answered this to an entry
+pub record IsAnswered (old : AuditorState) (e : Entry) (law : Option Law) (new : AuditorState) : Type 0 where
+  pub heard : (past : Past) → HasHeard old past → IsHeard old.core.setup past e new law
+  pub setup : law ≡ None → new.core.setup ≡ old.core.setup
+
+module _ (old : RunnerState) (event : Event) (access : Option Access) (effect : Effect) (core : CoreState) (made : IsMade old event access effect core) (events : List Event) (follows : Follows old events) where
+  abbrev s : Setup
+  s = old.core.setup
+
+  abbrev past : Past
+  past = past_of s events
+
+  abbrev e : Entry
+  e = entry_with (process_of event) (act_of (length (history s past)) (record { access = access; effect = effect }))
+
+  adds_it : entry_of s past event ≡ Some e
+  adds_it = made.adds (history s past) events follows.shows
+
+  on : Shows (with_history core (with_taken (history s past) (process_of event) (call_in core.seats (process_of event)).0 (call_in core.seats (process_of event)).1 (reply_taken (marks_of effect)))) (event ∷ events)
+  on = made.makes.goes (history s past) events follows.shows
+
+  given : AreGiven s (event ∷ events)
+  given = subst (λ (s : Setup). AreGiven s (event ∷ events)) made.setup on.given
+
+  keeps : KeepsAll s past e
+  keeps = obeys s follows.shows.good events event e given adds_it
+
+  -- it was accepted
+  pub made_accepted : is_accepted old.core.setup events event ≡ true
+  made_accepted = adds_accepted s events event e adds_it
+
+  -- the entry that is told is the one that the event adds
+  told_is : (p : ℕ) (marks : List Mark) → p ≡ process_of event → marks ≡ map (placed old.taken) (marks_of effect) → entry_told p access marks ≡ e
+  told_is p marks process are = λ i. entry_told (process i) access ((are ∙ ap (λ n. map (placed n) (marks_of effect)) follows.taken) i)
+
+  -- so the auditor's answer is none
+  answer_none : (told : Entry) (law : Option Law) (auditor : AuditorState) → told ≡ e → IsAnswered old.auditor told law auditor → law ≡ None
+  answer_none told None auditor is a = refl
+  answer_none told (Some l) auditor is a =
+      absurd ((a.heard past follows.heard).broken (subst (λ (x : Entry). KeepsAll old.auditor.core.setup past x) (sym is) (subst (λ (s : Setup). KeepsAll s past e) (sym follows.alike) keeps) l))
+
+  -- and it has heard the entry
+  heard_next : (told : Entry) (law : Option Law) (auditor : AuditorState) → told ≡ e → law ≡ None → IsAnswered old.auditor told law auditor → HasHeard auditor (e ∷ past)
+  heard_next told None auditor is none a = subst (λ (x : Entry). HasHeard auditor (x ∷ past)) is (a.heard past follows.heard).1
+  heard_next told (Some l) auditor is none a = absurd (cc)
+
+  pub none_broken : (p : ℕ) (marks : List Mark) (law : Option Law) (auditor : AuditorState) → p ≡ process_of event → marks ≡ map (placed old.taken) (marks_of effect) → IsAnswered old.auditor (entry_told p access marks) law auditor → law ≡ None
+  none_broken p marks law auditor process are a = answer_none (entry_told p access marks) law auditor (told_is p marks process are) a
+
+  -- the runner shows the event too
+  pub follows_made : (p : ℕ) (marks : List Mark) (law : Option Law) (auditor : AuditorState) (taken : ℕ) → p ≡ process_of event → marks ≡ map (placed old.taken) (marks_of effect) → taken ≡ old.taken + taking effect →
+      IsAnswered old.auditor (entry_told p access marks) law auditor → Follows (record { core = core; auditor = auditor; taken = taken }) (event ∷ events)
+  follows_made p marks law auditor taken process are counted a =
+      let told : entry_told p access marks ≡ e = told_is p marks process are in
+      let none : law ≡ None = none_broken p marks law auditor process are a in
+      let after : past_of core.setup (event ∷ events) ≡ e ∷ past = ap (λ (s : Setup). past_of s (event ∷ events)) made.setup ∙ past-after s events event e adds_it in
+      let h : List Taken = with_taken (history s past) (process_of event) (call_in core.seats (process_of event)).0 (call_in core.seats (process_of event)).1 (reply_taken (marks_of effect)) in
+      let its : h ≡ history core.setup (past_of core.setup (event ∷ events)) = history_of core h (event ∷ events) on in
+      record {
+        shows = subst (λ (taken : List Taken). Shows (with_history core taken) (event ∷ events)) its on;
+        heard = subst (HasHeard auditor) (sym after) (heard_next (entry_told p access marks) law auditor told none a);
+        alike = a.setup none ∙ follows.alike ∙ sym made.setup;
+        taken = counted ∙ ap (λ n. n + taking effect) follows.taken
+            ∙ sym (taken_length (history s past) (process_of event) (call_in core.seats (process_of event)).0 (call_in core.seats (process_of event)).1 (reply_taken (marks_of effect)))
+            ∙ ap length its;
+      }
+
+-- A refused event leaves the runner, which shows it too.
+module _ (old : RunnerState) (event : Event) (r : Refusal) (away : CoreRefuses old.core event (Some r)) (events : List Event) (follows : Follows old events) where
+  pub refused_left : is_accepted old.core.setup events event ≡ false
+  refused_left = refused_not old.core.setup events event r (away (history old.core.setup (past_of old.core.setup events)) events follows.shows)
+
+  pub follows_refused : is_event event ≡ true → Follows old (event ∷ events)
+  follows_refused given =
+      let s : Setup = old.core.setup in
+      let is = away (history s (past_of s events)) events follows.shows in
+      let same : past_of s (event ∷ events) ≡ past_of s events = past_kept s events event r is in
+      record {
+        shows = subst (λ (past : Past). Shows (with_history old.core (history s past)) (event ∷ events)) (sym same) (shows_refused (with_history old.core (history s (past_of s events))) events event r follows.shows given is);
+        heard = subst (HasHeard old.auditor) (sym same) follows.heard;
+        alike = follows.alike;
+        taken = follows.taken ∙ ap (λ (past : Past). length (history s past)) (sym same);
+      }

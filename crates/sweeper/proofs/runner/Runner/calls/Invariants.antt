@@ -1,0 +1,12 @@
+use Rattle.std.proofs.Common.{◌≡◌, ◌≤◌, ◌+◌, ◌*◌, take}
+use Rattle.sweeper.specs.Runners.{IsRun, due}
+use Rattle.sweeper.specs.Sweeps.{Run, with_calls}
+use Rattle.sweeper.proofs.runner.Runner.calls.Given as goal
+
+-- the calls before the present one are made
+abbrev pub invariant-loop-process : goal.invariant-loop-process
+invariant-loop-process l = record {
+  run : (run : Run) → IsRun l.fn.self l.fn.stuck run → IsRun l.self l.stuck (with_calls l.fn.self.core.setup (take l.process-index l.calls) l.value run);
+  few : due l.self ≤ due l.fn.self + 16 * l.process-index;
+  setup : l.self.core.setup ≡ l.fn.self.core.setup;
+}

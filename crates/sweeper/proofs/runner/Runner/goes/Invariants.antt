@@ -1,0 +1,11 @@
+use Rattle.std.proofs.Common.{◌≡◌, false, List}
+use Rattle.std.specs.List.{list_any, range_with_len}
+use Rattle.record.specs.declared.events.Event.{Event}
+use Rattle.record.specs.declared.events.Event.TheVariants.{Step}
+use Rattle.sweeper.specs.Runners.{Follows}
+use Rattle.sweeper.specs.Sweeps.{is_accepted}
+use Rattle.sweeper.proofs.runner.Runner.goes.Given as goal
+
+-- none of those below the present process has a step to make
+abbrev pub invariant-loop-process : goal.invariant-loop-process
+invariant-loop-process l = (events : List Event) → Follows l.self events → list_any (λ p. is_accepted l.self.core.setup events (Step p l.value)) (range_with_len 0 l.process) ≡ false

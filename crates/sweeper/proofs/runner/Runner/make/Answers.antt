@@ -1,0 +1,72 @@
+use Rattle.std.proofs.Common.{◌≡◌, ◌+◌, ◌≤◌, List, ◌∷◌, true, false, cond, None, Some, ap, sym, subst, ◌∙◌}
+use Rattle.plain_store.specs.declared.Setup.{Setup}
+use Rattle.record.specs.declared.events.Event.{Event}
+use Rattle.record.specs.Records.{is_call}
+use Rattle.world.specs.Cores.{CoreState}
+use Rattle.sweeper.specs.Runners.{Follows, RunnerState, RunsOn, due}
+use Rattle.sweeper.specs.Sweeps.{is_accepted}
+use Rattle.sweeper.proofs.Dues.{few_made, few_seats}
+use Rattle.sweeper.proofs.Making.{IsAnswered, IsMade, entry_told, follows_made, follows_refused, made_accepted, none_broken, refused_left}
+use Rattle.sweeper.proofs.runner.Runner.make.Goals as goal
+
+pub returns-in_default-clause-follows : goal.returns-in_default-clause-follows
+returns-in_default-clause-follows c =
+    let i = c.self.inside in
+    let old : RunnerState = record { core = i.core; auditor = i.auditor; taken = i.taken } in
+    let then : CoreState → RunnerState = λ core. record { core = core; auditor = i.auditor; taken = i.taken } in
+    let family : RunnerState → Type 0 = λ r. RunsOn r (then c.event.new.self) (λ events. c.args.event.now ∷ events) in
+    subst family c.self.view_is (λ events follows. subst (λ core. Follows (then core) (c.args.event.now ∷ events)) (sym c.in_default.ensures.unchanged)
+    (follows_refused old c.args.event.now c.in_default.field-0 c.in_default.ensures.refused events follows c.sound_event.ensures))
+
+pub returns-in_default-clause-accepted : goal.returns-in_default-clause-accepted
+returns-in_default-clause-accepted c =
+    let i = c.self.inside in
+    let old : RunnerState = record { core = i.core; auditor = i.auditor; taken = i.taken } in
+    let family : RunnerState → Type 0 = λ r. (events : List Event) → Follows r events → false ≡ is_accepted r.core.setup events c.args.event.now in
+    subst family c.self.view_is (λ events follows. sym (refused_left old c.args.event.now c.in_default.field-0 c.in_default.ensures.refused events follows))
+
+pub invariant_of-self-2 : goal.invariant_of-self-2
+invariant_of-self-2 c =
+    let i = c.self.inside in
+    let kept = c.self.invariant in
+    let old : RunnerState = record { core = i.core; auditor = i.auditor; taken = i.taken } in
+    let made : IsMade old c.args.event.now c.in-Ok.access c.event.new.effect c.event.new.self = record { adds = c.in-Ok.ensures.accepted; makes = c.in-Ok.ensures.shows; setup = c.in-Ok.ensures.setup } in
+    let answered : IsAnswered i.auditor (entry_told c.process.result c.in-Ok.access c.deref.result.now) c.hear_parts-law.result c.hear_parts-law.new.self = record { heard = c.hear_parts-law.ensures.heard; setup = c.hear_parts-law.ensures.setup } in
+    let none : c.hear_parts-law.result ≡ None = none_broken old c.args.event.now c.in-Ok.access c.event.new.effect c.event.new.self made kept.events kept.follows c.process.result c.deref.result.now c.hear_parts-law.result c.hear_parts-law.new.self
+    c.process.ensures (c.deref.ensures ∙ c.marks-marks.ensures) answered in
+    record {
+      events = c.args.event.now ∷ kept.events;
+      follows = follows_made old c.args.event.now c.in-Ok.access c.event.new.effect c.event.new.self made kept.events kept.follows c.process.result c.deref.result.now c.hear_parts-law.result c.hear_parts-law.new.self c.more-self-inside.result
+          c.process.ensures (c.deref.ensures ∙ c.marks-marks.ensures) c.more-self-inside.ensures answered;
+      processes = kept.processes ∙ ap (λ (s : Setup). s.processes) (sym c.in-Ok.ensures.setup);
+      none_bad = c.first_bad-self-inside.ensures none ∙ kept.none_bad;
+    }
+
+pub returns-clause-follows : goal.returns-clause-follows
+returns-clause-follows c =
+    let i = c.self.inside in
+    let old : RunnerState = record { core = i.core; auditor = i.auditor; taken = i.taken } in
+    let then : RunnerState = record { core = c.event.new.self; auditor = c.hear_parts-law.new.self; taken = c.more-self-inside.result } in
+    let made : IsMade old c.args.event.now c.in-Ok.access c.event.new.effect c.event.new.self = record { adds = c.in-Ok.ensures.accepted; makes = c.in-Ok.ensures.shows; setup = c.in-Ok.ensures.setup } in
+    let answered : IsAnswered i.auditor (entry_told c.process.result c.in-Ok.access c.deref.result.now) c.hear_parts-law.result c.hear_parts-law.new.self = record { heard = c.hear_parts-law.ensures.heard; setup = c.hear_parts-law.ensures.setup } in
+    let family : RunnerState → Type 0 = λ r. RunsOn r then (λ events. c.args.event.now ∷ events) in
+    subst family c.self.view_is (λ events follows.
+    follows_made old c.args.event.now c.in-Ok.access c.event.new.effect c.event.new.self made events follows c.process.result c.deref.result.now c.hear_parts-law.result c.hear_parts-law.new.self c.more-self-inside.result
+    c.process.ensures (c.deref.ensures ∙ c.marks-marks.ensures) c.more-self-inside.ensures answered)
+
+pub returns-clause-accepted : goal.returns-clause-accepted
+returns-clause-accepted c =
+    let i = c.self.inside in
+    let old : RunnerState = record { core = i.core; auditor = i.auditor; taken = i.taken } in
+    let made : IsMade old c.args.event.now c.in-Ok.access c.event.new.effect c.event.new.self = record { adds = c.in-Ok.ensures.accepted; makes = c.in-Ok.ensures.shows; setup = c.in-Ok.ensures.setup } in
+    let family : RunnerState → Type 0 = λ r. (events : List Event) → Follows r events → true ≡ is_accepted r.core.setup events c.args.event.now in
+    subst family c.self.view_is (λ events follows. sym (made_accepted old c.args.event.now c.in-Ok.access c.event.new.effect c.event.new.self made events follows))
+
+pub returns-clause-few : goal.returns-clause-few
+returns-clause-few c =
+    let i = c.self.inside in
+    let old : RunnerState = record { core = i.core; auditor = i.auditor; taken = i.taken } in
+    let then : RunnerState = record { core = c.event.new.self; auditor = c.hear_parts-law.new.self; taken = c.more-self-inside.result } in
+    let few : due then ≤ due old + cond (is_call c.args.event.now) 16 0 =
+    few_made c.args.event.now c.event.new.effect i.core.seats c.event.new.self.seats i.taken c.more-self-inside.result (few_seats i.core _ _ c.self.invariant.follows.shows) c.more-self-inside.ensures c.in-Ok.ensures.pending c.in-Ok.ensures.few in
+    subst (λ (r : RunnerState). due then ≤ due r + cond (is_call c.args.event.now) 16 0) c.self.view_is few

@@ -1,0 +1,17 @@
+use Rattle.std.proofs.Common.{◌≡◌, ◌≤◌, List}
+use Rattle.record.specs.declared.events.Event.{Event}
+use Rattle.sweeper.specs.Runners.{Follows, due}
+use Rattle.sweeper.specs.Sweeps.{goes, round}
+use Rattle.sweeper.proofs.Going.{Going}
+use Rattle.sweeper.proofs.runner.Runner.rounds.Given as goal
+
+-- so many rounds are left
+abbrev pub invariant-rounds : goal.invariant-rounds
+invariant-rounds l = record {
+  going : (events : List Event) → Follows l.fn.self events → Going (goes l.fn.self.core.setup l.value) (round l.fn.self.core.setup l.value) l.most events l.self l.left;
+  few : due l.self ≤ due l.fn.self;
+  setup : l.self.core.setup ≡ l.fn.self.core.setup;
+}
+
+abbrev pub decreases-rounds : goal.decreases-rounds
+decreases-rounds l = l.left

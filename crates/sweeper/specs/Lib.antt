@@ -1,0 +1,4 @@
+pub mod Sweeps
+pub mod Runners
+pub mod Tallies
+pub mod Shown

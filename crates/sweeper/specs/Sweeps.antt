@@ -1,0 +1,165 @@
+-- The runs of a sweep, and what is found in their records. In each run a process fails after one event of a list; then its memory unit settles, it is restarted, everybody goes on, and calls follow. Lists of events have the newest first here, and an event that is refused adds nothing to the record.
+use Rattle.std.specs.Prelude.{◌≡◌, ℕ, zero, suc, Bool, true, false, ◌&&◌, ◌||◌, List, [], ◌∷◌, ◌++◌, length, map, filter, fold, reverse, Option, None, Some, Ok, is_none, nat_lt, cond}
+use Rattle.std.specs.List.{list_all, list_any, AllZip}
+use Rattle.plain_store.specs.declared.Command.{Command}
+use Rattle.plain_store.specs.declared.Setup.{Setup}
+use Rattle.plain_store.specs.Commands.{is_command}
+use Rattle.plain_store.specs.Setups.{checked}
+use Rattle.record.specs.declared.events.Event.{Event}
+use Rattle.record.specs.declared.events.Event.TheVariants.{Call, Step, Fail, Restart}
+use Rattle.record.specs.declared.stages.Stage.{Stage}
+use Rattle.record.specs.declared.stages.Stage.TheVariants.{Idle, Settling, Down}
+use Rattle.record.specs.Entries.{Entry}
+use Rattle.record.specs.Given.{AreGiven}
+use Rattle.record.specs.Records.{past_of, process_of, refused}
+use Rattle.record.specs.Registers.{processes}
+use Rattle.record.specs.Stages.{stage}
+use Rattle.auditor.specs.declared.verdicts.Verdict.{Verdict}
+use Rattle.auditor.specs.declared.verdicts.Verdict.TheVariants.{Good, Bad}
+use Rattle.auditor.specs.Verdicts.{IsVerdict}
+use Rattle.sweeper.specs.declared.swept.BadRun.{BadRun}
+use Rattle.sweeper.specs.declared.swept.Swept.{Swept}
+
+-- One run.
+
+-- the most rounds of a run, and the most steps of each of its calls
+unfoldable pub most : ℕ
+most = 65536
+
+-- an event is accepted after events
+abbrev pub is_accepted : Setup → List Event → Event → Bool
+is_accepted s events event = is_none (refused s (past_of s events) event)
+
+-- one thing again and again as long as a test holds, at most so many times
+abbrev pub as_long_as : (List Event → Bool) → (List Event → List Event) → ℕ → List Event → List Event
+as_long_as test on zero events = events
+as_long_as test on (suc n) events = cond (test events) (as_long_as test on n (on events)) events
+
+-- steps of p by this flick as long as it has one to make, at most so many: of a call they lead to `Idle`, of a memory unit to `Down`
+abbrev pub steps_of : Setup → ℕ → Bool → ℕ → List Event → List Event
+steps_of s p v n events = as_long_as (λ events. is_accepted s events (Step p v)) (λ events. Step p v ∷ events) n events
+
+-- p fails, its memory unit makes its steps, and p is restarted; a memory unit has far fewer steps to make than the bound allows
+abbrev pub cut_off : Setup → ℕ → Bool → List Event → List Event
+cut_off s p v events = Restart p ∷ steps_of s p v most (Fail p ∷ events)
+
+-- somebody has a step to make
+abbrev pub goes : Setup → Bool → List Event → Bool
+goes s v events = list_any (λ p. is_accepted s events (Step p v)) (processes s)
+
+-- a round: a step of each process, ascending; that of a process with none to make is refused
+abbrev pub round : Setup → Bool → List Event → List Event
+round s v events = fold (λ events p. Step p v ∷ events) events (processes s)
+
+-- rounds as long as somebody has a step to make, at most so many
+abbrev pub rounds : Setup → Bool → ℕ → List Event → List Event
+rounds s v n events = as_long_as (goes s v) (round s v) n events
+
+-- a run: its events, and whether it is stuck, since it has met a limit
+pub record Run : Type 0 where
+  pub events : List Event
+  pub stuck : Bool
+
+-- a call, and if it is accepted the steps of its process
+abbrev pub with_call : Setup → Bool → Run → ℕ × Command → Run
+with_call s v run (p, command) =
+    let after : List Event = steps_of s p v most (Call p command ∷ run.events) in
+    cond (is_accepted s run.events (Call p command)) (record { events = after; stuck = run.stuck || is_accepted s after (Step p v) }) run
+
+-- calls in their order
+abbrev pub with_calls : Setup → List (ℕ × Command) → Bool → Run → Run
+with_calls s calls v run = fold (with_call s v) run calls
+
+-- everybody goes on, and the calls follow
+abbrev pub on_from : Setup → List (ℕ × Command) → Bool → List Event → Run
+on_from s calls v events =
+    let on : List Event = rounds s v most events in
+    with_calls s calls v (record { events = on; stuck = goes s v on })
+
+-- All runs.
+
+-- where a run is cut: after which of the accepted events, counted from 0, and by which flick it goes on; and the run
+pub record Cut : Type 0 where
+  pub number : ℕ
+  pub value : Bool
+  pub run : Run
+
+-- the run in which the process of an event fails after it
+abbrev pub cut : Setup → List (ℕ × Command) → Event → List Event → Bool → Cut
+cut s calls event before v = record { number = length (past_of s before); value = v; run = on_from s calls v (cut_off s (process_of event) v (event ∷ before)) }
+
+-- the event is accepted, and its process is then one that may fail: it has neither failed nor is down
+abbrev pub is_cut : Setup → Event → List Event → Bool
+is_cut s event before = is_accepted s before event && is_accepted s (event ∷ before) (Fail (process_of event))
+
+-- all runs, those of earlier events first, and of two after one event that of the flick 0
+abbrev pub cuts : Setup → List (ℕ × Command) → List Event → List Cut
+cuts s calls [] = []
+cuts s calls (event ∷ before) = cuts s calls before ++ cond (is_cut s event before) (map (cut s calls event before) (false ∷ true ∷ [])) []
+
+-- What is found.
+
+-- the record of a run, the oldest entry first
+abbrev pub record_of_cut : Setup → Cut → List Entry
+record_of_cut s c = reverse (past_of s c.run.events)
+
+-- the verdict is that the record is good
+abbrev pub is_good : Verdict → Bool
+is_good Good = true
+is_good (Bad entry law) = false
+
+-- the first run whose verdict is bad
+abbrev pub first_bad_of : List Cut → List Verdict → Option BadRun
+first_bad_of (c ∷ cs) (Good ∷ vs) = first_bad_of cs vs
+first_bad_of (c ∷ cs) (Bad entry law ∷ vs) = Some (record { cut = c.number; value = c.value; entry = entry; law = law })
+first_bad_of _ _ = None
+
+-- what a sweep finds in these runs: each has its verdict; so many there are, so many are good, so many stuck, and this is the first bad one
+pub record IsFound (s : Setup) (cs : List Cut) (found : Swept) : Type 0 where
+  pub verdicts : List Verdict
+  pub each : AllZip (λ c v. IsVerdict s (record_of_cut s c) v) cs verdicts
+  pub runs : found.runs ≡ length cs
+  pub good : found.good ≡ length (filter is_good verdicts)
+  pub stuck : found.stuck ≡ length (filter (λ (c : Cut). c.run.stuck) cs)
+  pub first_bad : found.first_bad ≡ first_bad_of cs verdicts
+
+-- what a sweep finds that goes along events, the oldest first
+abbrev pub IsSwept : Setup → List Event → List (ℕ × Command) → Swept → Type 0
+IsSwept s events calls found = IsFound s (cuts s calls (reverse events)) found
+
+-- every run is good
+abbrev pub AreAllGood : Swept → Type 0
+AreAllGood found = (found.good ≡ found.runs) × (found.first_bad ≡ None)
+
+-- what is then found in these runs
+abbrev pub all_good : List Cut → Swept
+all_good cs = record { runs = length cs; good = length cs; stuck = length (filter (λ (c : Cut). c.run.stuck) cs); first_bad = None }
+
+-- Whatever a sweep goes along, every run is good, if names, values and counts are what their types allow.
+abbrev pub SweptRunsAreGood : Type 0
+SweptRunsAreGood = (s : Setup) → checked s ≡ Ok tt → (events : List Event) (calls : List (ℕ × Command)) → AreGiven s (reverse events) → list_all (λ (c : ℕ × Command). is_command c.1) calls ≡ true →
+    (found : Swept) → IsSwept s events calls found → AreAllGood found
+
+-- a process runs, or its memory unit settles
+abbrev pub moves : Stage → Bool
+moves Idle = false
+moves Down = false
+moves _ = true
+
+-- a process has neither failed nor is down
+abbrev pub stands : Stage → Bool
+stands Settling = false
+stands Down = false
+stands _ = true
+
+-- the stage of a process that there is passes a test
+abbrev pub is_there : (Stage → Bool) → Setup → List Event → ℕ → Bool
+is_there test s events p = nat_lt p s.processes && test (stage p (past_of s events))
+
+-- A step is accepted exactly of a process that runs, or whose memory unit settles.
+abbrev pub StepsAreOfWhomMoves : Type 0
+StepsAreOfWhomMoves = (s : Setup) (events : List Event) (p : ℕ) (v : Bool) → is_accepted s events (Step p v) ≡ is_there moves s events p
+
+-- A failure is accepted exactly of a process that has neither failed nor is down.
+abbrev pub FailsAreOfWhomStands : Type 0
+FailsAreOfWhomStands = (s : Setup) (events : List Event) (p : ℕ) → is_accepted s events (Fail p) ≡ is_there stands s events p

@@ -1,0 +1,210 @@
+//! A run that is audited while it is made.
+ghost use Rattle.std.specs.Prelude.{◌≡◌, ◌+◌, ◌*◌, ◌^◌, ◌<◌, ◌≤◌, ◌∷◌, [], true, false, cond, List, IfOk, None, Some, Ok, length, map};
+ghost use Rattle.plain_store.specs.Setups.{checked};
+ghost use Rattle.record.specs.declared.Event.{Event as Happening};
+ghost use Rattle.record.specs.declared.Event.TheVariants.{Fail, Step};
+ghost use Rattle.record.specs.Given.{is_event};
+ghost use Rattle.record.specs.Entries.{Past};
+ghost use Rattle.record.specs.Records.{is_call, placed};
+ghost use Rattle.process.specs.Telling.{marks_told};
+ghost use Rattle.world.specs.Cores.{taking};
+ghost use Rattle.auditor.specs.Hearing.{HasHeard, IsHeard};
+ghost use Rattle.sweeper.specs.Runners.{Follows, RunsOn, due};
+ghost use Rattle.sweeper.specs.Sweeps.{is_accepted};
+
+use auditor::{Auditor, Law};
+use plain_store::{NestedTypes, Setup};
+use record::Event;
+use safe_number::Access;
+use std::alloc::{AllocError, Global};
+use std::marker::Model;
+use world::{Core, Effect, Told};
+
+/// The first entry of a run that breaks a law, counted from 0, and the law.
+#[derive(Clone, Copy, Debug, PartialEq, Eq)]
+pub(crate) struct BadEntry {
+    pub entry: u64,
+    pub law: Law,
+}
+
+/// A run under way: a core, which makes its events, and an auditor, which hears each entry as it is made. Nothing keeps
+/// the entries; so it counts the commands taken, whose places the entries have.
+///
+/// An auditor's answer is the first law after `Safe` that an entry breaks. None comes, since the records of events are
+/// good; if one came, it would be noted all the same, under this name, as there is no record to look back at.
+#[derive(Drop)]
+pub(crate) struct Runner {
+    alloc: Global,
+    processes: u8,
+    core: Core,
+    auditor: Auditor,
+    taken: u64,
+    entries: u64,
+    bad: Option<BadEntry>,
+}
+
+impl Model for Runner {
+    ghost use Rattle.sweeper.specs.Runners.{KeepsRunner, RunnerState};
+
+    ghost Value = { RunnerState };
+
+    ghost view = { λ r. record { core = r.core; auditor = r.auditor; taken = r.taken } };
+
+    ghost invariant = { λ r. KeepsRunner r.processes r.bad (record { core = r.core; auditor = r.auditor; taken = r.taken }) };
+}
+
+impl Runner {
+    /// A run in which nothing has happened. The one fault is want of memory.
+    pub fn new(alloc: Global, setup: &Setup) -> Result<Runner, AllocError>
+        requires { checked setup.now ≡ Ok tt }
+        ensures setup { IfOk result (λ r. r.core.setup ≡ setup.now) }
+        ensures follows { IfOk result (λ r. Follows r []) }
+        ensures few { IfOk result (λ r. due r ≤ 16) }
+    {
+        Ok(Runner {
+            alloc,
+            processes: setup.processes,
+            core: Core::new(alloc, setup)?,
+            auditor: Auditor::new(alloc, setup)?,
+            taken: 0,
+            entries: 0,
+            bad: None,
+        })
+    }
+
+    /// Becomes as the other, of the same setup, so that its run goes on from here more than once. It takes no memory.
+    pub fn copy_from(&mut self, other: &Runner)
+        requires { self.old.core.setup ≡ other.now.core.setup }
+        ensures { self.new ≡ other.now }
+    {
+        self.core.copy_from(&other.core);
+        self.auditor.copy_from(&other.auditor);
+        self.taken = other.taken;
+        self.entries = other.entries;
+        self.bad = other.bad;
+    }
+
+    /// How many processes there are.
+    pub fn processes(&self) -> u8
+        ensures { result ≡ self.now.core.setup.processes }
+    {
+        self.processes
+    }
+
+    /// The first bad entry; there is none.
+    pub fn bad(&self) -> Option<BadEntry>
+        ensures { result ≡ None }
+    {
+        self.bad
+    }
+
+    /// Whether an event would be made.
+    pub fn accepts(&self, event: &Event) -> bool
+        ensures { (events : List Happening) → Follows self.now events → result ≡ is_accepted self.now.core.setup events event.now }
+    {
+        self.core.refusal(event).is_none()
+    }
+
+    /// Makes an event, unless it is refused, and audits its entry; whether it was made.
+    pub fn make(&mut self, event: &Event) -> bool
+        requires room { due self.old + 16 < 2 ^ 64 }
+        ensures follows { RunsOn self.old self.new (λ events. event.now ∷ events) }
+        ensures accepted { (events : List Happening) → Follows self.old events → result ≡ is_accepted self.old.core.setup events event.now }
+        ensures unchanged { result ≡ false → self.new ≡ self.old }
+        ensures few { due self.new ≤ due self.old + cond (is_call event.now) 16 0 }
+        ensures setup { self.new.core.setup ≡ self.old.core.setup }
+    {
+        sound_event(event);
+        let mut effect = Effect::Steps(Told::Nothing);
+        let Ok(access) = self.core.event(event, &mut effect) else {
+            return false;
+        };
+        let marks = effect.marks(self.alloc, self.taken);
+        let law = self.auditor.hear_parts(event.process(), &access, &marks);
+        self.taken = more(self.taken, &effect);
+        self.bad = first_bad(self.bad, self.entries, law);
+        self.entries = self.entries.saturating_add(1);
+        true
+    }
+
+    /// The same of a step, which nearly all events are.
+    #[inline]
+    pub fn step(&mut self, process: u8, value: bool) -> bool
+        requires room { due self.old < 2 ^ 64 }
+        ensures follows { RunsOn self.old self.new (λ events. Step process value ∷ events) }
+        ensures accepted { (events : List Happening) → Follows self.old events → result ≡ is_accepted self.old.core.setup events (Step process value) }
+        ensures unchanged { result ≡ false → self.new ≡ self.old }
+        ensures few { due self.new ≤ due self.old }
+        ensures setup { self.new.core.setup ≡ self.old.core.setup }
+    {
+        let mut told = Told::Nothing;
+        let Ok(access) = self.core.step(process, value, &mut told) else {
+            return false;
+        };
+        let law = hear_step(
+            &mut self.auditor,
+            self.alloc,
+            process,
+            access,
+            &told,
+            self.taken,
+        );
+        self.taken = more(self.taken, &Effect::Steps(told));
+        self.bad = first_bad(self.bad, self.entries, law);
+        self.entries = self.entries.saturating_add(1);
+        true
+    }
+}
+
+/// What an auditor answers to the entry of a step, where a command that is taken gets this place. Most steps have no
+/// mark: for them none are made.
+#[inline]
+fn hear_step(
+    auditor: &mut Auditor,
+    alloc: Global,
+    process: u8,
+    access: Access,
+    told: &Told,
+    place: u64,
+) -> Option<Law>
+    ensures setup { result ≡ None → auditor.new.core.setup ≡ auditor.old.core.setup }
+    ensures heard { (past : Past) → HasHeard auditor.old past → IsHeard auditor.old.core.setup past (record { process = process; access = Some access; marks = map (placed place) (marks_told told.now) }) auditor.new result }
+{
+    let access = Some(access);
+    if matches!(told, Told::Nothing) {
+        return auditor.hear_parts(process, &access, &[]);
+    }
+    auditor.hear_parts(process, &access, &told.marks(alloc, place))
+}
+
+/// The first bad entry, after one more with this number, which breaks this law or none.
+#[inline]
+fn first_bad(bad: Option<BadEntry>, entry: u64, law: Option<Law>) -> Option<BadEntry>
+    ensures { law ≡ None → result ≡ bad }
+{
+    match law {
+        None => bad,
+        Some(law) => bad.or(Some(BadEntry { entry, law })),
+    }
+}
+
+/// How many commands were taken, after what an event leads to.
+fn more(taken: u64, effect: &Effect) -> u64
+    requires { taken + taking effect.now < 2 ^ 64 }
+    ensures { result ≡ taken + taking effect.now }
+{
+    if effect.reply().is_some() {
+        taken + 1
+    } else {
+        taken
+    }
+}
+
+/// Does nothing. Its contract says that what the event calls is a command.
+fn sound_event(event: &Event)
+    ensures { is_event event.now ≡ true }
+{
+    if let Event::Call(_, command) = event {
+        command.operands_are_sound();
+    }
+}

@@ -1,0 +1,110 @@
+//! A sweep: a runner goes along the events, and after each that is accepted another one goes on from there twice.
+ghost use Rattle.std.specs.Prelude.{◌≡◌, ◌+◌, ◌*◌, ◌^◌, ◌<◌, ◌≤◌, ◌++◌, ◌∷◌, [], ℕ, List, length, IfOk, Ok};
+ghost use Rattle.plain_store.specs.declared.Setup.{Setup as Made};
+ghost use Rattle.plain_store.specs.Setups.{checked};
+ghost use Rattle.record.specs.declared.Event.{Event as Happening};
+ghost use Rattle.record.specs.Records.{process_of};
+ghost use Rattle.sweeper.specs.Runners.{Follows, due};
+ghost use Rattle.sweeper.specs.Sweeps.{AreAllGood, Cut, IsSwept, cut as cut_of};
+ghost use Rattle.sweeper.specs.Tallies.{AreFew, Counts, HasSwept};
+
+use crate::runner::Runner;
+use crate::swept::Swept;
+use plain_store::{Command, Setup};
+use record::Event;
+use std::alloc::{AllocError, Global};
+
+/// More events or calls than any memory holds. Up to so many no count wraps.
+const MOST: usize = 1 << 56;
+
+/// What is found in all runs in which a process fails after one accepted event, where it has neither failed before
+/// nor is down: its memory unit makes its steps, it is restarted, everybody goes on in rounds, and the calls follow in
+/// their order; there is one run for each value that the steps have as their flick. Each entry of each run is
+/// audited. The one fault is want of memory; nothing is taken after the first event.
+pub fn sweep(
+    alloc: Global,
+    setup: &Setup,
+    events: &[Event],
+    calls: &[(u8, Command)],
+) -> Result<Swept, AllocError>
+    requires { checked setup.now ≡ Ok tt }
+    ensures swept { IfOk result (λ found. IsSwept setup.now events.now calls.now found) }
+    ensures good { IfOk result (λ found. AreAllGood found) }
+{
+    if MOST < events.len() || MOST < calls.len() {
+        return Err(AllocError);
+    }
+    let mut sweeper = Sweeper::new(alloc, setup)?;
+    for event in events {
+        sweeper.event(event, calls);
+    }
+    Ok(sweeper.found)
+}
+
+/// A sweep under way: the runner that goes along the events, and the one that makes the runs.
+#[derive(Drop)]
+struct Sweeper {
+    walker: Runner,
+    runner: Runner,
+    /// How many events were accepted.
+    number: u64,
+    found: Swept,
+}
+
+impl Sweeper {
+    /// Before the first event.
+    fn new(alloc: Global, setup: &Setup) -> Result<Sweeper, AllocError>
+        requires { checked setup.now ≡ Ok tt }
+        ensures swept { IfOk result (λ sweeper. (calls : List (ℕ × Command)) → HasSwept setup.now calls [] sweeper.walker sweeper.runner sweeper.found) }
+        ensures due { IfOk result (λ sweeper. due sweeper.walker ≤ 16) }
+        ensures number { IfOk result (λ sweeper. sweeper.number ≡ 0) }
+        ensures few { IfOk result (λ sweeper. AreFew 0 sweeper.found) }
+    {
+        Ok(Sweeper {
+            walker: Runner::new(alloc, setup)?,
+            runner: Runner::new(alloc, setup)?,
+            number: 0,
+            found: Swept::none(),
+        })
+    }
+
+    /// The runner goes along one more event, and the runs that are cut after it are made.
+    fn event(&mut self, event: &Event, calls: &[(u8, Command)])
+        requires due { due self.old.walker + 16 * length calls.now + 32 < 2 ^ 64 }
+        requires number { self.old.number < 2 ^ 63 }
+        requires few { AreFew (2 ^ 62) self.old.found }
+        requires setup { self.old.runner.core.setup ≡ self.old.walker.core.setup }
+        ensures swept { (s : Made) (before : List Happening) → HasSwept s calls.now before self.old.walker self.old.runner self.old.found → HasSwept s calls.now (event.now ∷ before) self.new.walker self.new.runner self.new.found }
+        ensures due { due self.new.walker ≤ due self.old.walker + 16 }
+        ensures number { self.new.number ≤ self.old.number + 1 }
+        ensures few { (n : ℕ) → AreFew n self.old.found → AreFew (n + 2) self.new.found }
+    {
+        let cut = self.number;
+        if !self.walker.make(event) {
+            return;
+        }
+        self.number += 1;
+        let process = event.process();
+        if !self.walker.accepts(&Event::Fail(process)) {
+            return;
+        }
+        self.run(cut, process, false, calls);
+        self.run(cut, process, true, calls);
+    }
+
+    /// The run in which a process fails here, and that goes on by this value.
+    fn run(&mut self, cut: u64, process: u8, value: bool, calls: &[(u8, Command)])
+        requires due { due self.old.walker + 16 * length calls.now + 16 < 2 ^ 64 }
+        requires few { AreFew (2 ^ 63) self.old.found }
+        requires setup { self.old.runner.core.setup ≡ self.old.walker.core.setup }
+        ensures counts { (event : Happening) (before : List Happening) (cs : List Cut) → process ≡ process_of event → Follows self.old.walker (event ∷ before) → Counts self.old.walker.core.setup cs self.old.found → Counts self.old.walker.core.setup (cs ++ cut_of self.old.walker.core.setup calls.now event before value ∷ []) self.new.found }
+        ensures few { (n : ℕ) → AreFew n self.old.found → AreFew (n + 1) self.new.found }
+        ensures setup { self.new.runner.core.setup ≡ self.old.walker.core.setup }
+        ensures walker { self.new.walker ≡ self.old.walker }
+        ensures number { self.new.number ≡ self.old.number }
+    {
+        self.runner.copy_from(&self.walker);
+        let stuck = self.runner.run(process, value, calls);
+        self.found = self.found.with_run(cut, value, stuck, self.runner.bad());
+    }
+}

@@ -1,0 +1,72 @@
+//! What is found in the runs of a sweep.
+ghost use Rattle.std.specs.Prelude.{◌≡◌, ◌+◌, ◌^◌, ◌<◌, ◌≤◌, None, option_map};
+ghost use Rattle.sweeper.specs.Tallies.{AreFew, bad_run as bad_run_of, counted};
+
+use crate::runner::BadEntry;
+use auditor::Law;
+
+/// A run of a sweep whose record is bad. It is printed as `bad cut <cut> value <0 or 1> entry <entry> <law>`.
+#[derive(Clone, Copy, Debug, PartialEq, Eq)]
+pub struct BadRun {
+    /// The event after which the process failed, counted from 0 among those that are accepted.
+    pub cut: u64,
+    /// The flick of the steps after it.
+    pub value: bool,
+    /// The lowest entry that breaks a law, counted from 0.
+    pub entry: u64,
+    /// The first law that it breaks.
+    pub law: Law,
+}
+
+/// What a sweep finds. It is printed as `sweep runs <runs> good <good> stuck <stuck>`, and on a second line the first bad
+/// run, if there is one.
+#[derive(Clone, Copy, Debug, PartialEq, Eq)]
+pub struct Swept {
+    /// How many runs there are.
+    pub runs: u64,
+    /// How many have a good record.
+    pub good: u64,
+    /// How many have met a limit.
+    pub stuck: u64,
+    pub first_bad: Option<BadRun>,
+}
+
+impl Swept {
+    /// Before the first run.
+    pub(crate) fn none() -> Swept
+        ensures { result ≡ record { runs = 0; good = 0; stuck = 0; first_bad = None } }
+    {
+        Swept {
+            runs: 0,
+            good: 0,
+            stuck: 0,
+            first_bad: None,
+        }
+    }
+
+    /// One run more: where it is cut, by which flick it goes on, whether it is stuck, and its first bad entry.
+    pub(crate) fn with_run(self, cut: u64, value: bool, stuck: bool, bad: Option<BadEntry>) -> Swept
+        requires { AreFew (2 ^ 63) self }
+        ensures { result ≡ counted self cut value stuck bad }
+    {
+        Swept {
+            runs: self.runs + 1,
+            good: self.good + u64::from(bad.is_none()),
+            stuck: self.stuck + u64::from(stuck),
+            first_bad: self.first_bad.or(bad_run(cut, value, bad)),
+        }
+    }
+}
+
+/// The bad run, if an entry is bad.
+fn bad_run(cut: u64, value: bool, bad: Option<BadEntry>) -> Option<BadRun>
+    ensures { result ≡ option_map (bad_run_of cut value) bad }
+{
+    let BadEntry { entry, law } = bad?;
+    Some(BadRun {
+        cut,
+        value,
+        entry,
+        law,
+    })
+}
