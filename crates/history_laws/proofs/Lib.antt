@@ -40,6 +40,7 @@ pub mod DataAlways
 pub mod OpenVersions
 pub mod VersionReads
 pub mod NewestHeld
+pub mod ReadStamps
 pub mod ImageReads
 pub mod TrueMarks
 pub mod DataMore

@@ -2,18 +2,19 @@
 use Rattle.std.specs.Prelude.{◌≡◌, ℕ, ◌+◌, ◌<◌, ◌≤◌, ◌∷◌, take, slice_get, Some, IsTrue, IsFalse}
 use Rattle.safe_number.specs.declared.Access.{Access}
 use Rattle.store_image.specs.Reading.{IsImageOf}
-use Rattle.plain_store.specs.Setups.{callers_of, opening_store}
+use Rattle.plain_store.specs.Setups.{callers_of}
 use Rattle.plain_store.specs.Store.{reply_to}
 use Rattle.record.specs.declared.history.Taken.{Taken}
 use Rattle.record.specs.Calls.{read_so_far}
 use Rattle.record.specs.Entries.{own, since, is_called}
 use Rattle.record.specs.Given.{EachEntryGiven, EachPastGiven}
-use Rattle.record.specs.Headline.{count_changes, ends_read, is_image}
+use Rattle.record.specs.Headline.{ends_read, is_image}
 use Rattle.record.specs.Histories.{history, store_after}
 use Rattle.record.specs.Newest.{is_somebody_inside, versions_held}
 use Rattle.record.specs.Program.{max_of, newest_stamp}
 use Rattle.record.specs.Registers.{bytes_of_bits, image_bytes, width}
 use Rattle.record.specs.Unit.{last_read}
+use Rattle.history_laws.specs.Stamps.{changes_taken}
 
 -- The image that a process reads inside is that of the store after the history so far.
 abbrev pub ImagesAreOfTheStore : Type 0
@@ -27,11 +28,11 @@ RepliesAreThoseOfTheirPlaces = EachPastGiven λ s past. (k : ℕ) (t : Taken) �
 
 -- There are never more changes than the greatest stamp.
 abbrev pub ChangesFitTheStamps : Type 0
-ChangesFitTheStamps = EachPastGiven λ s past. count_changes (opening_store s) (history s past) ≤ max_of s.stamp_bits
+ChangesFitTheStamps = EachPastGiven λ s past. changes_taken s past ≤ max_of s.stamp_bits
 
 -- While nobody is inside, the greatest committed stamp is the number of changes.
 abbrev pub NewestStampCountsTheChanges : Type 0
-NewestStampCountsTheChanges = EachPastGiven λ s past. IsFalse (is_somebody_inside s past) → newest_stamp (versions_held s past) ≡ count_changes (opening_store s) (history s past)
+NewestStampCountsTheChanges = EachPastGiven λ s past. IsFalse (is_somebody_inside s past) → newest_stamp (versions_held s past) ≡ changes_taken s past
 
 -- In version 2 the numbers of a process's commands ascend in the history.
 abbrev pub NumbersAscend : Type 0

@@ -1,2 +1,3 @@
 pub mod DataLaws
 pub mod HistoryLaws
+pub mod Stamps

@@ -3,6 +3,7 @@
 //! flick. Where a law speaks of a store, the names, values and counts of the events are what their types
 //! allow.
 ghost use Rattle.record.specs.Headline.{AskAnswersTheLatestChange, AskTellsOfCutCalls, Headline, HeadlineThroughout, ImagesAreRead, MutualExclusion, NewestIsTheHistorys, NoOvertaking, OneHistory, StampsFullAfterAllChanges, VersionReadsAreUnoverlapped, VersionsAreWholeOutside};
+ghost use Rattle.history_laws.specs.Stamps.{HistoryStandsWhileInside, StampsCountTheChanges};
 ghost use Rattle.history_laws.specs.DataLaws.{ChangesFitTheStamps, ImagesAreOfTheStore, NewestStampCountsTheChanges, NumbersAscend, RepliesAreThoseOfTheirPlaces};
 
 /// No read of a commit bit, of a stamp or of an image is overlapped by a write, and the bytes that a process
@@ -35,6 +36,13 @@ pub fn newest_is_the_historys()
     ensures image { NewestIsTheHistorys }
     ensures stamp { NewestStampCountsTheChanges }
     ensures whole { VersionsAreWholeOutside }
+{}
+
+/// The stamp that a call reads is the number of changes taken before what it takes: from the last read of a stamp
+/// until the command is taken. While a process is inside, itself or by its memory unit, nobody else takes a command.
+pub fn stamps_count_the_changes()
+    ensures stamps { StampsCountTheChanges }
+    ensures history { HistoryStandsWhileInside }
 {}
 
 /// `Ask` answers the number of the asker's latest call that changed the store before its place, or 0. So a

@@ -9,7 +9,7 @@ mod history;
 
 pub use data::{
     ask_tells_of_changes, headline, newest_is_the_historys, one_history,
-    stamps_are_full_after_all_changes, versions_are_read_whole,
+    stamps_are_full_after_all_changes, stamps_count_the_changes, versions_are_read_whole,
 };
 pub use history::{
     answers_are_taken, cut_calls_are_not_answered, keeps_order, taken_at_its_place, taken_once,

@@ -12,6 +12,7 @@ ghost use Rattle.process.specs.Steps.{IsAt, is_at_door, may_step};
 
 mod advance;
 mod cut;
+mod refusals;
 mod served;
 
 use bakery::{Door, Leaving};

@@ -11,6 +11,7 @@ use Rattle.record.specs.declared.refusals.Refusal.{Refusal}
 use Rattle.record.specs.declared.refusals.Refusal.TheVariants.{CallsFull}
 use Rattle.record.specs.Records.{is_call, past_of, process_of, refused, refused_at}
 use Rattle.process.specs.Processes.{ProcessState, stage_kept}
+use Rattle.process.specs.Refusals.{refusal_of}
 use Rattle.world.specs.Changes.{pending_in, told, with_taken}
 use Rattle.world.specs.Cores.{CoreGoesOn, CoreRefuses, CoreState, CoreWalks, KeepsCore, call_in, with_history}
 use Rattle.world.specs.Events.{IsRefused}
@@ -18,7 +19,7 @@ use Rattle.flicks.specs.Flicks.{FlickState}
 use Rattle.world.specs.Seats.{Seat}
 use Rattle.world.specs.Shows.{Shows, WorldState}
 use Rattle.world.proofs.WorldEnds.{IsUsed, index-in}
-use Rattle.world.proofs.WorldNew.{refused-full}
+use Rattle.world.proofs.WorldNew.{refused-told}
 use Rattle.world.proofs.WorldOpen.{is-open, opened}
 use Rattle.world.proofs.WorldWalks.{keeps_of, room_of, walks-then}
 
@@ -33,14 +34,12 @@ shows_of c d taken events is h = subst (λ (x : CoreState). Shows (with_history 
 pub keeps_core : (c : CoreState) (taken : List Taken) (events : List Event) → Shows (with_history c taken) events → KeepsCore c
 keeps_core c taken events shows = record { taken = taken; events = events; shows = shows }
 
--- an event that the stage of its process allows is refused for the number of its calls alone
-pub core_full : (c d : CoreState) (what : Event) (i : ℕ) (seat : Seat) (now : ProcessState) (full : Bool) → c ≡ d → i ≡ process_of what → i < length c.seats → seat ≡ slice_index_or c.seats i seat → now ≡ seat.process → refused_at what (stage_kept now.kept) ≡ None →
-    (is_call what && (c.setup.version == 2) && nat_le 65535 now.number) ≡ full → CoreRefuses d what (cond full (Some CallsFull) None)
-core_full c d what i seat now full is own inside seat_is same none counted taken events shows =
+-- an event of a process that there is is refused as its seat tells
+pub core_told : (c d : CoreState) (what : Event) (i : ℕ) (seat : Seat) (now : ProcessState) → c ≡ d → i ≡ process_of what → i < length c.seats → seat ≡ slice_index_or c.seats i seat → now ≡ seat.process → CoreRefuses d what (refusal_of now what)
+core_told c d what i seat now is own inside seat_is same taken events shows =
     let inside : process_of what < length c.seats = omega (arith, own, inside) in
     ap (λ (x : CoreState). refused x.setup (past_of x.setup events) what) (sym is)
-    ∙ refused-full (with_history c taken) events what full seat seat (shows_of c d taken events is shows) inside (seat_is ∙ ap (λ k. slice_index_or c.seats k seat) own) (ap (λ (now : ProcessState). refused_at what (stage_kept now.kept)) (sym same) ∙ none)
-    (ap (λ (now : ProcessState). is_call what && (c.setup.version == 2) && nat_le 65535 now.number) (sym same) ∙ counted)
+    ∙ refused-told (with_history c taken) events what seat seat (shows_of c d taken events is shows) inside (seat_is ∙ ap (λ k. slice_index_or c.seats k seat) own) ∙ ap (λ (now : ProcessState). refusal_of now what) (sym same)
 
 -- the process of an event that is not refused: there is one, below 16
 pub core_in : (c d : CoreState) (what : Event) → KeepsCore c → c ≡ d → CoreRefuses d what None → (process_of what < length c.seats) × (process_of what < 16)

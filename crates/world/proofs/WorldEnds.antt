@@ -19,7 +19,8 @@ use Rattle.record.specs.Places.{enter}
 use Rattle.record.specs.Records.{entry_of, past_of, process_of}
 use Rattle.laws.specs.Doings.{Doing, Runs, call, doing}
 use Rattle.process.specs.declared.told.Told.{Told}
-use Rattle.world.specs.Changes.{is_pending, next_number, pending, pending_in, told, waiting_in, with_taken}
+use Rattle.process.specs.Refusals.{next_number}
+use Rattle.world.specs.Changes.{is_pending, pending, pending_in, told, waiting_in, with_taken}
 use Rattle.world.specs.Events.{GoesOn, IsRefused, KeepsWorld}
 use Rattle.process.specs.Processes.{kept_at, stage_kept}
 use Rattle.process.specs.Processes as kept
@@ -183,6 +184,10 @@ call-on w capacity p i command seat then number u given counted is events shows 
 
 few-calls : (n : ℕ) → nat_le 65535 n ≡ false → n < 65535
 few-calls n h = grind (arith, nat_tests)
+
+-- the setup of a process is that of its world
+pub used-setup : (w : WorldState) (capacity : ℕ) (what : Event) (i : ℕ) (seat : Seat) → IsUsed w capacity what i seat → seat.process.setup ≡ w.setup
+used-setup w capacity what i seat u = let o = opened w u.keeps.events what u.keeps.shows u.ok in ap (λ (x : Seat). x.process.setup) (at-own w capacity what i seat u ∙ o.seat seat)
 
 -- in version 2 its number fits
 pub call-counts : (w : WorldState) (capacity : ℕ) (p i : ℕ) (command : Command) (seat : Seat) → IsUsed w capacity (event.Call p command) i seat → w.setup.version ≡ 2 → seat.process.number < 65535

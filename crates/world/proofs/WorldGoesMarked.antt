@@ -22,7 +22,8 @@ use Rattle.record.proofs.Width.{is_good}
 use Rattle.record.proofs.World.{refused-idle}
 use Rattle.laws.specs.Doings.{Doing, Runs, call, doing}
 use Rattle.laws.proofs.FrameEvents.{is-waiting}
-use Rattle.world.specs.Changes.{is_pending, next_number, pending, pending_in, told, waiting_in}
+use Rattle.process.specs.Refusals.{next_number}
+use Rattle.world.specs.Changes.{is_pending, pending, pending_in, told, waiting_in}
 use Rattle.world.specs.Events.{IsRefused}
 use Rattle.world.specs.Seats.{Seat, seat_of, with_kept}
 use Rattle.process.specs.Processes.{kept_at, stage_kept}

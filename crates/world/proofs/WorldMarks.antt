@@ -25,7 +25,8 @@ use Rattle.laws.proofs.Frame.{own-own}
 use Rattle.laws.proofs.FrameInside.{stage-is}
 use Rattle.laws.proofs.FrameSteps.{doing-above}
 use Rattle.laws.proofs.Theorems.{less, not_less}
-use Rattle.world.specs.Changes.{next_number, told, waiting_in, waits_in}
+use Rattle.process.specs.Refusals.{next_number}
+use Rattle.world.specs.Changes.{told, waiting_in, waits_in}
 use Rattle.world.specs.Seats.{Seat, seat_of, with_kept}
 use Rattle.process.specs.Processes.{Kept, kept_at, stage_kept}
 use Rattle.process.specs.Processes as kept

@@ -21,6 +21,7 @@ use Rattle.process.specs.Registers.{RegistersState, new_registers}
 use Rattle.world.specs.Changes.{pending_in}
 use Rattle.world.specs.Seats.{Seat, seat_of}
 use Rattle.process.specs.Processes.{stage_kept}
+use Rattle.process.specs.Refusals.{is_full, refusal_of}
 use Rattle.world.specs.Shows.{Shows, WorldState}
 use Rattle.world.proofs.RowsKept.{registers-open}
 use Rattle.process.proofs.Stages.{stage-process}
@@ -63,22 +64,11 @@ refused-beyond w events what shows beyond =
 pub at-seat : (w : WorldState) (events : List Event) (what : Event) → Shows w events → process_of what < length w.seats → IsOpen w events (process_of what)
 at-seat w events what shows inside = let many = many-seats w events shows in is-open w events (process_of what) shows (omega (arith, many, inside))
 
--- at its stage
-pub refused-there : (w : WorldState) (events : List Event) (what : Event) (r : Refusal) (seat d : Seat) → Shows w events → process_of what < length w.seats → seat ≡ slice_index_or w.seats (process_of what) d → refused_at what (stage_kept seat.process.kept) ≡ Some r →
-    refused w.setup (past_of w.setup events) what ≡ Some r
-refused-there w events what r seat d shows inside is h =
-    let s : Setup = w.setup in
-    let past : Past = past_of s events in
-    let many = many-seats w events shows in
-    let o : IsOpen w events (process_of what) = at-seat w events what shows inside in
-    let st : stage_kept seat.process.kept ≡ stage (process_of what) past = ap (λ (x : Seat). stage_kept x.process.kept) (is ∙ o.seat d) ∙ stage-process s (is_good s shows.good) events (process_of what) in
-    refused-by s past what true (Some r) (calls_full s past what) (is-below (process_of what) s.processes (omega (arith, many, inside))) (ap (refused_at what) (sym st) ∙ h) refl
-
--- or only for the number of its calls
-pub refused-full : (w : WorldState) (events : List Event) (what : Event) (full : Bool) (seat d : Seat) → Shows w events → process_of what < length w.seats → seat ≡ slice_index_or w.seats (process_of what) d → refused_at what (stage_kept seat.process.kept) ≡ None →
-    (is_call what && (w.setup.version == 2) && nat_le 65535 seat.process.number) ≡ full → refused w.setup (past_of w.setup events) what ≡ cond full (Some CallsFull) None
-refused-full w events what full seat d shows inside is h k =
-    refused-by s past what true None full (is-below p s.processes (omega (arith, many, inside))) (ap (refused_at what) (sym st) ∙ h) (sym (by (is_call what) (s.version == 2)) ∙ ap (λ (x : Seat). is_call what && (s.version == 2) && nat_le 65535 x.process.number) (sym seat_is) ∙ k)
+-- as its seat tells
+pub refused-told : (w : WorldState) (events : List Event) (what : Event) (seat d : Seat) → Shows w events → process_of what < length w.seats → seat ≡ slice_index_or w.seats (process_of what) d → refused w.setup (past_of w.setup events) what ≡ refusal_of seat.process what
+refused-told w events what seat d shows inside is =
+    refused-by s past what true (refused_at what (stage_kept seat.process.kept)) (is_full seat.process.setup seat.process.number what) (is-below p s.processes (omega (arith, many, inside))) (ap (refused_at what) (sym st))
+    (sym (by (is_call what) (s.version == 2)) ∙ ap (λ (x : Seat). is_full x.process.setup x.process.number what) (sym seat_is))
   where
     s : Setup
     s = w.setup
@@ -109,5 +99,9 @@ refused-full w events what full seat d shows inside is h k =
 -- a step, by the stage alone
 pub refused-step : (w : WorldState) (events : List Event) (p : ℕ) (flick : Bool) (r : Option Refusal) (seat d : Seat) → Shows w events → p < length w.seats → seat ≡ slice_index_or w.seats p d → refused_at (Step p flick) (stage_kept seat.process.kept) ≡ r →
     refused w.setup (past_of w.setup events) (Step p flick) ≡ r
-refused-step w events p flick (Some r) seat d shows inside is h = refused-there w events (Step p flick) r seat d shows inside is h
-refused-step w events p flick None seat d shows inside is h = refused-full w events (Step p flick) false seat d shows inside is h refl
+refused-step w events p flick r seat d shows inside is h =
+    refused-told w events (Step p flick) seat d shows inside is ∙ ap (λ (o : Option Refusal). elim o as (λ _. Option Refusal) [ Some x ↦ Some x | None ↦ None ]) h ∙ same r
+  where
+    same : (o : Option Refusal) → (elim o as (λ _. Option Refusal) [ Some x ↦ Some x | None ↦ None ]) ≡ o
+    same (Some x) = refl
+    same None = refl

@@ -47,7 +47,3 @@ waiting_in seats = map (waits_in seats) (range_with_len 0 16)
 abbrev pub with_taken : List Taken → ℕ → Command → ℕ → Option Reply → List Taken
 with_taken taken p command number None = taken
 with_taken taken p command number (Some r) = taken ++ record { process = p; command = command; reply = r; number = number } ∷ []
-
--- the number of the call that comes next, in version 2 one more; in version 1 always 0
-abbrev pub next_number : Setup → ℕ → ℕ
-next_number s number = cond (s.version == 2) (number + 1) 0

@@ -21,10 +21,6 @@ entry_with p act = record { process = p; access = act.access; marks = act.marks 
 abbrev pub IsRefused : WorldState → Event → Option Refusal → Type 0
 IsRefused w event refusal = (events : List Event) → Shows w events → refused w.setup (past_of w.setup events) event ≡ refusal
 
--- a refusal that no memory would have spared
-abbrev pub WantsNoMemory : Refusal → Type 0
-WantsNoMemory refusal = refusal ≡ Memory → ⊥
-
 -- the act is that of the entry that the event adds
 abbrev pub Adds : WorldState → Event → ℕ → Act → Type 0
 Adds w event p act = (events : List Event) → Shows w events → entry_of w.setup (past_of w.setup events) event ≡ Some (entry_with p act)

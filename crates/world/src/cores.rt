@@ -13,14 +13,14 @@ ghost use Rattle.process.specs.declared.told.Effect.TheVariants.{Steps};
 ghost use Rattle.process.specs.Telling.{act_of};
 ghost use Rattle.world.specs.Changes.{pending_in};
 ghost use Rattle.world.specs.Cores.{CoreGoesOn, CoreMakes, CoreRefuses, CoreSteps, CoreWalks, call_in, taking, with_history};
-ghost use Rattle.world.specs.Events.{Adds, WantsNoMemory, stage_in};
+ghost use Rattle.process.specs.Refusals.{WantsNoMemory};
+ghost use Rattle.world.specs.Events.{Adds, stage_in};
 ghost use Rattle.world.specs.Shows.{Shows};
 ghost use Rattle.world.specs.Walks.{bits_within_at};
 
 mod copies;
 
 use crate::queue::listed;
-use crate::refusals::{is_full, number_after, refusal_at};
 use crate::seat::Seat;
 use crate::seats::{is_occupied, is_queued, tell, waiting, waits};
 use flicks::Flicks;
@@ -142,14 +142,7 @@ impl Core {
         if self.seats.len() <= at {
             return Some(Refusal::NoProcess);
         }
-        let process = self.seats[at].process();
-        if let Some(refusal) = refusal_at(event, process.stage()) {
-            return Some(refusal);
-        }
-        if is_full(event, self.setup.version, process.number()) {
-            return Some(Refusal::CallsFull);
-        }
-        None
+        self.seats[at].process().refusal(event)
     }
 
     /// One event, unless it is refused, and in `effect` what it leads to; the access of a step. The command that it takes,
@@ -316,7 +309,7 @@ impl Core {
     {
         let waiting = waiting(&self.seats);
         let seat = &mut self.seats[usize::from(process)];
-        let number = number_after(&self.setup, seat.process().number());
+        let number = seat.process().next_number();
         seat.call(*command, number, waiting);
     }
 

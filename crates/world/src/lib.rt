@@ -4,7 +4,6 @@
 
 mod cores;
 mod queue;
-mod refusals;
 mod seat;
 mod seats;
 mod world;

@@ -1,0 +1,223 @@
+-- What the next access of a seat's process makes of what the seat knows, and of the words.
+use Rattle.std.proofs.Common.{◌≡◌, ℕ, ◌<◌, ◌==◌, Bool, true, false, cond, List, [], ◌∷◌, length, map, set, refl, sym, ap, ◌∙◌, subst, Option, Some, None, append-nil, eq-eqb, get_or-set_same, get_or-set_other}
+use Rattle.std.proofs.lemmas.Bool.{true≢false}
+use Rattle.std.specs.Prelude.{slice_index, fold}
+use mathlib.Core.Option.{some}
+use lib.ListN.{get_elem?}
+use Rattle.safe_bit.specs.Cell.{Cell, cell_after}
+use Rattle.safe_bit.specs.declared.Move.{Move}
+use Rattle.safe_bit.specs.declared.Move.TheVariants.{BeginWrite, EndWrite, BeginRead, EndRead, Settle}
+use Rattle.safe_number.specs.declared.Access.{Access}
+use Rattle.plain_store.specs.declared.Setup.{Setup}
+use Rattle.record.specs.declared.events.Event.{Event}
+use Rattle.record.specs.declared.events.Event.TheVariants as event
+use Rattle.record.specs.declared.marks.Mark.{Mark}
+use Rattle.record.specs.declared.marks.Mark.TheVariants as mark
+use Rattle.record.specs.declared.refusals.Refusal.{Refusal}
+use Rattle.record.specs.declared.refusals.Refusal.TheVariants.{NotRunning}
+use Rattle.record.specs.Calls.{last_command, call_number}
+use Rattle.record.specs.Closings.{Withdraws, Settles, Frees, Lowers, Quit, Ended}
+use Rattle.record.specs.Entries.{Entry, Past, own}
+use Rattle.record.specs.Histories.{history}
+use Rattle.record.specs.Moves.{same_bit, valued}
+use Rattle.record.specs.Parts.{Part, is_over}
+use Rattle.record.specs.Parts as part
+use Rattle.record.specs.Places.{Place, value_of}
+use Rattle.record.specs.Records.{past_of, placed}
+use Rattle.record.specs.Scripts.{Call}
+use Rattle.record.specs.Stages.{stage, stage_after}
+use Rattle.record.proofs.Accepted.{accepted_adds}
+use Rattle.record.proofs.Local.{command-plain, calls-plain}
+use Rattle.record.proofs.Singles.{is_write}
+use Rattle.record.proofs.Staging.{stage-placed}
+use Rattle.record.proofs.Width.{IsGood}
+use Rattle.laws.specs.Doings.{Doing, Rests, Lies, Runs, Closes, call, doing}
+use Rattle.laws.specs.Held.{IsThere, cell_held}
+use Rattle.laws.specs.Steps.{IsLive, marks_with, next_of}
+use Rattle.laws.proofs.Frame.{own-own}
+use Rattle.laws.proofs.FrameCells.{OnCopy, on-copy}
+use Rattle.laws.proofs.HeldCells.{held-entry}
+use Rattle.laws.proofs.HeldThere.{access_there}
+use Rattle.laws.proofs.Steps.{StepIs, step_is}
+use Rattle.process.specs.Processes.{kept_at, kept_in}
+use Rattle.process.specs.Steps.{may_step}
+use Rattle.process.proofs.Stages.{is-at}
+use Rattle.process.proofs.Turns.{step-refused}
+use Rattle.board.specs.Agreement.{Knows, Shows}
+use Rattle.history_laws.specs.Stamps.{changes_taken}
+use Rattle.board.specs.Calls.{Calls, calls_after, calls_of, changes_of}
+use Rattle.board.specs.Views.{OwnView, ViewState, own_view, refusal_in, with_step}
+use Rattle.board.specs.Words.{shown, word_of, words_in}
+use Rattle.board.proofs.WordNumbers.{one_bit, one_word, word_below}
+use Rattle.board.proofs.Along.{Along, along_entry, kept}
+use Rattle.board.proofs.Happenings.{calls_own, given_more, past_after, refused_is}
+
+-- What is known then.
+
+mark-placed : (k j : ℕ) (t : Calls) (m : Mark) → calls_after k t (placed j m) ≡ calls_after k t m
+mark-placed k j t (mark.Called c) = refl
+mark-placed k j t (mark.Waiting n) = refl
+mark-placed k j t mark.Entered = refl
+mark-placed k j t (mark.Taken i r) = refl
+mark-placed k j t mark.Left = refl
+mark-placed k j t (mark.Answered a) = refl
+mark-placed k j t mark.Failed = refl
+mark-placed k j t (mark.Settled v) = refl
+mark-placed k j t mark.Down = refl
+mark-placed k j t mark.Withdrew = refl
+mark-placed k j t mark.Restarted = refl
+
+-- the calls do not look at the places in the history
+fold-placed : (k j : ℕ) (t : Calls) (ms : List Mark) → fold (calls_after k) t (map (placed j) ms) ≡ fold (calls_after k) t ms
+fold-placed k j t [] = refl
+fold-placed k j t (m ∷ ms) = fold-placed k j (calls_after k t (placed j m)) ms ∙ ap (λ t. fold (calls_after k) t ms) (mark-placed k j t m)
+
+own_step : (s : Setup) (past : Past) (p : ℕ) (flick : Bool) (e : Entry) → (is : StepIs s past p flick e) →
+    own_view s (e ∷ past) p ≡ with_step s (own_view s past p) flick (value_of (valued s past flick is.next).how) (changes_taken s past)
+own_step s past p flick e is =
+    let value = value_of (valued s past flick is.next).how in
+    let place = changes_taken s past in
+    let mine : own p (e ∷ past) ≡ e ∷ own p past = own-own p e past is.process in
+    λ i. record {
+      process = p;
+      doing = is.does i;
+      command = (ap last_command mine ∙ command-plain e (own p past) is.plain) i;
+      number = (ap (call_number s) mine ∙ ap (λ n. cond (s.version == 2) n 0) (calls-plain e (own p past) is.plain)) i;
+      calls = (calls_own s p e past is.process ∙ ap (fold (calls_after place) (calls_of s p past)) is.marks ∙ fold-placed place (length (history s past)) (calls_of s p past) (marks_with s p (doing s p past) flick value)) i;
+    }
+
+-- It is accepted.
+
+goes-in : (c : Call) (at : Place) (x : Part) → is_over x ≡ false → may_step (kept_in c at x) ≡ true
+goes-in c at part.Raises h = refl
+goes-in c at (part.Asks j js ts) h = refl
+goes-in c at (part.TakesTicket t) h = refl
+goes-in c at (part.Lowers t) h = refl
+goes-in c at (part.Refuses q) h = refl
+goes-in c at (part.Waits t w ws) h = refl
+goes-in c at (part.AsksCommit k ks vs) h = refl
+goes-in c at (part.AsksStamp k ks vs b) h = refl
+goes-in c at (part.AsksImage vs) h = refl
+goes-in c at (part.WritesImage vs st) h = refl
+goes-in c at (part.WritesStamp vs st) h = refl
+goes-in c at (part.WritesCommit vs st) h = refl
+goes-in c at (part.Clears a) h = refl
+goes-in c at part.Over h = cc
+
+-- who has a next access may step
+pub may_go : (s : Setup) (p : ℕ) (d : Doing) (flick : Bool) (n : Access) → IsLive d → next_of s p d flick ≡ Some n → may_step (kept_at s p d) ≡ true
+may_go s p Rests flick n live h = cc
+may_go s p Lies flick n live h = cc
+may_go s p (Runs command number at) flick n live h = goes-in (call s p command number) at at.part live
+may_go s p (Closes command number (Withdraws w)) flick n live h = refl
+may_go s p (Closes command number (Settles f b begun taken is t)) flick n live h = refl
+may_go s p (Closes command number (Frees is w)) flick n live h = refl
+may_go s p (Closes command number (Lowers w)) flick n live h = refl
+may_go s p (Closes command number Quit) flick n live h = cc
+may_go s p (Closes command number Ended) flick n live h = cc
+
+not_refused : (s : Setup) (o : OwnView) (flick : Bool) → may_step (kept_at s o.process o.doing) ≡ true → refusal_in s o (event.Step o.process flick) ≡ None
+not_refused s o flick goes =
+    ap (λ r. elim r as (λ _. Option Refusal) [ Some x ↦ Some x | None ↦ None ]) (step-refused (kept_at s o.process o.doing) o.process flick ∙ ap (λ b. cond b None (Some NotRunning)) goes)
+
+-- what a process of a record is doing is not over
+pub live_doing : (s : Setup) → IsGood s → (events : List Event) (v : ViewState) → Knows s (past_of s events) v → IsLive v.own.doing
+live_doing s g events v k = subst IsLive (sym (ap (λ (o : OwnView). o.doing) k.own)) (is-at s g events v.own.process).live
+
+-- the entry of the next access of a seat's process
+pub record Made (s : Setup) (events : List Event) (v : ViewState) (flick : Bool) (n : Access) : Type 0 where
+  pub e : Entry
+  pub process : e.process ≡ v.own.process
+  pub access : e.access ≡ Some (valued s (past_of s events) flick n)
+  pub there : IsThere s n
+  pub on : past_of s (event.Step v.own.process flick ∷ events) ≡ e ∷ past_of s events
+  pub own : own_view s (e ∷ past_of s events) v.own.process ≡ with_step s v.own flick (value_of (valued s (past_of s events) flick n).how) (changes_taken s (past_of s events))
+  pub stage : stage v.own.process (e ∷ past_of s events) ≡ fold stage_after (stage v.own.process (past_of s events)) (marks_with s v.own.process v.own.doing flick (value_of (valued s (past_of s events) flick n).how))
+
+-- the stage of a process after its step
+stage-step : (s : Setup) (past : Past) (p : ℕ) (flick : Bool) (e : Entry) → (is : StepIs s past p flick e) → stage p (e ∷ past) ≡ fold stage_after (stage p past) (marks_with s p (doing s p past) flick (value_of (valued s past flick is.next).how))
+stage-step s past p flick e is =
+    ap (λ b. cond b (fold stage_after (stage p past) e.marks) (stage p past)) (eq-eqb e.process p is.process)
+    ∙ ap (fold stage_after (stage p past)) is.marks
+    ∙ stage-placed (length (history s past)) (stage p past) (marks_with s p (doing s p past) flick (value_of (valued s past flick is.next).how))
+
+some_access : (x y : Access) → Some x ≡ Some y → x ≡ y
+some_access x y h = cc
+
+pub made : (s : Setup) → IsGood s → (events : List Event) (v : ViewState) (flick : Bool) (n : Access) → Knows s (past_of s events) v → next_of s v.own.process v.own.doing flick ≡ Some n → Made s events v flick n
+made s g events v flick n k next =
+    let past = past_of s events in
+    let p = v.own.process in
+    let what = event.Step p flick in
+    let goes = not_refused s v.own flick (may_go s p v.own.doing flick n (live_doing s g events v k) next) in
+    let add = accepted_adds s g events what (refused_is s g events what v k refl ∙ goes) in
+    let e = add.0 in
+    let is : StepIs s past p flick e = step_is s g events p flick e add.1 in
+    let doing_is : doing s p past ≡ v.own.doing = ap (λ (o : OwnView). o.doing) (sym k.own) in
+    let n_is : is.next ≡ n = some_access is.next n (sym is.is_next ∙ ap (λ d. next_of s p d flick) doing_is ∙ next) in
+    let access : e.access ≡ Some (valued s past flick n) = is.access ∙ ap (λ x. Some (valued s past flick x)) n_is in
+    let there : IsThere s (valued s past flick n) = access_there s g events what e add.1 (valued s past flick n) access in
+    record {
+      e = e;
+      process = is.process;
+      access = access;
+      there = record { owner = there.owner; reader = there.reader; bit = there.bit };
+      on = past_after s events what e add.1;
+      own = own_step s past p flick e is ∙ (λ i. with_step s (sym k.own i) flick (value_of (valued s past flick (n_is i)).how) (changes_taken s past));
+      stage = stage-step s past p flick e is ∙ (λ i. fold stage_after (stage p past) (marks_with s p (doing_is i) flick (value_of (valued s past flick (n_is i)).how)));
+    }
+
+-- the view that knows a past
+abbrev pub seeing : Setup → Past → ViewState → ViewState
+seeing s past v = record v { own = own_view s past v.own.process; seen = changes_of s past }
+
+-- the rule then, if the words are those of the cells
+pub step_shows : (s : Setup) (events : List Event) (words words' : List ℕ) (views : List ViewState) (id : ℕ) (v : ViewState) (flick : Bool) (n : Access) → Shows s events words views → get_elem? views id ≡ some v → v.spent ≡ false →
+    (m : Made s events v flick n) → length words' ≡ words_in s → ((a : Access) → IsThere s a → slice_index words' (word_of s a) ≡ shown (cell_held s (m.e ∷ past_of s events) a)) →
+    Shows s (event.Step v.own.process flick ∷ events) words' (set views id (seeing s (m.e ∷ past_of s events) v))
+step_shows s events words words' views id v flick n f at live m size bits =
+    let past = past_of s events in
+    let w = seeing s (m.e ∷ past) v in
+    kept s events (event.Step v.own.process flick ∷ events) words words' views id v w f at live
+    (subst (Along s v.own.process past) (sym m.on) (along_entry s v.own.process past m.e m.process))
+    (record { spent = refl; process = refl; made = refl; joined = refl }) (given_more s events (event.Step v.own.process flick) f.given refl)
+    (subst (λ z. Knows s z w) (sym m.on) (record { below = (f.known id v at live).below; own = refl; seen = ([], sym (append-nil (changes_of s (m.e ∷ past)))) })) size
+    (λ a there. bits a there ∙ ap (λ z. shown (cell_held s z a)) (sym m.on))
+
+-- The cells.
+
+-- a read leaves what the words show
+shown-read : (c : Cell) (m : Move) → is_write m ≡ false → shown (cell_after c m) ≡ shown c
+shown-read c (BeginWrite v) h = cc
+shown-read c EndWrite h = cc
+shown-read c (Settle v) h = cc
+shown-read c BeginRead h = refl
+shown-read c (EndRead v) h = refl
+
+pub cells_read : (s : Setup) (past : Past) (e : Entry) (x a : Access) → e.access ≡ Some x → is_write x.how ≡ false → shown (cell_held s (e ∷ past) a) ≡ shown (cell_held s past a)
+cells_read s past e x a h r = ap shown (held-entry s past e x a h) ∙ by (same_bit a x)
+  where
+    by : (b : Bool) → shown (cond b (cell_after (cell_held s past a) x.how) (cell_held s past a)) ≡ shown (cell_held s past a)
+    by true = shown-read (cell_held s past a) x.how r
+    by false = refl
+
+-- a write changes the one word
+pub cells_written : (s : Setup) (past : Past) (words : List ℕ) (e : Entry) (x : Access) (new : ℕ) → e.access ≡ Some x → IsThere s x → length words ≡ words_in s → shown (cell_after (cell_held s past x) x.how) ≡ new →
+    ((a : Access) → IsThere s a → slice_index words (word_of s a) ≡ shown (cell_held s past a)) →
+    (a : Access) → IsThere s a → slice_index (set words (word_of s x) new) (word_of s a) ≡ shown (cell_held s (e ∷ past) a)
+cells_written s past words e x new h there size now bits a a_there = sym (ap shown (held-entry s past e x a h) ∙ by (same_bit a x) refl)
+  where
+    -- the cell of one bit is one cell, however the access goes on
+    moved : same_bit a x ≡ true → shown (cell_after (cell_held s past a) x.how) ≡ new
+    moved h = ap (λ (c : Cell). shown (cell_after c x.how)) (same_cell h) ∙ now
+      where
+        same_cell : same_bit a x ≡ true → cell_held s past a ≡ cell_held s past x
+        same_cell h =
+            let on : OnCopy x a.owner a.field a.bit a.reader = on-copy x a.owner a.field a.bit a.reader h in
+            λ i. cell_held s past (let y : Access = record { owner = on.owner i; field = on.field i; bit = on.bit i; reader = on.reader i; how = x.how } in y)
+
+    by : (b : Bool) → same_bit a x ≡ b → shown (cond b (cell_after (cell_held s past a) x.how) (cell_held s past a)) ≡ slice_index (set words (word_of s x) new) (word_of s a)
+    by true is =
+        moved is ∙ sym (ap (slice_index (set words (word_of s x) new)) (one_bit s a x is)
+        ∙ get_or-set_same words (word_of s x) new 0 (subst (λ k. word_of s x < k) (sym size) (word_below s x there)))
+    by false is = sym (get_or-set_other words (word_of s x) (word_of s a) new 0 (λ e. true≢false (sym (one_word s a x a_there there e) ∙ is)) ∙ bits a a_there)

@@ -1,0 +1,91 @@
+-- Driving a port: word steps, one after the other.
+use Rattle.std.proofs.Common.{◌≡◌, ℕ, suc, ◌<◌, Bool, true, refl, ap, ◌∙◌, subst, arith}
+use Rattle.plain_store.specs.declared.Answer.{Answer}
+use Rattle.plain_store.specs.declared.Setup.{Setup}
+use Rattle.flicks.specs.Flicks.{FlickState, after_flick, flick_of}
+use Rattle.record.specs.declared.stages.Stage.TheVariants as stage
+use Rattle.process.specs.Processes as kept
+use Rattle.process.specs.Processes.{Kept, stage_kept}
+use Rattle.process.specs.Steps.{may_step}
+use Rattle.process.specs.declared.told.Told.{Told}
+use Rattle.process.specs.declared.told.Told.TheVariants as tells
+use Rattle.board.specs.declared.driving.Driven.TheVariants as driven
+use Rattle.board.specs.Driving.{Drives, Walks, flicks_after}
+use Rattle.board.specs.Ports.{PortState, SamePort}
+use Rattle.board.specs.Views.{OwnView}
+use Rattle.board.specs.WordSteps.{LeadsTo, WordStep, goes}
+
+-- a process that is neither idle nor down has a next access
+pub goes_unless : (k : Kept) → (stage_kept k ≡ stage.Idle → ⊥) → (stage_kept k ≡ stage.Down → ⊥) → may_step k ≡ true
+goes_unless kept.Rests idle down = absurd (idle refl)
+goes_unless kept.Lies idle down = absurd (down refl)
+goes_unless (kept.AtDoor door) idle down = refl
+goes_unless (kept.AtData section) idle down = refl
+goes_unless (kept.Leaves answer fresh leaving) idle down = refl
+goes_unless (kept.Withdraws leaving) idle down = refl
+goes_unless (kept.Settles inside taken value unit) idle down = refl
+goes_unless (kept.Frees inside unit) idle down = refl
+
+-- so has one whose word step neither answers its call nor brings it down
+pub leads_on : (s : Setup) (told : Told) (o after : OwnView) → LeadsTo s told o after → ((answer : Answer) → told ≡ tells.Answers answer → ⊥) → (told ≡ tells.Lies → ⊥) → goes s after ≡ true
+leads_on s tells.Nothing o after h answers lies = h
+leads_on s (tells.Waits t) o after h answers lies = h
+leads_on s (tells.WaitsAndEnters t) o after h answers lies = h
+leads_on s tells.Enters o after h answers lies = h
+leads_on s (tells.Took reply) o after h answers lies = h
+leads_on s tells.Leaves o after h answers lies = h
+leads_on s (tells.Answers answer) o after h answers lies = absurd (answers answer refl)
+leads_on s (tells.Settles value) o after h answers lies = h
+leads_on s (tells.SettlesAndTakes value reply) o after h answers lies = h
+leads_on s tells.Lies o after h answers lies = absurd (lies refl)
+
+-- A port that is driven, after so many word steps, and has a next access.
+pub record IsDriven (old : PortState) (flicks : FlickState) (made : ℕ) (now : PortState) (flicks_now : FlickState) : Type 0 where
+  pub same : SamePort old now
+  pub walks : Walks old.setup flicks old.view made now.view
+  pub taken : flicks_now ≡ flicks_after made flicks
+  pub goes : goes old.setup now.view.own ≡ true
+
+-- it is one port then
+pub same_on : (old now new : PortState) → SamePort old now → SamePort now new → SamePort old new
+same_on old now new h k = (k.0 ∙ h.0, k.1 ∙ h.1, k.2 ∙ h.2)
+
+-- one word step more, with the next flick
+pub step_on : (old now new : PortState) (flicks flicks_now : FlickState) (made : ℕ) (flick : Bool) → IsDriven old flicks made now flicks_now → flick ≡ flick_of flicks_now → WordStep now.setup flick now.view new.view →
+    WordStep old.setup (flick_of (flicks_after made flicks)) now.view new.view
+step_on old now new flicks flicks_now made flick d flick_is step =
+    subst (λ s. WordStep s (flick_of (flicks_after made flicks)) now.view new.view) d.same.2 (subst (λ f. WordStep now.setup f now.view new.view) (flick_is ∙ ap flick_of d.taken) step)
+
+pub driven_on : (old now new : PortState) (flicks flicks_now flicks_then : FlickState) (made : ℕ) (flick : Bool) (told : Told) → IsDriven old flicks made now flicks_now → flick ≡ flick_of flicks_now → flicks_then ≡ after_flick flicks_now →
+    SamePort now new → WordStep now.setup flick now.view new.view → LeadsTo now.setup told now.view.own new.view.own → ((answer : Answer) → told ≡ tells.Answers answer → ⊥) → (told ≡ tells.Lies → ⊥) → IsDriven old flicks (suc made) new flicks_then
+driven_on old now new flicks flicks_now flicks_then made flick told d flick_is then_is same step leads answers lies = record {
+  same = same_on old now new d.same same;
+  walks = (now.view, d.walks, d.goes, step_on old now new flicks flicks_now made flick d flick_is step);
+  taken = then_is ∙ ap after_flick d.taken;
+  goes = leads_on old.setup told now.view.own new.view.own (subst (λ s. LeadsTo s told now.view.own new.view.own) d.same.2 leads) answers lies;
+}
+
+-- the last word step answers the call
+pub drives_to_answer : (old now new : PortState) (flicks flicks_now flicks_then : FlickState) (made turns : ℕ) (flick : Bool) (answer : Answer) → IsDriven old flicks made now flicks_now → made < turns → flick ≡ flick_of flicks_now → flicks_then ≡ after_flick flicks_now →
+    WordStep now.setup flick now.view new.view → LeadsTo now.setup (tells.Answers answer) now.view.own new.view.own → Drives old.setup old.view turns flicks (driven.Answered answer) new.view flicks_then
+drives_to_answer old now new flicks flicks_now flicks_then made turns flick answer d few flick_is then_is step leads = record {
+  made = suc made;
+  ends = (
+    omega (arith, few),
+    (now.view, d.walks, d.goes, step_on old now new flicks flicks_now made flick d flick_is step, subst (λ s. LeadsTo s (tells.Answers answer) now.view.own new.view.own) d.same.2 leads),
+  );
+  taken = then_is ∙ ap after_flick d.taken;
+}
+
+-- or brings the process down
+pub drives_down : (old now new : PortState) (flicks flicks_now flicks_then : FlickState) (made turns : ℕ) (flick : Bool) → IsDriven old flicks made now flicks_now → made < turns → flick ≡ flick_of flicks_now → flicks_then ≡ after_flick flicks_now →
+    WordStep now.setup flick now.view new.view → LeadsTo now.setup tells.Lies now.view.own new.view.own → Drives old.setup old.view turns flicks driven.Down new.view flicks_then
+drives_down old now new flicks flicks_now flicks_then made turns flick d few flick_is then_is step leads = record {
+  made = suc made;
+  ends = (
+    omega (arith, few),
+    (now.view, d.walks, d.goes, step_on old now new flicks flicks_now made flick d flick_is step),
+    (subst (λ s. LeadsTo s tells.Lies now.view.own new.view.own) d.same.2 leads).0,
+  );
+  taken = then_is ∙ ap after_flick d.taken;
+}

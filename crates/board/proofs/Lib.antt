@@ -1,0 +1,13 @@
+pub mod Accesses
+pub mod Along
+pub mod Begins
+pub mod Drives
+pub mod Happenings
+pub mod Leads
+pub mod Moves
+pub mod Neighbours
+pub mod Pendings
+pub mod PortLists
+pub mod Seats
+pub mod Ties
+pub mod WordNumbers

@@ -1,0 +1,285 @@
+-- Each load and each store of a port keeps the rule.
+use Rattle.std.proofs.Common.{◌≡◌, ℕ, Bool, true, false, cond, if◌then◌else◌, List, ◌∷◌, ◌++◌, set, refl, sym, ap, ◌∙◌, subst, Some, length-set}
+use Rattle.std.proofs.lemmas.List.{set-get_or}
+use Rattle.std.specs.Prelude.{Ok, fold, slice_index}
+use mathlib.Core.Option.{some}
+use lib.ListN.{get_elem?}
+use Rattle.atomic_table.specs.Table.{State, keeps, Allows}
+use Rattle.safe_bit.specs.Cell.{Cell, cell_after, read_answer}
+use Rattle.safe_bit.specs.SafeRule.{read_value}
+use Rattle.safe_bit.specs.declared.Move.{Move}
+use Rattle.safe_bit.specs.declared.Move.TheVariants.{BeginWrite, EndWrite, BeginRead, EndRead, Settle}
+use Rattle.reader_copies.specs.Written.{IsWrite}
+use Rattle.safe_number.specs.declared.Access.{Access}
+use Rattle.plain_store.specs.declared.Command.{Command}
+use Rattle.plain_store.specs.Setups.{checked}
+use Rattle.plain_store.specs.declared.Setup.{Setup}
+use Rattle.record.specs.declared.events.Event.{Event}
+use Rattle.record.specs.declared.events.Event.TheVariants as event
+use Rattle.record.specs.Closings.{Closing, Withdraws, Settles, Frees, Lowers, Quit, Ended}
+use Rattle.record.specs.Entries.{Past}
+use Rattle.record.specs.Given.{AreGiven}
+use Rattle.record.specs.Moves.{ended, moves_of, valued}
+use Rattle.record.specs.Parts.{Part, is_over}
+use Rattle.record.specs.Places.{Run, Writing, Reading, access_at, value_of}
+use Rattle.record.specs.Records.{past_of}
+use Rattle.record.specs.Registers.{opening_bit}
+use Rattle.record.specs.Scripts.{Call}
+use Rattle.record.specs.Stages.{stage, stage_after}
+use Rattle.record.proofs.Singles.{is_write, is_write-true}
+use Rattle.record.proofs.Width.{IsGood, is_good}
+use Rattle.laws.specs.Doings.{Doing, Rests, Lies, Runs, Closes, call, doing}
+use Rattle.laws.specs.Held.{cell_held}
+use Rattle.laws.specs.Steps.{IsLive, being_written, does_then, marks_with, next_of}
+use Rattle.laws.proofs.Ends.{ends_what_began}
+use Rattle.laws.proofs.FrameCells.{itself}
+use Rattle.laws.proofs.FrameSteps.{valued-write}
+use Rattle.laws.proofs.HeldCells.{held-entry, held_answers}
+use Rattle.process.proofs.Stages.{is-at, stage-process}
+use Rattle.board.specs.Agreement.{Agree, Knows, Shows, are_neighbours, is_pair}
+use Rattle.board.specs.Calls.{IsPrefix, changes_of}
+use Rattle.history_laws.specs.Stamps.{changes_taken, stamp_read}
+use Rattle.board.specs.Views.{MayAllHappen, OwnView, ViewState, at_events, own_view, stage_in, with_events, with_step}
+use Rattle.board.specs.Words.{closed_word, loaded, shown, stored, word_of}
+use Rattle.board.specs.WordSteps.{GoesOn, Loads, Makes, Stores}
+use Rattle.board.proofs.Along.{along_entry, prefix-trans, seen_along, set_at, set_set}
+use Rattle.board.proofs.Happenings.{events_apart, events_show, same_process_all}
+use Rattle.board.proofs.Neighbours.{one_more, read_more, written_reads}
+use Rattle.history_laws.proofs.ReadStamps.{stamps_count}
+use Rattle.board.proofs.Accesses.{Made, cells_read, cells_written, live_doing, made, seeing, step_shows}
+
+-- The begin of a read comes before its end.
+
+-- the same access as the end of its read
+abbrev pub ending : Access → Access
+ending a = record a { how = EndRead false }
+
+some_access : (x y : Access) → Some x ≡ Some y → x ≡ y
+some_access x y h = cc
+
+no_read : (b : Bool) (v : Bool) → (if b then BeginWrite v else EndWrite) ≡ BeginRead → ⊥
+no_read true v h = cc
+no_read false v h = cc
+
+no_settle : (a b : Bool) (v : Bool) → (if a then EndWrite else if b then Settle v else BeginWrite v) ≡ BeginRead → ⊥
+no_settle true b v h = cc
+no_settle false true v h = cc
+no_settle false false v h = cc
+
+-- no access of a closing begins a read
+pub closing_no_read : (s : Setup) (p : ℕ) (command : Command) (number : ℕ) (at : Closing) (flick : Bool) (n : Access) → next_of s p (Closes command number at) flick ≡ Some n → n.how ≡ BeginRead → ⊥
+closing_no_read s p command number (Withdraws w) flick n h how = no_read _ _ (ap (λ (y : Access). y.how) (some_access _ n h) ∙ how)
+closing_no_read s p command number (Settles f b begun taken is t) flick n h how = no_settle _ _ _ (ap (λ (y : Access). y.how) (some_access _ n h) ∙ how)
+closing_no_read s p command number (Frees is w) flick n h how = no_read _ _ (ap (λ (y : Access). y.how) (some_access _ n h) ∙ how)
+closing_no_read s p command number (Lowers w) flick n h how = no_read _ _ (ap (λ (y : Access). y.how) (some_access _ n h) ∙ how)
+closing_no_read s p command number Quit flick n h how = cc
+closing_no_read s p command number Ended flick n h how = cc
+
+pub reads_on : (s : Setup) (p : ℕ) (d : Doing) (flick v : Bool) (n : Access) → IsLive d → next_of s p d flick ≡ Some n → n.how ≡ BeginRead → next_of s p (does_then s p d flick v) flick ≡ Some (ending n)
+reads_on s p Rests flick v n live h how = cc
+reads_on s p Lies flick v n live h how = cc
+reads_on s p (Closes command number at) flick v n live h how = absurd (closing_no_read s p command number at flick n h how)
+reads_on s p (Runs command number at) flick v n live h how = by at.part at.run live (some_access _ n h)
+  where
+    c : Call
+    c = call s p command number
+
+    by : (x : Part) (run : Run) → is_over x ≡ false → access_at c x run ≡ n
+        → next_of s p (does_then s p (Runs command number (record { part = x; run = run })) flick v) flick ≡ Some (ending n)
+    by x (Writing w) over is = absurd (no_read _ _ (ap (λ (y : Access). y.how) is ∙ how))
+    by x (Reading bits true) over is = let f : EndRead false ≡ BeginRead = ap (λ (y : Access). y.how) is ∙ how in cc
+    by x (Reading bits false) over is =
+        ap (λ b. next_of s p (cond b Rests (Runs command number (record { part = x; run = Reading bits true }))) flick) over
+        ∙ ap (λ y. Some (ending y)) is
+
+-- What a read gives.
+
+given : (flick w v : Bool) → (if w then flick else v) ≡ loaded flick (cond w 2 (closed_word v))
+given flick true v = refl
+given flick false true = refl
+given flick false false = refl
+
+-- the value of a read whose begin is the entry before its end
+neighbours : (s : Setup) → IsGood s → (events events' : List Event) (v : ViewState) (flick : Bool) (n : Access) → (m : Made s events v flick n) → past_of s events' ≡ m.e ∷ past_of s events → m.e.access ≡ Some n → n.how ≡ BeginRead →
+    value_of (valued s (past_of s events') flick (ending n)).how ≡ loaded flick (shown (cell_held s (past_of s events) n))
+neighbours s g events events' v flick n m on access how =
+    let past = past_of s events in
+    let c = cell_held s past n in
+    let here : cell_held s (m.e ∷ past) (ending n) ≡ cell_after c n.how = held-entry s past m.e n (ending n) access ∙ ap (λ b. cond b (cell_after c n.how) c) (itself n) in
+    sym (held_answers s g events' (ending n) flick)
+    ∙ ap (λ z. read_answer (cell_held s z (ending n)) flick) on
+    ∙ ap (λ c. read_answer c flick) (here ∙ ap (cell_after c) how)
+    ∙ given flick c.writing c.value
+
+valued-begin : (s : Setup) (past : Past) (flick : Bool) (n : Access) → n.how ≡ BeginRead → valued s past flick n ≡ n
+valued-begin s past flick n how = λ i. record n { how = (ap (ended (read_value (opening_bit s n) (moves_of n past) flick)) how ∙ sym how) i }
+
+-- What is told.
+
+abbrev Holds : Setup → State (Unit {0}) ViewState → Type 0
+Holds s t = Agree s t.words t.views
+
+-- the changes that a seat sees with its process's next entry
+seen_then : (s : Setup) (events : List Event) (v : ViewState) (flick : Bool) (n : Access) (k : Knows s (past_of s events) v) (m : Made s events v flick n) → IsPrefix v.seen (changes_of s (m.e ∷ past_of s events))
+seen_then s events v flick n k m = seen_along s v.own.process (past_of s events) (m.e ∷ past_of s events) v.seen (along_entry s v.own.process (past_of s events) m.e m.process) k.seen
+
+-- a view goes on to that of a record
+goes_on : (s : Setup) → IsGood s → (events : List Event) (v : ViewState) → IsPrefix v.seen (changes_of s (past_of s events)) → GoesOn s v (seeing s (past_of s events) v)
+goes_on s g events v seen = record { same = refl; at = is-at s g events v.own.process; seen = seen }
+
+-- the next access of a seat to whose process this has happened
+next_then : (s : Setup) (v : ViewState) (flick : Bool) (n : Access) (xs : List Event) → next_of s v.own.process (with_events s v.own xs).doing flick ≡ Some n → next_of s (with_events s v.own xs).process (with_events s v.own xs).doing flick ≡ Some n
+next_then s v flick n xs h = ap (λ q. next_of s q (with_events s v.own xs).doing flick) (same_process_all s v.own xs) ∙ h
+
+-- an access of a record as it is known: its value, and the stage that its marks lead to
+makes : (s : Setup) → checked s ≡ Ok tt → (events : List Event) → AreGiven s events → (v : ViewState) (flick value : Bool) (n : Access) (k : Knows s (past_of s events) v) (m : Made s events v flick n) → value_of (valued s (past_of s events) flick n).how ≡ value →
+    Makes s flick value v.own (own_view s (past_of s (event.Step v.own.process flick ∷ events)) v.own.process)
+makes s good events given v flick value n k m is =
+    let g = is_good s good in
+    let past = past_of s events in
+    let p = v.own.process in
+    let events1 = event.Step p flick ∷ events in
+    let was = sym (stage-process s g events p) in
+    record {
+      place = changes_taken s past;
+      is = ap (λ z. own_view s z p) m.on ∙ m.own ∙ ap (λ x. with_step s v.own flick x (changes_taken s past)) is;
+      counted = λ stamp h. sym (stamps_count s good events given p stamp k.below (ap (λ (o : OwnView). stamp_read o.doing) (sym k.own) ∙ h));
+      stage = stage-process s g events1 p ∙ ap (stage p) m.on ∙ m.stage
+          ∙ (λ i. fold stage_after (was i) (marks_with s p v.own.doing flick (is i)))
+          ∙ ap (λ (o : OwnView). fold stage_after (stage_in s o) (marks_with s p v.own.doing flick value)) (sym k.own);
+    }
+
+-- one access of a seat's process, whatever it makes of the words
+record Moved (s : Setup) (events : List Event) (words : List ℕ) (views : List ViewState) (id : ℕ) (v : ViewState) (flick : Bool) (n : Access) : Type 0 where
+  pub made : Made s events v flick n
+  pub shows : Shows s (event.Step v.own.process flick ∷ events) words (set views id (seeing s (past_of s (event.Step v.own.process flick ∷ events)) v))
+
+-- a read's begin or end
+reading : (s : Setup) (events : List Event) (words : List ℕ) (views : List ViewState) (id : ℕ) (v : ViewState) (flick : Bool) (n x : Access) → Shows s events words views → get_elem? views id ≡ some v → v.spent ≡ false →
+    next_of s v.own.process v.own.doing flick ≡ Some n → valued s (past_of s events) flick n ≡ x → is_write x.how ≡ false → Moved s events words views id v flick n
+reading s events words views id v flick n x f at live next is reads =
+    let g = is_good s f.good in
+    let m = made s g events v flick n (f.known id v at live) next in
+    let access : m.e.access ≡ Some x = m.access ∙ ap Some is in
+    let shows = step_shows s events words words views id v flick n f at live m f.size (λ a there. f.bits a there ∙ sym (cells_read s (past_of s events) m.e x a access reads)) in
+    record { made = m; shows = subst (λ z. Shows s (event.Step v.own.process flick ∷ events) words (set views id (seeing s z v))) (sym m.on) shows }
+
+-- a load
+pub loads : (s : Setup) (slots id : ℕ) (flick : Bool) (v : ViewState) (held : List (ℕ × Unit {0})) (xs : List Event) (n : Access) → v.spent ≡ false → MayAllHappen s v.own xs
+    → next_of s v.own.process (with_events s v.own xs).doing flick ≡ Some n → n.how ≡ BeginRead
+    → Allows (Holds s) slots id (v, held) (word_of s n) (λ k. k) (λ word after. Loads s flick (at_events s v xs) word after.0 × (after.1 ≡ held))
+loads s slots id flick v held xs n live may next how t agree _ at _ =
+    let f0 = agree.1 in
+    let g = is_good s f0.good in
+    let events = xs ++ agree.0 in
+    let past = past_of s events in
+    let b : ViewState = at_events s v xs in
+    let p = b.own.process in
+    let f : Shows s events t.words (set t.views id b) = events_show s agree.0 t.words t.views id v xs f0 at live may in
+    let b_at : get_elem? (set t.views id b) id ≡ some b = set_at t.views id v b at in
+    let k = f.known id b b_at live in
+    let b_next : next_of s p b.own.doing flick ≡ Some n = next_then s v flick n xs next in
+    let n_is : valued s past flick n ≡ n = valued-begin s past flick n how in
+    let first : Moved s events t.words (set t.views id b) id b flick n = reading s events t.words (set t.views id b) id b flick n n f b_at live b_next n_is (ap is_write how) in
+    let m = first.made in
+    let events1 = event.Step p flick ∷ events in
+    let past1 = past_of s events1 in
+    let w1 = seeing s past1 b in
+    let f1 : Shows s events1 t.words (set t.views id w1) = subst (Shows s events1 t.words) (set_set t.views id b w1) first.shows in
+    let w1_at : get_elem? (set t.views id w1) id ≡ some w1 = set_at t.views id v w1 at in
+    let k1 = f1.known id w1 w1_at live in
+    let value1 : value_of (valued s past flick n).how ≡ false = ap (λ (y : Access). value_of y.how) n_is ∙ ap value_of how in
+    let begins : Makes s flick false b.own w1.own = makes s f.good events f.given b flick false n k m value1 in
+    let next1 : next_of s p w1.own.doing flick ≡ Some (ending n) = ap (λ (o : OwnView). next_of s p o.doing flick) begins.is ∙ reads_on s p b.own.doing flick false n (live_doing s g events b k) b_next how in
+    let second : Moved s events1 t.words (set t.views id w1) id w1 flick (ending n) = reading s events1 t.words (set t.views id w1) id w1 flick (ending n) (valued s past1 flick (ending n)) f1 w1_at live next1 refl refl in
+    let m1 = second.made in
+    let events2 = event.Step p flick ∷ events1 in
+    let past2 = past_of s events2 in
+    let w2 = seeing s past2 w1 in
+    let word = slice_index t.words (word_of s n) in
+    let access : m.e.access ≡ Some n = m.access ∙ ap Some n_is in
+    let value2 : value_of (valued s past1 flick (ending n)).how ≡ loaded flick word = neighbours s g events events1 b flick n m m.on access how ∙ ap (loaded flick) (sym (f.bits n m.there)) in
+    let f2 : Shows s events2 t.words (set t.views id w2) = subst (Shows s events2 t.words) (set_set t.views id w1 w2) second.shows in
+    let seen1 : IsPrefix b.seen (changes_of s past1) = subst (λ z. IsPrefix b.seen (changes_of s z)) (sym m.on) (seen_then s events b flick n k m) in
+    let seen2 : IsPrefix (changes_of s past1) (changes_of s past2) = subst (λ z. IsPrefix (changes_of s past1) (changes_of s z)) (sym m1.on) (seen_then s events1 w1 flick (ending n) k1 m1) in
+    let apart : are_neighbours past ≡ true = events_apart s agree.0 t.words t.views id v xs f0 at live may agree.2 in
+    let paired : are_neighbours past2 ≡ true = ap are_neighbours (m1.on ∙ ap (λ (z : Past). m1.e ∷ z) m.on)
+    ∙ read_more m1.e m.e past (valued s past1 flick (ending n)) n (m1.process ∙ sym m.process) m1.access access (itself n) (ap (λ h. is_pair h (EndRead (value_of (valued s past1 flick (ending n)).how))) how) apart in
+    let stays : set t.words (word_of s n) word ≡ t.words = set-get_or t.words (word_of s n) 0 in (
+      w2,
+      keeps,
+      tt,
+      (events2, subst (λ ws. Shows s events2 ws (set t.views id w2)) (sym stays) f2, paired),
+      (
+        record {
+          access = n;
+          next = b_next;
+          reads = how;
+          begun = w1.own;
+          begins = begins;
+          at = is-at s g events1 p;
+          ends = makes s f1.good events1 f1.given w1 flick (loaded flick word) (ending n) k1 m1 value2;
+          goes = goes_on s g events2 b (prefix-trans b.seen (changes_of s past1) (changes_of s past2) seen1 seen2);
+        },
+        refl,
+      ),
+    )
+
+-- What a store writes.
+
+no-value : (m : Move) (v : Bool) → is_write m ≡ true → value_of (ended v m) ≡ false
+no-value (BeginWrite u) v h = refl
+no-value EndWrite v h = refl
+no-value (Settle u) v h = refl
+no-value BeginRead v h = cc
+no-value (EndRead u) v h = cc
+
+-- after a write the word shows what was stored
+shows-stored : (c : Cell) (m : Move) (value : Bool) → is_write m ≡ true → (m ≡ EndWrite → c.value ≡ value) → shown (cell_after c m) ≡ stored value m
+shows-stored c (BeginWrite v) value h e = refl
+shows-stored c EndWrite value h e = ap closed_word (e refl)
+shows-stored c (Settle v) value h e = refl
+shows-stored c BeginRead value h e = cc
+shows-stored c (EndRead v) value h e = cc
+
+-- a store
+pub stores : (s : Setup) (slots id : ℕ) (flick : Bool) (v : ViewState) (held : List (ℕ × Unit {0})) (xs : List Event) (n : Access) → v.spent ≡ false → MayAllHappen s v.own xs
+    → next_of s v.own.process (with_events s v.own xs).doing flick ≡ Some n → IsWrite n.how
+    → Allows (Holds s) slots id (v, held) (word_of s n) (λ _. stored (being_written s v.own.process (with_events s v.own xs).doing) n.how) (λ _ after. Stores s flick (at_events s v xs) after.0 × (after.1 ≡ held))
+stores s slots id flick v held xs n live may next is_written t agree _ at _ =
+    let f0 = agree.1 in
+    let g = is_good s f0.good in
+    let writes : is_write n.how ≡ true = is_write-true n.how is_written in
+    let events = xs ++ agree.0 in
+    let past = past_of s events in
+    let b : ViewState = at_events s v xs in
+    let p = b.own.process in
+    let p_is : p ≡ v.own.process = same_process_all s v.own xs in
+    let f : Shows s events t.words (set t.views id b) = events_show s agree.0 t.words t.views id v xs f0 at live may in
+    let b_at : get_elem? (set t.views id b) id ≡ some b = set_at t.views id v b at in
+    let k = f.known id b b_at live in
+    let b_next : next_of s p b.own.doing flick ≡ Some n = next_then s v flick n xs next in
+    let m = made s g events b flick n k b_next in
+    let n_is : valued s past flick n ≡ n = valued-write s past flick n writes in
+    let access : m.e.access ≡ Some n = m.access ∙ ap Some n_is in
+    let doing_is : doing s p past ≡ b.own.doing = ap (λ (o : OwnView). o.doing) (sym k.own) in
+    let value = being_written s v.own.process b.own.doing in
+    let new : ℕ = stored value n.how in
+    let truly : n.how ≡ EndWrite → (cell_held s past n).value ≡ value = λ how.
+    ends_what_began s g events p flick n (ap (λ d. next_of s p d flick) doing_is ∙ b_next) how ∙ (λ i. being_written s (p_is i) (doing_is i)) in
+    let now : shown (cell_after (cell_held s past n) n.how) ≡ new = shows-stored (cell_held s past n) n.how value writes truly in
+    let words' = set t.words (word_of s n) new in
+    let events1 = event.Step p flick ∷ events in
+    let past1 = past_of s events1 in
+    let w = seeing s past1 b in
+    let shows = step_shows s events t.words words' (set t.views id b) id b flick n f b_at live m (length-set t.words (word_of s n) new ∙ f.size) (cells_written s past t.words m.e n new access m.there f.size now f.bits) in
+    let f1 : Shows s events1 words' (set t.views id w) = subst (Shows s events1 words') (set_set t.views id b w) (subst (λ z. Shows s events1 words' (set (set t.views id b) id (seeing s z b))) (sym m.on) shows) in
+    let value1 : value_of (valued s past flick n).how ≡ false = no-value n.how (read_value (opening_bit s n) (moves_of n past) flick) writes in
+    let paired : are_neighbours past1 ≡ true = ap are_neighbours m.on ∙ one_more m.e past (written_reads m.e n access writes) (events_apart s agree.0 t.words t.views id v xs f0 at live may agree.2) in
+    let seen1 : IsPrefix b.seen (changes_of s past1) = subst (λ z. IsPrefix b.seen (changes_of s z)) (sym m.on) (seen_then s events b flick n k m) in (
+      w,
+      keeps,
+      tt,
+      (events1, f1, paired),
+      (record { access = n; next = b_next; writes = is_written; makes = makes s f.good events f.given b flick false n k m value1; goes = goes_on s g events1 b seen1 }, refl),
+    )

@@ -1,0 +1,71 @@
+-- Begin and end of each read are neighbours.
+use Rattle.std.proofs.Common.{◌≡◌, ◌==◌, ◌&&◌, Bool, true, false, [], ◌∷◌, Option, Some, None, refl, ap, ◌∙◌, eq-eqb}
+use Rattle.std.specs.Prelude.{not}
+use Rattle.safe_bit.specs.declared.Move.{Move}
+use Rattle.safe_bit.specs.declared.Move.TheVariants.{BeginWrite, EndWrite, BeginRead, EndRead, Settle}
+use Rattle.safe_number.specs.declared.Access.{Access}
+use Rattle.record.specs.Entries.{Entry, Past}
+use Rattle.record.specs.Moves.{same_bit}
+use Rattle.record.proofs.Singles.{is_write}
+use Rattle.board.specs.Agreement.{are_neighbours, is_of_read, is_pair, is_whole_read, reads}
+
+-- an entry that is of no read ends none
+no-pair : (a b : Move) → is_of_read b ≡ false → is_pair a b ≡ false
+no-pair (BeginWrite v) b h = refl
+no-pair EndWrite b h = refl
+no-pair (Settle v) b h = refl
+no-pair (EndRead v) b h = refl
+no-pair BeginRead (BeginWrite v) h = refl
+no-pair BeginRead EndWrite h = refl
+no-pair BeginRead (Settle v) h = refl
+no-pair BeginRead BeginRead h = refl
+no-pair BeginRead (EndRead v) h = cc
+
+ends_none : (b e : Entry) → reads e ≡ false → is_whole_read b e ≡ false
+ends_none b e h = by b.access e.access h
+  where
+    last : (x y : Bool) → (x && y && false) ≡ false
+    last true true = refl
+    last true false = refl
+    last false y = refl
+
+    by : (x y : Option Access) → elim y as (λ _. Bool) [ None ↦ false | Some a ↦ is_of_read a.how ] ≡ false →
+        elim x as (λ _. Bool) [
+          | None ↦ false
+          | Some a ↦ elim y as (λ _. Bool) [ None ↦ false | Some c ↦ (e.process == b.process) && same_bit c a && is_pair a.how c.how ]
+        ] ≡ false
+    by None y k = refl
+    by (Some a) None k = refl
+    by (Some a) (Some c) k = ap (λ z. (e.process == b.process) && same_bit c a && z) (no-pair a.how c.how k) ∙ last (e.process == b.process) (same_bit c a)
+
+-- one such entry more
+pub one_more : (e : Entry) (past : Past) → reads e ≡ false → are_neighbours past ≡ true → are_neighbours (e ∷ past) ≡ true
+one_more e [] h k = ap not h
+one_more e (b ∷ past) h k =
+    ap (λ z. elim z as (λ _. Bool) [ true ↦ are_neighbours past | false ↦ not (reads e) && are_neighbours (b ∷ past) ]) (ends_none b e h)
+    ∙ (λ i. not (h i) && k i)
+
+-- a whole read more
+pub read_more : (e b : Entry) (past : Past) (x y : Access) → e.process ≡ b.process → e.access ≡ Some x → b.access ≡ Some y → same_bit x y ≡ true → is_pair y.how x.how ≡ true → are_neighbours past ≡ true → are_neighbours (e ∷ b ∷ past) ≡ true
+read_more e b past x y process ends begins same pair k =
+    ap (λ z. elim z as (λ _. Bool) [ true ↦ are_neighbours past | false ↦ not (reads e) && are_neighbours (b ∷ past) ]) whole ∙ k
+  where
+    whole : is_whole_read b e ≡ true
+    whole =
+        ap (λ o. elim o as (λ _. Bool) [ None ↦ false | Some a ↦ elim e.access as (λ _. Bool) [ None ↦ false | Some c ↦ (e.process == b.process) && same_bit c a && is_pair a.how c.how ] ]) begins
+        ∙ ap (λ o. elim o as (λ _. Bool) [ None ↦ false | Some c ↦ (e.process == b.process) && same_bit c y && is_pair y.how c.how ]) ends
+        ∙ (λ i. eq-eqb e.process b.process process i && same i && pair i)
+
+-- what is of no read: an entry without an access, and one of a write
+pub marked_reads : (e : Entry) → e.access ≡ None → reads e ≡ false
+marked_reads e h = ap (λ o. elim o as (λ _. Bool) [ None ↦ false | Some a ↦ is_of_read a.how ]) h
+
+pub written_reads : (e : Entry) (x : Access) → e.access ≡ Some x → is_write x.how ≡ true → reads e ≡ false
+written_reads e x h w = ap (λ o. elim o as (λ _. Bool) [ None ↦ false | Some a ↦ is_of_read a.how ]) h ∙ by x.how w
+  where
+    by : (m : Move) → is_write m ≡ true → is_of_read m ≡ false
+    by (BeginWrite v) w = refl
+    by EndWrite w = refl
+    by (Settle v) w = refl
+    by BeginRead w = cc
+    by (EndRead v) w = cc

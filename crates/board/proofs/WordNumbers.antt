@@ -1,0 +1,151 @@
+-- The word of a bit is its own, and tells the bit.
+use Rattle.std.proofs.Common.{◌≡◌, ℕ, zero, suc, ◌+◌, ◌-◌, ◌*◌, ◌/◌, ◌%◌, ◌<◌, ◌≤◌, ◌==◌, ◌&&◌, Bool, true, false, List, [], ◌∷◌, ◌++◌, refl, sym, ap, ◌∙◌, arith, eq-eqb, mul-le-mul_right, suc-mul, div-add-mod'}
+use Rattle.std.proofs.Math.Nat.{div-lt_iff_lt-mul, mod-lt}
+use Rattle.std.proofs.lemmas.Bool.{lt-ltb, le-ltb}
+use Rattle.std.proofs.lemmas.Bool.Decides.{nat_tests}
+use Rattle.std.proofs.lemmas.Nat.{div-mul-add}
+use Rattle.std.specs.Prelude.{nat_lt, slice_index_or}
+use Rattle.safe_bit.specs.declared.Move.TheVariants.{BeginRead}
+use Rattle.safe_number.specs.declared.Access.{Access}
+use Rattle.safe_number.specs.declared.Field.{Field}
+use Rattle.safe_number.specs.declared.Field.TheVariants.{Choosing, Ticket, Commit, Stamp0, Stamp1, Image0, Image1}
+use Rattle.plain_store.specs.declared.Setup.{Setup}
+use Rattle.record.specs.Moves.{field_number, same_bit}
+use Rattle.record.specs.Registers.{opening_bits, width}
+use Rattle.laws.specs.Held.{IsThere}
+use Rattle.laws.proofs.FrameCells.{OnCopy, on-copy}
+use Rattle.board.specs.Words.{bits_of, bit_in_row, bit_of, closed_word, fields, first_bit, row_bits, word_of, words_in}
+
+-- A number of two digits.
+
+pub quotient : (n high low : ℕ) → low < n → (high * n + low) / n ≡ high
+quotient n high low h = div-mul-add high n low h
+
+pub remainder : (n high low : ℕ) → low < n → (high * n + low) % n ≡ low
+remainder n high low h =
+    let whole : (high * n + low) / n * n + (high * n + low) % n ≡ high * n + low = div-add-mod' (high * n + low) n in
+    let front : (high * n + low) / n * n ≡ high * n = ap (λ k. k * n) (quotient n high low h) in
+    omega arith
+
+pub below : (m n high low : ℕ) → high < m → low < n → high * n + low < m * n
+below m n high low a b = let h : suc high * n ≤ m * n = mul-le-mul_right n a in omega (arith, suc-mul high n)
+
+-- A row.
+
+-- a place is found, behind the registers before its own
+found : (s : Setup) (before : List Field) (field : Field) (after : List Field) (k : ℕ) → k < width s field → bit_in_row s (before ++ field ∷ after) (bits_of s before + k) ≡ (field, k)
+found s [] field after k h =
+    ap (λ b. elim b as (λ _. Field × ℕ) [ true ↦ (field, 0 + k) | false ↦ bit_in_row s after (0 + k - width s field) ]) (lt-ltb (0 + k) (width s field) (omega arith))
+    ∙ ap (λ j. (field, j)) (let same : 0 + k ≡ k = omega arith in same)
+found s (other ∷ before) field after k h =
+    ap (λ b. elim b as (λ _. Field × ℕ) [ true ↦ (other, bits_of s (other ∷ before) + k) | false ↦ bit_in_row s (before ++ field ∷ after) (bits_of s (other ∷ before) + k - width s other) ])
+    (le-ltb (bits_of s (other ∷ before) + k) (width s other) (omega arith))
+    ∙ ap (bit_in_row s (before ++ field ∷ after)) (let same : bits_of s (other ∷ before) + k - width s other ≡ bits_of s before + k = omega arith in same)
+    ∙ found s before field after k h
+
+-- the place of a bit tells it
+pub placed : (s : Setup) (field : Field) (k : ℕ) → k < width s field → bit_in_row s fields (first_bit s field + k) ≡ (field, k)
+placed s Choosing k h = found s [] Choosing (Ticket ∷ Commit ∷ Stamp0 ∷ Stamp1 ∷ Image0 ∷ Image1 ∷ []) k h
+placed s Ticket k h = found s (Choosing ∷ []) Ticket (Commit ∷ Stamp0 ∷ Stamp1 ∷ Image0 ∷ Image1 ∷ []) k h
+placed s Commit k h = found s (Choosing ∷ Ticket ∷ []) Commit (Stamp0 ∷ Stamp1 ∷ Image0 ∷ Image1 ∷ []) k h
+placed s Stamp0 k h = found s (Choosing ∷ Ticket ∷ Commit ∷ []) Stamp0 (Stamp1 ∷ Image0 ∷ Image1 ∷ []) k h
+placed s Stamp1 k h = found s (Choosing ∷ Ticket ∷ Commit ∷ Stamp0 ∷ []) Stamp1 (Image0 ∷ Image1 ∷ []) k h
+placed s Image0 k h = found s (Choosing ∷ Ticket ∷ Commit ∷ Stamp0 ∷ Stamp1 ∷ []) Image0 (Image1 ∷ []) k h
+placed s Image1 k h = found s (Choosing ∷ Ticket ∷ Commit ∷ Stamp0 ∷ Stamp1 ∷ Image0 ∷ []) Image1 [] k h
+
+-- and lies in the row
+pub in_row : (s : Setup) (field : Field) (k : ℕ) → k < width s field → first_bit s field + k < row_bits s
+in_row s Choosing k h = omega arith
+in_row s Ticket k h = omega arith
+in_row s Commit k h = omega arith
+in_row s Stamp0 k h = omega arith
+in_row s Stamp1 k h = omega arith
+in_row s Image0 k h = omega arith
+in_row s Image1 k h = omega arith
+
+-- Words.
+
+-- the word of a bit tells it
+pub bit_of_word : (s : Setup) (a : Access) → IsThere s a → bit_of s (word_of s a) ≡ record a { how = BeginRead }
+bit_of_word s a there =
+    let row = in_row s a.field a.bit there.bit in
+    let copy : word_of s a / row_bits s ≡ a.owner * s.processes + a.reader = quotient (row_bits s) (a.owner * s.processes + a.reader) (first_bit s a.field + a.bit) row in
+    let at : bit_in_row s fields (word_of s a % row_bits s) ≡ (a.field, a.bit) = ap (bit_in_row s fields) (remainder (row_bits s) (a.owner * s.processes + a.reader) (first_bit s a.field + a.bit) row) ∙ placed s a.field a.bit there.bit in
+    let owner : word_of s a / row_bits s / s.processes ≡ a.owner = ap (λ k. k / s.processes) copy ∙ quotient s.processes a.owner a.reader there.reader in
+    let reader : word_of s a / row_bits s % s.processes ≡ a.reader = ap (λ k. k % s.processes) copy ∙ remainder s.processes a.owner a.reader there.reader in
+    λ i. record { owner = owner i; field = (at i).0; bit = (at i).1; reader = reader i; how = BeginRead }
+
+all_true : (k r o f : Bool) → k ≡ true → r ≡ true → o ≡ true → f ≡ true → (k && r && o && f) ≡ true
+all_true k r o f a b c d = λ i. a i && b i && c i && d i
+
+-- bits of one word are one bit
+pub one_word : (s : Setup) (a b : Access) → IsThere s a → IsThere s b → word_of s a ≡ word_of s b → same_bit a b ≡ true
+one_word s a b a_there b_there same =
+    let one : record a { how = BeginRead } ≡ record b { how = BeginRead } = sym (bit_of_word s a a_there) ∙ (ap (bit_of s) same ∙ bit_of_word s b b_there) in
+    all_true (a.bit == b.bit) (a.reader == b.reader) (a.owner == b.owner) (field_number a.field == field_number b.field)
+    (eq-eqb a.bit b.bit (ap (λ (x : Access). x.bit) one)) (eq-eqb a.reader b.reader (ap (λ (x : Access). x.reader) one)) (eq-eqb a.owner b.owner (ap (λ (x : Access). x.owner) one))
+    (eq-eqb (field_number a.field) (field_number b.field) (ap (λ (x : Access). field_number x.field) one))
+
+-- and one bit has one word
+pub one_bit : (s : Setup) (a b : Access) → same_bit a b ≡ true → word_of s a ≡ word_of s b
+one_bit s a b h =
+    let on : OnCopy b a.owner a.field a.bit a.reader = on-copy b a.owner a.field a.bit a.reader h in
+    λ i. (on.owner i * s.processes + on.reader i) * row_bits s + (first_bit s (on.field i) + on.bit i)
+
+-- it is one of the words
+pub word_below : (s : Setup) (a : Access) → IsThere s a → word_of s a < words_in s
+word_below s a there =
+    below (s.processes * s.processes) (row_bits s) (a.owner * s.processes + a.reader) (first_bit s a.field + a.bit)
+    (below s.processes s.processes a.owner a.reader there.owner there.reader) (in_row s a.field a.bit there.bit)
+
+-- a place within the bits of a register tells its bit
+pub at_place : (s : Setup) (field : Field) (place : ℕ) → first_bit s field ≤ place → place < first_bit s field + width s field → bit_in_row s fields place ≡ (field, place - first_bit s field)
+at_place s field place from within =
+    ap (bit_in_row s fields) (let same : place ≡ first_bit s field + (place - first_bit s field) = omega arith in same) ∙ placed s field (place - first_bit s field) (omega arith)
+
+-- Each word tells a bit that there is.
+
+in_register : (s : Setup) (registers : List Field) (place : ℕ) → place < bits_of s registers → (bit_in_row s registers place).1 < width s (bit_in_row s registers place).0
+in_register s [] place h = absurd (omega arith)
+in_register s (field ∷ others) place h = by (nat_lt place (width s field)) refl (in_register s others (place - width s field))
+  where
+    by : (b : Bool) → nat_lt place (width s field) ≡ b → (place - width s field < bits_of s others → (bit_in_row s others (place - width s field)).1 < width s (bit_in_row s others (place - width s field)).0)
+        → let at : Field × ℕ = elim b as (λ _. Field × ℕ) [ true ↦ (field, place) | false ↦ bit_in_row s others (place - width s field) ] in
+        at.1 < width s at.0
+    by true is later = grind (arith, nat_tests)
+    by false is later = later (grind (arith, nat_tests))
+
+pub bit_there : (s : Setup) (word : ℕ) → 0 < s.processes → word < words_in s → IsThere s (bit_of s word)
+bit_there s word some_ below_ =
+    let row : 0 < row_bits s = omega arith in
+    let copy : word / row_bits s < s.processes * s.processes = (div-lt_iff_lt-mul row).1 below_ in
+    record {
+      owner = (div-lt_iff_lt-mul some_).1 copy;
+      reader = mod-lt (word / row_bits s) some_;
+      bit = in_register s fields (word % row_bits s) (mod-lt word row);
+    }
+
+none : (k : ℕ) → slice_index_or [] k false ≡ false
+none zero = refl
+none (suc k) = refl
+
+-- a bit as a word of the machine
+pub byte_word : (b : Bool) → mir.Val.bool_byte b ≡ closed_word b
+byte_word true = refl
+byte_word false = refl
+
+-- no register but the first image of process 0 opens at anything but 0
+pub opens_low : (s : Setup) (owner : ℕ) (field : Field) (k : ℕ) → (field ≡ Image0 → ⊥) → slice_index_or (opening_bits s owner field) k false ≡ false
+opens_low s zero Choosing k h = none k
+opens_low s zero Ticket k h = none k
+opens_low s zero Commit k h = none k
+opens_low s zero Stamp0 k h = none k
+opens_low s zero Stamp1 k h = none k
+opens_low s zero Image0 k h = absurd (h refl)
+opens_low s zero Image1 k h = none k
+opens_low s (suc owner) field k h = none k
+
+-- nor any register of another process
+pub opens_elsewhere : (s : Setup) (owner : ℕ) (field : Field) (k : ℕ) → (owner ≡ 0 → ⊥) → slice_index_or (opening_bits s owner field) k false ≡ false
+opens_elsewhere s zero field k h = absurd (h refl)
+opens_elsewhere s (suc owner) field k h = none k

@@ -1,0 +1,29 @@
+use Rattle.std.proofs.Common.{◌≡◌, ◌<◌, false, sym, ap, ◌∙◌, subst, arith}
+use Rattle.std.specs.Prelude.{slice_index_or}
+use Rattle.safe_number.specs.Bytes.{bit_in}
+use Rattle.safe_number.specs.declared.Field.TheVariants.{Image0}
+use Rattle.safe_number.proofs.Numbers.{get-bits}
+use Rattle.plain_store.specs.Setups.{opening_store}
+use Rattle.store_image.specs.Image.{image_of}
+use Rattle.record.specs.Registers.{opening_bit, opening_bits, width}
+use Rattle.critical.proofs.Widths.{ranges}
+use Rattle.board.specs.Words.{bit_of, closed_word}
+use Rattle.board.proofs.WordNumbers.{bit_there, byte_word, opens_low}
+use Rattle.board.proofs.opening.opening_word.Goals as goal
+
+pub returns-in-Image0 : goal.returns-in-Image0
+returns-in-Image0 c =
+    let s = c.args.setup.now in
+    let image = image_of (opening_store s) in
+    let a = bit_of s c.args.word in
+    let is = c.bit_of-access.ensures.bit in
+    let field : a.field ≡ Image0 = ap (λ (x : Rattle.safe_number.specs.declared.Access.Access). x.field) (sym is) ∙ c.in-Image0.is in
+    let owner : a.owner ≡ 0 = ap (λ (x : Rattle.safe_number.specs.declared.Access.Access). x.owner) (sym is) ∙ c.if-access-ne0.false in
+    let there = bit_there s c.args.word (let r = (ranges s c.requires.good).some_processes in omega arith) c.requires.word in
+    c.from.ensures ∙ byte_word c.bit_in.result
+    ∙ ap closed_word (c.bit_in.ensures ∙ (λ i. bit_in (c.requires.image i) (is i).bit) ∙ sym (get-bits image (width s Image0) a.bit (subst (λ f. a.bit < width s f) field there.bit)) ∙ (λ i. slice_index_or (opening_bits s (sym owner i) (sym field i)) a.bit false))
+
+pub returns-in_default : goal.returns-in_default
+returns-in_default c =
+    let a = c.bit_of-access.result in
+    sym (ap closed_word (ap (opening_bit c.args.setup.now) (sym c.bit_of-access.ensures.bit) ∙ opens_low c.args.setup.now a.owner a.field a.bit c.in_default.not-Image0))

@@ -1,0 +1,9 @@
+use Rattle.board.specs.Boards.{IsOf}
+use Rattle.board.proofs.Drives.{IsDriven}
+use Rattle.board.proofs.port.Port.drive.Given as goal
+
+abbrev pub invariant-loop-made : goal.invariant-loop-made
+invariant-loop-made l = record {
+  board : IsOf l.board l.self;
+  driven : IsDriven l.fn.self l.fn.flicks l.made l.self l.flicks;
+}

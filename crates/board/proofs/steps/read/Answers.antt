@@ -1,0 +1,33 @@
+use Rattle.std.proofs.Common.{◌≡◌, inl, subst}
+use Rattle.board.specs.Ports.{with_pending}
+use Rattle.board.proofs.Ties.{GoneOn, begun_at, is_at, leads_loaded, may_load, tied_loaded}
+use Rattle.board.proofs.steps.read.Goals as goal
+
+pub load-found-requires-clause-keeps : goal.load-found-requires-clause-keeps
+load-found-requires-clause-keeps c = let t = c.requires.tied in let n = c.requires.next in
+    may_load c.args.words.now.key _ _ _ c.args.flick t.0 c.args.seat.now.me c.args.pending c.args.process.now n.0 t.1 n.1 n.2
+
+pub advance-begun-requires-clause-at : goal.advance-begun-requires-clause-at
+advance-begun-requires-clause-at c = let t = c.requires.tied in
+    ((with_pending c.args.words.now.key c.args.pending c.args.seat.now.me.0).own.doing, is_at c.args.words.now.key c.args.pending c.args.process.now t.0 c.args.seat.now.me.0 t.1)
+
+pub advance-requires-clause-goes : goal.advance-requires-clause-goes
+advance-requires-clause-goes c = let t = c.requires.tied in let n = c.requires.next in
+    (begun_at c.args.words.now.key c.args.pending c.args.process.now c.advance-begun.new.self t.0 c.args.flick c.args.word c.load-found.result n.0 c.args.seat.now.me.0 c.load-found.new.seat.me.0 t.1 n.1 n.2 c.load-found.ensures.told c.advance-begun.ensures.process).0
+
+pub advance-requires-clause-at : goal.advance-requires-clause-at
+advance-requires-clause-at c = let t = c.requires.tied in let n = c.requires.next in
+    (c.load-found.ensures.told.begun.doing, (begun_at c.args.words.now.key c.args.pending c.args.process.now c.advance-begun.new.self t.0 c.args.flick c.args.word c.load-found.result n.0 c.args.seat.now.me.0 c.load-found.new.seat.me.0 t.1 n.1 n.2 c.load-found.ensures.told c.advance-begun.ensures.process).1)
+
+pub returns-clause-tied : goal.returns-clause-tied
+returns-clause-tied c = λ value t. let n = c.requires.next in
+    tied_loaded c.args.words.now.key c.args.pending c.args.process.now c.advance-begun.new.self c.advance.new.self value c.args.flick c.args.word c.load-found.result n.0 c.args.seat.now.me.0 c.load-found.new.seat.me.0 t n.1 n.2 c.load-found.ensures.told c.advance-begun.ensures.process
+    (subst (GoneOn c.advance-begun.new.self c.advance.new.self c.args.flick) c.loaded.ensures c.advance.ensures.process)
+
+pub returns-clause-step : goal.returns-clause-step
+returns-clause-step c = inl (c.load-found.result, c.load-found.ensures.told)
+
+pub returns-clause-leads : goal.returns-clause-leads
+returns-clause-leads c = let t = c.requires.tied in let n = c.requires.next in
+    leads_loaded c.args.words.now.key c.args.pending c.args.process.now c.advance-begun.new.self t.0 c.args.flick c.args.word c.load-found.result n.0 c.args.seat.now.me.0 c.load-found.new.seat.me.0 c.advance.result t.1 n.1 n.2 c.load-found.ensures.told c.advance-begun.ensures.process
+    (subst (λ x. (d : Rattle.laws.specs.Doings.Doing) → Rattle.process.specs.Steps.IsAt c.advance-begun.new.self d → Rattle.process.specs.Telling.marks_told c.advance.result ≡ Rattle.laws.specs.Steps.marks_with c.advance-begun.new.self.setup c.advance-begun.new.self.process d c.args.flick x) c.loaded.ensures c.advance.ensures.marks)

@@ -1,0 +1,24 @@
+use Rattle.std.proofs.Common.{inr, ap}
+use Rattle.board.specs.Ports.{with_pending}
+use Rattle.board.specs.WordSteps.{value_after}
+use Rattle.board.proofs.Ties.{is_at, leads_stored, may_store, tied_stored}
+use Rattle.board.proofs.steps.write.Goals as goal
+
+pub store-requires-clause-keeps : goal.store-requires-clause-keeps
+store-requires-clause-keeps c = let n = c.requires.next in
+    may_store c.args.words.now.key _ _ _ _ c.args.flick n.0 c.args.seat.now.me c.args.pending c.args.process.now n.1.0 n.1.1 n.1.2 n.1.3 n.1.4
+
+pub advance-requires-clause-at : goal.advance-requires-clause-at
+advance-requires-clause-at c = let n = c.requires.next in
+    ((with_pending c.args.words.now.key c.args.pending c.args.seat.now.me.0).own.doing, is_at c.args.words.now.key c.args.pending c.args.process.now n.0 c.args.seat.now.me.0 n.1.1)
+
+pub returns-clause-tied : goal.returns-clause-tied
+returns-clause-tied c = λ value access t next writes.
+    tied_stored c.args.words.now.key c.args.pending c.args.process.now c.advance.new.self value (value_after access.how value) c.args.flick c.args.word access c.args.seat.now.me.0 c.store.new.seat.me.0 t next writes (λ u e. ap (λ m. value_after m value) e) c.store.ensures.told c.advance.ensures.process
+
+pub returns-clause-step : goal.returns-clause-step
+returns-clause-step c = inr c.store.ensures.told
+
+pub returns-clause-leads : goal.returns-clause-leads
+returns-clause-leads c = let n = c.requires.next in
+    leads_stored c.args.words.now.key c.args.pending c.args.process.now n.0 c.args.flick c.args.word n.1.0 c.args.seat.now.me.0 c.store.new.seat.me.0 c.advance.result n.1.1 n.1.2 c.store.ensures.told c.advance.ensures.marks

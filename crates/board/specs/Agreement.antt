@@ -1,0 +1,86 @@
+-- The rule of a board: words and views agree, as some list of events has a past that both show.
+use Rattle.std.specs.Prelude.{◌≡◌, ◌⊎◌, ℕ, ◌<◌, ◌≤◌, ◌==◌, ◌&&◌, not, Bool, true, false, List, [], ◌∷◌, length, slice_index, None, Some, Ok}
+use mathlib.Core.Option.{some}
+use lib.ListN.{get_elem?}
+use Rattle.safe_bit.specs.declared.Move.{Move}
+use Rattle.safe_bit.specs.declared.Move.TheVariants.{BeginRead, EndRead}
+use Rattle.safe_number.specs.declared.Access.{Access}
+use Rattle.plain_store.specs.declared.Setup.{Setup}
+use Rattle.plain_store.specs.Setups.{checked}
+use Rattle.record.specs.declared.events.Event.{Event}
+use Rattle.record.specs.Entries.{Entry, Past, own}
+use Rattle.record.specs.Given.{AreGiven}
+use Rattle.record.specs.Moves.{same_bit}
+use Rattle.record.specs.Records.{past_of}
+use Rattle.laws.specs.Doings.{Doing, Rests, Lies, doing}
+use Rattle.laws.specs.Held.{IsThere, cell_held}
+use Rattle.board.specs.Calls.{IsPrefix, changes_of}
+use Rattle.board.specs.Views.{ViewState, own_view}
+use Rattle.board.specs.Words.{shown, word_of, words_in}
+
+-- p is one of these
+abbrev pub IsIn : ℕ → List ℕ → Type 0
+IsIn p [] = ⊥
+IsIn p (x ∷ xs) = (x ≡ p) ⊎ IsIn p xs
+
+-- neither the process nor its memory unit has anything to do
+abbrev pub IsQuiet : Doing → Type 0
+IsQuiet d = (d ≡ Rests) ⊎ (d ≡ Lies)
+
+-- what a view knows is so in this past
+pub record Knows (s : Setup) (past : Past) (v : ViewState) : Type 0 where
+  pub below : v.own.process < s.processes
+  pub own : v.own ≡ own_view s past v.own.process
+  pub seen : IsPrefix v.seen (changes_of s past)
+
+-- this is the view of port 0, which knows the seats: those made are of the processes below a number, and those joined are of quiet processes; the processes of no seat yet have done nothing
+pub record KnowsSeats (s : Setup) (past : Past) (views : List ViewState) (v : ViewState) : Type 0 where
+  pub at : get_elem? views 0 ≡ some v
+  pub live : v.spent ≡ false
+  pub process : v.own.process ≡ 0
+  pub made : v.made ≤ s.processes
+  pub others : (i : ℕ) (w : ViewState) → get_elem? views i ≡ some w → w.spent ≡ false → (w.own.process < v.made) × (IsIn w.own.process v.joined → ⊥)
+  pub joined : (p : ℕ) → IsIn p v.joined → IsQuiet (doing s p past)
+  pub unmade : (p : ℕ) → v.made ≤ p → own p past ≡ []
+
+-- words and views show the past of these events
+pub record Shows (s : Setup) (events : List Event) (words : List ℕ) (views : List ViewState) : Type 0 where
+  pub good : checked s ≡ Ok tt
+  pub given : AreGiven s events
+  pub size : length words ≡ words_in s
+  pub bits : (a : Access) → IsThere s a → slice_index words (word_of s a) ≡ shown (cell_held s (past_of s events) a)
+  pub known : (i : ℕ) (v : ViewState) → get_elem? views i ≡ some v → v.spent ≡ false → Knows s (past_of s events) v
+  pub apart : (i j : ℕ) (v w : ViewState) → get_elem? views i ≡ some v → get_elem? views j ≡ some w → v.spent ≡ false → w.spent ≡ false → v.own.process ≡ w.own.process → i ≡ j
+  pub seats : (v : ViewState) × KnowsSeats s (past_of s events) views v
+
+-- the move begins or ends a read
+abbrev pub is_of_read : Move → Bool
+is_of_read BeginRead = true
+is_of_read (EndRead v) = true
+is_of_read _ = false
+
+-- an entry that begins or ends a read
+abbrev pub reads : Entry → Bool
+reads e = elim e.access [ None ↦ false | Some a ↦ is_of_read a.how ]
+
+-- one move begins a read, and the other one ends it
+abbrev pub is_pair : Move → Move → Bool
+is_pair BeginRead (EndRead v) = true
+is_pair _ _ = false
+
+-- the second entry ends the read that the first begins
+abbrev pub is_whole_read : Entry → Entry → Bool
+is_whole_read begin end = elim begin.access [
+  | None ↦ false
+  | Some a ↦ elim end.access [ None ↦ false | Some b ↦ (end.process == begin.process) && same_bit b a && is_pair a.how b.how ]
+]
+
+-- begin and end of each read are neighbours
+abbrev pub are_neighbours : Past → Bool
+are_neighbours [] = true
+are_neighbours (e ∷ []) = not (reads e)
+are_neighbours (e ∷ before ∷ past) = elim (is_whole_read before e) [ true ↦ are_neighbours past | false ↦ not (reads e) && are_neighbours (before ∷ past) ]
+
+-- words and views agree
+abbrev pub Agree : Setup → List ℕ → List ViewState → Type 0
+Agree s words views = (events : List Event) × Shows s events words views × (are_neighbours (past_of s events) ≡ true)

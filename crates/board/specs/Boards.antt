@@ -1,0 +1,27 @@
+-- What a board is to its callers, and which ports are of it.
+use Rattle.std.specs.Prelude.{◌≡◌, ℕ, List, Ok, Some, length, slice_get}
+use Rattle.atomic_table.specs.Seated.{TableId}
+use Rattle.plain_store.specs.declared.Setup.{Setup}
+use Rattle.plain_store.specs.Setups.{checked}
+use Rattle.board.specs.Ports.{PortState}
+use Rattle.board.specs.Words.{words_in}
+
+-- the table of its words, and its setup
+pub record BoardState : Type 0 where
+  pub table_id : TableId
+  pub setup : Setup
+
+-- what the fields of a board keep: the table was made with the setup, and has its words
+pub record KeepsBoard (s key : Setup) (id : TableId) : Type 0 where
+  pub good : checked s ≡ Ok tt
+  pub keyed : key ≡ s
+  pub sized : id.words ≡ words_in s
+
+-- the port was made with the board
+abbrev pub IsOf : BoardState → PortState → Type 0
+IsOf board port = (port.table_id ≡ board.table_id) × (port.setup ≡ board.setup)
+
+-- these are the ports of the board, of each process one, in order
+pub record ArePortsOf (board : BoardState) (ports : List PortState) : Type 0 where
+  pub all : length ports ≡ board.setup.processes
+  pub each : (k : ℕ) (port : PortState) → slice_get ports k ≡ Some port → IsOf board port × (port.view.own.process ≡ k)

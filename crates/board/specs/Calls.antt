@@ -1,0 +1,60 @@
+-- The calls of a process, as its port lists them, and the changes of the store.
+use Rattle.std.specs.Prelude.{◌≡◌, ℕ, ◌==◌, cond, List, [], ◌∷◌, ◌++◌, fold, Option, None, Some, option_map}
+use Rattle.plain_store.specs.declared.Command.{Command}
+use Rattle.plain_store.specs.declared.Setup.{Setup}
+use Rattle.plain_store.specs.Setups.{opening_store}
+use Rattle.plain_store.specs.Store.{Contents, after, changes}
+use Rattle.record.specs.declared.history.Taken.{Taken}
+use Rattle.record.specs.declared.marks.Mark.{Mark}
+use Rattle.record.specs.declared.marks.Mark.TheVariants.{Called, Answered, Down}
+use Rattle.record.specs.declared.marks.Mark.TheVariants as mark
+use Rattle.record.specs.Entries.{Past}
+use Rattle.record.specs.Histories.{history}
+use Rattle.history_laws.specs.Stamps.{changes_taken}
+use Rattle.board.specs.declared.calls.Placed.{Placed}
+
+-- those of these commands, taken one after the other, that change the store
+abbrev pub changing : Contents → List Taken → List Taken
+changing store [] = []
+changing store (t ∷ taken) =
+    let next = after store t.command (record { process = t.process; number = t.number }) in
+    cond (changes store t.command) (t ∷ changing next taken) (changing next taken)
+
+-- the list of changes
+abbrev pub changes_of : Setup → Past → List Taken
+changes_of s past = changing (opening_store s) (history s past)
+
+-- the first changes of a list of them
+abbrev pub IsPrefix : List Taken → List Taken → Type 0
+IsPrefix first all = (rest : List Taken) × (all ≡ first ++ rest)
+
+-- the finished calls of a process, in order, and the one that is not finished, if there is one
+pub record Calls : Type 0 where
+  pub done : List Placed
+  pub now : Option Placed
+
+-- a process that has not called
+abbrev pub no_calls : Calls
+no_calls = record { done = []; now = None }
+
+-- a call of this command that has begun
+abbrev pub called : Command → Placed
+called command = record { command = command; answer = None; place = None }
+
+-- these finished calls, and then this one, if there is one
+abbrev pub and_then : List Placed → Option Placed → List Placed
+and_then done None = done
+and_then done (Some call) = done ++ call ∷ []
+
+-- the calls after a mark, where so many changes were taken before: a call is finished where it is answered, or where the process is down
+abbrev pub calls_after : ℕ → Calls → Mark → Calls
+calls_after place calls (Called command) = record calls { now = Some (called command) }
+calls_after place calls (mark.Taken _ reply) = record calls { now = option_map (λ (call : Placed). record call { place = Some place }) calls.now }
+calls_after place calls (Answered answer) = record { done = and_then calls.done (option_map (λ (call : Placed). record call { answer = Some answer }) calls.now); now = None }
+calls_after place calls Down = record { done = and_then calls.done calls.now; now = None }
+calls_after place calls _ = calls
+
+-- the calls of a process in a past
+abbrev pub calls_of : Setup → ℕ → Past → Calls
+calls_of s p [] = no_calls
+calls_of s p (e ∷ past) = cond (e.process == p) (fold (calls_after (changes_taken s past)) (calls_of s p past) e.marks) (calls_of s p past)

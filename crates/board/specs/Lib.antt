@@ -1,0 +1,10 @@
+pub mod Agreement
+pub mod BoardLaws
+pub mod Boards
+pub mod Calls
+pub mod Driving
+pub mod Pending
+pub mod Ports
+pub mod Views
+pub mod Words
+pub mod WordSteps

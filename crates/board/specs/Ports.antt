@@ -1,0 +1,57 @@
+-- What a port is to its callers, and what its fields keep.
+use Rattle.std.specs.Prelude.{◌≡◌, ℕ, Bool, false, List, [], ◌∷◌, Result, Ok, Err, None, Some}
+use Rattle.atomic_table.specs.Seated.{TableId}
+use Rattle.safe_number.specs.declared.Access.{Access}
+use Rattle.plain_store.specs.declared.Setup.{Setup}
+use Rattle.record.specs.declared.events.Event.{Event}
+use Rattle.record.specs.declared.refusals.Refusal.{Refusal}
+use Rattle.laws.specs.Doings.{Doing}
+use Rattle.laws.specs.Steps.{next_of}
+use Rattle.process.specs.Processes.{ProcessState}
+use Rattle.process.specs.Steps.{IsAt}
+use Rattle.board.specs.declared.pending.Pending.{Pending}
+use Rattle.board.specs.Pending.{events_of}
+use Rattle.board.specs.Views.{MayAllHappen, ViewState, at_events, process_at, refusal_in}
+use Rattle.board.specs.Words.{word_of}
+use Rattle.board.specs.WordSteps.{IsBetween}
+
+-- the board it is of, its seat, and its view with what has happened to its process since its last word step
+pub record PortState : Type 0 where
+  pub table_id : TableId
+  pub id : ℕ
+  pub setup : Setup
+  pub view : ViewState
+
+-- one port, whatever it does
+abbrev pub SamePort : PortState → PortState → Type 0
+SamePort old new = (new.table_id ≡ old.table_id) × (new.id ≡ old.id) × (new.setup ≡ old.setup)
+
+-- what a port answers to an event of its process that is no step: why it is refused, if it is
+abbrev pub answer_to : PortState → Event → Result (Unit {0}) Refusal
+answer_to port event = elim (refusal_in port.setup port.view.own event) [ Some refusal ↦ Err refusal | None ↦ Ok tt ]
+
+-- the port then: a refused event leaves it
+abbrev pub port_after : PortState → Event → PortState
+port_after port event = elim (refusal_in port.setup port.view.own event) [ Some refusal ↦ port | None ↦ record port { view = at_events port.setup port.view (event ∷ []) } ]
+
+-- the view of a seat with what is pending
+abbrev pub with_pending : Setup → Pending → ViewState → ViewState
+with_pending s pending v = at_events s v (events_of v.own.process pending)
+
+-- the process of a port is where its seat's view, with what is pending, knows it to be; no read is open, and a write that is open is of this value
+pub record IsTied (s : Setup) (pending : Pending) (process : ProcessState) (value : Bool) (v : ViewState) : Type 0 where
+  pub live : v.spent ≡ false
+  pub may : MayAllHappen s v.own (events_of v.own.process pending)
+  pub same : process ≡ process_at s (with_pending s pending v).own
+  pub at : IsAt (process_at s (with_pending s pending v).own) (with_pending s pending v).own.doing
+  pub between : IsBetween s value (with_pending s pending v).own
+
+-- what the fields of a port keep: its seat holds nothing
+pub record KeepsPort (s : Setup) (pending : Pending) (process : ProcessState) (value : Bool) (v : ViewState) (held : List (ℕ × Unit {0})) : Type 0 where
+  pub tied : IsTied s pending process value v
+  pub none : held ≡ []
+
+-- the next access of a process is this one, on this word
+pub record IsNext (s : Setup) (process : ProcessState) (flick : Bool) (word : ℕ) (access : Access) : Type 0 where
+  pub next : (d : Doing) → IsAt process d → next_of process.setup process.process d flick ≡ Some access
+  pub at : word ≡ word_of s access

@@ -1,0 +1,122 @@
+-- The view of a seat: what it knows of its process, and what an event of that process makes of it.
+use Rattle.std.specs.Prelude.{◌≡◌, ℕ, ◌+◌, Bool, true, false, List, [], ◌∷◌, fold, Option, None, Some}
+use Rattle.plain_store.specs.declared.Command.{Command}
+use Rattle.plain_store.specs.declared.Command.TheVariants.{Ask}
+use Rattle.plain_store.specs.declared.Setup.{Setup}
+use Rattle.record.specs.declared.events.Event.{Event}
+use Rattle.record.specs.declared.events.Event.TheVariants as event
+use Rattle.record.specs.declared.history.Taken.{Taken}
+use Rattle.record.specs.declared.marks.Mark.TheVariants.{Called}
+use Rattle.record.specs.declared.refusals.Refusal.{Refusal}
+use Rattle.record.specs.declared.stages.Stage.{Stage}
+use Rattle.record.specs.Calls.{last_command, call_number}
+use Rattle.record.specs.Closings.{withdrawing}
+use Rattle.record.specs.Entries.{Past, own}
+use Rattle.record.specs.Given.{is_event}
+use Rattle.record.specs.Parts.{Raises}
+use Rattle.record.specs.Places.{enter}
+use Rattle.record.specs.Records.{process_of}
+use Rattle.laws.specs.Doings.{Doing, Rests, Runs, Closes, call, doing}
+use Rattle.laws.specs.Steps.{cut_of, does_then, marks_with}
+use Rattle.process.specs.Processes.{ProcessState, kept_at, stage_kept}
+use Rattle.process.specs.Refusals.{next_number, refusal_of}
+use Rattle.board.specs.Calls.{Calls, calls_after, calls_of, no_calls}
+
+-- what is known of a process: what it is doing, the command and the number of its last call, and its calls
+pub record OwnView : Type 0 where
+  pub process : ℕ
+  pub doing : Doing
+  pub command : Command
+  pub number : ℕ
+  pub calls : Calls
+
+-- the view of a seat: its process, and the changes that it has seen; and of port 0's how many seats were made, and the processes of those that were joined to it. A seat that was joined is spent.
+pub record ViewState : Type 0 where
+  pub spent : Bool
+  pub own : OwnView
+  pub seen : List Taken
+  pub made : ℕ
+  pub joined : List ℕ
+
+-- what is known of process p in a past
+abbrev pub own_view : Setup → Past → ℕ → OwnView
+own_view s past p = record { process = p; doing = doing s p past; command = last_command (own p past); number = call_number s (own p past); calls = calls_of s p past }
+
+-- of a process that has done nothing
+abbrev pub new_own : ℕ → OwnView
+new_own p = record { process = p; doing = Rests; command = Ask; number = 0; calls = no_calls }
+
+-- a seat of process p that is made, where so many were made before
+abbrev pub new_view : ℕ → ℕ → ViewState
+new_view p made = record { spent = false; own = new_own p; seen = []; made = made; joined = [] }
+
+-- port 0's, which is the first
+abbrev pub first_view : ViewState
+first_view = new_view 0 1
+
+-- a seat that was joined
+abbrev pub spent_view : ViewState
+spent_view = record (new_view 0 0) { spent = true }
+
+-- port 0's, once one more was made
+abbrev pub with_made : ViewState → ViewState
+with_made v = record v { made = v.made + 1 }
+
+-- port 0's, once another was joined to it
+abbrev pub with_joined : ViewState → ViewState → ViewState
+with_joined v other = record v { joined = other.own.process ∷ v.joined }
+
+-- a process that keeps this
+abbrev pub process_at : Setup → OwnView → ProcessState
+process_at s o = record { setup = s; process = o.process; kept = kept_at s o.process o.doing; command = o.command; number = o.number }
+
+-- its stage
+abbrev pub stage_in : Setup → OwnView → Stage
+stage_in s o = stage_kept (kept_at s o.process o.doing)
+
+-- why an event of the process is refused, if it is
+abbrev pub refusal_in : Setup → OwnView → Event → Option Refusal
+refusal_in s o event = refusal_of (process_at s o) event
+
+-- what is known once the process has called, failed, given up waiting, or was restarted
+abbrev pub with_event : Setup → OwnView → Event → OwnView
+with_event s o (event.Call p command) =
+    let number = next_number s o.number in
+    record { process = o.process; doing = Runs command number (enter (call s o.process command number) Raises); command = command; number = number; calls = calls_after 0 o.calls (Called command) }
+with_event s o (event.Step p flick) = o
+with_event s o (event.Fail p) = record o { doing = Closes o.command o.number (cut_of s o.process o.doing) }
+with_event s o (event.Withdraw p) = record o { doing = Closes o.command o.number (withdrawing (call s o.process o.command o.number)) }
+with_event s o (event.Restart p) = record o { doing = Rests }
+
+-- after several of them, the newest first
+abbrev pub with_events : Setup → OwnView → List Event → OwnView
+with_events s o [] = o
+with_events s o (event ∷ events) = with_event s (with_events s o events) event
+
+-- what is known once the process, or its memory unit, has made its next access, which gave this value; so many changes were taken before
+abbrev pub with_step : Setup → OwnView → (flick value : Bool) → ℕ → OwnView
+with_step s o flick value place = record o {
+  doing = does_then s o.process o.doing flick value;
+  calls = fold (calls_after place) o.calls (marks_with s o.process o.doing flick value);
+}
+
+-- it is no step
+abbrev pub is_marked : Event → Bool
+is_marked (event.Step p flick) = false
+is_marked _ = true
+
+-- an event that the process may have, and that is no step
+pub record MayHappen (s : Setup) (o : OwnView) (event : Event) : Type 0 where
+  pub marked : is_marked event ≡ true
+  pub process : process_of event ≡ o.process
+  pub accepted : refusal_in s o event ≡ None
+  pub given : is_event event ≡ true
+
+-- several, one after the other, the newest first
+abbrev pub MayAllHappen : Setup → OwnView → List Event → Type 0
+MayAllHappen s o [] = Unit {0}
+MayAllHappen s o (event ∷ events) = MayAllHappen s o events × MayHappen s (with_events s o events) event
+
+-- the view of a seat to whose process this has happened since
+abbrev pub at_events : Setup → ViewState → List Event → ViewState
+at_events s v events = record v { own = with_events s v.own events }

@@ -1,0 +1,78 @@
+-- What a word step of a port is: the next access of its process, or of that one's memory unit; of a read, begin and end.
+use Rattle.std.specs.Prelude.{◌≡◌, ◌⊎◌, ℕ, Bool, true, false, [], Some, fold}
+use Rattle.safe_bit.specs.declared.Move.TheVariants.{BeginRead, BeginWrite, EndRead, EndWrite}
+use Rattle.safe_bit.specs.declared.Move.{Move}
+use Rattle.safe_number.specs.declared.Access.{Access}
+use Rattle.reader_copies.specs.Written.{IsWrite}
+use Rattle.plain_store.specs.declared.Setup.{Setup}
+use Rattle.record.specs.declared.marks.Mark.TheVariants.{Answered, Down}
+use Rattle.record.specs.declared.stages.Stage.TheVariants as stage
+use Rattle.record.specs.Stages.{stage_after}
+use Rattle.laws.specs.Steps.{being_written, marks_with, next_of}
+use Rattle.history_laws.specs.Stamps.{stamp_read}
+use Rattle.process.specs.declared.told.Told.{Told}
+use Rattle.process.specs.declared.told.Told.TheVariants as told
+use Rattle.process.specs.Processes.{kept_at}
+use Rattle.process.specs.Steps.{IsAt, may_step}
+use Rattle.board.specs.Calls.{IsPrefix, calls_after}
+use Rattle.board.specs.Views.{OwnView, ViewState, process_at, stage_in, with_step}
+use Rattle.board.specs.Words.{loaded}
+
+-- the next access of the process is made, which gives this value: its marks lead to its stage, and what its call takes has the stamp that was read as its place
+pub record Makes (s : Setup) (flick value : Bool) (o then : OwnView) : Type 0 where
+  pub place : ℕ
+  pub is : then ≡ with_step s o flick value place
+  pub counted : (stamp : ℕ) → stamp_read o.doing ≡ Some stamp → place ≡ stamp
+  pub stage : stage_in s then ≡ fold stage_after (stage_in s o) (marks_with s o.process o.doing flick value)
+
+-- a view goes on: it knows this of its process then, where that goes on from, and has seen no fewer changes
+pub record GoesOn (s : Setup) (v w : ViewState) : Type 0 where
+  pub same : w ≡ record v { own = w.own; seen = w.seen }
+  pub at : IsAt (process_at s w.own) w.own.doing
+  pub seen : IsPrefix v.seen w.seen
+
+-- a load that found this word: begin and end of a read, which gives what was loaded
+pub record Loads (s : Setup) (flick : Bool) (v : ViewState) (word : ℕ) (w : ViewState) : Type 0 where
+  pub access : Access
+  pub next : next_of s v.own.process v.own.doing flick ≡ Some access
+  pub reads : access.how ≡ BeginRead
+  pub begun : OwnView
+  pub begins : Makes s flick false v.own begun
+  pub at : IsAt (process_at s begun) begun.doing
+  pub ends : Makes s flick (loaded flick word) begun w.own
+  pub goes : GoesOn s v w
+
+-- a store: one access of a write
+pub record Stores (s : Setup) (flick : Bool) (v w : ViewState) : Type 0 where
+  pub access : Access
+  pub next : next_of s v.own.process v.own.doing flick ≡ Some access
+  pub writes : IsWrite access.how
+  pub makes : Makes s flick false v.own w.own
+  pub goes : GoesOn s v w
+
+-- a word step
+abbrev pub WordStep : Setup → Bool → ViewState → ViewState → Type 0
+WordStep s flick v w = ((word : ℕ) × Loads s flick v word w) ⊎ Stores s flick v w
+
+-- the process has a next access, or its memory unit has one
+abbrev pub goes : Setup → OwnView → Bool
+goes s o = may_step (kept_at s o.process o.doing)
+
+-- what a word step leads to: its call is answered; the process is down; or there is a next access
+abbrev pub LeadsTo : Setup → Told → OwnView → OwnView → Type 0
+LeadsTo s (told.Answers answer) o then = (stage_in s then ≡ stage.Idle) × (then.calls ≡ calls_after 0 o.calls (Answered answer))
+LeadsTo s told.Lies o then = (stage_in s then ≡ stage.Down) × (then.calls ≡ calls_after 0 o.calls Down)
+LeadsTo s _ o then = goes s then ≡ true
+
+-- no read is open, and a write that is open is of this value
+abbrev pub IsBetween : Setup → Bool → OwnView → Type 0
+IsBetween s value o = (flick : Bool) (a : Access) → next_of s o.process o.doing flick ≡ Some a → (a.how ≡ EndWrite → value ≡ being_written s o.process o.doing) × ((v : Bool) → a.how ≡ EndRead v → ⊥)
+
+-- the smallest setup: it stands where a word step names none
+abbrev pub any_setup : Setup
+any_setup = record { version = 1; processes = 1; ticket_bits = 1; stamp_bits = 1; slots = 1; opening = [] }
+
+-- the value that a bit is written to after an access of its write, where it was this before
+abbrev pub value_after : Move → Bool → Bool
+value_after (BeginWrite new) value = new
+value_after _ value = value

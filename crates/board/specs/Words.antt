@@ -1,0 +1,72 @@
+-- The words of a board: one for each single-reader bit of each register, and what it shows of that bit.
+use Rattle.std.specs.Prelude.{ℕ, ◌+◌, ◌-◌, ◌*◌, ◌/◌, ◌%◌, ◌==◌, nat_lt, Bool, true, false, cond, List, [], ◌∷◌, take}
+use Rattle.safe_bit.specs.Cell.{Cell}
+use Rattle.safe_bit.specs.declared.Move.{Move}
+use Rattle.safe_bit.specs.declared.Move.TheVariants.{BeginWrite, EndWrite, BeginRead, EndRead, Settle}
+use Rattle.safe_number.specs.declared.Access.{Access}
+use Rattle.safe_number.specs.declared.Field.{Field}
+use Rattle.safe_number.specs.declared.Field.TheVariants.{Choosing, Ticket, Commit, Stamp0, Stamp1, Image0, Image1}
+use Rattle.plain_store.specs.declared.Setup.{Setup}
+use Rattle.record.specs.Moves.{field_number}
+use Rattle.record.specs.Registers.{opening_bit, width}
+
+-- the registers of an owner, in order
+abbrev pub fields : List Field
+fields = Choosing ∷ Ticket ∷ Commit ∷ Stamp0 ∷ Stamp1 ∷ Image0 ∷ Image1 ∷ []
+
+-- how many bits these registers have
+abbrev pub bits_of : Setup → List Field → ℕ
+bits_of s [] = 0
+bits_of s (field ∷ others) = width s field + bits_of s others
+
+-- how many bits one owner has for one reader: those of all its registers, in a row
+abbrev pub row_bits : Setup → ℕ
+row_bits s = bits_of s fields
+
+-- where in the row the bits of a register begin
+abbrev pub first_bit : Setup → Field → ℕ
+first_bit s field = bits_of s (take (field_number field) fields)
+
+-- the word of the bit of an access: by owner, then by reader, then by its place in the row
+abbrev pub word_of : Setup → Access → ℕ
+word_of s a = (a.owner * s.processes + a.reader) * row_bits s + (first_bit s a.field + a.bit)
+
+-- how many words there are
+abbrev pub words_in : Setup → ℕ
+words_in s = s.processes * s.processes * row_bits s
+
+-- the register at a place in a row of the bits of these, and which of its bits is there
+abbrev pub bit_in_row : Setup → List Field → ℕ → Field × ℕ
+bit_in_row s [] place = (Image1, place)
+bit_in_row s (field ∷ others) place = elim (nat_lt place (width s field)) [ true ↦ (field, place) | false ↦ bit_in_row s others (place - width s field) ]
+
+-- the inverse: the bit whose word it is, as the access with which a read of it begins
+abbrev pub bit_of : Setup → ℕ → Access
+bit_of s word =
+    let at = bit_in_row s fields (word % row_bits s) in
+    record { owner = word / row_bits s / s.processes; field = at.0; bit = at.1; reader = word / row_bits s % s.processes; how = BeginRead }
+
+-- the word of a bit with this value, of which no write is open
+abbrev pub closed_word : Bool → ℕ
+closed_word true = 1
+closed_word false = 0
+
+-- what a word opens at: the opening value of its bit
+abbrev pub opening_word : Setup → ℕ → ℕ
+opening_word s word = closed_word (opening_bit s (bit_of s word))
+
+-- the word of a bit that has this cell: 2 while a write is open, else its value
+abbrev pub shown : Cell → ℕ
+shown cell = cond cell.writing 2 (closed_word cell.value)
+
+-- what a load that found this word gives a read: the flick while a write is open, else the value
+abbrev pub loaded : Bool → ℕ → Bool
+loaded flick word = cond (word == 2) flick (word == 1)
+
+-- what the store of a write's access writes, where the bit is written to this value
+abbrev pub stored : Bool → Move → ℕ
+stored value (BeginWrite v) = 2
+stored value EndWrite = closed_word value
+stored value (Settle v) = closed_word v
+stored value BeginRead = 0
+stored value (EndRead v) = 0

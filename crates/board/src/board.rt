@@ -1,0 +1,97 @@
+//! Boards, and the making of one with its ports.
+ghost use Rattle.std.specs.Prelude.{◌≡◌, ◌+◌, ◌<◌, ℕ, suc, Ok, IfOk, OnOk, [], Some, slice_get, vec_len};
+ghost use Rattle.board.specs.Ports.{PortState};
+ghost use Rattle.board.specs.Views.{first_view};
+ghost use Rattle.plain_store.specs.Setups.{checked};
+
+use crate::opening::opening_words;
+use crate::port::Port;
+use crate::rule::{Agreement, Newcomer, View};
+use crate::steps::Place;
+use atomic_table::Table;
+use plain_store::Setup;
+use process::Process;
+use std::alloc::{AllocError, Global};
+use std::marker::Model;
+
+/// The words of all single-reader bits, which the ports share.
+#[derive(Drop)]
+pub struct Board {
+    pub(crate) table: Table<(), View, Setup, Agreement, Global>,
+    pub(crate) setup: Setup,
+}
+
+impl Model for Board {
+    ghost use Rattle.board.specs.Boards.{BoardState, KeepsBoard};
+
+    ghost Value = { BoardState };
+
+    ghost view = { λ b. record { table_id = b.table.shared.table_id; setup = b.setup } };
+
+    ghost invariant = { λ b. KeepsBoard b.setup b.table.shared.key b.table.shared.table_id };
+}
+
+impl Board {
+    ghost use Rattle.board.specs.Boards.{ArePortsOf, IsOf};
+    ghost use Rattle.board.specs.Views.{new_own, new_view, with_made};
+
+    /// A board on which nothing has happened, and a port for each process, ascending. The one fault is want of memory.
+    pub fn new(alloc: Global, setup: &Setup) -> Result<(Board, Vec<Port>), AllocError>
+        requires good { checked setup.now ≡ Ok tt }
+        ensures setup { IfOk result (λ made. made.0.setup ≡ setup.now) }
+        ensures ports { IfOk result (λ made. ArePortsOf made.0 made.1.items) }
+        ensures idle { IfOk result (λ made. (k : ℕ) (port : PortState) → slice_get made.1.items k ≡ Some port → port.view.own ≡ new_own k) }
+    {
+        let (board, mut seat) = opened(alloc, setup)?;
+        let mut ports = board.others(alloc, &mut seat)?;
+        let first = Process::new(alloc, 0, setup)?;
+        ports.insert(0, Port::new(seat, first))?;
+        Ok((board, ports))
+    }
+
+    /// The ports of all processes but the first, made beside that one's seat.
+    fn others(&self, alloc: Global, first: &mut Place) -> Result<Vec<Port>, AllocError>
+        requires board { first.old.table_id ≡ self.now.table_id }
+        requires first { first.old.me ≡ (first_view, []) }
+        ensures board { OnOk result (first.new.table_id ≡ self.now.table_id) }
+        ensures first { OnOk result (first.new.me ≡ (new_view 0 self.now.setup.processes, [])) }
+        ensures all { IfOk result (λ ports. vec_len ports + 1 ≡ self.now.setup.processes) }
+        ensures each { IfOk result (λ ports. (k : ℕ) (port : PortState) → slice_get ports.items k ≡ Some port → IsOf self.now port × (port.view.own ≡ new_own (suc k))) }
+    {
+        let mut ports: Vec<Port> = Vec::with_capacity(alloc, usize::from(self.setup.processes))?;
+        for number in 1..self.setup.processes {
+            let process = Process::new(alloc, number, &self.setup)?;
+            let seat = self.newcomer(first);
+            ports.push_reserved(Port::new(seat, process));
+        }
+        Ok(ports)
+    }
+
+    /// The next port's seat, made beside port 0's, which knows how many were made.
+    fn newcomer(&self, first: &mut Place) -> Place
+        requires board { first.old.table_id ≡ self.now.table_id }
+        requires first { first.old.me ≡ (new_view 0 first.old.me.0.made, []) }
+        requires made { first.old.me.0.made < self.now.setup.processes }
+        ensures first { (first.new.table_id ≡ self.now.table_id) × (first.new.me ≡ (with_made first.old.me.0, [])) }
+        ensures seat { (result.table_id ≡ self.now.table_id) × (result.me ≡ (new_view first.old.me.0.made 0, [])) }
+    {
+        self.table.shared.split_seat::<Newcomer>(first)
+    }
+}
+
+/// The words of a board at their opening values, and port 0's seat.
+fn opened(alloc: Global, setup: &Setup) -> Result<(Board, Place), AllocError>
+    requires { checked setup.now ≡ Ok tt }
+    ensures { IfOk result (λ made. (made.0.setup ≡ setup.now) × (made.1.table_id ≡ made.0.table_id) × (made.1.me ≡ (first_view, []))) }
+{
+    setup.opening.pairs_are_sound();
+    let words = opening_words(alloc, setup)?;
+    let (table, seat) = Table::of_words(alloc, words.as_slice(), setup)?;
+    Ok((
+        Board {
+            table,
+            setup: *setup,
+        },
+        seat,
+    ))
+}

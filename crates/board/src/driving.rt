@@ -1,0 +1,51 @@
+//! Driving a port.
+ghost use Rattle.std.specs.Prelude.{◌≡◌};
+ghost use Rattle.board.specs.Boards.{IsOf};
+ghost use Rattle.board.specs.Ports.{SamePort};
+
+use crate::board::Board;
+use crate::port::Port;
+use flicks::Flicks;
+use plain_store::Answer;
+use process::Told;
+use record::Stage;
+
+/// What driving a port has led to.
+#[derive(Clone, Copy, Debug, PartialEq, Eq)]
+pub enum Driven {
+    /// The last word step answered the call.
+    Answered(Answer),
+    /// All turns were made, and there is more to do.
+    Turns,
+    /// The process is down.
+    Down,
+    /// The process has no call.
+    Idle,
+}
+
+impl Port {
+    ghost use Rattle.board.specs.Driving.{Drives};
+
+    /// Makes word steps, at most `turns` of them, until one answers the call or the process is down. Where it is idle or
+    /// down none is made. Each takes one flick.
+    pub fn drive(&mut self, board: &Board, turns: u64, flicks: &mut Flicks) -> Driven
+        requires { IsOf board.now self.old }
+        ensures same { SamePort self.old self.new }
+        ensures drives { Drives self.old.setup self.old.view turns flicks.old result self.new.view flicks.new }
+    {
+        match self.stage() {
+            Stage::Idle => return Driven::Idle,
+            Stage::Down => return Driven::Down,
+            _ => {}
+        }
+        for made in 0..turns {
+            let flick = flicks.flick();
+            match self.turn(board, flick) {
+                Told::Answers(answer) => return Driven::Answered(answer),
+                Told::Lies => return Driven::Down,
+                _ => {}
+            }
+        }
+        Driven::Turns
+    }
+}

@@ -1,0 +1,53 @@
+//! What the words of a board open at: each at its bit's opening value.
+ghost use Rattle.std.specs.Prelude.{◌≡◌, ◌<◌, ℕ, Ok, IfOk, slice_index, vec_len};
+ghost use Rattle.safe_number.specs.Bytes.{bit_in};
+ghost use Rattle.plain_store.specs.Setups.{checked, opening_store};
+ghost use Rattle.store_image.specs.Image.{image_of};
+ghost use Rattle.board.specs.Words.{opening_word, words_in};
+
+use crate::words::{bit_of, words_in};
+use plain_store::{Setup, opened};
+use safe_number::Field;
+use std::alloc::{AllocError, Global};
+use store_image::Image;
+
+/// A bit of bytes, of each byte the least significant bit first.
+fn bit_in(bytes: &[u8], bit: u16) -> bool
+    ensures { result ≡ bit_in bytes.now bit }
+{
+    let index = usize::from(bit / 8);
+    let byte = if index < bytes.len() { bytes[index] } else { 0 };
+    (byte >> (bit % 8)) & 1 == 1
+}
+
+/// What a word opens at, where the first image of process 0 opens at these bytes.
+fn opening_word(setup: &Setup, image: &[u8], word: usize) -> u64
+    requires good { checked setup.now ≡ Ok tt }
+    requires image { image.now ≡ image_of (opening_store setup.now) }
+    requires word { word < words_in setup.now }
+    ensures { result ≡ opening_word setup.now word }
+{
+    let access = bit_of(setup, word);
+    if access.owner != 0 {
+        return 0;
+    }
+    match access.field {
+        Field::Image0 => u64::from(bit_in(image, access.bit)),
+        _ => 0,
+    }
+}
+
+/// The words of a setup, each at its bit's opening value.
+pub(crate) fn opening_words(alloc: Global, setup: &Setup) -> Result<Vec<u64>, AllocError>
+    requires { checked setup.now ≡ Ok tt }
+    ensures length { IfOk result (λ words. vec_len words ≡ words_in setup.now) }
+    ensures words { IfOk result (λ words. (word : ℕ) → word < words_in setup.now → slice_index words.items word ≡ opening_word setup.now word) }
+{
+    let image = opened(Image::empty(setup.slots, setup.callers()), setup)?;
+    let count = words_in(setup);
+    let mut words = Vec::with_capacity(alloc, count)?;
+    for word in 0..count {
+        words.push_reserved(opening_word(setup, image.bytes(), word));
+    }
+    Ok(words)
+}

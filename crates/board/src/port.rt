@@ -1,0 +1,150 @@
+//! Ports, each of which runs one process.
+ghost use Rattle.std.specs.Prelude.{◌≡◌, Bool, ℕ, true, []};
+ghost use Rattle.record.specs.declared.Event.TheVariants.{Call, Fail, Restart, Withdraw};
+ghost use Rattle.board.specs.Boards.{IsOf};
+ghost use Rattle.board.specs.Ports.{SamePort, answer_to, port_after};
+ghost use Rattle.board.specs.Views.{new_view, stage_in};
+ghost use Rattle.board.specs.WordSteps.{LeadsTo, WordStep, goes};
+ghost use Rattle.process.specs.Processes.{process_after};
+
+use crate::board::Board;
+use crate::pending::Pending;
+use crate::steps::{Place, word_step};
+use plain_store::Command;
+use process::{Process, Told};
+use record::{Event, Refusal, Stage};
+use std::marker::Model;
+
+/// What runs one process of a board: its seat at the words, the process, and what joins its next word step.
+#[derive(Drop)]
+pub struct Port {
+    seat: Place,
+    process: Process,
+    pending: Pending,
+    /// What it is writing to a bit.
+    value: bool,
+}
+
+impl Model for Port {
+    ghost use Rattle.board.specs.Ports.{KeepsPort, PortState, with_pending};
+
+    ghost Value = { PortState };
+
+    ghost view = { λ p. record { table_id = p.seat.table_id; id = p.seat.id; setup = p.process.setup; view = with_pending p.process.setup p.pending p.seat.me.0 } };
+
+    ghost invariant = { λ p. KeepsPort p.process.setup p.pending p.process p.value p.seat.me.0 p.seat.me.1 };
+}
+
+impl Port {
+    /// A port of a process that has done nothing, at a seat that knows nothing yet.
+    pub(crate) fn new(seat: Place, process: Process) -> Port
+        requires process { process ≡ process_after process.setup [] process.process }
+        requires seat { (made : ℕ) × (seat.me ≡ (new_view process.process made, [])) }
+        ensures { result ≡ record { table_id = seat.table_id; id = seat.id; setup = process.setup; view = seat.me.0 } }
+    {
+        Port {
+            seat,
+            process,
+            pending: Pending::new(),
+            value: false,
+        }
+    }
+
+    /// Where its process stands.
+    pub fn stage(&self) -> Stage
+        ensures { result ≡ stage_in self.now.setup self.now.view.own }
+    {
+        self.process.stage()
+    }
+
+    /// One word step.
+    #[inline]
+    pub(crate) fn turn(&mut self, board: &Board, flick: bool) -> Told
+        requires board { IsOf board.now self.old }
+        requires goes { goes self.old.setup self.old.view.own ≡ true }
+        ensures same { SamePort self.old self.new }
+        ensures step { WordStep self.old.setup flick self.old.view self.new.view }
+        ensures leads { LeadsTo self.old.setup result self.old.view.own self.new.view.own }
+    {
+        let told = word_step(
+            &board.table.shared,
+            &board.setup,
+            &mut self.seat,
+            &mut self.process,
+            self.pending,
+            &mut self.value,
+            flick,
+        );
+        self.pending = Pending::new();
+        told
+    }
+
+    /// Why an event of its process is refused, if it is: as in a world.
+    fn answer(&self, event: &Event) -> Result<(), Refusal>
+        ensures { result ≡ answer_to self.now event.now }
+    {
+        match self.process.refusal(event) {
+            Some(refusal) => Err(refusal),
+            None => Ok(()),
+        }
+    }
+
+    /// A call begins. It is refused as in a world, and then nothing has happened.
+    pub fn begin(&mut self, board: &Board, command: Command) -> Result<(), Refusal>
+        requires { IsOf board.now self.old }
+        ensures same { SamePort self.old self.new }
+        ensures answer { result ≡ answer_to self.old (Call self.old.view.own.process command) }
+        ensures port { self.new ≡ port_after self.old (Call self.old.view.own.process command) }
+    {
+        if let Err(refusal) = self.answer(&Event::Call(self.process.process(), command)) {
+            return Err(refusal);
+        }
+        command.operands_are_sound();
+        let number = self.process.next_number();
+        self.process.call(command, number);
+        self.pending.called = Some(command);
+        Ok(())
+    }
+
+    /// The process halts, and its memory unit takes over. It is refused as in a world, and then nothing has happened.
+    pub fn fail(&mut self) -> Result<(), Refusal>
+        ensures same { SamePort self.old self.new }
+        ensures answer { result ≡ answer_to self.old (Fail self.old.view.own.process) }
+        ensures port { self.new ≡ port_after self.old (Fail self.old.view.own.process) }
+    {
+        if let Err(refusal) = self.answer(&Event::Fail(self.process.process())) {
+            return Err(refusal);
+        }
+        self.process.cut();
+        self.pending.failed = true;
+        Ok(())
+    }
+
+    /// The process gives up waiting. It is refused as in a world, and then nothing has happened.
+    pub fn withdraw(&mut self) -> Result<(), Refusal>
+        ensures same { SamePort self.old self.new }
+        ensures answer { result ≡ answer_to self.old (Withdraw self.old.view.own.process) }
+        ensures port { self.new ≡ port_after self.old (Withdraw self.old.view.own.process) }
+    {
+        if let Err(refusal) = self.answer(&Event::Withdraw(self.process.process())) {
+            return Err(refusal);
+        }
+        self.process.give_up();
+        self.pending.withdrew = true;
+        Ok(())
+    }
+
+    /// A process that was down may call again. It is refused as in a world, and then nothing has happened.
+    pub fn restart(&mut self) -> Result<(), Refusal>
+        ensures same { SamePort self.old self.new }
+        ensures answer { result ≡ answer_to self.old (Restart self.old.view.own.process) }
+        ensures port { self.new ≡ port_after self.old (Restart self.old.view.own.process) }
+    {
+        if let Err(refusal) = self.answer(&Event::Restart(self.process.process())) {
+            return Err(refusal);
+        }
+        self.process.restart();
+        self.pending.restarted = true;
+        Ok(())
+    }
+}

@@ -1,0 +1,168 @@
+//! One word step of a port: a load or a store of one word.
+ghost use Rattle.std.specs.Prelude.{◌≡◌, ◌<◌, Bool, Some, true};
+ghost use Rattle.atomic_table.specs.Table.{Allows};
+ghost use Rattle.reader_copies.specs.Written.{IsWrite};
+ghost use Rattle.safe_bit.specs.declared.Move.TheVariants.{BeginRead};
+ghost use Rattle.safe_number.specs.declared.Access.{Access as Made};
+ghost use Rattle.plain_store.specs.Setups.{checked};
+ghost use Rattle.process.specs.Steps.{may_step};
+ghost use Rattle.board.specs.Agreement.{Agree};
+ghost use Rattle.board.specs.Pending.{nothing};
+ghost use Rattle.board.specs.Ports.{IsNext, IsTied, with_pending};
+ghost use Rattle.board.specs.Words.{loaded, stored, words_in};
+ghost use Rattle.board.specs.WordSteps.{LeadsTo, Loads, Stores, WordStep, value_after};
+
+use crate::pending::Pending;
+use crate::rule::{Agreement, Load, Store, Turn, View};
+use crate::words::word_of;
+use atomic_table::{Seat, Shared};
+use plain_store::Setup;
+use process::{Process, Told};
+use safe_bit::Move;
+use std::marker::Brand;
+
+/// The words of a board, as its ports share them.
+pub(crate) type Words = Shared<(), View, Setup, Agreement>;
+
+/// A port's seat at them.
+pub(crate) type Place = Seat<(), View>;
+
+// A load. The last two parameters are for the proof alone.
+#[inline]
+fn load<T: Turn>(
+    words: &Words,
+    seat: &mut Place,
+    word: usize,
+    _flick: bool,
+    _pending: Pending,
+) -> u64
+    requires place { (seat.old.table_id ≡ words.now.table_id) × (word < words.now.table_id.words) }
+    requires keeps { Allows (λ s. Agree words.now.key s.words s.views) words.now.table_id.slots seat.old.id seat.old.me word (λ k. k) (λ found after. Loads T.setup T.flick T.view found after.0 × (after.1 ≡ seat.old.me.1)) }
+    ensures same { (seat.new.table_id ≡ seat.old.table_id) × (seat.new.id ≡ seat.old.id) × (seat.new.me.1 ≡ seat.old.me.1) }
+    ensures told { Loads T.setup T.flick T.view result seat.new.me.0 }
+{
+    words.load::<Load<T>>(seat, word)
+}
+
+// A store. The last two parameters are for the proof alone.
+#[inline]
+fn store<T: Turn>(
+    words: &Words,
+    seat: &mut Place,
+    word: usize,
+    new: u64,
+    _flick: bool,
+    _pending: Pending,
+)
+    requires place { (seat.old.table_id ≡ words.now.table_id) × (word < words.now.table_id.words) }
+    requires keeps { Allows (λ s. Agree words.now.key s.words s.views) words.now.table_id.slots seat.old.id seat.old.me word (λ _. new) (λ _ after. Stores T.setup T.flick T.view after.0 × (after.1 ≡ seat.old.me.1)) }
+    ensures same { (seat.new.table_id ≡ seat.old.table_id) × (seat.new.id ≡ seat.old.id) × (seat.new.me.1 ≡ seat.old.me.1) }
+    ensures told { Stores T.setup T.flick T.view seat.new.me.0 }
+{
+    words.store::<Store<T>>(seat, word, new);
+}
+
+/// What a load that found this word gives a read.
+#[inline]
+fn loaded(flick: bool, word: u64) -> bool
+    ensures { result ≡ loaded flick word }
+{
+    if word == 2 { flick } else { word == 1 }
+}
+
+/// A read of one bit: one load, for its begin and its end.
+#[inline]
+fn read(
+    words: &Words,
+    seat: &mut Place,
+    process: &mut Process,
+    word: usize,
+    pending: Pending,
+    flick: bool,
+) -> Told
+    requires place { (seat.old.table_id ≡ words.now.table_id) × (word < words.now.table_id.words) }
+    requires tied { (value : Bool) × IsTied words.now.key pending process.old value seat.old.me.0 }
+    requires next { (access : Made) × IsNext words.now.key process.old flick word access × (access.how ≡ BeginRead) }
+    requires goes { may_step process.old.kept ≡ true }
+    ensures same { (seat.new.table_id ≡ seat.old.table_id) × (seat.new.id ≡ seat.old.id) × (seat.new.me.1 ≡ seat.old.me.1) }
+    ensures tied { (value : Bool) → IsTied words.now.key pending process.old value seat.old.me.0 → IsTied words.now.key nothing process.new value seat.new.me.0 }
+    ensures step { WordStep words.now.key flick (with_pending words.now.key pending seat.old.me.0) seat.new.me.0 }
+    ensures leads { LeadsTo words.now.key result (with_pending words.now.key pending seat.old.me.0).own seat.new.me.0.own }
+{
+    let found = load::<Brand>(words, seat, word, flick, pending);
+    let _begun = process.advance(flick, false);
+    process.advance(flick, loaded(flick, found))
+}
+
+/// One access of a write of one bit: one store.
+#[inline]
+fn write(
+    words: &Words,
+    seat: &mut Place,
+    process: &mut Process,
+    word: usize,
+    new: u64,
+    pending: Pending,
+    flick: bool,
+) -> Told
+    requires place { (seat.old.table_id ≡ words.now.table_id) × (word < words.now.table_id.words) }
+    requires next { (value : Bool) × ((access : Made) × IsTied words.now.key pending process.old value seat.old.me.0 × IsNext words.now.key process.old flick word access × IsWrite access.how × (new ≡ stored value access.how)) }
+    requires goes { may_step process.old.kept ≡ true }
+    ensures same { (seat.new.table_id ≡ seat.old.table_id) × (seat.new.id ≡ seat.old.id) × (seat.new.me.1 ≡ seat.old.me.1) }
+    ensures tied { (value : Bool) (access : Made) → IsTied words.now.key pending process.old value seat.old.me.0 → IsNext words.now.key process.old flick word access → IsWrite access.how → IsTied words.now.key nothing process.new (value_after access.how value) seat.new.me.0 }
+    ensures step { WordStep words.now.key flick (with_pending words.now.key pending seat.old.me.0) seat.new.me.0 }
+    ensures leads { LeadsTo words.now.key result (with_pending words.now.key pending seat.old.me.0).own seat.new.me.0.own }
+{
+    store::<Brand>(words, seat, word, new, flick, pending);
+    process.advance(flick, false)
+}
+
+/// What the store of a write's access writes, where the bit is written to `value`: the value of a begin, from then on.
+#[inline]
+fn stored(how: Move, value: &mut bool) -> u64
+    requires { IsWrite how }
+    ensures word { result ≡ stored value.old how }
+    ensures value { value.new ≡ value_after how value.old }
+{
+    match how {
+        Move::BeginWrite(new) => {
+            *value = new;
+            2
+        }
+        Move::EndWrite => u64::from(*value),
+        Move::Settle(settled) => u64::from(settled),
+        Move::BeginRead | Move::EndRead(_) => unreachable!(),
+    }
+}
+
+/// One word step: the next access of the port's process, or of its memory unit; of a read, begin and end.
+#[inline]
+pub(crate) fn word_step(
+    words: &Words,
+    setup: &Setup,
+    seat: &mut Place,
+    process: &mut Process,
+    pending: Pending,
+    value: &mut bool,
+    flick: bool,
+) -> Told
+    requires good { checked setup.now ≡ Ok tt }
+    requires table { (seat.old.table_id ≡ words.now.table_id) × (words.now.table_id.words ≡ words_in setup.now) × (words.now.key ≡ setup.now) }
+    requires tied { IsTied words.now.key pending process.old value.old seat.old.me.0 }
+    requires goes { may_step process.old.kept ≡ true }
+    ensures same { (seat.new.table_id ≡ seat.old.table_id) × (seat.new.id ≡ seat.old.id) × (seat.new.me.1 ≡ seat.old.me.1) }
+    ensures tied { IsTied words.now.key nothing process.new value.new seat.new.me.0 }
+    ensures step { WordStep words.now.key flick (with_pending words.now.key pending seat.old.me.0) seat.new.me.0 }
+    ensures leads { LeadsTo words.now.key result (with_pending words.now.key pending seat.old.me.0).own seat.new.me.0.own }
+{
+    let access = process.next(flick);
+    let word = word_of(setup, &access);
+    match access.how {
+        Move::BeginRead => read(words, seat, process, word, pending, flick),
+        Move::EndRead(_) => unreachable!(),
+        _ => {
+            let new = stored(access.how, value);
+            write(words, seat, process, word, new, pending, flick)
+        }
+    }
+}

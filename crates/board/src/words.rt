@@ -1,0 +1,124 @@
+//! Which word stands for which single-reader bit: the words go by the owner of the bit, then by its reader, then by the
+//! bits of the owner's registers in order. So a read of a register is of words that lie side by side.
+ghost use Rattle.std.specs.Prelude.{◌≡◌, ◌+◌, ◌<◌, ◌≤◌, Ok};
+ghost use Rattle.plain_store.specs.Setups.{checked};
+ghost use Rattle.record.specs.Registers.{width};
+ghost use Rattle.laws.specs.Held.{IsThere};
+ghost use Rattle.board.specs.Words.{bit_of, first_bit, row_bits, word_of, words_in};
+
+use plain_store::Setup;
+use safe_bit::Move;
+use safe_number::{Access, Field};
+
+/// The bits of a register.
+#[inline]
+fn width(setup: &Setup, field: Field) -> usize
+    requires { checked setup.now ≡ Ok tt }
+    ensures width { result ≡ width setup.now field }
+    ensures most { result ≤ 1728 }
+{
+    match field {
+        Field::Choosing | Field::Commit => 1,
+        Field::Ticket => usize::from(setup.ticket_bits),
+        Field::Stamp0 | Field::Stamp1 => usize::from(setup.stamp_bits),
+        Field::Image0 | Field::Image1 => {
+            8 * (23 * usize::from(setup.slots) + 2 * usize::from(setup.callers()))
+        }
+    }
+}
+
+/// Where in a row the bits of a register begin.
+#[inline]
+fn first_bit(setup: &Setup, field: Field) -> usize
+    requires { checked setup.now ≡ Ok tt }
+    ensures first { result ≡ first_bit setup.now field }
+    ensures most { result ≤ 1826 }
+{
+    let tickets = usize::from(setup.ticket_bits);
+    let stamps = usize::from(setup.stamp_bits);
+    match field {
+        Field::Choosing => 0,
+        Field::Ticket => 1,
+        Field::Commit => 1 + tickets,
+        Field::Stamp0 => 2 + tickets,
+        Field::Stamp1 => 2 + tickets + stamps,
+        Field::Image0 => 2 + tickets + 2 * stamps,
+        Field::Image1 => 2 + tickets + 2 * stamps + width(setup, Field::Image0),
+    }
+}
+
+/// How many bits one owner has for one reader.
+#[inline]
+fn row_bits(setup: &Setup) -> usize
+    requires { checked setup.now ≡ Ok tt }
+    ensures row { result ≡ row_bits setup.now }
+    ensures most { result ≤ 3554 }
+{
+    first_bit(setup, Field::Image1) + width(setup, Field::Image1)
+}
+
+/// How many words there are.
+pub(crate) fn words_in(setup: &Setup) -> usize
+    requires { checked setup.now ≡ Ok tt }
+    ensures words { result ≡ words_in setup.now }
+    ensures most { result ≤ 909824 }
+{
+    let processes = usize::from(setup.processes);
+    processes * processes * row_bits(setup)
+}
+
+/// The word of the bit of an access.
+#[inline]
+pub(crate) fn word_of(setup: &Setup, access: &Access) -> usize
+    requires good { checked setup.now ≡ Ok tt }
+    requires there { IsThere setup.now access.now }
+    ensures word { result ≡ word_of setup.now access.now }
+{
+    let processes = usize::from(setup.processes);
+    let copy = usize::from(access.owner) * processes + usize::from(access.reader);
+    copy * row_bits(setup) + first_bit(setup, access.field) + usize::from(access.bit)
+}
+
+/// The register at a place in a row.
+fn field_at(setup: &Setup, place: usize) -> Field
+    requires good { checked setup.now ≡ Ok tt }
+    requires place { place < row_bits setup.now }
+    ensures from { first_bit setup.now result ≤ place }
+    ensures within { place < first_bit setup.now result + width setup.now result }
+{
+    if place < first_bit(setup, Field::Ticket) {
+        Field::Choosing
+    } else if place < first_bit(setup, Field::Commit) {
+        Field::Ticket
+    } else if place < first_bit(setup, Field::Stamp0) {
+        Field::Commit
+    } else if place < first_bit(setup, Field::Stamp1) {
+        Field::Stamp0
+    } else if place < first_bit(setup, Field::Image0) {
+        Field::Stamp1
+    } else if place < first_bit(setup, Field::Image1) {
+        Field::Image0
+    } else {
+        Field::Image1
+    }
+}
+
+/// The bit whose word it is, as the access with which a read of it begins.
+pub(crate) fn bit_of(setup: &Setup, word: usize) -> Access
+    requires good { checked setup.now ≡ Ok tt }
+    requires word { word < words_in setup.now }
+    ensures bit { result ≡ bit_of setup.now word }
+{
+    let row = row_bits(setup);
+    let processes = usize::from(setup.processes);
+    let copy = word / row;
+    let place = word % row;
+    let field = field_at(setup, place);
+    Access {
+        owner: (copy / processes) as u8,
+        field,
+        bit: (place - first_bit(setup, field)) as u16,
+        reader: (copy % processes) as u8,
+        how: Move::BeginRead,
+    }
+}

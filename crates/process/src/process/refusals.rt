@@ -1,0 +1,74 @@
+//! Why an event is refused, by its process alone.
+ghost use Rattle.std.specs.Prelude.{◌≡◌, ◌<◌, IfSome};
+ghost use Rattle.record.specs.Records.{refused_at};
+ghost use Rattle.process.specs.Refusals.{WantsNoMemory, is_full, next_number, refusal_of};
+
+use super::Process;
+use plain_store::Setup;
+use record::{Event, Refusal, Stage};
+
+impl Process {
+    /// Why an event of this process is refused, if it is: for its stage, or as one call too many. Whose event it is is
+    /// not looked at.
+    pub fn refusal(&self, event: &Event) -> Option<Refusal>
+        ensures refused { result ≡ refusal_of self.now event.now }
+        ensures never { IfSome result WantsNoMemory }
+    {
+        if let Some(refusal) = refusal_at(event, self.stage()) {
+            return Some(refusal);
+        }
+        if is_full(event, &self.setup, self.number) {
+            return Some(Refusal::CallsFull);
+        }
+        None
+    }
+
+    /// The number of its next call.
+    pub fn next_number(&self) -> u16
+        requires { self.now.setup.version ≡ 2 → self.now.number < 65535 }
+        ensures { result ≡ next_number self.now.setup self.now.number }
+    {
+        if self.setup.version == 2 {
+            self.number + 1
+        } else {
+            0
+        }
+    }
+}
+
+/// The refusal that the stage of the process gives.
+fn refusal_at(event: &Event, stage: Stage) -> Option<Refusal>
+    ensures refused { result ≡ refused_at event.now stage }
+    ensures never { IfSome result WantsNoMemory }
+{
+    match event {
+        Event::Call(..) => match stage {
+            Stage::Idle => None,
+            Stage::Settling | Stage::Down => Some(Refusal::IsDown),
+            _ => Some(Refusal::Busy),
+        },
+        Event::Step(..) => match stage {
+            Stage::Idle | Stage::Down => Some(Refusal::NotRunning),
+            _ => None,
+        },
+        Event::Withdraw(_) => match stage {
+            Stage::Waiting => None,
+            _ => Some(Refusal::NotWaiting),
+        },
+        Event::Fail(_) => match stage {
+            Stage::Settling | Stage::Down => Some(Refusal::AlreadyFailed),
+            _ => None,
+        },
+        Event::Restart(_) => match stage {
+            Stage::Down => None,
+            _ => Some(Refusal::NotDown),
+        },
+    }
+}
+
+/// A call would be one too many: its number does not fit.
+fn is_full(event: &Event, setup: &Setup, number: u16) -> bool
+    ensures { result ≡ is_full setup.now number event.now }
+{
+    matches!(event, Event::Call(..)) && setup.version == 2 && u16::MAX <= number
+}
