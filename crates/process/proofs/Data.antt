@@ -1,7 +1,7 @@
 -- A process at the data: the place of its call, and what an access makes of it.
 use Rattle.std.proofs.Common.{◌≡◌, ℕ, ◌==◌, Bool, true, false, cond, List, [], ◌∷◌, suc, refl, sym, ap, subst, ◌∙◌, arith}
 use Rattle.std.proofs.lemmas.Bool.Decides.{nat_tests}
-use Rattle.std.specs.Prelude.{Option, None, Some, nat_lt}
+use Rattle.std.specs.Prelude.{IfSome, Option, None, Some, nat_lt}
 use Rattle.safe_number.specs.declared.Access.{Access}
 use Rattle.plain_store.specs.declared.Answer.{Answer}
 use Rattle.plain_store.specs.declared.Answer.TheVariants as answer
@@ -29,7 +29,7 @@ use Rattle.laws.specs.Doings.{Doing, call, runs}
 use Rattle.laws.specs.Doings as doing
 use Rattle.process.specs.declared.process.Work.{Work}
 use Rattle.process.specs.declared.process.Work.TheVariants as work
-use Rattle.process.specs.Keeping.{Goes, IsLeaving, answer_told, is_at_data, kept_shown}
+use Rattle.process.specs.Keeping.{Goes, IsLeaving, answer_told, changes_in, is_at_data, kept_shown}
 use Rattle.process.specs.Processes as kept
 use Rattle.process.specs.Processes.{ProcessState}
 use Rattle.process.specs.Processes.{Kept, kept_at, kept_in}
@@ -275,3 +275,23 @@ new-leaves s p leaving g is = record {
   bits = ap (λ (l : LeavingState). l.ticket_bits) is;
   going = ap is_leaving is ∙ positive s.ticket_bits g.ticket g.ticket_is;
 }
+
+-- what a section tells of the changes before the command is the stamp that it has read
+pub changes-told : (n : ℕ) (next : Part) → IfSome (changes_in (told n next)) (λ changes. changes ≡ n)
+changes-told n Raises = tt
+changes-told n (Asks j js ts) = tt
+changes-told n (TakesTicket t) = tt
+changes-told n (Lowers t) = tt
+changes-told n (Refuses f) = tt
+changes-told n (Waits t w ws) = tt
+changes-told n (AsksCommit k ks vs) = tt
+changes-told n (AsksStamp k ks vs b) = tt
+changes-told n (AsksImage vs) = tt
+changes-told n (WritesImage vs st) = tt
+changes-told n (WritesStamp vs st) = tt
+changes-told n (WritesCommit vs st) = tt
+changes-told n (Clears (answer.Reply r)) = refl
+changes-told n (Clears (answer.TicketsFull p)) = tt
+changes-told n (Clears answer.StampsFull) = tt
+changes-told n (Clears answer.Withdrawn) = tt
+changes-told n Over = tt

@@ -102,6 +102,11 @@ answer_told (progress.Taken reply changes) = Some (answer.Reply reply)
 answer_told progress.NoStamp = Some answer.StampsFull
 answer_told _ = None
 
+-- how many changes a section has told to have been taken before the command
+abbrev pub changes_in : SectionProgress → Option ℕ
+changes_in (progress.Taken reply changes) = Some changes
+changes_in _ = None
+
 -- what the fields of process p keep
 pub record KeepsProcess (s : Setup) (p : ℕ) (current : Work) (door : DoorState) (section : Section) : Type 0 where
   pub good : checked s ≡ Ok tt

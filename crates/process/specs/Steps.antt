@@ -1,10 +1,11 @@
 -- What a process that is kept goes on from, and what becomes of it.
-use Rattle.std.specs.Prelude.{◌≡◌, ℕ, Bool, true, false}
+use Rattle.std.specs.Prelude.{◌≡◌, ℕ, Bool, true, false, Option, None, option_map}
 use Rattle.plain_store.specs.declared.Command.TheVariants.{Ask}
 use Rattle.plain_store.specs.declared.Setup.{Setup}
 use Rattle.record.specs.Closings.{withdrawing}
+use Rattle.record.specs.Cuts.{Change, pending_at}
 use Rattle.critical.specs.Sections as sections
-use Rattle.laws.specs.Doings.{Doing, call}
+use Rattle.laws.specs.Doings.{Doing, Runs, call}
 use Rattle.laws.specs.Steps.{IsCallOf, IsLive, IsReached, cut_of}
 use Rattle.process.specs.Processes as kept
 use Rattle.process.specs.Processes.{Kept, ProcessState, kept_at, kept_closing}
@@ -46,3 +47,13 @@ abbrev pub may_step : Kept → Bool
 may_step kept.Rests = false
 may_step kept.Lies = false
 may_step _ = true
+
+-- the greatest stamp that was read, where the next access may take the command: so many changes were taken before it
+abbrev pub changes_read : Doing → ℕ
+changes_read (Runs command number at) = sections.changes_at at.part
+changes_read _ = 0
+
+-- the greatest stamp that was read, while a change is being written
+abbrev pub changes_pending : Setup → ℕ → Doing → Option ℕ
+changes_pending s p (Runs command number at) = option_map (λ (change : Change). change.1) (pending_at (call s p command number) at.part)
+changes_pending s p _ = None

@@ -1,5 +1,5 @@
 -- What an event leads to, and its marks.
-use Rattle.std.specs.Prelude.{ℕ, List, [], ◌∷◌, map}
+use Rattle.std.specs.Prelude.{ℕ, List, [], ◌∷◌, map, Option, None, Some}
 use Rattle.record.specs.declared.Mark.{Mark}
 use Rattle.record.specs.declared.Mark.TheVariants as mark
 use Rattle.record.specs.Acts.{Act}
@@ -16,12 +16,17 @@ marks_told Nothing = []
 marks_told (Waits ticket) = mark.Waiting ticket ∷ []
 marks_told (WaitsAndEnters ticket) = mark.Waiting ticket ∷ mark.Entered ∷ []
 marks_told Enters = mark.Entered ∷ []
-marks_told (Took reply) = mark.Taken 0 reply ∷ []
+marks_told (Took reply changes) = mark.Taken 0 reply ∷ []
 marks_told Leaves = mark.Left ∷ []
 marks_told (Answers answer) = mark.Answered answer ∷ []
 marks_told (Settles value) = mark.Settled value ∷ []
 marks_told (SettlesAndTakes value reply) = mark.Settled value ∷ mark.Taken 0 reply ∷ []
 marks_told Lies = mark.Down ∷ []
+
+-- how many changes a process tells to have been taken before the command that it takes
+abbrev pub changes_told : Told → Option ℕ
+changes_told (Took reply changes) = Some changes
+changes_told _ = None
 
 -- the marks of an event
 abbrev pub marks_of : Effect → List Mark

@@ -8,7 +8,7 @@ ghost use Rattle.laws.specs.Steps.{reads_of};
 ghost use Rattle.process.specs.Keeping.{is_at_data};
 ghost use Rattle.process.specs.Processes.{inside_kept, kept_at, process_after, stage_kept};
 ghost use Rattle.process.specs.Processes as kept;
-ghost use Rattle.process.specs.Steps.{IsAt, is_at_door, may_step};
+ghost use Rattle.process.specs.Steps.{IsAt, changes_pending, is_at_door, may_step};
 
 mod advance;
 mod cut;
@@ -187,6 +187,20 @@ impl Process {
         match &self.work {
             Work::AtDoor { .. } => self.door.reads(),
             Work::AtData => self.section.reads(),
+            _ => None,
+        }
+    }
+
+    /// While it writes a change of the store, the greatest stamp that it has read: how many changes were taken before
+    /// that one.
+    pub fn changes_pending(&self) -> Option<u32>
+        ensures { (d : Doing) → IsAt self.now d → result ≡ changes_pending self.now.setup self.now.process d }
+    {
+        match &self.work {
+            Work::AtData => match self.section.pending() {
+                Some((_, changes, _)) => Some(changes),
+                None => None,
+            },
             _ => None,
         }
     }

@@ -1,11 +1,11 @@
-ghost use Rattle.std.specs.Prelude.{◌≡◌, cond, [], ◌∷◌, map};
+ghost use Rattle.std.specs.Prelude.{◌≡◌, cond, [], ◌∷◌, map, None};
 ghost use Rattle.record.specs.Histories.{reply_taken};
 ghost use Rattle.record.specs.Records.{placed};
 ghost use Rattle.record.specs.declared.Mark.TheVariants.{Left};
 ghost use Rattle.bakery.specs.Doors as doors;
 ghost use Rattle.critical.specs.Sections as sections;
-ghost use Rattle.process.specs.Keeping.{answer_told, marks_settled, stage_waiting};
-ghost use Rattle.process.specs.Telling.{act_of, marks_of, marks_told};
+ghost use Rattle.process.specs.Keeping.{answer_told, changes_in, marks_settled, stage_waiting};
+ghost use Rattle.process.specs.Telling.{act_of, changes_told, marks_of, marks_told};
 
 use bakery::DoorProgress;
 use critical::SectionProgress;
@@ -24,7 +24,8 @@ pub enum Told {
     /// It is finished, and there is nobody to wait for.
     WaitsAndEnters(u32),
     Enters,
-    Took(Reply),
+    /// The command is taken, before which so many changes were.
+    Took { reply: Reply, changes: u32 },
     Leaves,
     Answers(Answer),
     Settles(bool),
@@ -50,7 +51,7 @@ impl Told {
         ensures { result ≡ reply_taken (marks_told self.now) }
     {
         match *self {
-            Told::Took(reply) | Told::SettlesAndTakes(_, reply) => Some(reply),
+            Told::Took { reply, .. } | Told::SettlesAndTakes(_, reply) => Some(reply),
             _ => None,
         }
     }
@@ -64,7 +65,7 @@ impl Told {
             Told::Waits(ticket) => one(alloc, Mark::Waiting(ticket)),
             Told::WaitsAndEnters(ticket) => two(alloc, Mark::Waiting(ticket), Mark::Entered),
             Told::Enters => one(alloc, Mark::Entered),
-            Told::Took(reply) => one(alloc, Mark::Taken(place, reply)),
+            Told::Took { reply, .. } => one(alloc, Mark::Taken(place, reply)),
             Told::Leaves => one(alloc, Mark::Left),
             Told::Answers(answer) => one(alloc, Mark::Answered(answer)),
             Told::Settles(value) => one(alloc, Mark::Settled(value)),
@@ -142,7 +143,8 @@ fn two(alloc: Global, first: Mark, second: Mark) -> SmallVec<Mark, 3>
 
 /// What the door's progress tells of a process that waited before, or did not.
 pub(crate) fn told_at_door(waits: bool, progress: DoorProgress) -> Told
-    ensures { marks_told result ≡ doors.marks_told (stage_waiting waits) progress }
+    ensures marks { marks_told result ≡ doors.marks_told (stage_waiting waits) progress }
+    ensures changes { changes_told result ≡ None }
 {
     match progress {
         DoorProgress::Doorway => Told::Nothing,
@@ -168,17 +170,22 @@ pub(crate) fn answer_told(progress: &SectionProgress) -> Option<Answer>
 
 /// What a section's progress tells.
 pub(crate) fn told_at_data(progress: &SectionProgress) -> Told
-    ensures { marks_told result ≡ sections.marks_told progress.now }
+    ensures marks { marks_told result ≡ sections.marks_told progress.now }
+    ensures changes { changes_told result ≡ changes_in progress.now }
 {
     match progress {
-        SectionProgress::Taken { reply, .. } => Told::Took(*reply),
+        SectionProgress::Taken { reply, changes } => Told::Took {
+            reply: *reply,
+            changes: *changes,
+        },
         _ => Told::Nothing,
     }
 }
 
 /// What the settling of the torn bit at a value leads to.
 pub(crate) fn settled(value: bool, taken: Option<(bool, Reply)>) -> Told
-    ensures { marks_told result ≡ marks_settled value taken }
+    ensures marks { marks_told result ≡ marks_settled value taken }
+    ensures changes { changes_told result ≡ None }
 {
     match taken {
         Some((bit, reply)) if bit == value => Told::SettlesAndTakes(value, reply),
@@ -188,7 +195,8 @@ pub(crate) fn settled(value: bool, taken: Option<(bool, Reply)>) -> Told
 
 /// What an access of the unit leads to that is the first one outside, or is not.
 pub(crate) fn told_left(inside: bool) -> Told
-    ensures { marks_told result ≡ cond inside (Left ∷ []) [] }
+    ensures marks { marks_told result ≡ cond inside (Left ∷ []) [] }
+    ensures changes { changes_told result ≡ None }
 {
     if inside { Told::Leaves } else { Told::Nothing }
 }

@@ -1,13 +1,13 @@
 //! The next access of a process, and how it goes on by it.
-ghost use Rattle.std.specs.Prelude.{◌≡◌, true, false, Bool, Some};
+ghost use Rattle.std.specs.Prelude.{◌≡◌, true, false, Bool, IfSome, None, Some};
 ghost use Rattle.critical.specs.Registers.{is_data};
 ghost use Rattle.laws.specs.Doings.{Doing};
 ghost use Rattle.laws.specs.Held.{IsThere};
 ghost use Rattle.laws.specs.Steps.{does_then, marks_with, next_of};
 ghost use Rattle.process.specs.Keeping.{is_at_data, is_clearing, is_door, is_unit_freeing, is_unit_settling, is_withdrawing, stage_waiting};
 ghost use Rattle.process.specs.Processes.{kept_at, stage_kept};
-ghost use Rattle.process.specs.Steps.{IsAt, is_at_door, may_step};
-ghost use Rattle.process.specs.Telling.{marks_told};
+ghost use Rattle.process.specs.Steps.{IsAt, changes_read, is_at_door, may_step};
+ghost use Rattle.process.specs.Telling.{changes_told, marks_told};
 ghost use Rattle.process.specs.declared.process.Work.TheVariants as works;
 
 use super::{Process, Work};
@@ -70,6 +70,7 @@ impl Process {
         requires at { (d : Doing) × IsAt self.old d }
         ensures process { (d : Doing) → IsAt self.old d → self.new ≡ record self.old { kept = kept_at self.old.setup self.old.process (does_then self.old.setup self.old.process d flick value) } }
         ensures marks { (d : Doing) → IsAt self.old d → marks_told result ≡ marks_with self.old.setup self.old.process d flick value }
+        ensures changes { (d : Doing) → IsAt self.old d → IfSome (changes_told result) (λ changes. changes ≡ changes_read d) }
     {
         if self.is_at_data() {
             self.advance_at_data(value)
@@ -86,6 +87,7 @@ impl Process {
         requires at { (d : Doing) × IsAt self.old d }
         ensures process { (d : Doing) → IsAt self.old d → self.new ≡ record self.old { kept = kept_at self.old.setup self.old.process (does_then self.old.setup self.old.process d flick value) } }
         ensures marks { (d : Doing) → IsAt self.old d → marks_told result ≡ marks_with self.old.setup self.old.process d flick value }
+        ensures changes { changes_told result ≡ None }
     {
         match &self.work {
             Work::AtDoor { .. } => self.advance_door(value),
@@ -104,6 +106,7 @@ impl Process {
         requires at { (d : Doing) × IsAt self.old d }
         ensures process { (flick : Bool) (d : Doing) → IsAt self.old d → self.new ≡ record self.old { kept = kept_at self.old.setup self.old.process (does_then self.old.setup self.old.process d flick value) } }
         ensures marks { (flick : Bool) (d : Doing) → IsAt self.old d → marks_told result ≡ marks_with self.old.setup self.old.process d flick value }
+        ensures changes { changes_told result ≡ None }
     {
         let waits = self.waits();
         let progress = self.door.advance(value);
@@ -126,6 +129,7 @@ impl Process {
         requires at { (d : Doing) × IsAt self.old d }
         ensures process { (flick : Bool) (d : Doing) → IsAt self.old d → self.new ≡ record self.old { kept = kept_at self.old.setup self.old.process (does_then self.old.setup self.old.process d flick value) } }
         ensures marks { (flick : Bool) (d : Doing) → IsAt self.old d → marks_told result ≡ marks_with self.old.setup self.old.process d flick value }
+        ensures changes { (d : Doing) → IsAt self.old d → IfSome (changes_told result) (λ changes. changes ≡ changes_read d) }
     {
         let progress = self.section.advance(value);
         match answer_told(&progress) {
@@ -148,6 +152,7 @@ impl Process {
         requires at { (d : Doing) × IsAt self.old d }
         ensures process { (flick value : Bool) (d : Doing) → IsAt self.old d → self.new ≡ record self.old { kept = kept_at self.old.setup self.old.process (does_then self.old.setup self.old.process d flick value) } }
         ensures marks { (flick value : Bool) (d : Doing) → IsAt self.old d → marks_told result ≡ marks_with self.old.setup self.old.process d flick value }
+        ensures changes { changes_told result ≡ None }
     {
         match &mut self.work {
             Work::Leaves {
@@ -177,6 +182,7 @@ impl Process {
         requires at { (d : Doing) × IsAt self.old d }
         ensures process { (flick value : Bool) (d : Doing) → IsAt self.old d → self.new ≡ record self.old { kept = kept_at self.old.setup self.old.process (does_then self.old.setup self.old.process d flick value) } }
         ensures marks { (flick value : Bool) (d : Doing) → IsAt self.old d → marks_told result ≡ marks_with self.old.setup self.old.process d flick value }
+        ensures changes { changes_told result ≡ None }
     {
         match &mut self.work {
             Work::Withdraws(leaving) => match leaving.advance() {
@@ -197,6 +203,7 @@ impl Process {
         requires at { (d : Doing) × IsAt self.old d }
         ensures process { (value : Bool) (d : Doing) → IsAt self.old d → self.new ≡ record self.old { kept = kept_at self.old.setup self.old.process (does_then self.old.setup self.old.process d flick value) } }
         ensures marks { (value : Bool) (d : Doing) → IsAt self.old d → marks_told result ≡ marks_with self.old.setup self.old.process d flick value }
+        ensures changes { changes_told result ≡ None }
     {
         let _nested: NestedTypes = None;
         match mem::replace(&mut self.work, Work::Lies) {
@@ -234,6 +241,7 @@ impl Process {
         requires at { (d : Doing) × IsAt self.old d }
         ensures process { (value : Bool) (d : Doing) → IsAt self.old d → self.new ≡ record self.old { kept = kept_at self.old.setup self.old.process (does_then self.old.setup self.old.process d flick value) } }
         ensures marks { (value : Bool) (d : Doing) → IsAt self.old d → marks_told result ≡ marks_with self.old.setup self.old.process d flick value }
+        ensures changes { changes_told result ≡ None }
     {
         match &mut self.work {
             Work::Frees { inside, unit } => match unit.advance(flick) {

@@ -46,6 +46,14 @@ fn walks_stop_before_last_bits(rt: HostRuntime) -> Result<(), Fail> {
     assert!(rt; world.step(0, false, &mut told).is_ok());
     assert!(rt; matches!(told, Told::Nothing));
     assert!(rt; world.step(0, false, &mut told).is_ok());
-    assert!(rt; matches!(told, Told::Took(Reply::NoName)));
+    assert!(rt;
+        matches!(
+            told,
+            Told::Took {
+                reply: Reply::NoName,
+                changes: 0
+            }
+        )
+    );
     Ok(())
 }

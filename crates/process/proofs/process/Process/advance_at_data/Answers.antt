@@ -1,14 +1,17 @@
 -- An access at the data, by the place of the call.
 use Rattle.std.proofs.Common.{◌≡◌, refl, sym, ap, subst, ◌∙◌}
-use Rattle.record.specs.Places.{place_of}
+use Rattle.std.specs.Prelude.{IfSome}
+use Rattle.record.specs.Places.{place_after, place_of}
 use Rattle.record.proofs.Width.{is_good}
-use Rattle.critical.specs.Sections.{Section}
+use Rattle.critical.specs.Sections.{Section, changes_at, progress_at}
 use Rattle.laws.specs.Doings.{call}
 use Rattle.process.specs.Processes.{ProcessState}
 use Rattle.process.specs.Processes.{Kept, kept_at}
 use Rattle.laws.specs.Steps.{does_then, marks_with}
-use Rattle.process.specs.Keeping.{Goes, answer_told, is_at_data, kept_shown}
-use Rattle.process.proofs.Data.{data-works, here, new-leaves, no-answer, then-data, then-leaves}
+use Rattle.process.specs.Keeping.{Goes, answer_told, changes_in, is_at_data, kept_shown}
+use Rattle.process.specs.Steps.{changes_read}
+use Rattle.process.specs.Telling.{changes_told}
+use Rattle.process.proofs.Data.{changes-told, data-works, here, new-leaves, no-answer, then-data, then-leaves}
 use Rattle.process.proofs.process.Process.advance_at_data.Goals as goal
 use Rattle.process.proofs.process.Process.advance_at_data.Goals.{in-None, in-Some}
 
@@ -75,7 +78,17 @@ returns-clause-marks c = λ flick d is.
     let at = (here f.setup f.process f.command f.number f.work f.door f.section c.args.self.now c.self.view_is c.self.invariant.goes c.requires.at_data).1 d is in
     let k = call f.setup f.process f.command f.number in
     let v = c.args.value in
-    c.told_at_data.ensures
+    c.told_at_data.ensures.marks
     ∙ sym (c.advance-progress.ensures.marks k (place_of k at.accesses) at.shown)
     ∙ ap (λ d. marks_with f.setup f.process d flick v) (sym at.is)
     ∙ ap (λ (state : ProcessState). marks_with state.setup state.process d flick v) c.self.view_is
+
+pub returns-clause-changes : goal.returns-clause-changes
+returns-clause-changes c = λ d is.
+    let f = c.self.inside in
+    let at = (here f.setup f.process f.command f.number f.work f.door f.section c.args.self.now c.self.view_is c.self.invariant.goes c.requires.at_data).1 d is in
+    let k = call f.setup f.process f.command f.number in
+    let found : changes_told c.told_at_data.result ≡ changes_in (progress_at k (place_of k at.accesses) c.args.value) = c.told_at_data.ensures.changes ∙ ap changes_in (c.advance-progress.ensures.progress k (place_of k at.accesses) at.shown) in
+    subst (λ o. IfSome o (λ changes. changes ≡ changes_read d)) (sym found)
+    (subst (λ d. IfSome (changes_in (progress_at k (place_of k at.accesses) c.args.value)) (λ changes. changes ≡ changes_read d)) (sym at.is)
+    (changes-told (changes_at (place_of k at.accesses).part) (place_after k (place_of k at.accesses) c.args.value).part))

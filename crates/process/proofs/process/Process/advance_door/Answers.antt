@@ -57,5 +57,5 @@ returns-clause-marks c = λ flick d is.
     let found = kept-here f.setup f.process f.command f.number f.work f.door f.section c.args.self.now c.self.view_is c.self.invariant.goes c.requires.at_door in
     let k = call f.setup f.process f.command f.number in
     let v = c.args.value in
-    marks-door f.setup f.process f.command f.number f.door d at flick v c.advance-progress.result _ _ found.1 (c.advance-progress.ensures.marks k at.accesses at.shown) c.told_at_door.ensures (ap stage_kept found.0 ∙ c.waits-waits.ensures)
+    marks-door f.setup f.process f.command f.number f.door d at flick v c.advance-progress.result _ _ found.1 (c.advance-progress.ensures.marks k at.accesses at.shown) c.told_at_door.ensures.marks (ap stage_kept found.0 ∙ c.waits-waits.ensures)
     ∙ ap (λ (state : ProcessState). marks_with state.setup state.process d flick v) c.self.view_is

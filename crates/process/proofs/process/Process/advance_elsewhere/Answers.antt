@@ -11,7 +11,7 @@ advance_door-requires-clause-at_door c =
     sym (ap is_at_door (kept-is f.setup f.process f.command f.number f.work f.door f.section c.args.self.now c.self.view_is _ c.in-AtDoor.is))
 
 pub returns-in-AtDoor : goal.returns-in-AtDoor
-returns-in-AtDoor c = record { process = c.advance_door.ensures.process c.args.flick; marks = c.advance_door.ensures.marks c.args.flick }
+returns-in-AtDoor c = record { process = c.advance_door.ensures.process c.args.flick; marks = c.advance_door.ensures.marks c.args.flick; changes = c.advance_door.ensures.changes }
 
 pub advance_leaves-requires-clause-clears : goal.advance_leaves-requires-clause-clears
 advance_leaves-requires-clause-clears c =
@@ -19,7 +19,7 @@ advance_leaves-requires-clause-clears c =
     sym (ap is_clearing (kept-is f.setup f.process f.command f.number f.work f.door f.section c.args.self.now c.self.view_is _ c.in-Leaves.is))
 
 pub returns-in-Leaves : goal.returns-in-Leaves
-returns-in-Leaves c = record { process = c.advance_leaves.ensures.process c.args.flick c.args.value; marks = c.advance_leaves.ensures.marks c.args.flick c.args.value }
+returns-in-Leaves c = record { process = c.advance_leaves.ensures.process c.args.flick c.args.value; marks = c.advance_leaves.ensures.marks c.args.flick c.args.value; changes = c.advance_leaves.ensures.changes }
 
 pub advance_withdraws-requires-clause-withdraws : goal.advance_withdraws-requires-clause-withdraws
 advance_withdraws-requires-clause-withdraws c =
@@ -27,7 +27,7 @@ advance_withdraws-requires-clause-withdraws c =
     sym (ap is_withdrawing (kept-is f.setup f.process f.command f.number f.work f.door f.section c.args.self.now c.self.view_is _ c.in-Withdraws.is))
 
 pub returns-in-Withdraws : goal.returns-in-Withdraws
-returns-in-Withdraws c = record { process = c.advance_withdraws.ensures.process c.args.flick c.args.value; marks = c.advance_withdraws.ensures.marks c.args.flick c.args.value }
+returns-in-Withdraws c = record { process = c.advance_withdraws.ensures.process c.args.flick c.args.value; marks = c.advance_withdraws.ensures.marks c.args.flick c.args.value; changes = c.advance_withdraws.ensures.changes }
 
 pub advance_settles-requires-clause-settles : goal.advance_settles-requires-clause-settles
 advance_settles-requires-clause-settles c =
@@ -35,7 +35,7 @@ advance_settles-requires-clause-settles c =
     sym (ap is_unit_settling (kept-is f.setup f.process f.command f.number f.work f.door f.section c.args.self.now c.self.view_is _ c.in-Settles.is))
 
 pub returns-in-Settles : goal.returns-in-Settles
-returns-in-Settles c = record { process = c.advance_settles.ensures.process c.args.value; marks = c.advance_settles.ensures.marks c.args.value }
+returns-in-Settles c = record { process = c.advance_settles.ensures.process c.args.value; marks = c.advance_settles.ensures.marks c.args.value; changes = c.advance_settles.ensures.changes }
 
 pub advance_frees-requires-clause-frees : goal.advance_frees-requires-clause-frees
 advance_frees-requires-clause-frees c =
@@ -43,4 +43,4 @@ advance_frees-requires-clause-frees c =
     sym (ap is_unit_freeing (kept-is f.setup f.process f.command f.number f.work f.door f.section c.args.self.now c.self.view_is _ c.in-Frees.is))
 
 pub returns-in-Frees : goal.returns-in-Frees
-returns-in-Frees c = record { process = c.advance_frees.ensures.process c.args.value; marks = c.advance_frees.ensures.marks c.args.value }
+returns-in-Frees c = record { process = c.advance_frees.ensures.process c.args.value; marks = c.advance_frees.ensures.marks c.args.value; changes = c.advance_frees.ensures.changes }

@@ -1,5 +1,5 @@
 -- An access with which the memory unit clears the ticket and the choosing bit.
-use Rattle.std.proofs.Common.{◌≡◌, false, sym, ap, subst, ◌∙◌}
+use Rattle.std.proofs.Common.{◌≡◌, false, refl, sym, ap, subst, ◌∙◌}
 use Rattle.record.specs.Closings.{closing_after}
 use Rattle.failure.specs.Units.{remains}
 use Rattle.laws.specs.Doings.{call}
@@ -40,10 +40,11 @@ returns-in_default-advance c =
           subst P c.self.view_is (ap with_fields (frees-on f.setup f.process c.in-Frees.inside c.in-Frees.unit c.advance.new.self d at c.args.flick v (c.advance.ensures.unit (call f.setup f.process at.command at.number) at.at at.shown) goes).0);
       marks = λ v d is.
           let at = seen-freeing f.setup f.process f.command f.number f.work f.door f.section c.args.self.now c.self.view_is c.in-Frees.inside c.in-Frees.unit c.in-Frees.is d is in
-          c.told_left-told.ensures
+          c.told_left-told.ensures.marks
           ∙ (frees-marks f.setup f.process c.in-Frees.inside c.in-Frees.unit d at c.args.flick v c.advance.result (c.advance.ensures.marks (call f.setup f.process at.command at.number) at.at at.shown)).0
           (c.advance.ensures.progress ∙ (frees-on f.setup f.process c.in-Frees.inside c.in-Frees.unit c.advance.new.self d at c.args.flick v (c.advance.ensures.unit (call f.setup f.process at.command at.number) at.at at.shown) goes).1)
           ∙ ap (λ (state : ProcessState). marks_with state.setup state.process d c.args.flick v) c.self.view_is;
+      changes = c.told_left-told.ensures.changes;
     }
 
 pub returns-in-Down : goal.returns-in-Down
@@ -61,4 +62,5 @@ returns-in-Down c =
           let at = seen-freeing f.setup f.process f.command f.number f.work f.door f.section c.args.self.now c.self.view_is c.in-Frees.inside c.in-Frees.unit c.in-Frees.is d is in
           (frees-marks f.setup f.process c.in-Frees.inside c.in-Frees.unit d at c.args.flick v c.advance.result (c.advance.ensures.marks (call f.setup f.process at.command at.number) at.at at.shown)).1 c.in-Down.is
           ∙ ap (λ (state : ProcessState). marks_with state.setup state.process d c.args.flick v) c.self.view_is;
+      changes = refl;
     }

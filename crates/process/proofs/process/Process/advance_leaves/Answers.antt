@@ -9,7 +9,7 @@ use Rattle.process.specs.Processes as kept
 use Rattle.process.specs.Processes.{ProcessState}
 use Rattle.process.specs.Processes.{Kept, kept_at}
 use Rattle.laws.specs.Steps.{does_then, marks_with}
-use Rattle.process.specs.Telling.{marks_told}
+use Rattle.process.specs.Telling.{changes_told, marks_told}
 use Rattle.process.proofs.Clears.{clears_at, going-at, is-left, marks-done, marks-going, seen, then-done, then-going}
 use Rattle.process.proofs.process.Process.advance_leaves.Goals as goal
 use Rattle.process.proofs.process.Process.advance_leaves.Goals.{then-fresh, else-fresh}
@@ -44,6 +44,9 @@ returns-after-fresh-clause-process c = λ flick v d is.
     let with_fields : Kept → ProcessState = λ kept. record { setup = f.setup; process = f.process; kept = kept; command = f.command; number = f.number } in
     let P : ProcessState → Type 0 = λ state. with_fields (kept.Leaves c.in-Leaves.answer false c.advance.new.self) ≡ with_kept (then state) state in
     subst P c.self.view_is (ap with_fields (then-going f.setup f.process f.command f.number c.in-Leaves.answer c.in-Leaves.fresh c.in-Leaves.leaving c.advance.new.self d at flick v (c.advance.ensures.program (call f.setup f.process f.command f.number) (clears_at c.in-Leaves.answer at.run) v at.shown) (going-at _ (sym (c.advance.ensures.last (call f.setup f.process f.command f.number) (clears_at c.in-Leaves.answer at.run) at.shown) ∙ c.in-Going.is))))
+
+pub returns-after-fresh-clause-changes : goal.returns-after-fresh-clause-changes
+returns-after-fresh-clause-changes c = elim c.if-fresh.branch [ then-fresh w ↦ ap changes_told w.told-is | else-fresh w ↦ ap changes_told w.told-is ]
 
 pub returns-after-fresh-clause-marks : goal.returns-after-fresh-clause-marks
 returns-after-fresh-clause-marks c = λ flick v d is.

@@ -1,5 +1,5 @@
 -- An access with which the memory unit settles the torn bit.
-use Rattle.std.proofs.Common.{◌≡◌, sym, ap, subst, ◌∙◌}
+use Rattle.std.proofs.Common.{◌≡◌, refl, sym, ap, subst, ◌∙◌}
 use Rattle.std.specs.Prelude.{Some}
 use Rattle.record.specs.Closings.{Closing, closing_after}
 use Rattle.record.specs.Scripts.{Call}
@@ -69,6 +69,7 @@ returns-in-Settling c =
           let x : Closing = settling_at w.inside at.field at.bit at.begun at.reply at.torn in
           (settles-marks f.setup f.process w.inside w.taken w.value w.unit d at c.args.flick v c.advance.result (c.advance.ensures.marks (call f.setup f.process at.command at.number) x at.shown)).0 c.in-Settling.is
           ∙ ap (λ (state : ProcessState). marks_with state.setup state.process d c.args.flick v) c.self.view_is;
+      changes = refl;
     }
 
 pub returns-in_default-advance : goal.returns-in_default-advance
@@ -87,9 +88,10 @@ returns-in_default-advance c =
       marks = λ v d is.
           let at = seen-settling f.setup f.process f.command f.number f.work f.door f.section c.args.self.now c.self.view_is w.inside w.taken w.value w.unit (sym c.replace.ensures.value ∙ w.is) d is in
           let x : Closing = settling_at w.inside at.field at.bit at.begun at.reply at.torn in
-          c.settled.ensures
+          c.settled.ensures.marks
           ∙ ap (λ b. marks_settled b w.taken) c.unwrap_or-at.ensures
           ∙ (settles-marks f.setup f.process w.inside w.taken w.value w.unit d at c.args.flick v c.advance.result (c.advance.ensures.marks (call f.setup f.process at.command at.number) x at.shown)).1
           (c.advance.ensures.progress ∙ (settles-done f.setup f.process w.inside w.taken w.value w.unit c.advance.new.self d at c.args.flick v (c.advance.ensures.unit (call f.setup f.process at.command at.number) x at.shown) (λ e. c.in_default-advance.not-Settling (c.advance.ensures.progress ∙ e))).1)
           ∙ ap (λ (state : ProcessState). marks_with state.setup state.process d c.args.flick v) c.self.view_is;
+      changes = c.settled.ensures.changes;
     }
