@@ -1,6 +1,6 @@
 -- A core that shows events with a history keeps, with it, what a world keeps.
-use Rattle.std.proofs.Common.{◌≡◌, ℕ, zero, suc, ◌+◌, ◌<◌, ◌≤◌, ◌==◌, ◌&&◌, cond, Bool, List, [], ◌∷◌, Option, None, Some, length, map, refl, sym, ap, subst, ◌∙◌, arith}
-use Rattle.std.specs.Prelude.{nat_le, slice_index_or, slice_set}
+use Rattle.std.proofs.Common.{◌≡◌, ℕ, zero, suc, ◌+◌, ◌<◌, ◌≤◌, Bool, List, [], ◌∷◌, Option, None, Some, length, map, refl, sym, ap, subst, ◌∙◌, arith}
+use Rattle.std.specs.Prelude.{slice_index_or, slice_set}
 use Rattle.std.proofs.lemmas.List.{length-map, length-set, length_push}
 use Rattle.plain_store.specs.declared.Command.{Command}
 use Rattle.plain_store.specs.declared.Reply.{Reply}
@@ -8,9 +8,8 @@ use Rattle.plain_store.specs.declared.Setup.{Setup}
 use Rattle.record.specs.declared.events.Event.{Event}
 use Rattle.record.specs.declared.history.Taken.{Taken}
 use Rattle.record.specs.declared.refusals.Refusal.{Refusal}
-use Rattle.record.specs.declared.refusals.Refusal.TheVariants.{CallsFull}
-use Rattle.record.specs.Records.{is_call, past_of, process_of, refused, refused_at}
-use Rattle.process.specs.Processes.{ProcessState, stage_kept}
+use Rattle.record.specs.Records.{past_of, process_of, refused}
+use Rattle.process.specs.Processes.{ProcessState}
 use Rattle.process.specs.Refusals.{refusal_of}
 use Rattle.world.specs.Changes.{pending_in, told, with_taken}
 use Rattle.world.specs.Cores.{CoreGoesOn, CoreRefuses, CoreState, CoreWalks, KeepsCore, call_in, with_history}

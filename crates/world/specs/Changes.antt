@@ -1,9 +1,8 @@
 -- What an event changes of what a world keeps, beside the cursor of its process.
-use Rattle.std.specs.Prelude.{ℕ, ◌+◌, ◌==◌, [], ◌∷◌, ◌++◌, Bool, true, false, not, cond, List, map, Option, None, Some, is_some, slice_get, slice_set}
+use Rattle.std.specs.Prelude.{ℕ, ◌+◌, [], ◌∷◌, ◌++◌, Bool, true, false, not, cond, List, map, Option, None, Some, is_some, slice_get, slice_set}
 use Rattle.std.specs.List.{range_with_len}
 use Rattle.plain_store.specs.declared.Command.{Command}
 use Rattle.plain_store.specs.declared.Reply.{Reply}
-use Rattle.plain_store.specs.declared.Setup.{Setup}
 use Rattle.record.specs.declared.history.Taken.{Taken}
 use Rattle.record.specs.Doorways.{is_waiting_stage}
 use Rattle.world.specs.Seats.{Seat}

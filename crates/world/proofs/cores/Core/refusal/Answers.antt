@@ -1,7 +1,5 @@
-use Rattle.std.proofs.Common.{subst, ◌<◌, ◌≤◌, ◌==◌, ◌&&◌, length, slice_index_or, sym, ap, ◌∙◌, arith, true, false}
-use Rattle.std.specs.Prelude.{nat_le}
-use Rattle.record.specs.Records.{is_call, past_of, process_of, refused, refused_at}
-use Rattle.process.specs.Processes.{ProcessState, stage_kept}
+use Rattle.std.proofs.Common.{subst, ◌<◌, ◌≤◌, length, sym, ap, ◌∙◌, arith}
+use Rattle.record.specs.Records.{past_of, process_of, refused}
 use Rattle.world.specs.Cores.{CoreRefuses, CoreState, with_history}
 use Rattle.world.specs.Shows.{WorldState}
 use Rattle.world.proofs.WorldNew.{refused-beyond}
