@@ -1,0 +1,27 @@
+-- What weigh does
+pub mod Callers
+pub mod Filters
+pub mod Followed
+pub mod Chains
+pub mod Judged
+pub mod Grouped
+pub mod Finding
+-- What its verdicts mean: merges
+pub mod Merging
+pub mod InPlaces
+-- Positions and stores
+pub mod Positions
+pub mod Quiet
+pub mod Replies
+pub mod StoresInTurn
+pub mod Counting
+-- The second reading
+pub mod Orders
+pub mod Forward
+pub mod Backward
+pub mod SecondReading
+pub mod SameVerdicts
+-- One history
+pub mod ListsInOrder
+pub mod Answering
+pub mod Histories

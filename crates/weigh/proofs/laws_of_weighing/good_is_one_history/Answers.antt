@@ -1,0 +1,5 @@
+use Rattle.weigh.proofs.Histories.{one_history}
+use Rattle.weigh.proofs.laws_of_weighing.good_is_one_history.Goals as goal
+
+pub returns : goal.returns
+returns x = one_history

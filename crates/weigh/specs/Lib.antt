@@ -1,0 +1,7 @@
+pub mod Weighing
+pub mod Following
+pub mod Shown
+pub mod Merges
+pub mod SaidOverLists
+pub mod OneHistory
+pub mod OneVerdict

@@ -1,0 +1,19 @@
+//! Finished calls.
+use plain_store::{Answer, Command};
+
+/// A finished call. It has no answer if a failure cut it, and a place if it was taken: how many changes of the store
+/// were taken before it.
+#[derive(Clone, Copy, Debug, PartialEq, Eq)]
+pub struct Placed {
+    pub command: Command,
+    pub answer: Option<Answer>,
+    pub place: Option<u32>,
+}
+
+/// A call of the ports' lists: which list it stands in, and its index there.
+#[derive(Clone, Copy, Debug)]
+pub(crate) struct Call {
+    pub placed: Placed,
+    pub port: usize,
+    pub index: usize,
+}

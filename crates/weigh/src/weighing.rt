@@ -1,0 +1,40 @@
+ghost use Rattle.std.specs.Prelude.{◌≡◌, ◌≤◌, All, IfOk, List, Ok, length};
+ghost use Rattle.plain_store.specs.Setups.{checked};
+ghost use Rattle.weigh.specs.declared.calls.Placed.{Placed as Finished};
+ghost use Rattle.weigh.specs.Weighing.{IsWeighed, lists_of};
+
+use crate::calls::Placed;
+use crate::grouping::group;
+use crate::stores::Stores;
+use crate::verdicts::Weighed;
+use plain_store::Setup;
+use std::alloc::{AllocError, Global};
+use store_image::Image;
+
+/// Weighs the ports' lists of finished calls against the image at the end: whether they stand in one history of the
+/// one-thread store, with this image after it, and else which call is the first that does not. List p is that of
+/// process p. The one fault is want of memory.
+pub fn weigh(
+    alloc: Global,
+    setup: &Setup,
+    lists: &[Vec<Placed>],
+    image: &Image,
+) -> Result<Weighed, AllocError>
+    requires good { checked setup.now ≡ Ok tt }
+    requires few_lists { setup.now.version ≡ 2 → length lists.now ≤ setup.now.processes }
+    requires few_calls { setup.now.version ≡ 2 → All (λ (list : List Finished). length list ≤ 65535) (lists_of lists.now) }
+    ensures { IfOk result (λ weighed. IsWeighed setup.now (lists_of lists.now) image.now weighed) }
+{
+    let groups = group(alloc, lists)?;
+    let stores = Stores::follow(alloc, setup, &groups)?;
+    for (port, list) in lists.iter().enumerate() {
+        if let Some(index) = stores.first_bad(setup, port, list) {
+            return Ok(Weighed::Bad(port, index));
+        }
+    }
+    if stores.end_with(image) {
+        Ok(Weighed::Good)
+    } else {
+        Ok(Weighed::BadEnd)
+    }
+}
