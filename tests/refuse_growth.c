@@ -4,12 +4,14 @@
 #include <stddef.h>
 #include <stdio.h>
 #include <stdlib.h>
+#include <sys/syscall.h>
 #include <unistd.h>
 
 void *__libc_malloc(size_t size);
 void *__libc_realloc(void *block, size_t size);
 
-static unsigned long growths, refused;
+static _Atomic unsigned long growths;
+static unsigned long refused;
 
 __attribute__((constructor)) static void begin(void)
 {
@@ -36,4 +38,12 @@ __attribute__((destructor)) static void tell(void)
         return;
     dprintf(file, "%lu\n", growths);
     close(file);
+}
+
+/* A program that starts threads ends by this call, and runs no destructor. */
+void _exit(int status)
+{
+    tell();
+    syscall(SYS_exit_group, status);
+    __builtin_unreachable();
 }

@@ -1,10 +1,11 @@
 -- What the next access of a seat's process makes of what the seat knows, and of the words.
-use Rattle.std.proofs.Common.{◌≡◌, ℕ, ◌<◌, ◌==◌, Bool, true, false, cond, List, [], ◌∷◌, length, map, set, refl, sym, ap, ◌∙◌, subst, Option, Some, None, append-nil, eq-eqb, get_or-set_same, get_or-set_other}
+use Rattle.std.proofs.Common.{◌≡◌, ℕ, ◌<◌, ◌==◌, Bool, true, false, cond, List, [], ◌∷◌, length, map, set, refl, sym, ap, ◌∙◌, subst, Option, Some, None, option_map, append-nil, eq-eqb, get_or-set_same, get_or-set_other}
 use Rattle.std.proofs.lemmas.Bool.{true≢false}
 use Rattle.std.specs.Prelude.{slice_index, fold}
 use mathlib.Core.Option.{some}
 use lib.ListN.{get_elem?}
 use Rattle.safe_bit.specs.Cell.{Cell, cell_after}
+use Rattle.safe_bit.specs.SafeRule.{read_value}
 use Rattle.safe_bit.specs.declared.Move.{Move}
 use Rattle.safe_bit.specs.declared.Move.TheVariants.{BeginWrite, EndWrite, BeginRead, EndRead, Settle}
 use Rattle.safe_number.specs.declared.Access.{Access}
@@ -19,18 +20,19 @@ use Rattle.record.specs.Calls.{last_command, call_number}
 use Rattle.record.specs.Closings.{Withdraws, Settles, Frees, Lowers, Quit, Ended}
 use Rattle.record.specs.Entries.{Entry, Past, own}
 use Rattle.record.specs.Histories.{history}
-use Rattle.record.specs.Moves.{same_bit, valued}
+use Rattle.record.specs.Moves.{ended, ended_with, moves_of, same_bit, valued}
 use Rattle.record.specs.Parts.{Part, is_over}
 use Rattle.record.specs.Parts as part
 use Rattle.record.specs.Places.{Place, value_of}
-use Rattle.record.specs.Records.{past_of, placed}
+use Rattle.record.specs.Records.{entry_of, past_of, placed}
+use Rattle.record.specs.Registers.{opening_bit}
 use Rattle.record.specs.Scripts.{Call}
 use Rattle.record.specs.Stages.{stage, stage_after}
 use Rattle.record.proofs.Accepted.{accepted_adds}
 use Rattle.record.proofs.Local.{command-plain, calls-plain}
 use Rattle.record.proofs.Singles.{is_write}
-use Rattle.record.proofs.Staging.{stage-placed}
-use Rattle.record.proofs.Width.{IsGood}
+use Rattle.record.proofs.Staging.{no_called, stage-placed}
+use Rattle.record.proofs.Width.{IsGood, is_good}
 use Rattle.laws.specs.Doings.{Doing, Rests, Lies, Runs, Closes, call, doing}
 use Rattle.laws.specs.Held.{IsThere, cell_held}
 use Rattle.laws.specs.Steps.{IsLive, marks_with, next_of}
@@ -46,11 +48,11 @@ use Rattle.process.proofs.Turns.{step-refused}
 use Rattle.board.specs.Agreement.{Knows, Shows}
 use Rattle.history_laws.specs.Stamps.{changes_taken}
 use Rattle.board.specs.Calls.{Calls, calls_after, calls_of, changes_of}
-use Rattle.board.specs.Views.{OwnView, ViewState, own_view, refusal_in, with_step}
+use Rattle.board.specs.Views.{OwnView, ViewState, counted_at, entries_of, entry_stepped, own_view, refusal_in, with_step}
 use Rattle.board.specs.Words.{shown, word_of, words_in}
 use Rattle.board.proofs.WordNumbers.{one_bit, one_word, word_below}
 use Rattle.board.proofs.Along.{Along, along_entry, kept}
-use Rattle.board.proofs.Happenings.{calls_own, given_more, past_after, refused_is}
+use Rattle.board.proofs.Happenings.{calls_own, entries_own, given_more, past_after, refused_is}
 
 -- What is known then.
 
@@ -72,6 +74,45 @@ fold-placed : (k j : ℕ) (t : Calls) (ms : List Mark) → fold (calls_after k) 
 fold-placed k j t [] = refl
 fold-placed k j t (m ∷ ms) = fold-placed k j (calls_after k t (placed j m)) ms ∙ ap (λ t. fold (calls_after k) t ms) (mark-placed k j t m)
 
+mark-again : (k j : ℕ) (m : Mark) → placed k (placed j m) ≡ placed k m
+mark-again k j (mark.Called c) = refl
+mark-again k j (mark.Waiting t) = refl
+mark-again k j mark.Entered = refl
+mark-again k j (mark.Taken i r) = refl
+mark-again k j mark.Left = refl
+mark-again k j (mark.Answered a) = refl
+mark-again k j mark.Failed = refl
+mark-again k j (mark.Settled v) = refl
+mark-again k j mark.Down = refl
+mark-again k j mark.Withdrew = refl
+mark-again k j mark.Restarted = refl
+
+-- of two places the last one stays
+placed-again : (k j : ℕ) (ms : List Mark) → map (placed k) (map (placed j) ms) ≡ map (placed k) ms
+placed-again k j [] = refl
+placed-again k j (m ∷ ms) = λ i. mark-again k j m i ∷ placed-again k j ms i
+
+-- the value of a move is that with which it ends
+ended-value : (v : Bool) (m : Move) → ended (value_of (ended v m)) m ≡ ended v m
+ended-value v (BeginWrite u) = refl
+ended-value v EndWrite = refl
+ended-value v (Settle u) = refl
+ended-value v BeginRead = refl
+ended-value v (EndRead u) = refl
+
+-- the entry of a step, with its place
+counted-step : (s : Setup) (past : Past) (p : ℕ) (flick : Bool) (e : Entry) (place : ℕ) → (is : StepIs s past p flick e) → counted_at place e ≡ entry_stepped s (own_view s past p) flick (value_of (valued s past flick is.next).how) place
+counted-step s past p flick e place is =
+    let n = is.next in
+    let value = value_of (valued s past flick n).how in
+    let access : Some (valued s past flick n) ≡ option_map (ended_with value) (next_of s p (doing s p past) flick) =
+    (λ i. Some (record n { how = sym (ended-value (read_value (opening_bit s n) (moves_of n past) flick) n.how) i })) ∙ sym (ap (option_map (ended_with value)) is.is_next) in
+    λ i. record {
+      process = is.process i;
+      access = (is.access ∙ access) i;
+      marks = (ap (map (placed place)) is.marks ∙ placed-again place (length (history s past)) (marks_with s p (doing s p past) flick value)) i;
+    }
+
 own_step : (s : Setup) (past : Past) (p : ℕ) (flick : Bool) (e : Entry) → (is : StepIs s past p flick e) →
     own_view s (e ∷ past) p ≡ with_step s (own_view s past p) flick (value_of (valued s past flick is.next).how) (changes_taken s past)
 own_step s past p flick e is =
@@ -80,6 +121,7 @@ own_step s past p flick e is =
     let mine : own p (e ∷ past) ≡ e ∷ own p past = own-own p e past is.process in
     λ i. record {
       process = p;
+      entries = (entries_own s p e past is.process ∙ (λ j. counted-step s past p flick e place is j ∷ cond (no_called e.marks is.plain j) [] (entries_of s p past))) i;
       doing = is.does i;
       command = (ap last_command mine ∙ command-plain e (own p past) is.plain) i;
       number = (ap (call_number s) mine ∙ ap (λ n. cond (s.version == 2) n 0) (calls-plain e (own p past) is.plain)) i;
@@ -127,11 +169,13 @@ live_doing s g events v k = subst IsLive (sym (ap (λ (o : OwnView). o.doing) k.
 -- the entry of the next access of a seat's process
 pub record Made (s : Setup) (events : List Event) (v : ViewState) (flick : Bool) (n : Access) : Type 0 where
   pub e : Entry
+  pub added : entry_of s (past_of s events) (event.Step v.own.process flick) ≡ Some e
   pub process : e.process ≡ v.own.process
   pub access : e.access ≡ Some (valued s (past_of s events) flick n)
   pub there : IsThere s n
   pub on : past_of s (event.Step v.own.process flick ∷ events) ≡ e ∷ past_of s events
   pub own : own_view s (e ∷ past_of s events) v.own.process ≡ with_step s v.own flick (value_of (valued s (past_of s events) flick n).how) (changes_taken s (past_of s events))
+  pub marks : e.marks ≡ map (placed (length (history s (past_of s events)))) (marks_with s v.own.process v.own.doing flick (value_of (valued s (past_of s events) flick n).how))
   pub stage : stage v.own.process (e ∷ past_of s events) ≡ fold stage_after (stage v.own.process (past_of s events)) (marks_with s v.own.process v.own.doing flick (value_of (valued s (past_of s events) flick n).how))
 
 -- the stage of a process after its step
@@ -159,11 +203,13 @@ made s g events v flick n k next =
     let there : IsThere s (valued s past flick n) = access_there s g events what e add.1 (valued s past flick n) access in
     record {
       e = e;
+      added = add.1;
       process = is.process;
       access = access;
       there = record { owner = there.owner; reader = there.reader; bit = there.bit };
       on = past_after s events what e add.1;
       own = own_step s past p flick e is ∙ (λ i. with_step s (sym k.own i) flick (value_of (valued s past flick (n_is i)).how) (changes_taken s past));
+      marks = is.marks ∙ (λ i. map (placed (length (history s past))) (marks_with s p (doing_is i) flick (value_of (valued s past flick (n_is i)).how)));
       stage = stage-step s past p flick e is ∙ (λ i. fold stage_after (stage p past) (marks_with s p (doing_is i) flick (value_of (valued s past flick (n_is i)).how)));
     }
 
@@ -179,9 +225,9 @@ step_shows s events words words' views id v flick n f at live m size bits =
     let past = past_of s events in
     let w = seeing s (m.e ∷ past) v in
     kept s events (event.Step v.own.process flick ∷ events) words words' views id v w f at live
-    (subst (Along s v.own.process past) (sym m.on) (along_entry s v.own.process past m.e m.process))
+    (subst (Along s v.own.process past) (sym m.on) (along_entry s (is_good s f.good) events (event.Step v.own.process flick) m.e m.added v.own.process m.process))
     (record { spent = refl; process = refl; made = refl; joined = refl }) (given_more s events (event.Step v.own.process flick) f.given refl)
-    (subst (λ z. Knows s z w) (sym m.on) (record { below = (f.known id v at live).below; own = refl; seen = ([], sym (append-nil (changes_of s (m.e ∷ past)))) })) size
+    (subst (λ z. Knows s z w) (sym m.on) (record { below = (f.known id v at live).below; own = refl; seen = ([], sym (append-nil (changes_of s (m.e ∷ past)))); inside = λ h. refl })) size
     (λ a there. bits a there ∙ ap (λ z. shown (cell_held s z a)) (sym m.on))
 
 -- The cells.

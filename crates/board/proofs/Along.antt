@@ -15,18 +15,22 @@ use Rattle.plain_store.specs.Store.{Contents, changes}
 use Rattle.record.specs.declared.events.Event.{Event}
 use Rattle.record.specs.declared.history.Taken.{Taken}
 use Rattle.record.specs.Calls.{last_command, call_number}
-use Rattle.record.specs.Entries.{Entry, Past, own}
+use Rattle.record.specs.Entries.{Entry, Past, has, is_called, own}
 use Rattle.record.specs.Given.{AreGiven}
 use Rattle.record.specs.Histories.{history, reply_taken}
-use Rattle.record.specs.Records.{past_of}
-use Rattle.laws.specs.Doings.{doing}
+use Rattle.record.specs.Headline.{count_changes}
+use Rattle.record.specs.Records.{entry_of, past_of}
+use Rattle.record.proofs.Width.{IsGood}
+use Rattle.laws.specs.Doings.{doing, is_inside}
 use Rattle.laws.specs.Held.{IsThere, cell_held}
 use Rattle.laws.proofs.Frame.{own-other, doing-other}
+use Rattle.laws.proofs.FrameInside.{inside-is}
+use Rattle.history_laws.proofs.ReadStamps.{history_stands}
 use Rattle.history_laws.proofs.CountedChanges.{history-none, history-takes, taken_at, then}
 use Rattle.board.specs.Agreement.{IsIn, IsQuiet, Knows, KnowsSeats, Shows}
 use Rattle.history_laws.specs.Stamps.{changes_taken}
 use Rattle.board.specs.Calls.{IsPrefix, calls_after, calls_of, changes_of, changing}
-use Rattle.board.specs.Views.{OwnView, ViewState, own_view}
+use Rattle.board.specs.Views.{OwnView, ViewState, counted_at, entries_of, own_view}
 use Rattle.board.specs.Words.{shown, word_of, words_in}
 
 -- Changes.
@@ -52,6 +56,22 @@ changes_entry s past e = by (reply_taken e.marks) refl
         let more = changing-more (opening_store s) (history s past) (taken_at s past e r ∷ []) in
         (more.0, ap (changing (opening_store s)) (history-takes s past e r h) ∙ more.1)
 
+-- one that takes no command leaves them
+pub changes_none : (s : Setup) (past : Past) (e : Entry) → reply_taken e.marks ≡ None → changes_of s (e ∷ past) ≡ changes_of s past
+changes_none s past e h = ap (changing (opening_store s)) (history-none s past e h)
+
+-- so many they are
+changes_counted : (store : Contents) (xs : List Taken) → length (changing store xs) ≡ count_changes store xs
+changes_counted store [] = refl
+changes_counted store (t ∷ xs) = by (changes store t.command) (changing (then store t) xs) (changes_counted (then store t) xs)
+  where
+    by : (b : Bool) (rest : List Taken) {n : ℕ} → length rest ≡ n → length (cond b (t ∷ rest) rest) ≡ cond b (suc n) n
+    by true rest h = ap suc h
+    by false rest h = h
+
+pub so_many_changes : (s : Setup) (past : Past) → length (changes_of s past) ≡ changes_taken s past
+so_many_changes s past = changes_counted (opening_store s) (history s past)
+
 pub prefix-trans : (a b c : List Taken) → IsPrefix a b → IsPrefix b c → IsPrefix a c
 prefix-trans a b c f g = (f.0 ++ g.0, g.1 ∙ (ap (λ (xs : List Taken). xs ++ g.0) f.1 ∙ append_assoc a f.0 g.0))
 
@@ -60,18 +80,23 @@ prefix-trans a b c f g = (f.0 ++ g.0, g.1 ∙ (ap (λ (xs : List Taken). xs ++ g
 calls-other : (s : Setup) (q : ℕ) (e : Entry) (past : Past) → e.process ≢ q → calls_of s q (e ∷ past) ≡ calls_of s q past
 calls-other s q e past h = ap (λ b. cond b (fold (calls_after (changes_taken s past)) (calls_of s q past) e.marks) (calls_of s q past)) (ne_eqb e.process q h)
 
+entries-other : (s : Setup) (q : ℕ) (e : Entry) (past : Past) → e.process ≢ q → entries_of s q (e ∷ past) ≡ entries_of s q past
+entries-other s q e past h = ap (λ b. cond b (counted_at (changes_taken s past) e ∷ cond (has is_called e) [] (entries_of s q past)) (entries_of s q past)) (ne_eqb e.process q h)
+
 -- the past past' is past and an entry of process p
 pub record Along (s : Setup) (p : ℕ) (past past' : Past) : Type 0 where
   pub others : (q : ℕ) → p ≢ q → own_view s past' q ≡ own_view s past q
   pub owns : (q : ℕ) → p ≢ q → own q past' ≡ own q past
   pub changed : IsPrefix (changes_of s past) (changes_of s past')
+  pub stands : (q : ℕ) → p ≢ q → is_inside (doing s q past) ≡ true → changes_of s past' ≡ changes_of s past
 
-pub along_entry : (s : Setup) (p : ℕ) (past : Past) (e : Entry) → e.process ≡ p → Along s p past (e ∷ past)
-along_entry s p past e is = record {
+pub along_entry : (s : Setup) → IsGood s → (events : List Event) (event : Event) (e : Entry) → entry_of s (past_of s events) event ≡ Some e → (p : ℕ) → e.process ≡ p → Along s p (past_of s events) (e ∷ past_of s events)
+along_entry s g events event e added p is = let past = past_of s events in record {
   others = λ q ne.
       let other : e.process ≢ q = λ h. ne (sym is ∙ h) in
       λ i. record {
         process = q;
+        entries = entries-other s q e past other i;
         doing = doing-other s q e past other i;
         command = last_command (own-other q e past other i);
         number = call_number s (own-other q e past other i);
@@ -79,6 +104,7 @@ along_entry s p past e is = record {
       };
   owns = λ q ne. own-other q e past (λ h. ne (sym is ∙ h));
   changed = changes_entry s past e;
+  stands = λ q ne inside_. ap (changing (opening_store s)) (history_stands s g events event e added q (inside-is s g events q ∙ inside_) (λ same. ne (sym is ∙ sym same)));
 }
 
 pub seen_along : (s : Setup) (p : ℕ) (past past' : Past) (seen : List Taken) → Along s p past past' → IsPrefix seen (changes_of s past) → IsPrefix seen (changes_of s past')
@@ -89,6 +115,7 @@ knows_along s p past past' x along ne k = record {
   below = k.below;
   own = k.own ∙ sym (along.others x.own.process ne);
   seen = seen_along s p past past' x.seen along k.seen;
+  inside = λ h. k.inside h ∙ sym (along.stands x.own.process ne (ap (λ (o : OwnView). is_inside o.doing) (sym k.own) ∙ h));
 }
 
 -- Lists of views.

@@ -48,7 +48,7 @@ pub record IsDriven (old : PortState) (flicks : FlickState) (made : ℕ) (now : 
 
 -- it is one port then
 pub same_on : (old now new : PortState) → SamePort old now → SamePort now new → SamePort old new
-same_on old now new h k = (k.0 ∙ h.0, k.1 ∙ h.1, k.2 ∙ h.2)
+same_on old now new h k = (k.0 ∙ h.0, k.1 ∙ h.1, k.2 ∙ h.2, k.3 ∙ h.3)
 
 -- one word step more, with the next flick
 pub step_on : (old now new : PortState) (flicks flicks_now : FlickState) (made : ℕ) (flick : Bool) → IsDriven old flicks made now flicks_now → flick ≡ flick_of flicks_now → WordStep now.setup flick now.view new.view →

@@ -1,5 +1,5 @@
 -- What an accepted event without an access makes of what a seat knows, and of the words.
-use Rattle.std.proofs.Common.{◌≡◌, ℕ, suc, ◌+◌, ◌<◌, ◌==◌, ◌&&◌, Bool, true, false, cond, List, [], ◌∷◌, ◌++◌, set, refl, sym, ap, ◌∙◌, subst, arith, Option, Some, None, eq-eqb}
+use Rattle.std.proofs.Common.{◌≡◌, ℕ, suc, ◌+◌, ◌<◌, ◌==◌, ◌&&◌, Bool, true, false, cond, List, [], ◌∷◌, ◌++◌, ◌||◌, set, refl, sym, ap, ◌∙◌, subst, arith, Option, Some, None, eq-eqb}
 use Rattle.std.proofs.lemmas.Bool.{lt-ltb}
 use Rattle.std.specs.Prelude.{fold, nat_le}
 use mathlib.Core.Option.{some}
@@ -16,20 +16,22 @@ use Rattle.record.specs.declared.refusals.Refusal.{Refusal}
 use Rattle.record.specs.declared.refusals.Refusal.TheVariants.{NoProcess, CallsFull}
 use Rattle.record.specs.Calls.{last_command, call_number, calls_in}
 use Rattle.record.specs.Closings.{withdrawing}
-use Rattle.record.specs.Entries.{Entry, Past, own}
+use Rattle.record.specs.Entries.{Entry, Past, has, is_called, own}
 use Rattle.record.specs.Given.{AreGiven, is_event}
 use Rattle.record.specs.Parts.{Raises}
 use Rattle.record.specs.Places.{enter}
-use Rattle.record.specs.Records.{calls_full, entry_of, is_call, past_of, process_of, refused, refused_at}
-use Rattle.record.specs.Stages.{stage}
+use Rattle.record.specs.Records.{calls_full, entry_of, is_call, past_of, placed, process_of, refused, refused_at}
+use Rattle.record.specs.Histories.{reply_taken}
+use Rattle.record.specs.Stages.{inside, inside_after, stage}
 use Rattle.record.proofs.Accepted.{accepted_adds}
 use Rattle.record.proofs.Width.{IsGood, is_good}
 use Rattle.record.proofs.World.{entry-accepted}
-use Rattle.laws.specs.Doings.{Doing, Rests, Runs, Closes, call, doing}
+use Rattle.laws.specs.Doings.{Doing, Rests, Runs, Closes, call, doing, is_inside}
 use Rattle.laws.specs.Held.{cell_held, drops}
 use Rattle.laws.specs.Steps.{cut_of}
 use Rattle.laws.proofs.Cuts.{cut_is}
 use Rattle.laws.proofs.Frame.{doing-goes, own-own}
+use Rattle.laws.proofs.FrameInside.{inside-is}
 use Rattle.laws.proofs.HeldCells.{held-marks}
 use Rattle.process.proofs.Marked.{marked_as}
 use Rattle.process.proofs.Stages.{stage-process}
@@ -37,10 +39,10 @@ use Rattle.board.specs.Agreement.{Knows, Shows, are_neighbours}
 use Rattle.history_laws.specs.Stamps.{changes_taken}
 use Rattle.board.specs.Calls.{Calls, calls_after, calls_of}
 use Rattle.process.specs.Refusals.{next_number}
-use Rattle.board.specs.Views.{MayAllHappen, MayHappen, OwnView, ViewState, at_events, own_view, refusal_in, stage_in, with_event, with_events}
+use Rattle.board.specs.Views.{MayAllHappen, MayHappen, OwnView, ViewState, at_events, counted_at, entries_of, entry_marked, own_view, refusal_in, stage_in, with_event, with_events}
 use Rattle.board.specs.Words.{shown}
 use Rattle.board.proofs.Neighbours.{marked_reads, one_more}
-use Rattle.board.proofs.Along.{Along, along_entry, kept, seen_along, set_at, set_set}
+use Rattle.board.proofs.Along.{Along, along_entry, changes_none, kept, seen_along, set_at, set_set}
 
 -- the past after an accepted event
 pub past_after : (s : Setup) (events : List Event) (event : Event) (e : Entry) → entry_of s (past_of s events) event ≡ Some e → past_of s (event ∷ events) ≡ e ∷ past_of s events
@@ -50,6 +52,9 @@ past_after s events event e h = ap (λ o. elim o as (λ _. Past) [ None ↦ past
 
 pub calls_own : (s : Setup) (q : ℕ) (e : Entry) (past : Past) → e.process ≡ q → calls_of s q (e ∷ past) ≡ fold (calls_after (changes_taken s past)) (calls_of s q past) e.marks
 calls_own s q e past h = ap (λ b. cond b (fold (calls_after (changes_taken s past)) (calls_of s q past) e.marks) (calls_of s q past)) (eq-eqb e.process q h)
+
+pub entries_own : (s : Setup) (q : ℕ) (e : Entry) (past : Past) → e.process ≡ q → entries_of s q (e ∷ past) ≡ counted_at (changes_taken s past) e ∷ cond (has is_called e) [] (entries_of s q past)
+entries_own s q e past h = ap (λ b. cond b (counted_at (changes_taken s past) e ∷ cond (has is_called e) [] (entries_of s q past)) (entries_of s q past)) (eq-eqb e.process q h)
 
 number-next : (s : Setup) (n : ℕ) → cond (s.version == 2) (suc n) 0 ≡ next_number s (cond (s.version == 2) n 0)
 number-next s n = by (s.version == 2)
@@ -65,6 +70,7 @@ own_call s past p command =
     let number : call_number s (e ∷ own p past) ≡ next_number s (call_number s (own p past)) = number-next s (calls_in (own p past)) in
     λ i. record {
       process = p;
+      entries = entries_own s p e past refl i;
       doing = (doing-goes s p e past refl ∙ ap (λ n. Runs command n (enter (call s p command n) Raises)) number) i;
       command = ap last_command mine i;
       number = (ap (call_number s) mine ∙ number) i;
@@ -74,13 +80,14 @@ own_call s past p command =
 -- a mark that leaves the calls, and what it makes of what is done
 own-mark : (s : Setup) (past : Past) (p : ℕ) (m : Mark) (d : Doing)
     → let e : Entry = marked_as p m in
-    ((k : ℕ) (t : Calls) → calls_after k t m ≡ t) → doing s p (e ∷ past) ≡ d → last_command (e ∷ own p past) ≡ last_command (own p past) → calls_in (e ∷ own p past) ≡ calls_in (own p past)
-    → own_view s (e ∷ past) p ≡ record (own_view s past p) { doing = d }
-own-mark s past p m d plain does command number =
+    ((k : ℕ) (t : Calls) → calls_after k t m ≡ t) → is_called m ≡ false → ((k : ℕ) → placed k m ≡ m) → doing s p (e ∷ past) ≡ d → last_command (e ∷ own p past) ≡ last_command (own p past) → calls_in (e ∷ own p past) ≡ calls_in (own p past)
+    → own_view s (e ∷ past) p ≡ record (own_view s past p) { entries = entry_marked p m ∷ entries_of s p past; doing = d }
+own-mark s past p m d plain uncalled untaken does command number =
     let e : Entry = marked_as p m in
     let mine : own p (e ∷ past) ≡ e ∷ own p past = own-own p e past refl in
     λ i. record {
       process = p;
+      entries = (entries_own s p e past refl ∙ (λ j. record e { marks = untaken (changes_taken s past) j ∷ [] } ∷ cond (uncalled j || false) [] (entries_of s p past))) i;
       doing = does i;
       command = (ap last_command mine ∙ command) i;
       number = (ap (call_number s) mine ∙ ap (λ n. cond (s.version == 2) n 0) number) i;
@@ -90,20 +97,28 @@ own-mark s past p m d plain does command number =
 own_fail : (s : Setup) → IsGood s → (events : List Event) (p : ℕ) → refused_at (event.Fail p) (stage p (past_of s events)) ≡ None → own_view s (marked_as p mark.Failed ∷ past_of s events) p ≡ with_event s (own_view s (past_of s events) p) (event.Fail p)
 own_fail s g events p may =
     let past = past_of s events in
-    own-mark s past p mark.Failed (Closes (last_command (own p past)) (call_number s (own p past)) (cut_of s p (doing s p past))) (λ k t. refl)
+    own-mark s past p mark.Failed (Closes (last_command (own p past)) (call_number s (own p past)) (cut_of s p (doing s p past))) (λ k t. refl) refl (λ k. refl)
     (doing-goes s p (marked_as p mark.Failed) past refl ∙ ap (Closes (last_command (own p past)) (call_number s (own p past))) (cut_is s g events p may)) refl refl
 
 own_withdrawal : (s : Setup) (past : Past) (p : ℕ) → own_view s (marked_as p mark.Withdrew ∷ past) p ≡ with_event s (own_view s past p) (event.Withdraw p)
 own_withdrawal s past p =
     let number = call_number s (own p past) in
-    own-mark s past p mark.Withdrew (Closes (last_command (own p past)) number (withdrawing (call s p (last_command (own p past)) number))) (λ k t. refl) (doing-goes s p (marked_as p mark.Withdrew) past refl) refl refl
+    own-mark s past p mark.Withdrew (Closes (last_command (own p past)) number (withdrawing (call s p (last_command (own p past)) number))) (λ k t. refl) refl (λ k. refl) (doing-goes s p (marked_as p mark.Withdrew) past refl) refl refl
 
 own_restart : (s : Setup) (past : Past) (p : ℕ) → own_view s (marked_as p mark.Restarted ∷ past) p ≡ with_event s (own_view s past p) (event.Restart p)
-own_restart s past p = own-mark s past p mark.Restarted Rests (λ k t. refl) (doing-goes s p (marked_as p mark.Restarted) past refl) refl refl
+own_restart s past p = own-mark s past p mark.Restarted Rests (λ k t. refl) refl (λ k. refl) (doing-goes s p (marked_as p mark.Restarted) past refl) refl refl
 
--- what an event without an access makes of what is known
-abbrev pub KnowsThen : Setup → Past → OwnView → Event → Entry → Type 0
-KnowsThen s past o event e = (e.process ≡ o.process) × (e.access ≡ None) × (own_view s (e ∷ past) o.process ≡ with_event s o event)
+-- what an event without an access makes of what is known; it takes no command, and nobody gets inside by it
+pub record KnowsThen (s : Setup) (past : Past) (o : OwnView) (event : Event) (e : Entry) : Type 0 where
+  pub process : e.process ≡ o.process
+  pub access : e.access ≡ None
+  pub own : own_view s (e ∷ past) o.process ≡ with_event s o event
+  pub untaken : reply_taken e.marks ≡ None
+  pub inside : inside o.process (e ∷ past) ≡ inside o.process past
+
+-- an entry with a mark that lets nobody in or out
+inside-mark : (q : ℕ) (past : Past) (m : Mark) → inside_after (inside q past) m ≡ inside q past → inside q (marked_as q m ∷ past) ≡ inside q past
+inside-mark q past m h = ap (λ b. cond b (inside_after (inside q past) m) (inside q past)) (eq-eqb q q refl) ∙ h
 
 same-mark : (p q : ℕ) (m : Mark) (e : Entry) → p ≡ q → Some (marked_as p m) ≡ Some e → marked_as q m ≡ e
 same-mark p q m e is h = let one : marked_as p m ≡ e = cc in ap (λ q. marked_as q m) (sym is) ∙ one
@@ -113,24 +128,30 @@ marked s g events (event.Call p command) e o known h may =
     let past = past_of s events in
     let q = o.process in
     subst (KnowsThen s past o (event.Call p command)) (same-mark p q (mark.Called command) e may.process (entry-accepted s past (event.Call p command) e h).2)
-    (refl, refl, own_call s past q command ∙ ap (λ o. with_event s o (event.Call p command)) (sym known))
+    (record { process = refl; access = refl; own = own_call s past q command ∙ ap (λ o. with_event s o (event.Call p command)) (sym known); untaken = refl; inside = inside-mark q past (mark.Called command) refl })
 marked s g events (event.Step p flick) e o known h may = let f = may.marked in cc
 marked s g events (event.Fail p) e o known h may =
     let past = past_of s events in
     let q = o.process in
     let found = entry-accepted s past (event.Fail p) e h in
     subst (KnowsThen s past o (event.Fail p)) (same-mark p q mark.Failed e may.process found.2)
-    (refl, refl, own_fail s g events q (subst (λ q. refused_at (event.Fail q) (stage q past) ≡ None) may.process found.1) ∙ ap (λ o. with_event s o (event.Fail p)) (sym known))
+    (record {
+      process = refl;
+      access = refl;
+      own = own_fail s g events q (subst (λ q. refused_at (event.Fail q) (stage q past) ≡ None) may.process found.1) ∙ ap (λ o. with_event s o (event.Fail p)) (sym known);
+      untaken = refl;
+      inside = inside-mark q past mark.Failed refl;
+    })
 marked s g events (event.Withdraw p) e o known h may =
     let past = past_of s events in
     let q = o.process in
     subst (KnowsThen s past o (event.Withdraw p)) (same-mark p q mark.Withdrew e may.process (entry-accepted s past (event.Withdraw p) e h).2)
-    (refl, refl, own_withdrawal s past q ∙ ap (λ o. with_event s o (event.Withdraw p)) (sym known))
+    (record { process = refl; access = refl; own = own_withdrawal s past q ∙ ap (λ o. with_event s o (event.Withdraw p)) (sym known); untaken = refl; inside = inside-mark q past mark.Withdrew refl })
 marked s g events (event.Restart p) e o known h may =
     let past = past_of s events in
     let q = o.process in
     subst (KnowsThen s past o (event.Restart p)) (same-mark p q mark.Restarted e may.process (entry-accepted s past (event.Restart p) e h).2)
-    (refl, refl, own_restart s past q ∙ ap (λ o. with_event s o (event.Restart p)) (sym known))
+    (record { process = refl; access = refl; own = own_restart s past q ∙ ap (λ o. with_event s o (event.Restart p)) (sym known); untaken = refl; inside = inside-mark q past mark.Restarted refl })
 
 -- Refusals.
 
@@ -177,6 +198,7 @@ same_process_all s o (event ∷ events) = same_process s (with_events s o events
 -- an event of a seat's process without an access, as it joins the record
 record Happened (s : Setup) (events : List Event) (v : ViewState) (event : Event) : Type 0 where
   pub e : Entry
+  pub added : entry_of s (past_of s events) event ≡ Some e
   pub is : KnowsThen s (past_of s events) v.own event e
   pub on : past_of s (event ∷ events) ≡ e ∷ past_of s events
 
@@ -185,28 +207,34 @@ happened s events words views id v event f at live may =
     let g = is_good s f.good in
     let k = f.known id v at live in
     let add = accepted_adds s g events event (refused_is s g events event v k may.process ∙ may.accepted) in
-    record { e = add.0; is = marked s g events event add.0 v.own k.own add.1 may; on = past_after s events event add.0 add.1 }
+    record { e = add.0; added = add.1; is = marked s g events event add.0 v.own k.own add.1 may; on = past_after s events event add.0 add.1 }
 
 -- the rule then
 event_shows : (s : Setup) (events : List Event) (words : List ℕ) (views : List ViewState) (id : ℕ) (v : ViewState) (event : Event) → Shows s events words views → get_elem? views id ≡ some v → v.spent ≡ false → MayHappen s v.own event →
     Shows s (event ∷ events) words (set views id (record v { own = with_event s v.own event }))
 event_shows s events words views id v event f at live may =
+    let g = is_good s f.good in
     let past = past_of s events in
+    let p = v.own.process in
     let w : ViewState = record v { own = with_event s v.own event } in
     let k = f.known id v at live in
     let h = happened s events words views id v event f at live may in
     let e = h.e in
     let process : w.own.process ≡ v.own.process = same_process s v.own event in
-    let along : Along s v.own.process past (e ∷ past) = along_entry s v.own.process past e h.is.0 in
+    let was : is_inside w.own.doing ≡ true → is_inside v.own.doing ≡ true = λ i.
+    ap (λ (o : OwnView). is_inside o.doing) k.own ∙ sym (inside-is s g events p) ∙ sym h.is.inside ∙ ap (inside p) (sym h.on) ∙ inside-is s g (event ∷ events) p
+    ∙ ap (λ z. is_inside (doing s p z)) h.on ∙ ap (λ (o : OwnView). is_inside o.doing) h.is.own ∙ i in
+    let along : Along s v.own.process past (e ∷ past) = along_entry s g events event e h.added v.own.process h.is.process in
     kept s events (event ∷ events) words words views id v w f at live
     (subst (Along s v.own.process past) (sym h.on) along)
     (record { spent = refl; process = process; made = refl; joined = refl }) (given_more s events event f.given may.given)
     (subst (λ z. Knows s z w) (sym h.on) (record {
       below = subst (λ q. q < s.processes) (sym process) k.below;
-      own = sym (ap (own_view s (e ∷ past)) process ∙ h.is.2);
+      own = sym (ap (own_view s (e ∷ past)) process ∙ h.is.own);
       seen = seen_along s v.own.process past (e ∷ past) v.seen along k.seen;
+      inside = λ i. k.inside (was i) ∙ sym (changes_none s past e h.is.untaken);
     })) f.size
-    (λ a there. f.bits a there ∙ sym (ap (λ z. shown (cell_held s z a)) h.on ∙ ap shown (held-marks s past e a h.is.1) ∙ shown-without (cell_held s past a) (drops e && (e.process == a.reader))))
+    (λ a there. f.bits a there ∙ sym (ap (λ z. shown (cell_held s z a)) h.on ∙ ap shown (held-marks s past e a h.is.access) ∙ shown-without (cell_held s past a) (drops e && (e.process == a.reader))))
 
 -- several
 pub events_show : (s : Setup) (events : List Event) (words : List ℕ) (views : List ViewState) (id : ℕ) (v : ViewState) (xs : List Event) → Shows s events words views → get_elem? views id ≡ some v → v.spent ≡ false → MayAllHappen s v.own xs →
@@ -224,7 +252,7 @@ events_apart s events words views id v [] f at live may paired = paired
 events_apart s events words views id v (x ∷ xs) f at live may paired =
     let w : ViewState = at_events s v xs in
     let h = happened s (xs ++ events) words (set views id w) id w x (events_show s events words views id v xs f at live may.0) (set_at views id v w at) live may.1 in
-    ap are_neighbours h.on ∙ one_more h.e (past_of s (xs ++ events)) (marked_reads h.e h.is.1) (events_apart s events words views id v xs f at live may.0 paired)
+    ap are_neighbours h.on ∙ one_more h.e (past_of s (xs ++ events)) (marked_reads h.e h.is.access) (events_apart s events words views id v xs f at live may.0 paired)
 
 -- What a view tells with what has happened since.
 

@@ -82,7 +82,7 @@ first-calls place t x false = refl
 pub begin_calls : (s : Setup) (p : ℕ) (d : Doing) (flick value : Bool) (n : Access) (place : ℕ) (t : Calls) → next_of s p d flick ≡ Some n → n.how ≡ BeginRead → fold (calls_after place) t (marks_with s p d flick value) ≡ t
 begin_calls s p Rests flick value n place t h how = refl
 begin_calls s p Lies flick value n place t h how = refl
-begin_calls s p (Closes command number at) flick value n place t h how = absurd (Rattle.board.proofs.Moves.closing_no_read s p command number at flick n h how)
+begin_calls s p (Closes command number at) flick value n place t h how = absurd (Rattle.board.proofs.ReadBegins.closing_no_read s p command number at flick n h how)
 begin_calls s p (Runs command number at) flick value n place t h how = by at.part at.run (some_access _ n h)
   where
     c : Call

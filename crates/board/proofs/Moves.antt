@@ -1,5 +1,5 @@
 -- Each load and each store of a port keeps the rule.
-use Rattle.std.proofs.Common.{◌≡◌, ℕ, Bool, true, false, cond, if◌then◌else◌, List, ◌∷◌, ◌++◌, set, refl, sym, ap, ◌∙◌, subst, Some, length-set}
+use Rattle.std.proofs.Common.{◌≡◌, ℕ, ◌<◌, Bool, true, false, cond, if◌then◌else◌, List, ◌∷◌, ◌++◌, set, length, refl, sym, ap, ◌∙◌, subst, Some, None, length-set, map}
 use Rattle.std.proofs.lemmas.List.{set-get_or}
 use Rattle.std.specs.Prelude.{Ok, fold, slice_index}
 use mathlib.Core.Option.{some}
@@ -11,26 +11,24 @@ use Rattle.safe_bit.specs.declared.Move.{Move}
 use Rattle.safe_bit.specs.declared.Move.TheVariants.{BeginWrite, EndWrite, BeginRead, EndRead, Settle}
 use Rattle.reader_copies.specs.Written.{IsWrite}
 use Rattle.safe_number.specs.declared.Access.{Access}
-use Rattle.plain_store.specs.declared.Command.{Command}
 use Rattle.plain_store.specs.Setups.{checked}
 use Rattle.plain_store.specs.declared.Setup.{Setup}
 use Rattle.record.specs.declared.events.Event.{Event}
 use Rattle.record.specs.declared.events.Event.TheVariants as event
-use Rattle.record.specs.Closings.{Closing, Withdraws, Settles, Frees, Lowers, Quit, Ended}
 use Rattle.record.specs.Entries.{Past}
 use Rattle.record.specs.Given.{AreGiven}
 use Rattle.record.specs.Moves.{ended, moves_of, valued}
-use Rattle.record.specs.Parts.{Part, is_over}
-use Rattle.record.specs.Places.{Run, Writing, Reading, access_at, value_of}
-use Rattle.record.specs.Records.{past_of}
+use Rattle.record.specs.Places.{value_of}
+use Rattle.record.specs.declared.history.Taken.{Taken}
+use Rattle.record.specs.Histories.{history, reply_taken}
+use Rattle.record.specs.Records.{past_of, placed}
 use Rattle.record.specs.Registers.{opening_bit}
-use Rattle.record.specs.Scripts.{Call}
 use Rattle.record.specs.Stages.{stage, stage_after}
 use Rattle.record.proofs.Singles.{is_write, is_write-true}
 use Rattle.record.proofs.Width.{IsGood, is_good}
-use Rattle.laws.specs.Doings.{Doing, Rests, Lies, Runs, Closes, call, doing}
+use Rattle.laws.specs.Doings.{doing, is_inside}
 use Rattle.laws.specs.Held.{cell_held}
-use Rattle.laws.specs.Steps.{IsLive, being_written, does_then, marks_with, next_of}
+use Rattle.laws.specs.Steps.{being_written, marks_with, next_of}
 use Rattle.laws.proofs.Ends.{ends_what_began}
 use Rattle.laws.proofs.FrameCells.{itself}
 use Rattle.laws.proofs.FrameSteps.{valued-write}
@@ -42,55 +40,14 @@ use Rattle.history_laws.specs.Stamps.{changes_taken, stamp_read}
 use Rattle.board.specs.Views.{MayAllHappen, OwnView, ViewState, at_events, own_view, stage_in, with_events, with_step}
 use Rattle.board.specs.Words.{closed_word, loaded, shown, stored, word_of}
 use Rattle.board.specs.WordSteps.{GoesOn, Loads, Makes, Stores}
-use Rattle.board.proofs.Along.{along_entry, prefix-trans, seen_along, set_at, set_set}
+use Rattle.board.proofs.Along.{changes_entry, changes_none, prefix-trans, set_at, set_set, so_many_changes}
+use Rattle.board.proofs.CallsStand.{calls_in_the_changes}
+use Rattle.board.proofs.ReadBegins.{begin_inside, begin_untaken, ending, reads_on}
 use Rattle.board.proofs.Happenings.{events_apart, events_show, same_process_all}
 use Rattle.board.proofs.Neighbours.{one_more, read_more, written_reads}
+use Rattle.history_laws.proofs.Outside.{placed-none}
 use Rattle.history_laws.proofs.ReadStamps.{stamps_count}
 use Rattle.board.proofs.Accesses.{Made, cells_read, cells_written, live_doing, made, seeing, step_shows}
-
--- The begin of a read comes before its end.
-
--- the same access as the end of its read
-abbrev pub ending : Access → Access
-ending a = record a { how = EndRead false }
-
-some_access : (x y : Access) → Some x ≡ Some y → x ≡ y
-some_access x y h = cc
-
-no_read : (b : Bool) (v : Bool) → (if b then BeginWrite v else EndWrite) ≡ BeginRead → ⊥
-no_read true v h = cc
-no_read false v h = cc
-
-no_settle : (a b : Bool) (v : Bool) → (if a then EndWrite else if b then Settle v else BeginWrite v) ≡ BeginRead → ⊥
-no_settle true b v h = cc
-no_settle false true v h = cc
-no_settle false false v h = cc
-
--- no access of a closing begins a read
-pub closing_no_read : (s : Setup) (p : ℕ) (command : Command) (number : ℕ) (at : Closing) (flick : Bool) (n : Access) → next_of s p (Closes command number at) flick ≡ Some n → n.how ≡ BeginRead → ⊥
-closing_no_read s p command number (Withdraws w) flick n h how = no_read _ _ (ap (λ (y : Access). y.how) (some_access _ n h) ∙ how)
-closing_no_read s p command number (Settles f b begun taken is t) flick n h how = no_settle _ _ _ (ap (λ (y : Access). y.how) (some_access _ n h) ∙ how)
-closing_no_read s p command number (Frees is w) flick n h how = no_read _ _ (ap (λ (y : Access). y.how) (some_access _ n h) ∙ how)
-closing_no_read s p command number (Lowers w) flick n h how = no_read _ _ (ap (λ (y : Access). y.how) (some_access _ n h) ∙ how)
-closing_no_read s p command number Quit flick n h how = cc
-closing_no_read s p command number Ended flick n h how = cc
-
-pub reads_on : (s : Setup) (p : ℕ) (d : Doing) (flick v : Bool) (n : Access) → IsLive d → next_of s p d flick ≡ Some n → n.how ≡ BeginRead → next_of s p (does_then s p d flick v) flick ≡ Some (ending n)
-reads_on s p Rests flick v n live h how = cc
-reads_on s p Lies flick v n live h how = cc
-reads_on s p (Closes command number at) flick v n live h how = absurd (closing_no_read s p command number at flick n h how)
-reads_on s p (Runs command number at) flick v n live h how = by at.part at.run live (some_access _ n h)
-  where
-    c : Call
-    c = call s p command number
-
-    by : (x : Part) (run : Run) → is_over x ≡ false → access_at c x run ≡ n
-        → next_of s p (does_then s p (Runs command number (record { part = x; run = run })) flick v) flick ≡ Some (ending n)
-    by x (Writing w) over is = absurd (no_read _ _ (ap (λ (y : Access). y.how) is ∙ how))
-    by x (Reading bits true) over is = let f : EndRead false ≡ BeginRead = ap (λ (y : Access). y.how) is ∙ how in cc
-    by x (Reading bits false) over is =
-        ap (λ b. next_of s p (cond b Rests (Runs command number (record { part = x; run = Reading bits true }))) flick) over
-        ∙ ap (λ y. Some (ending y)) is
 
 -- What a read gives.
 
@@ -121,20 +78,26 @@ Holds s t = Agree s t.words t.views
 
 -- the changes that a seat sees with its process's next entry
 seen_then : (s : Setup) (events : List Event) (v : ViewState) (flick : Bool) (n : Access) (k : Knows s (past_of s events) v) (m : Made s events v flick n) → IsPrefix v.seen (changes_of s (m.e ∷ past_of s events))
-seen_then s events v flick n k m = seen_along s v.own.process (past_of s events) (m.e ∷ past_of s events) v.seen (along_entry s v.own.process (past_of s events) m.e m.process) k.seen
+seen_then s events v flick n k m = prefix-trans v.seen (changes_of s (past_of s events)) (changes_of s (m.e ∷ past_of s events)) k.seen (changes_entry s (past_of s events) m.e)
 
 -- a view goes on to that of a record
-goes_on : (s : Setup) → IsGood s → (events : List Event) (v : ViewState) → IsPrefix v.seen (changes_of s (past_of s events)) → GoesOn s v (seeing s (past_of s events) v)
-goes_on s g events v seen = record { same = refl; at = is-at s g events v.own.process; seen = seen }
+goes_on : (s : Setup) → checked s ≡ Ok tt → (events : List Event) → AreGiven s events → (v : ViewState) → v.own.process < s.processes → IsPrefix v.seen (changes_of s (past_of s events)) → GoesOn s v (seeing s (past_of s events) v)
+goes_on s good events given v below seen = record {
+  same = refl;
+  at = is-at s (is_good s good) events v.own.process;
+  seen = seen;
+  stamped = λ stamp h. so_many_changes s (past_of s events) ∙ sym (stamps_count s good events given v.own.process stamp below h);
+  stands = (calls_in_the_changes s good events given v.own.process).1;
+}
 
 -- the next access of a seat to whose process this has happened
 next_then : (s : Setup) (v : ViewState) (flick : Bool) (n : Access) (xs : List Event) → next_of s v.own.process (with_events s v.own xs).doing flick ≡ Some n → next_of s (with_events s v.own xs).process (with_events s v.own xs).doing flick ≡ Some n
 next_then s v flick n xs h = ap (λ q. next_of s q (with_events s v.own xs).doing flick) (same_process_all s v.own xs) ∙ h
 
 -- an access of a record as it is known: its value, and the stage that its marks lead to
-makes : (s : Setup) → checked s ≡ Ok tt → (events : List Event) → AreGiven s events → (v : ViewState) (flick value : Bool) (n : Access) (k : Knows s (past_of s events) v) (m : Made s events v flick n) → value_of (valued s (past_of s events) flick n).how ≡ value →
-    Makes s flick value v.own (own_view s (past_of s (event.Step v.own.process flick ∷ events)) v.own.process)
-makes s good events given v flick value n k m is =
+makes : (s : Setup) → checked s ≡ Ok tt → (events : List Event) → AreGiven s events → (v : ViewState) (seen : List Taken) (flick value : Bool) (n : Access) (k : Knows s (past_of s events) v) (m : Made s events v flick n) → value_of (valued s (past_of s events) flick n).how ≡ value →
+    (is_inside v.own.doing ≡ true → seen ≡ changes_of s (past_of s events)) → Makes s seen flick value v.own (own_view s (past_of s (event.Step v.own.process flick ∷ events)) v.own.process)
+makes s good events given v seen flick value n k m is all =
     let g = is_good s good in
     let past = past_of s events in
     let p = v.own.process in
@@ -144,6 +107,7 @@ makes s good events given v flick value n k m is =
       place = changes_taken s past;
       is = ap (λ z. own_view s z p) m.on ∙ m.own ∙ ap (λ x. with_step s v.own flick x (changes_taken s past)) is;
       counted = λ stamp h. sym (stamps_count s good events given p stamp k.below (ap (λ (o : OwnView). stamp_read o.doing) (sym k.own) ∙ h));
+      inside = λ h. sym (ap length (all h) ∙ so_many_changes s past);
       stage = stage-process s g events1 p ∙ ap (stage p) m.on ∙ m.stage
           ∙ (λ i. fold stage_after (was i) (marks_with s p v.own.doing flick (is i)))
           ∙ ap (λ (o : OwnView). fold stage_after (stage_in s o) (marks_with s p v.own.doing flick value)) (sym k.own);
@@ -189,8 +153,13 @@ loads s slots id flick v held xs n live may next how t agree _ at _ =
     let w1_at : get_elem? (set t.views id w1) id ≡ some w1 = set_at t.views id v w1 at in
     let k1 = f1.known id w1 w1_at live in
     let value1 : value_of (valued s past flick n).how ≡ false = ap (λ (y : Access). value_of y.how) n_is ∙ ap value_of how in
-    let begins : Makes s flick false b.own w1.own = makes s f.good events f.given b flick false n k m value1 in
-    let next1 : next_of s p w1.own.doing flick ≡ Some (ending n) = ap (λ (o : OwnView). next_of s p o.doing flick) begins.is ∙ reads_on s p b.own.doing flick false n (live_doing s g events b k) b_next how in
+    let begins : Makes s b.seen flick false b.own w1.own = makes s f.good events f.given b b.seen flick false n k m value1 k.inside in
+    let live_b = live_doing s g events b k in
+    let next1 : next_of s p w1.own.doing flick ≡ Some (ending n) = ap (λ (o : OwnView). next_of s p o.doing flick) begins.is ∙ reads_on s p b.own.doing flick false n live_b b_next how in
+    let untaken : changes_of s past1 ≡ changes_of s past =
+    ap (changes_of s) m.on ∙ changes_none s past m.e (ap reply_taken m.marks ∙ begin_untaken s p b.own.doing flick (value_of (valued s past flick n).how) n (length (history s past)) b_next how) in
+    let all1 : is_inside w1.own.doing ≡ true → b.seen ≡ changes_of s past1 = λ i.
+    k.inside (begin_inside s p b.own.doing flick false n live_b b_next how (ap (λ (o : OwnView). is_inside o.doing) (sym begins.is) ∙ i)) ∙ sym untaken in
     let second : Moved s events1 t.words (set t.views id w1) id w1 flick (ending n) = reading s events1 t.words (set t.views id w1) id w1 flick (ending n) (valued s past1 flick (ending n)) f1 w1_at live next1 refl refl in
     let m1 = second.made in
     let events2 = event.Step p flick ∷ events1 in
@@ -218,8 +187,8 @@ loads s slots id flick v held xs n live may next how t agree _ at _ =
           begun = w1.own;
           begins = begins;
           at = is-at s g events1 p;
-          ends = makes s f1.good events1 f1.given w1 flick (loaded flick word) (ending n) k1 m1 value2;
-          goes = goes_on s g events2 b (prefix-trans b.seen (changes_of s past1) (changes_of s past2) seen1 seen2);
+          ends = makes s f1.good events1 f1.given w1 b.seen flick (loaded flick word) (ending n) k1 m1 value2 all1;
+          goes = goes_on s f.good events2 f2.given b k.below (prefix-trans b.seen (changes_of s past1) (changes_of s past2) seen1 seen2);
         },
         refl,
       ),
@@ -276,10 +245,14 @@ stores s slots id flick v held xs n live may next is_written t agree _ at _ =
     let f1 : Shows s events1 words' (set t.views id w) = subst (Shows s events1 words') (set_set t.views id b w) (subst (λ z. Shows s events1 words' (set (set t.views id b) id (seeing s z b))) (sym m.on) shows) in
     let value1 : value_of (valued s past flick n).how ≡ false = no-value n.how (read_value (opening_bit s n) (moves_of n past) flick) writes in
     let paired : are_neighbours past1 ≡ true = ap are_neighbours m.on ∙ one_more m.e past (written_reads m.e n access writes) (events_apart s agree.0 t.words t.views id v xs f0 at live may agree.2) in
-    let seen1 : IsPrefix b.seen (changes_of s past1) = subst (λ z. IsPrefix b.seen (changes_of s z)) (sym m.on) (seen_then s events b flick n k m) in (
+    let seen1 : IsPrefix b.seen (changes_of s past1) = subst (λ z. IsPrefix b.seen (changes_of s z)) (sym m.on) (seen_then s events b flick n k m) in
+    let stays : is_inside b.own.doing ≡ true → reply_taken (marks_with s b.own.process b.own.doing flick false) ≡ None → w.seen ≡ b.seen = λ inside none.
+    ap (changes_of s) m.on
+    ∙ changes_none s past m.e (ap reply_taken (m.marks ∙ ap (λ value. map (placed (length (history s past))) (marks_with s p b.own.doing flick value)) value1) ∙ placed-none (length (history s past)) (marks_with s p b.own.doing flick false) none)
+    ∙ sym (k.inside inside) in (
       w,
       keeps,
       tt,
       (events1, f1, paired),
-      (record { access = n; next = b_next; writes = is_written; makes = makes s f.good events f.given b flick false n k m value1; goes = goes_on s g events1 b seen1 }, refl),
+      (record { access = n; next = b_next; writes = is_written; makes = makes s f.good events f.given b b.seen flick false n k m value1 k.inside; goes = goes_on s f.good events1 f1.given b k.below seen1; stays = stays }, refl),
     )

@@ -110,7 +110,7 @@ idle s o p command h = idle_at p command (stage_in s o) (stage_allows s o (event
 pub waits : (s : Setup) (o : OwnView) (p : ℕ) → refusal_in s o (event.Withdraw p) ≡ None → stage_in s o ≡ stage.Waiting
 waits s o p h = waiting_at p (stage_in s o) (stage_allows s o (event.Withdraw p) h)
 
-down : (s : Setup) (o : OwnView) (p : ℕ) → refusal_in s o (event.Restart p) ≡ None → stage_in s o ≡ stage.Down
+pub down : (s : Setup) (o : OwnView) (p : ℕ) → refusal_in s o (event.Restart p) ≡ None → stage_in s o ≡ stage.Down
 down s o p h = down_at p (stage_in s o) (stage_allows s o (event.Restart p) h)
 
 pub fails : (s : Setup) (o : OwnView) (p : ℕ) → refusal_in s o (event.Fail p) ≡ None → may_fail (kept_at s o.process o.doing) ≡ true
@@ -179,7 +179,7 @@ stage-fails s p command number (Runs x n at) = stage-cut (call s p command numbe
 stage-fails s p command number (Closes x n at) = stage-cut (call s p command number) (call s p x n) (torn_closing at) (begun_closing (call s p x n) at) None _
 
 -- a process that failed is settling
-settling : (s : Setup) (v : ViewState) (restarted withdrew : Bool) (called : Option Command) → stage_in s (with_pending s (record { restarted = restarted; called = called; withdrew = withdrew; failed = true }) v).own ≡ stage.Settling
+pub settling : (s : Setup) (v : ViewState) (restarted withdrew : Bool) (called : Option Command) → stage_in s (with_pending s (record { restarted = restarted; called = called; withdrew = withdrew; failed = true }) v).own ≡ stage.Settling
 settling s v restarted withdrew called =
     let pending : Pending = record { restarted = restarted; called = called; withdrew = withdrew; failed = false } in
     let w = (with_pending s pending v).own in

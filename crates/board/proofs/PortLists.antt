@@ -1,5 +1,5 @@
 -- Lists of ports: what holds of each of them.
-use Rattle.std.proofs.Common.{◌≡◌, ℕ, zero, suc, List, [], ◌∷◌, ◌++◌, length, Option, Some, None, refl, subst}
+use Rattle.std.proofs.Common.{◌≡◌, ◌<◌, ℕ, zero, suc, List, [], ◌∷◌, ◌++◌, length, drop, get_or, Option, Some, None, refl, sym, ap, subst, arith}
 use Rattle.std.specs.Prelude.{IfSome, option_to_list, slice_get}
 
 -- what holds of each in its place holds then too, where one more comes last
@@ -23,8 +23,8 @@ pub of_last : {A : Type 0} (P : A → Type 0) (xs : List A) (o : Option A) → (
 of_last P xs None h = tt
 of_last P xs (Some x) h = h (length xs) x (at_last xs x)
 
--- and of each before
-at_front : {A : Type 0} (xs ys : List A) (k : ℕ) (y : A) → slice_get xs k ≡ Some y → slice_get (xs ++ ys) k ≡ Some y
+-- what stands in a front stands there, so what holds of each holds of each in a front
+pub at_front : {A : Type 0} (xs ys : List A) (k : ℕ) (y : A) → slice_get xs k ≡ Some y → slice_get (xs ++ ys) k ≡ Some y
 at_front [] ys zero y e = absurd (cc)
 at_front [] ys (suc k) y e = absurd (cc)
 at_front (x ∷ xs) ys zero y e = e
@@ -32,3 +32,21 @@ at_front (x ∷ xs) ys (suc k) y e = at_front xs ys k y e
 
 pub of_front : {A : Type 0} (P : A → Type 0) (xs ys : List A) → ((k : ℕ) (y : A) → slice_get (xs ++ ys) k ≡ Some y → P y) → (k : ℕ) (y : A) → slice_get xs k ≡ Some y → P y
 of_front P xs ys h k y e = h k y (at_front xs ys k y e)
+
+-- what holds of each in its place holds of the last one, and of each before it
+pub last_of : {A : Type 0} (P : ℕ → A → Type 0) (all xs : List A) (x : A) → all ≡ xs ++ x ∷ [] → ((k : ℕ) (y : A) → slice_get all k ≡ Some y → P k y) → P (length xs) x
+last_of P all xs x is h = subst (λ zs. (k : ℕ) (y : _) → slice_get zs k ≡ Some y → P k y) is h (length xs) x (at_last xs x)
+
+pub front_of : {A : Type 0} (P : ℕ → A → Type 0) (all xs : List A) (x : A) → all ≡ xs ++ x ∷ [] → ((k : ℕ) (y : A) → slice_get all k ≡ Some y → P k y) → (k : ℕ) (y : A) → slice_get xs k ≡ Some y → P k y
+front_of P all xs x is h k y e = subst (λ zs. (k : ℕ) (y : _) → slice_get zs k ≡ Some y → P k y) is h k y (at_front xs (x ∷ []) k y e)
+
+-- all but the first
+pub rest_of : {A : Type 0} (P : ℕ → A → Type 0) (xs : List A) → ((k : ℕ) (y : A) → slice_get xs k ≡ Some y → P k y) → (k : ℕ) (y : A) → slice_get (drop 1 xs) k ≡ Some y → P (suc k) y
+rest_of P [] h k y e = absurd (cc)
+rest_of P (x ∷ xs) h k y e = h (suc k) y e
+
+-- an item that is found at an index
+pub item_at : {A : Type 0} (xs : List A) (k : ℕ) (x : A) → k < length xs → x ≡ get_or xs k x → slice_get xs k ≡ Some x
+item_at [] k x h e = absurd (omega arith)
+item_at (y ∷ xs) zero x h e = ap (λ z. Some z) (sym e)
+item_at (y ∷ xs) (suc k) x h e = item_at xs k x (omega arith) e

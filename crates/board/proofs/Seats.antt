@@ -20,7 +20,7 @@ use Rattle.laws.specs.Doings.{Rests, doing}
 use Rattle.laws.specs.Held.{IsThere}
 use Rattle.board.specs.Agreement.{Agree, IsIn, IsQuiet, Knows, KnowsSeats, Shows}
 use Rattle.board.specs.Calls.{calls_of, changes_of, no_calls}
-use Rattle.board.specs.Views.{OwnView, ViewState, first_view, new_own, new_view, own_view, spent_view, with_joined, with_made}
+use Rattle.board.specs.Views.{OwnView, ViewState, first_view, new_own, new_view, entries_of, own_view, spent_view, with_joined, with_made}
 use Rattle.board.specs.Words.{closed_word, opening_word, word_of, words_in}
 use Rattle.board.proofs.WordNumbers.{bit_of_word, word_below}
 use Rattle.board.proofs.Along.{set_at, was_view}
@@ -45,6 +45,10 @@ none_called : (s : Setup) (p : ℕ) (past : Past) → own p past ≡ [] → call
 none_called s p [] h = refl
 none_called s p (e ∷ past) h = let o = off p e past h in rw o.0 (none_called s p past o.1)
 
+none_made : (s : Setup) (p : ℕ) (past : Past) → own p past ≡ [] → entries_of s p past ≡ []
+none_made s p [] h = refl
+none_made s p (e ∷ past) h = let o = off p e past h in rw o.0 (none_made s p past o.1)
+
 no_number : (s : Setup) → call_number s [] ≡ 0
 no_number s = go (s.version == 2)
   where
@@ -56,6 +60,7 @@ no_number s = go (s.version == 2)
 nothing_known : (s : Setup) (p : ℕ) (past : Past) → own p past ≡ [] → own_view s past p ≡ new_own p
 nothing_known s p past h = λ i. record {
   process = p;
+  entries = none_made s p past h i;
   doing = no_doing s p past h i;
   command = ap last_command h i;
   number = (ap (call_number s) h ∙ no_number s) i;
@@ -81,7 +86,7 @@ starts s words good pairs some_ size is = (
     given = record { opening = pairs; commands = refl };
     size = size;
     bits = λ a there. is (word_of s a) (word_below s a there) ∙ opens s a there;
-    known = λ i v e live. subst (Knows s []) (only i v e).1 (record { below = some_; own = sym (nothing_known s 0 [] refl); seen = (changes_of s [], refl) });
+    known = λ i v e live. subst (Knows s []) (only i v e).1 (record { below = some_; own = sym (nothing_known s 0 [] refl); seen = (changes_of s [], refl); inside = λ h. refl });
     apart = λ i j v w a b _ _ _. (only i v a).0 ∙ sym (only j w b).0;
     seats = (
       first_view,
@@ -102,7 +107,7 @@ starts s words good pairs some_ size is = (
 -- Seats that are made and joined.
 
 -- only port 0's seat has the number 0
-is_first : (s : Setup) (events : List Event) (words : List ℕ) (views : List ViewState) (f : Shows s events words views) (id : ℕ) (v : ViewState) → get_elem? views id ≡ some v → v.spent ≡ false → v.own.process ≡ 0 → (id ≡ 0) × (f.seats.0 ≡ v)
+pub is_first : (s : Setup) (events : List Event) (words : List ℕ) (views : List ViewState) (f : Shows s events words views) (id : ℕ) (v : ViewState) → get_elem? views id ≡ some v → v.spent ≡ false → v.own.process ≡ 0 → (id ≡ 0) × (f.seats.0 ≡ v)
 is_first s events words views f id v at live zero_ =
     let first = f.seats.1 in
     let here : id ≡ 0 = f.apart id 0 v f.seats.0 at first.at live first.live (zero_ ∙ sym first.process) in
@@ -170,12 +175,12 @@ splits s id v live zero_ room none_back state agree at = (
 
     old : (i : ℕ) (x : ViewState) → get_elem? (set state.views id (with_made v)) i ≡ some x → x.spent ≡ false → Knows s past x
     old i x e x_live = ⊎_elim
-        (λ (t : (i ≡ id) × (with_made v ≡ x)). let k = f.known id v at live in subst (Knows s past) t.1 (record { below = k.below; own = k.own; seen = k.seen }))
+        (λ (t : (i ≡ id) × (with_made v ≡ x)). let k = f.known id v at live in subst (Knows s past) t.1 (record { below = k.below; own = k.own; seen = k.seen; inside = k.inside }))
         (λ (t : (i ≢ id) × (get_elem? state.views i ≡ some x)). f.known i x t.1 x_live)
         (at_set state.views id i (with_made v) x e)
 
     fresh : Knows s past (new_view v.made 0)
-    fresh = record { below = room; own = sym (nothing_known s v.made past (seats.unmade v.made (omega arith))); seen = (changes_of s past, refl) }
+    fresh = record { below = room; own = sym (nothing_known s v.made past (seats.unmade v.made (omega arith))); seen = (changes_of s past, refl); inside = λ h. let f : false ≡ true = h in cc }
 
 pub joins : (s : Setup) (id : ℕ) (v : ViewState) (other : ℕ) (w : ViewState) → v.spent ≡ false → v.own.process ≡ 0 → w.spent ≡ false → IsQuiet w.own.doing → Joins (Holds s) id v other w (with_joined v w) spent_view
 joins s id v other w live zero_ w_live quiet state agree at ne at_w = (
@@ -186,7 +191,7 @@ joins s id v other w live zero_ w_live quiet state agree at ne at_w = (
     size = f.size;
     bits = f.bits;
     known = λ i x e lx. let t = now i x e lx in ⊎_elim
-        (λ (a : (i ≡ id) × (with_joined v w ≡ x)). let k = f.known id v at live in subst (Knows s past) a.1 (record { below = k.below; own = k.own; seen = k.seen }))
+        (λ (a : (i ≡ id) × (with_joined v w ≡ x)). let k = f.known id v at live in subst (Knows s past) a.1 (record { below = k.below; own = k.own; seen = k.seen; inside = k.inside }))
         (λ (a : (i ≢ id) × (get_elem? state.views i ≡ some x)). f.known i x a.1 lx)
         (at_set state.views id i (with_joined v w) x t.1);
     apart = λ i j x y ex ey lx ly is. let a = now i x ex lx in let b = now j y ey ly in let u = before i x a.1 lx in let z = before j y b.1 ly in f.apart i j u.0 z.0 u.1 z.1 u.2 z.2 (u.3 ∙ (is ∙ sym z.3));

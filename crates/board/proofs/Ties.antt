@@ -27,7 +27,8 @@ use Rattle.board.proofs.Accesses.{may_go}
 use Rattle.board.proofs.Begins.{step_follows}
 use Rattle.board.proofs.Happenings.{same_process_all}
 use Rattle.board.proofs.Leads.{begin_calls, leads}
-use Rattle.board.proofs.Moves.{ending, loads, reads_on, stores}
+use Rattle.board.proofs.Moves.{loads, stores}
+use Rattle.board.proofs.ReadBegins.{ending, reads_on}
 
 -- Before a word step.
 
@@ -83,7 +84,7 @@ no_end s pending process value flick u word n v t h e = (t.between flick n (next
 abbrev pub GoneOn : ProcessState → ProcessState → Bool → Bool → Type 0
 GoneOn old new flick value = (d : Doing) → IsAt old d → new ≡ record old { kept = kept_at old.setup old.process (does_then old.setup old.process d flick value) }
 
-process_step : (s : Setup) (o then : OwnView) (process new : ProcessState) (flick value : Bool) (place : ℕ) → process ≡ process_at s o → IsAt process o.doing → GoneOn process new flick value → then ≡ with_step s o flick value place → new ≡ process_at s then
+pub process_step : (s : Setup) (o then : OwnView) (process new : ProcessState) (flick value : Bool) (place : ℕ) → process ≡ process_at s o → IsAt process o.doing → GoneOn process new flick value → then ≡ with_step s o flick value place → new ≡ process_at s then
 process_step s o then process new flick value place t at goes is =
     goes o.doing at
     ∙ ap (λ (q : ProcessState). record q { kept = kept_at q.setup q.process (does_then q.setup q.process o.doing flick value) }) t

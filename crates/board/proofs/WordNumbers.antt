@@ -1,6 +1,6 @@
 -- The word of a bit is its own, and tells the bit.
 use Rattle.std.proofs.Common.{◌≡◌, ℕ, zero, suc, ◌+◌, ◌-◌, ◌*◌, ◌/◌, ◌%◌, ◌<◌, ◌≤◌, ◌==◌, ◌&&◌, Bool, true, false, List, [], ◌∷◌, ◌++◌, refl, sym, ap, ◌∙◌, arith, eq-eqb, mul-le-mul_right, suc-mul, div-add-mod'}
-use Rattle.std.proofs.Math.Nat.{div-lt_iff_lt-mul, mod-lt}
+use Rattle.std.proofs.Math.Nat.{div-lt_iff_lt-mul, le-div_iff_mul-le, mod-lt}
 use Rattle.std.proofs.lemmas.Bool.{lt-ltb, le-ltb}
 use Rattle.std.proofs.lemmas.Bool.Decides.{nat_tests}
 use Rattle.std.proofs.lemmas.Nat.{div-mul-add}
@@ -14,7 +14,7 @@ use Rattle.record.specs.Moves.{field_number, same_bit}
 use Rattle.record.specs.Registers.{opening_bits, width}
 use Rattle.laws.specs.Held.{IsThere}
 use Rattle.laws.proofs.FrameCells.{OnCopy, on-copy}
-use Rattle.board.specs.Words.{bits_of, bit_in_row, bit_of, closed_word, fields, first_bit, row_bits, word_of, words_in}
+use Rattle.board.specs.Words.{bits_of, bit_in_row, bit_of, closed_word, fields, first_bit, opening_word, row_bits, word_of, words_in}
 
 -- A number of two digits.
 
@@ -149,3 +149,13 @@ opens_low s (suc owner) field k h = none k
 pub opens_elsewhere : (s : Setup) (owner : ℕ) (field : Field) (k : ℕ) → (owner ≡ 0 → ⊥) → slice_index_or (opening_bits s owner field) k false ≡ false
 opens_elsewhere s zero field k h = absurd (h refl)
 opens_elsewhere s (suc owner) field k h = none k
+
+-- so the words behind those of process 0 open at 0
+pub opens_late : (s : Setup) (word : ℕ) → 0 < s.processes → word < words_in s → s.processes * row_bits s ≤ word → opening_word s word ≡ 0
+opens_late s word some_ below_ from =
+    let row : 0 < row_bits s = omega arith in
+    let copy : s.processes ≤ word / row_bits s = (le-div_iff_mul-le row).1 from in
+    let one : 1 * s.processes ≤ word / row_bits s = omega arith in
+    let owner : 1 ≤ (bit_of s word).owner = (le-div_iff_mul-le some_).1 one in
+    let a = bit_of s word in
+    ap closed_word (opens_elsewhere s a.owner a.field a.bit (λ none. absurd (omega arith)))

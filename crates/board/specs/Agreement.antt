@@ -12,7 +12,7 @@ use Rattle.record.specs.Entries.{Entry, Past, own}
 use Rattle.record.specs.Given.{AreGiven}
 use Rattle.record.specs.Moves.{same_bit}
 use Rattle.record.specs.Records.{past_of}
-use Rattle.laws.specs.Doings.{Doing, Rests, Lies, doing}
+use Rattle.laws.specs.Doings.{Doing, Rests, Lies, doing, is_inside}
 use Rattle.laws.specs.Held.{IsThere, cell_held}
 use Rattle.board.specs.Calls.{IsPrefix, changes_of}
 use Rattle.board.specs.Views.{ViewState, own_view}
@@ -27,11 +27,12 @@ IsIn p (x ∷ xs) = (x ≡ p) ⊎ IsIn p xs
 abbrev pub IsQuiet : Doing → Type 0
 IsQuiet d = (d ≡ Rests) ⊎ (d ≡ Lies)
 
--- what a view knows is so in this past
+-- what a view knows is so in this past; while its process is inside, itself or by its memory unit, it has seen all changes
 pub record Knows (s : Setup) (past : Past) (v : ViewState) : Type 0 where
   pub below : v.own.process < s.processes
   pub own : v.own ≡ own_view s past v.own.process
   pub seen : IsPrefix v.seen (changes_of s past)
+  pub inside : is_inside v.own.doing ≡ true → v.seen ≡ changes_of s past
 
 -- this is the view of port 0, which knows the seats: those made are of the processes below a number, and those joined are of quiet processes; the processes of no seat yet have done nothing
 pub record KnowsSeats (s : Setup) (past : Past) (views : List ViewState) (v : ViewState) : Type 0 where

@@ -1,16 +1,34 @@
 -- The laws of every board.
-use Rattle.std.specs.Prelude.{◌≡◌, ℕ, ◌<◌, false, List, ◌++◌, Ok}
+use Rattle.std.specs.Prelude.{◌≡◌, ℕ, ◌+◌, ◌<◌, false, true, List, ◌++◌, take, slice_get, Ok, Some}
 use mathlib.Core.Option.{some}
 use lib.ListN.{get_elem?}
 use Rattle.safe_bit.specs.declared.Move.TheVariants.{BeginRead}
 use Rattle.safe_number.specs.declared.Access.{Access}
+use Rattle.plain_store.specs.declared.Answer.{Answer}
+use Rattle.plain_store.specs.declared.Answer.TheVariants as answer
+use Rattle.plain_store.specs.declared.Command.TheVariants.{Read, Write}
+use Rattle.plain_store.specs.declared.Reply.TheVariants as reply
 use Rattle.plain_store.specs.declared.Setup.{Setup}
-use Rattle.plain_store.specs.Setups.{checked}
+use Rattle.plain_store.specs.declared.Value.{Value}
+use Rattle.plain_store.specs.Setups.{checked, opening_store}
+use Rattle.plain_store.specs.Store.{changes}
 use Rattle.record.specs.declared.events.Event.{Event}
+use Rattle.record.specs.declared.history.Taken.{Taken}
+use Rattle.record.specs.Entries.{Past}
+use Rattle.record.specs.Given.{EachPastGiven}
+use Rattle.record.specs.Headline.{count_changes}
+use Rattle.record.specs.Histories.{history, store_after}
 use Rattle.record.specs.Records.{past_of, process_of, refused}
 use Rattle.record.specs.Stages.{stage}
 use Rattle.laws.specs.Held.{IsThere}
-use Rattle.board.specs.Agreement.{Shows}
+use Rattle.board.specs.Agreement.{Agree, Shows, are_neighbours}
+use Rattle.flicks.specs.Flicks.{FlickState}
+use Rattle.board.specs.Driving.{Drives}
+use Rattle.board.specs.declared.driving.Driven.{Driven}
+use Rattle.board.specs.Calls.{IsPrefix, and_then, calls_of, changes_of}
+use Rattle.weigh.specs.declared.calls.Placed.{Placed}
+use Rattle.board.specs.Headlines.{KeepsAllClauses}
+use Rattle.board.specs.Lists.{StandsIn, store_at}
 use Rattle.board.specs.Views.{MayAllHappen, ViewState, refusal_in, stage_in, with_events}
 use Rattle.board.specs.Words.{bit_of, word_of, words_in}
 
@@ -34,3 +52,33 @@ StagesAreTheRecords = EachView λ s events v since. stage v.own.process (past_of
 -- An event of its process is refused as in the record.
 abbrev pub RefusalsAreTheRecords : Type 0
 RefusalsAreTheRecords = EachView λ s events v since. (event : Event) → process_of event ≡ v.own.process → refused s (past_of s events) event ≡ refusal_in s (with_events s v.own since) event
+
+-- Where words and views agree, they show the record of some events, in which begin and end of each read are neighbours, and that record keeps the headline.
+abbrev pub BoardsKeepTheHeadline : Type 0
+BoardsKeepTheHeadline = (s : Setup) (words : List ℕ) (views : List ViewState) → Agree s words views →
+    (events : List Event) × Shows s events words views × (are_neighbours (past_of s events) ≡ true) × KeepsAllClauses s (past_of s events)
+
+-- The store after the changes alone is the store after the history; so it is at each place of the history, after as many changes as were taken before.
+abbrev pub ChangesMakeTheStore : Type 0
+ChangesMakeTheStore = (s : Setup) (past : Past) (k : ℕ) → store_at s (changes_of s past) (count_changes (opening_store s) (take k (history s past))) ≡ store_after s (take k (history s past))
+
+abbrev pub AllChangesMakeTheStore : Type 0
+AllChangesMakeTheStore = (s : Setup) (past : Past) → store_after s (changes_of s past) ≡ store_after s (history s past)
+
+-- The finished calls of each process stand in the list of changes, and so do they with the one that is not finished.
+abbrev pub CallsStandInTheChanges : Type 0
+CallsStandInTheChanges = EachPastGiven λ s past. (p : ℕ) → let calls = calls_of s p past in StandsIn s p calls.done (changes_of s past) × StandsIn s p (and_then calls.done calls.now) (changes_of s past)
+
+-- What stands in a list of changes stands in each longer one.
+abbrev pub StandsInLonger : Type 0
+StandsInLonger = (s : Setup) (p : ℕ) (calls : List Placed) (first all : List Taken) → IsPrefix first all → StandsIn s p calls first → StandsIn s p calls all
+
+-- What a process writes it reads: where its write of a name changed the store, its read of that name at the next place answers the value.
+abbrev pub OwnWritesAreRead : Type 0
+OwnWritesAreRead = (s : Setup) (p : ℕ) (calls : List Placed) (list : List Taken) → StandsIn s p calls list → (j k place : ℕ) (write read : Placed) (name : List ℕ) (x : Value) →
+    slice_get calls j ≡ Some write → slice_get calls k ≡ Some read → write.command ≡ Write name x → read.command ≡ Read name → write.place ≡ Some place → read.place ≡ Some (place + 1) →
+    changes (store_at s list place) write.command ≡ true → (a : Answer) → read.answer ≡ Some a → a ≡ answer.Reply (reply.Value x)
+
+-- What a port had seen before it was driven it has seen then.
+abbrev pub SeenStaysSeen : Type 0
+SeenStaysSeen = (s : Setup) (v : ViewState) (turns : ℕ) (flicks : FlickState) (end : Driven) (w : ViewState) (then : FlickState) → Drives s v turns flicks end w then → IsPrefix v.seen w.seen

@@ -11,11 +11,12 @@ pub record BoardState : Type 0 where
   pub table_id : TableId
   pub setup : Setup
 
--- what the fields of a board keep: the table was made with the setup, and has its words
+-- what the fields of a board keep: the table was made with the setup, has its words, and has no slots
 pub record KeepsBoard (s key : Setup) (id : TableId) : Type 0 where
   pub good : checked s ≡ Ok tt
   pub keyed : key ≡ s
   pub sized : id.words ≡ words_in s
+  pub slotless : id.slots ≡ 0
 
 -- the port was made with the board
 abbrev pub IsOf : BoardState → PortState → Type 0

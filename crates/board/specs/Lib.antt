@@ -2,7 +2,11 @@ pub mod Agreement
 pub mod BoardLaws
 pub mod Boards
 pub mod Calls
+pub mod Closings
 pub mod Driving
+pub mod Headlines
+pub mod Listing
+pub mod Lists
 pub mod Pending
 pub mod Ports
 pub mod Views

@@ -1,15 +1,19 @@
 -- What a port is to its callers, and what its fields keep.
-use Rattle.std.specs.Prelude.{◌≡◌, ℕ, Bool, false, List, [], ◌∷◌, Result, Ok, Err, None, Some}
+use Rattle.std.specs.Prelude.{◌≡◌, ◌⊎◌, ℕ, Bool, false, List, [], ◌∷◌, Option, Result, Ok, Err, None, Some}
 use Rattle.atomic_table.specs.Seated.{TableId}
 use Rattle.safe_number.specs.declared.Access.{Access}
 use Rattle.plain_store.specs.declared.Setup.{Setup}
 use Rattle.record.specs.declared.events.Event.{Event}
 use Rattle.record.specs.declared.refusals.Refusal.{Refusal}
+use Rattle.record.specs.declared.refusals.Refusal.TheVariants.{Memory}
 use Rattle.laws.specs.Doings.{Doing}
 use Rattle.laws.specs.Steps.{next_of}
 use Rattle.process.specs.Processes.{ProcessState}
 use Rattle.process.specs.Steps.{IsAt}
 use Rattle.board.specs.declared.pending.Pending.{Pending}
+use Rattle.board.specs.Calls.{Calls}
+use Rattle.board.specs.Listing.{KnowsPlace}
+use Rattle.board.specs.Lists.{StandsInSeen}
 use Rattle.board.specs.Pending.{events_of}
 use Rattle.board.specs.Views.{MayAllHappen, ViewState, at_events, process_at, refusal_in}
 use Rattle.board.specs.Words.{word_of}
@@ -22,13 +26,17 @@ pub record PortState : Type 0 where
   pub setup : Setup
   pub view : ViewState
 
--- one port, whatever it does
+-- one port, whatever it does: its board, its seat and its process stay
 abbrev pub SamePort : PortState → PortState → Type 0
-SamePort old new = (new.table_id ≡ old.table_id) × (new.id ≡ old.id) × (new.setup ≡ old.setup)
+SamePort old new = (new.table_id ≡ old.table_id) × (new.id ≡ old.id) × (new.setup ≡ old.setup) × (new.view.own.process ≡ old.view.own.process)
 
 -- what a port answers to an event of its process that is no step: why it is refused, if it is
 abbrev pub answer_to : PortState → Event → Result (Unit {0}) Refusal
 answer_to port event = elim (refusal_in port.setup port.view.own event) [ Some refusal ↦ Err refusal | None ↦ Ok tt ]
+
+-- what it answers to a call: the same, or that there is no memory for one that is not refused
+abbrev pub IsBegun : PortState → Event → Result (Unit {0}) Refusal → Type 0
+IsBegun port event answer = (answer ≡ answer_to port event) ⊎ ((answer ≡ Err Memory) × (answer_to port event ≡ Ok tt))
 
 -- the port then: a refused event leaves it
 abbrev pub port_after : PortState → Event → PortState
@@ -46,9 +54,12 @@ pub record IsTied (s : Setup) (pending : Pending) (process : ProcessState) (valu
   pub at : IsAt (process_at s (with_pending s pending v).own) (with_pending s pending v).own.doing
   pub between : IsBetween s value (with_pending s pending v).own
 
--- what the fields of a port keep: its seat holds nothing
-pub record KeepsPort (s : Setup) (pending : Pending) (process : ProcessState) (value : Bool) (v : ViewState) (held : List (ℕ × Unit {0})) : Type 0 where
+-- what the fields of a port keep: the list is that of its view, the stamp the place of what a memory unit takes, the calls stand in the changes that it has seen, and its seat holds nothing
+pub record KeepsPort (s : Setup) (pending : Pending) (process : ProcessState) (value : Bool) (list : Calls) (stamp : Option ℕ) (v : ViewState) (held : List (ℕ × Unit {0})) : Type 0 where
   pub tied : IsTied s pending process value v
+  pub calls : list ≡ (with_pending s pending v).own.calls
+  pub place : KnowsPlace stamp (with_pending s pending v)
+  pub stands : StandsInSeen s (with_pending s pending v)
   pub none : held ≡ []
 
 -- the next access of a process is this one, on this word

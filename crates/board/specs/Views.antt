@@ -1,30 +1,45 @@
 -- The view of a seat: what it knows of its process, and what an event of that process makes of it.
-use Rattle.std.specs.Prelude.{◌≡◌, ℕ, ◌+◌, Bool, true, false, List, [], ◌∷◌, fold, Option, None, Some}
+use Rattle.std.specs.Prelude.{◌≡◌, ℕ, ◌+◌, ◌==◌, Bool, true, false, cond, List, [], ◌∷◌, fold, map, Option, None, option_map}
 use Rattle.plain_store.specs.declared.Command.{Command}
 use Rattle.plain_store.specs.declared.Command.TheVariants.{Ask}
 use Rattle.plain_store.specs.declared.Setup.{Setup}
 use Rattle.record.specs.declared.events.Event.{Event}
 use Rattle.record.specs.declared.events.Event.TheVariants as event
 use Rattle.record.specs.declared.history.Taken.{Taken}
-use Rattle.record.specs.declared.marks.Mark.TheVariants.{Called}
+use Rattle.record.specs.declared.marks.Mark.{Mark}
+use Rattle.record.specs.declared.marks.Mark.TheVariants.{Called, Failed, Withdrew, Restarted}
 use Rattle.record.specs.declared.refusals.Refusal.{Refusal}
 use Rattle.record.specs.declared.stages.Stage.{Stage}
 use Rattle.record.specs.Calls.{last_command, call_number}
 use Rattle.record.specs.Closings.{withdrawing}
-use Rattle.record.specs.Entries.{Past, own}
+use Rattle.record.specs.Entries.{Entry, Past, has, is_called, own}
 use Rattle.record.specs.Given.{is_event}
+use Rattle.record.specs.Moves.{ended_with}
 use Rattle.record.specs.Parts.{Raises}
 use Rattle.record.specs.Places.{enter}
-use Rattle.record.specs.Records.{process_of}
+use Rattle.record.specs.Records.{placed, process_of}
 use Rattle.laws.specs.Doings.{Doing, Rests, Runs, Closes, call, doing}
-use Rattle.laws.specs.Steps.{cut_of, does_then, marks_with}
+use Rattle.laws.specs.Steps.{cut_of, does_then, marks_with, next_of}
 use Rattle.process.specs.Processes.{ProcessState, kept_at, stage_kept}
 use Rattle.process.specs.Refusals.{next_number, refusal_of}
+use Rattle.history_laws.specs.Stamps.{changes_taken}
 use Rattle.board.specs.Calls.{Calls, calls_after, calls_of, no_calls}
 
--- what is known of a process: what it is doing, the command and the number of its last call, and its calls
+-- an entry, with this as the place of what it takes
+abbrev pub counted_at : ℕ → Entry → Entry
+counted_at place e = record e { marks = map (placed place) e.marks }
+
+-- the entries of process p since its last call, with that call's, their places counted in changes; all, if it has not called
+abbrev pub entries_of : Setup → ℕ → Past → Past
+entries_of s p [] = []
+entries_of s p (e ∷ past) =
+    let earlier = entries_of s p past in
+    cond (e.process == p) (counted_at (changes_taken s past) e ∷ cond (has is_called e) [] earlier) earlier
+
+-- what is known of a process: its own entries since its last call, what it is doing, the command and the number of its last call, and its calls
 pub record OwnView : Type 0 where
   pub process : ℕ
+  pub entries : Past
   pub doing : Doing
   pub command : Command
   pub number : ℕ
@@ -40,11 +55,11 @@ pub record ViewState : Type 0 where
 
 -- what is known of process p in a past
 abbrev pub own_view : Setup → Past → ℕ → OwnView
-own_view s past p = record { process = p; doing = doing s p past; command = last_command (own p past); number = call_number s (own p past); calls = calls_of s p past }
+own_view s past p = record { process = p; entries = entries_of s p past; doing = doing s p past; command = last_command (own p past); number = call_number s (own p past); calls = calls_of s p past }
 
 -- of a process that has done nothing
 abbrev pub new_own : ℕ → OwnView
-new_own p = record { process = p; doing = Rests; command = Ask; number = 0; calls = no_calls }
+new_own p = record { process = p; entries = []; doing = Rests; command = Ask; number = 0; calls = no_calls }
 
 -- a seat of process p that is made, where so many were made before
 abbrev pub new_view : ℕ → ℕ → ViewState
@@ -78,15 +93,31 @@ stage_in s o = stage_kept (kept_at s o.process o.doing)
 abbrev pub refusal_in : Setup → OwnView → Event → Option Refusal
 refusal_in s o event = refusal_of (process_at s o) event
 
+-- the entry with which a process makes this mark, and no access
+abbrev pub entry_marked : ℕ → Mark → Entry
+entry_marked p mark = record { process = p; access = None; marks = mark ∷ [] }
+
+-- the entry of its next access, with this value, where so many changes were taken before
+abbrev pub entry_stepped : Setup → OwnView → (flick value : Bool) → ℕ → Entry
+entry_stepped s o flick value place =
+    counted_at place (record { process = o.process; access = option_map (ended_with value) (next_of s o.process o.doing flick); marks = marks_with s o.process o.doing flick value })
+
 -- what is known once the process has called, failed, given up waiting, or was restarted
 abbrev pub with_event : Setup → OwnView → Event → OwnView
 with_event s o (event.Call p command) =
     let number = next_number s o.number in
-    record { process = o.process; doing = Runs command number (enter (call s o.process command number) Raises); command = command; number = number; calls = calls_after 0 o.calls (Called command) }
+    record {
+      process = o.process;
+      entries = entry_marked o.process (Called command) ∷ [];
+      doing = Runs command number (enter (call s o.process command number) Raises);
+      command = command;
+      number = number;
+      calls = calls_after 0 o.calls (Called command);
+    }
 with_event s o (event.Step p flick) = o
-with_event s o (event.Fail p) = record o { doing = Closes o.command o.number (cut_of s o.process o.doing) }
-with_event s o (event.Withdraw p) = record o { doing = Closes o.command o.number (withdrawing (call s o.process o.command o.number)) }
-with_event s o (event.Restart p) = record o { doing = Rests }
+with_event s o (event.Fail p) = record o { entries = entry_marked o.process Failed ∷ o.entries; doing = Closes o.command o.number (cut_of s o.process o.doing) }
+with_event s o (event.Withdraw p) = record o { entries = entry_marked o.process Withdrew ∷ o.entries; doing = Closes o.command o.number (withdrawing (call s o.process o.command o.number)) }
+with_event s o (event.Restart p) = record o { entries = entry_marked o.process Restarted ∷ o.entries; doing = Rests }
 
 -- after several of them, the newest first
 abbrev pub with_events : Setup → OwnView → List Event → OwnView
@@ -96,6 +127,7 @@ with_events s o (event ∷ events) = with_event s (with_events s o events) event
 -- what is known once the process, or its memory unit, has made its next access, which gave this value; so many changes were taken before
 abbrev pub with_step : Setup → OwnView → (flick value : Bool) → ℕ → OwnView
 with_step s o flick value place = record o {
+  entries = entry_stepped s o flick value place ∷ o.entries;
   doing = does_then s o.process o.doing flick value;
   calls = fold (calls_after place) o.calls (marks_with s o.process o.doing flick value);
 }

@@ -1,13 +1,16 @@
 -- What a word step of a port is: the next access of its process, or of that one's memory unit; of a read, begin and end.
-use Rattle.std.specs.Prelude.{◌≡◌, ◌⊎◌, ℕ, Bool, true, false, [], Some, fold}
+use Rattle.std.specs.Prelude.{◌≡◌, ◌⊎◌, ℕ, Bool, true, false, List, [], length, None, Some, fold}
 use Rattle.safe_bit.specs.declared.Move.TheVariants.{BeginRead, BeginWrite, EndRead, EndWrite}
 use Rattle.safe_bit.specs.declared.Move.{Move}
 use Rattle.safe_number.specs.declared.Access.{Access}
 use Rattle.reader_copies.specs.Written.{IsWrite}
 use Rattle.plain_store.specs.declared.Setup.{Setup}
+use Rattle.record.specs.declared.history.Taken.{Taken}
 use Rattle.record.specs.declared.marks.Mark.TheVariants.{Answered, Down}
 use Rattle.record.specs.declared.stages.Stage.TheVariants as stage
+use Rattle.record.specs.Histories.{reply_taken}
 use Rattle.record.specs.Stages.{stage_after}
+use Rattle.laws.specs.Doings.{is_inside}
 use Rattle.laws.specs.Steps.{being_written, marks_with, next_of}
 use Rattle.history_laws.specs.Stamps.{stamp_read}
 use Rattle.process.specs.declared.told.Told.{Told}
@@ -15,21 +18,25 @@ use Rattle.process.specs.declared.told.Told.TheVariants as told
 use Rattle.process.specs.Processes.{kept_at}
 use Rattle.process.specs.Steps.{IsAt, may_step}
 use Rattle.board.specs.Calls.{IsPrefix, calls_after}
+use Rattle.board.specs.Lists.{StandsInSeen}
 use Rattle.board.specs.Views.{OwnView, ViewState, process_at, stage_in, with_step}
 use Rattle.board.specs.Words.{loaded}
 
--- the next access of the process is made, which gives this value: its marks lead to its stage, and what its call takes has the stamp that was read as its place
-pub record Makes (s : Setup) (flick value : Bool) (o then : OwnView) : Type 0 where
+-- the next access of the process is made, which gives this value, by a port that has seen these changes: its marks lead to its stage; what its call takes has the stamp that was read as its place; and what is taken while it is inside, itself or by its memory unit, has the number of changes seen
+pub record Makes (s : Setup) (seen : List Taken) (flick value : Bool) (o then : OwnView) : Type 0 where
   pub place : ℕ
   pub is : then ≡ with_step s o flick value place
   pub counted : (stamp : ℕ) → stamp_read o.doing ≡ Some stamp → place ≡ stamp
+  pub inside : is_inside o.doing ≡ true → place ≡ length seen
   pub stage : stage_in s then ≡ fold stage_after (stage_in s o) (marks_with s o.process o.doing flick value)
 
--- a view goes on: it knows this of its process then, where that goes on from, and has seen no fewer changes
+-- a view goes on: it knows this of its process then, where that goes on from, and has seen no fewer changes; where its process has read the stamps, it has seen as many as the greatest of them; and the calls of its process stand in what it has seen
 pub record GoesOn (s : Setup) (v w : ViewState) : Type 0 where
   pub same : w ≡ record v { own = w.own; seen = w.seen }
   pub at : IsAt (process_at s w.own) w.own.doing
   pub seen : IsPrefix v.seen w.seen
+  pub stamped : (stamp : ℕ) → stamp_read w.own.doing ≡ Some stamp → length w.seen ≡ stamp
+  pub stands : StandsInSeen s w
 
 -- a load that found this word: begin and end of a read, which gives what was loaded
 pub record Loads (s : Setup) (flick : Bool) (v : ViewState) (word : ℕ) (w : ViewState) : Type 0 where
@@ -37,18 +44,19 @@ pub record Loads (s : Setup) (flick : Bool) (v : ViewState) (word : ℕ) (w : Vi
   pub next : next_of s v.own.process v.own.doing flick ≡ Some access
   pub reads : access.how ≡ BeginRead
   pub begun : OwnView
-  pub begins : Makes s flick false v.own begun
+  pub begins : Makes s v.seen flick false v.own begun
   pub at : IsAt (process_at s begun) begun.doing
-  pub ends : Makes s flick (loaded flick word) begun w.own
+  pub ends : Makes s v.seen flick (loaded flick word) begun w.own
   pub goes : GoesOn s v w
 
--- a store: one access of a write
+-- a store: one access of a write. While its process is inside, itself or by its memory unit, a port whose store takes nothing sees no more changes
 pub record Stores (s : Setup) (flick : Bool) (v w : ViewState) : Type 0 where
   pub access : Access
   pub next : next_of s v.own.process v.own.doing flick ≡ Some access
   pub writes : IsWrite access.how
-  pub makes : Makes s flick false v.own w.own
+  pub makes : Makes s v.seen flick false v.own w.own
   pub goes : GoesOn s v w
+  pub stays : is_inside v.own.doing ≡ true → reply_taken (marks_with s v.own.process v.own.doing flick false) ≡ None → w.seen ≡ v.seen
 
 -- a word step
 abbrev pub WordStep : Setup → Bool → ViewState → ViewState → Type 0

@@ -45,7 +45,7 @@ impl Board {
         let (board, mut seat) = opened(alloc, setup)?;
         let mut ports = board.others(alloc, &mut seat)?;
         let first = Process::new(alloc, 0, setup)?;
-        ports.insert(0, Port::new(seat, first))?;
+        ports.insert(0, Port::new(alloc, seat, first))?;
         Ok((board, ports))
     }
 
@@ -62,7 +62,7 @@ impl Board {
         for number in 1..self.setup.processes {
             let process = Process::new(alloc, number, &self.setup)?;
             let seat = self.newcomer(first);
-            ports.push_reserved(Port::new(seat, process));
+            ports.push_reserved(Port::new(alloc, seat, process));
         }
         Ok(ports)
     }

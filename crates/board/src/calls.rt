@@ -1,11 +1,111 @@
-//! Finished calls.
-use plain_store::{Answer, Command};
+//! The calls of a port: those that are finished, and the one that is not.
+ghost use Rattle.std.specs.Prelude.{◌≡◌, ℕ, None, OnErr, OnOk, Some, fold, option_map};
+ghost use Rattle.record.specs.declared.Mark.TheVariants.{Called};
+ghost use Rattle.process.specs.Telling.{marks_told};
+ghost use Rattle.board.specs.Calls.{and_then, calls_after, no_calls};
+ghost use Rattle.board.specs.Listing.{IsPlace};
+ghost use Rattle.weigh.specs.declared.calls.Placed.{Placed as Call};
 
-/// A finished call. It has no answer if a failure cut it, and a place if it was taken: how many changes of the store
-/// were taken before it.
-#[derive(Clone, Copy, Debug, PartialEq, Eq)]
-pub struct Placed {
-    pub command: Command,
-    pub answer: Option<Answer>,
-    pub place: Option<u32>,
+use plain_store::{Answer, Command, NestedTypes};
+use process::Told;
+use std::alloc::{AllocError, Global};
+use std::marker::Model;
+use weigh::Placed;
+
+/// The list of a port, with room for the call that is not finished.
+#[derive(Drop)]
+pub(crate) struct CallList {
+    done: Vec<Placed>,
+    current: Option<Placed>,
+}
+
+impl Model for CallList {
+    ghost use Rattle.std.specs.Prelude.{◌<◌, IfSome, vec_capacity, vec_len};
+    ghost use Rattle.board.specs.Calls.{Calls};
+
+    ghost Value = { Calls };
+
+    ghost view = { λ l. record { done = l.done.items; now = l.current } };
+
+    ghost invariant = { λ l. IfSome l.current (λ _. vec_len l.done < vec_capacity l.done) };
+}
+
+impl CallList {
+    /// Of a process that has not called. It takes no memory.
+    pub fn new(alloc: Global) -> CallList
+        ensures { result ≡ no_calls }
+    {
+        CallList {
+            done: Vec::new(alloc),
+            current: None,
+        }
+    }
+
+    /// The finished calls, in order.
+    pub fn done(&self) -> &[Placed]
+        ensures { result.now ≡ self.now.done }
+    {
+        &self.done
+    }
+
+    /// A call begins, for whose entry there is room then. Want of memory leaves the list.
+    pub fn begin(&mut self, command: Command) -> Result<(), AllocError>
+        ensures begun { OnOk result (self.new ≡ calls_after 0 self.old (Called command)) }
+        ensures unchanged { OnErr result (self.new ≡ self.old) }
+    {
+        self.done.reserve(1)?;
+        self.current = Some(Placed {
+            command,
+            answer: None,
+            place: None,
+        });
+        Ok(())
+    }
+
+    /// Goes on by what a word step leads to. `stamp` is the place of a command that a memory unit takes.
+    #[inline]
+    pub fn tell(&mut self, told: &Told, stamp: Option<u32>)
+        ensures { (place : ℕ) → IsPlace told.now stamp place → self.new ≡ fold (calls_after place) self.old (marks_told told.now) }
+    {
+        match *told {
+            Told::Took { changes, .. } => self.take(Some(changes)),
+            Told::SettlesAndTakes(..) => self.take(stamp),
+            Told::Answers(answer) => {
+                self.answer(answer);
+                self.finish();
+            }
+            Told::Lies => self.finish(),
+            _ => {}
+        }
+    }
+
+    /// The command of the call is taken at this place.
+    fn take(&mut self, place: Option<u32>)
+        ensures { self.new ≡ record self.old { now = option_map (λ (call : Call). record call { place = place }) self.old.now } }
+    {
+        let _nested: NestedTypes = None;
+        if let Some(call) = &mut self.current {
+            call.place = place;
+        }
+    }
+
+    /// The call is answered.
+    fn answer(&mut self, answer: Answer)
+        ensures { self.new ≡ record self.old { now = option_map (λ (call : Call). record call { answer = Some answer }) self.old.now } }
+    {
+        let _nested: NestedTypes = None;
+        if let Some(call) = &mut self.current {
+            call.answer = Some(answer);
+        }
+    }
+
+    /// The call is finished.
+    fn finish(&mut self)
+        ensures { self.new ≡ record { done = and_then self.old.done self.old.now; now = None } }
+    {
+        let _nested: NestedTypes = None;
+        if let Some(call) = self.current.take() {
+            self.done.push_reserved(call);
+        }
+    }
 }

@@ -4,19 +4,23 @@
 
 mod board;
 mod calls;
+mod closing;
 mod driving;
 mod laws_of_boards;
 mod opening;
 mod pending;
 mod port;
 mod rule;
+mod shown_image;
 mod steps;
-#[cfg(test)]
-mod tests;
 mod words;
 
 pub use board::Board;
-pub use calls::Placed;
+pub use closing::{Closing, NotQuiet};
 pub use driving::Driven;
-pub use laws_of_boards::{views_tell_the_record, words_are_of_single_bits};
+pub use laws_of_boards::{
+    boards_keep_the_headline, calls_stand_in_one_list, views_tell_the_record,
+    words_are_of_single_bits,
+};
 pub use port::Port;
+pub use weigh::Placed;

@@ -1,11 +1,11 @@
 //! What the words of a board open at: each at its bit's opening value.
-ghost use Rattle.std.specs.Prelude.{◌≡◌, ◌<◌, ℕ, Ok, IfOk, slice_index, vec_len};
+ghost use Rattle.std.specs.Prelude.{◌≡◌, ◌*◌, ◌<◌, ℕ, Ok, IfOk, slice_index, vec_len};
 ghost use Rattle.safe_number.specs.Bytes.{bit_in};
 ghost use Rattle.plain_store.specs.Setups.{checked, opening_store};
 ghost use Rattle.store_image.specs.Image.{image_of};
-ghost use Rattle.board.specs.Words.{opening_word, words_in};
+ghost use Rattle.board.specs.Words.{opening_word, row_bits, words_in};
 
-use crate::words::{bit_of, words_in};
+use crate::words::{bit_of, row_bits, words_in};
 use plain_store::{Setup, opened};
 use safe_number::Field;
 use std::alloc::{AllocError, Global};
@@ -20,13 +20,18 @@ fn bit_in(bytes: &[u8], bit: u16) -> bool
     (byte >> (bit % 8)) & 1 == 1
 }
 
-/// What a word opens at, where the first image of process 0 opens at these bytes.
-fn opening_word(setup: &Setup, image: &[u8], word: usize) -> u64
+/// What a word opens at, where the first image of process 0 opens at these bytes, and so many are the words of process 0.
+fn opening_word(setup: &Setup, image: &[u8], own: usize, word: usize) -> u64
     requires good { checked setup.now ≡ Ok tt }
     requires image { image.now ≡ image_of (opening_store setup.now) }
+    requires own { own ≡ setup.now.processes * row_bits setup.now }
     requires word { word < words_in setup.now }
     ensures { result ≡ opening_word setup.now word }
 {
+    // The words of process 0 come first, and no other opens at 1.
+    if own <= word {
+        return 0;
+    }
     let access = bit_of(setup, word);
     if access.owner != 0 {
         return 0;
@@ -45,9 +50,10 @@ pub(crate) fn opening_words(alloc: Global, setup: &Setup) -> Result<Vec<u64>, Al
 {
     let image = opened(Image::empty(setup.slots, setup.callers()), setup)?;
     let count = words_in(setup);
+    let own = usize::from(setup.processes) * row_bits(setup);
     let mut words = Vec::with_capacity(alloc, count)?;
     for word in 0..count {
-        words.push_reserved(opening_word(setup, image.bytes(), word));
+        words.push_reserved(opening_word(setup, image.bytes(), own, word));
     }
     Ok(words)
 }

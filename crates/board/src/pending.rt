@@ -25,4 +25,13 @@ impl Pending {
             failed: false,
         }
     }
+    /// Forgets what has happened. Before nearly all word steps nothing has, and then nothing is written.
+    #[inline]
+    pub(crate) fn clear(&mut self)
+        ensures { self.new ≡ nothing }
+    {
+        if self.restarted || self.withdrew || self.failed || self.called.is_some() {
+            *self = Pending::new();
+        }
+    }
 }

@@ -1,21 +1,27 @@
 //! Ports, each of which runs one process.
-ghost use Rattle.std.specs.Prelude.{◌≡◌, Bool, ℕ, true, []};
+ghost use Rattle.std.specs.Prelude.{◌≡◌, ◌↔◌, Bool, IsTrue, ℕ, OnErr, OnOk, true, []};
 ghost use Rattle.record.specs.declared.Event.TheVariants.{Call, Fail, Restart, Withdraw};
 ghost use Rattle.board.specs.Boards.{IsOf};
-ghost use Rattle.board.specs.Ports.{SamePort, answer_to, port_after};
+ghost use Rattle.board.specs.Closings.{IsSeatOf, IsStill};
+ghost use Rattle.board.specs.Lists.{StandsIn};
+ghost use Rattle.board.specs.Ports.{IsBegun, SamePort, answer_to, port_after};
 ghost use Rattle.board.specs.Views.{new_view, stage_in};
 ghost use Rattle.board.specs.WordSteps.{LeadsTo, WordStep, goes};
 ghost use Rattle.process.specs.Processes.{process_after};
 
 use crate::board::Board;
+use crate::calls::CallList;
 use crate::pending::Pending;
 use crate::steps::{Place, word_step};
 use plain_store::Command;
 use process::{Process, Told};
 use record::{Event, Refusal, Stage};
+use std::alloc::Global;
 use std::marker::Model;
+use weigh::Placed;
 
-/// What runs one process of a board: its seat at the words, the process, and what joins its next word step.
+/// What runs one process of a board: its seat at the words, the process, what joins its next word step, and the list of
+/// its calls.
 #[derive(Drop)]
 pub struct Port {
     seat: Place,
@@ -23,6 +29,10 @@ pub struct Port {
     pending: Pending,
     /// What it is writing to a bit.
     value: bool,
+    calls: CallList,
+    /// The stamp that was read before the change that a failure cut: the place of its command, if the memory unit takes
+    /// it.
+    stamp: Option<u32>,
 }
 
 impl Model for Port {
@@ -32,12 +42,12 @@ impl Model for Port {
 
     ghost view = { λ p. record { table_id = p.seat.table_id; id = p.seat.id; setup = p.process.setup; view = with_pending p.process.setup p.pending p.seat.me.0 } };
 
-    ghost invariant = { λ p. KeepsPort p.process.setup p.pending p.process p.value p.seat.me.0 p.seat.me.1 };
+    ghost invariant = { λ p. KeepsPort p.process.setup p.pending p.process p.value p.calls p.stamp p.seat.me.0 p.seat.me.1 };
 }
 
 impl Port {
-    /// A port of a process that has done nothing, at a seat that knows nothing yet.
-    pub(crate) fn new(seat: Place, process: Process) -> Port
+    /// A port of a process that has done nothing, at a seat that knows nothing yet. It takes no memory.
+    pub(crate) fn new(alloc: Global, seat: Place, process: Process) -> Port
         requires process { process ≡ process_after process.setup [] process.process }
         requires seat { (made : ℕ) × (seat.me ≡ (new_view process.process made, [])) }
         ensures { result ≡ record { table_id = seat.table_id; id = seat.id; setup = process.setup; view = seat.me.0 } }
@@ -47,7 +57,27 @@ impl Port {
             process,
             pending: Pending::new(),
             value: false,
+            calls: CallList::new(alloc),
+            stamp: None,
         }
+    }
+
+    /// Whether its process is idle or down.
+    pub(crate) fn is_still(&self) -> bool
+        ensures { IsTrue result ↔ IsStill self.now.setup self.now.view.own }
+    {
+        matches!(self.stage(), Stage::Idle | Stage::Down)
+    }
+
+    /// Its seat, once its process is idle or down.
+    pub(crate) fn into_seat(self) -> Place
+        requires still { IsStill self.setup self.view.own }
+        ensures table { result.table_id ≡ self.table_id }
+        ensures holds { result.me.1 ≡ [] }
+        ensures seat { IsSeatOf self result.me.0 }
+    {
+        let Port { seat, .. } = self;
+        seat
     }
 
     /// Where its process stands.
@@ -55,6 +85,15 @@ impl Port {
         ensures { result ≡ stage_in self.now.setup self.now.view.own }
     {
         self.process.stage()
+    }
+
+    /// Its finished calls, in order. They stand in the changes that it has seen, which are the first of one list of
+    /// changes that all ports see.
+    pub fn answers(&self) -> &[Placed]
+        ensures list { result.now ≡ self.now.view.own.calls.done }
+        ensures stands { StandsIn self.now.setup self.now.view.own.process result.now self.now.view.seen }
+    {
+        self.calls.done()
     }
 
     /// One word step.
@@ -75,7 +114,8 @@ impl Port {
             &mut self.value,
             flick,
         );
-        self.pending = Pending::new();
+        self.pending.clear();
+        self.calls.tell(&told, self.stamp);
         told
     }
 
@@ -89,15 +129,20 @@ impl Port {
         }
     }
 
-    /// A call begins. It is refused as in a world, and then nothing has happened.
+    /// A call begins, with room made for its entry of the list. It is refused as in a world, and last for want of
+    /// memory; then nothing has happened.
     pub fn begin(&mut self, board: &Board, command: Command) -> Result<(), Refusal>
         requires { IsOf board.now self.old }
         ensures same { SamePort self.old self.new }
-        ensures answer { result ≡ answer_to self.old (Call self.old.view.own.process command) }
-        ensures port { self.new ≡ port_after self.old (Call self.old.view.own.process command) }
+        ensures answer { IsBegun self.old (Call self.old.view.own.process command) result }
+        ensures port { OnOk result (self.new ≡ port_after self.old (Call self.old.view.own.process command)) }
+        ensures unchanged { OnErr result (self.new ≡ self.old) }
     {
         if let Err(refusal) = self.answer(&Event::Call(self.process.process(), command)) {
             return Err(refusal);
+        }
+        if self.calls.begin(command).is_err() {
+            return Err(Refusal::Memory);
         }
         command.operands_are_sound();
         let number = self.process.next_number();
@@ -115,6 +160,7 @@ impl Port {
         if let Err(refusal) = self.answer(&Event::Fail(self.process.process())) {
             return Err(refusal);
         }
+        self.stamp = self.process.changes_pending();
         self.process.cut();
         self.pending.failed = true;
         Ok(())

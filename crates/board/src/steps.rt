@@ -1,5 +1,5 @@
 //! One word step of a port: a load or a store of one word.
-ghost use Rattle.std.specs.Prelude.{◌≡◌, ◌<◌, Bool, Some, true};
+ghost use Rattle.std.specs.Prelude.{◌≡◌, ◌<◌, ℕ, Bool, Option, Some, true};
 ghost use Rattle.atomic_table.specs.Table.{Allows};
 ghost use Rattle.reader_copies.specs.Written.{IsWrite};
 ghost use Rattle.safe_bit.specs.declared.Move.TheVariants.{BeginRead};
@@ -7,6 +7,8 @@ ghost use Rattle.safe_number.specs.declared.Access.{Access as Made};
 ghost use Rattle.plain_store.specs.Setups.{checked};
 ghost use Rattle.process.specs.Steps.{may_step};
 ghost use Rattle.board.specs.Agreement.{Agree};
+ghost use Rattle.board.specs.Listing.{KnowsPlace, Lists};
+ghost use Rattle.board.specs.Lists.{StandsInSeen};
 ghost use Rattle.board.specs.Pending.{nothing};
 ghost use Rattle.board.specs.Ports.{IsNext, IsTied, with_pending};
 ghost use Rattle.board.specs.Words.{loaded, stored, words_in};
@@ -70,6 +72,17 @@ fn loaded(flick: bool, word: u64) -> bool
     if word == 2 { flick } else { word == 1 }
 }
 
+/// The same. Nearly all steps lead to nothing, and then no room for an answer is copied.
+#[inline]
+fn briefly(told: Told) -> Told
+    ensures { result ≡ told }
+{
+    match told {
+        Told::Nothing => Told::Nothing,
+        told => told,
+    }
+}
+
 /// A read of one bit: one load, for its begin and its end.
 #[inline]
 fn read(
@@ -88,10 +101,12 @@ fn read(
     ensures tied { (value : Bool) → IsTied words.now.key pending process.old value seat.old.me.0 → IsTied words.now.key nothing process.new value seat.new.me.0 }
     ensures step { WordStep words.now.key flick (with_pending words.now.key pending seat.old.me.0) seat.new.me.0 }
     ensures leads { LeadsTo words.now.key result (with_pending words.now.key pending seat.old.me.0).own seat.new.me.0.own }
+    ensures lists { (stamp : Option ℕ) → KnowsPlace stamp (with_pending words.now.key pending seat.old.me.0) → Lists stamp result (with_pending words.now.key pending seat.old.me.0) seat.new.me.0 }
+    ensures stands { StandsInSeen words.now.key seat.new.me.0 }
 {
     let found = load::<Brand>(words, seat, word, flick, pending);
     let _begun = process.advance(flick, false);
-    process.advance(flick, loaded(flick, found))
+    briefly(process.advance(flick, loaded(flick, found)))
 }
 
 /// One access of a write of one bit: one store.
@@ -112,9 +127,11 @@ fn write(
     ensures tied { (value : Bool) (access : Made) → IsTied words.now.key pending process.old value seat.old.me.0 → IsNext words.now.key process.old flick word access → IsWrite access.how → IsTied words.now.key nothing process.new (value_after access.how value) seat.new.me.0 }
     ensures step { WordStep words.now.key flick (with_pending words.now.key pending seat.old.me.0) seat.new.me.0 }
     ensures leads { LeadsTo words.now.key result (with_pending words.now.key pending seat.old.me.0).own seat.new.me.0.own }
+    ensures lists { (stamp : Option ℕ) → KnowsPlace stamp (with_pending words.now.key pending seat.old.me.0) → Lists stamp result (with_pending words.now.key pending seat.old.me.0) seat.new.me.0 }
+    ensures stands { StandsInSeen words.now.key seat.new.me.0 }
 {
     store::<Brand>(words, seat, word, new, flick, pending);
-    process.advance(flick, false)
+    briefly(process.advance(flick, false))
 }
 
 /// What the store of a write's access writes, where the bit is written to `value`: the value of a begin, from then on.
@@ -154,6 +171,8 @@ pub(crate) fn word_step(
     ensures tied { IsTied words.now.key nothing process.new value.new seat.new.me.0 }
     ensures step { WordStep words.now.key flick (with_pending words.now.key pending seat.old.me.0) seat.new.me.0 }
     ensures leads { LeadsTo words.now.key result (with_pending words.now.key pending seat.old.me.0).own seat.new.me.0.own }
+    ensures lists { (stamp : Option ℕ) → KnowsPlace stamp (with_pending words.now.key pending seat.old.me.0) → Lists stamp result (with_pending words.now.key pending seat.old.me.0) seat.new.me.0 }
+    ensures stands { StandsInSeen words.now.key seat.new.me.0 }
 {
     let access = process.next(flick);
     let word = word_of(setup, &access);

@@ -49,7 +49,7 @@ fn first_bit(setup: &Setup, field: Field) -> usize
 
 /// How many bits one owner has for one reader.
 #[inline]
-fn row_bits(setup: &Setup) -> usize
+pub(crate) fn row_bits(setup: &Setup) -> usize
     requires { checked setup.now ≡ Ok tt }
     ensures row { result ≡ row_bits setup.now }
     ensures most { result ≤ 3554 }

@@ -1,4 +1,4 @@
-use Rattle.std.proofs.Common.{◌≡◌, ◌<◌, false, sym, ap, ◌∙◌, subst, arith}
+use Rattle.std.proofs.Common.{◌≡◌, ◌<◌, ◌≤◌, false, sym, ap, ◌∙◌, subst, arith}
 use Rattle.std.specs.Prelude.{slice_index_or}
 use Rattle.safe_number.specs.Bytes.{bit_in}
 use Rattle.safe_number.specs.declared.Field.TheVariants.{Image0}
@@ -8,7 +8,7 @@ use Rattle.store_image.specs.Image.{image_of}
 use Rattle.record.specs.Registers.{opening_bit, opening_bits, width}
 use Rattle.critical.proofs.Widths.{ranges}
 use Rattle.board.specs.Words.{bit_of, closed_word}
-use Rattle.board.proofs.WordNumbers.{bit_there, byte_word, opens_low}
+use Rattle.board.proofs.WordNumbers.{bit_there, byte_word, opens_late, opens_low}
 use Rattle.board.proofs.opening.opening_word.Goals as goal
 
 pub returns-in-Image0 : goal.returns-in-Image0
@@ -27,3 +27,7 @@ pub returns-in_default : goal.returns-in_default
 returns-in_default c =
     let a = c.bit_of-access.result in
     sym (ap closed_word (ap (opening_bit c.args.setup.now) (sym c.bit_of-access.ensures.bit) ∙ opens_low c.args.setup.now a.owner a.field a.bit c.in_default.not-Image0))
+
+pub returns-then-own-word : goal.returns-then-own-word
+returns-then-own-word c = let s = c.args.setup.now in
+    sym (opens_late s c.args.word (let r = (ranges s c.requires.good).some_processes in omega arith) c.requires.word (subst (λ k. k ≤ c.args.word) c.requires.own c.if-own-word.true))

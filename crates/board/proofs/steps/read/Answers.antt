@@ -1,5 +1,8 @@
-use Rattle.std.proofs.Common.{◌≡◌, inl, subst}
+use Rattle.std.proofs.Common.{◌≡◌, inl, subst, sym}
+use Rattle.board.specs.Listing.{Lists}
 use Rattle.board.specs.Ports.{with_pending}
+use Rattle.board.specs.WordSteps.{LeadsTo}
+use Rattle.board.proofs.Listings.{Tells, lists_loaded}
 use Rattle.board.proofs.Ties.{GoneOn, begun_at, is_at, leads_loaded, may_load, tied_loaded}
 use Rattle.board.proofs.steps.read.Goals as goal
 
@@ -29,5 +32,12 @@ returns-clause-step c = inl (c.load-found.result, c.load-found.ensures.told)
 
 pub returns-clause-leads : goal.returns-clause-leads
 returns-clause-leads c = let t = c.requires.tied in let n = c.requires.next in
-    leads_loaded c.args.words.now.key c.args.pending c.args.process.now c.advance-begun.new.self t.0 c.args.flick c.args.word c.load-found.result n.0 c.args.seat.now.me.0 c.load-found.new.seat.me.0 c.advance.result t.1 n.1 n.2 c.load-found.ensures.told c.advance-begun.ensures.process
-    (subst (λ x. (d : Rattle.laws.specs.Doings.Doing) → Rattle.process.specs.Steps.IsAt c.advance-begun.new.self d → Rattle.process.specs.Telling.marks_told c.advance.result ≡ Rattle.laws.specs.Steps.marks_with c.advance-begun.new.self.setup c.advance-begun.new.self.process d c.args.flick x) c.loaded.ensures c.advance.ensures.marks)
+    subst (λ told. LeadsTo c.args.words.now.key told (with_pending c.args.words.now.key c.args.pending c.args.seat.now.me.0).own c.load-found.new.seat.me.0.own) (sym c.briefly.ensures)
+    (leads_loaded c.args.words.now.key c.args.pending c.args.process.now c.advance-begun.new.self t.0 c.args.flick c.args.word c.load-found.result n.0 c.args.seat.now.me.0 c.load-found.new.seat.me.0 c.advance.result t.1 n.1 n.2 c.load-found.ensures.told c.advance-begun.ensures.process
+    (subst (λ x. (d : Rattle.laws.specs.Doings.Doing) → Rattle.process.specs.Steps.IsAt c.advance-begun.new.self d → Rattle.process.specs.Telling.marks_told c.advance.result ≡ Rattle.laws.specs.Steps.marks_with c.advance-begun.new.self.setup c.advance-begun.new.self.process d c.args.flick x) c.loaded.ensures c.advance.ensures.marks))
+
+pub returns-clause-lists : goal.returns-clause-lists
+returns-clause-lists c = λ stamp known. let t = c.requires.tied in let n = c.requires.next in
+    subst (λ told. Lists stamp told (with_pending c.args.words.now.key c.args.pending c.args.seat.now.me.0) c.load-found.new.seat.me.0) (sym c.briefly.ensures)
+    (lists_loaded c.args.words.now.key c.args.pending c.args.process.now c.advance-begun.new.self t.0 c.args.flick c.args.word c.load-found.result n.0 c.args.seat.now.me.0 c.load-found.new.seat.me.0 c.advance.result stamp t.1 n.1 n.2 c.load-found.ensures.told c.advance-begun.ensures.process
+    (subst (Tells c.advance.result c.advance-begun.new.self c.args.flick) c.loaded.ensures c.advance.ensures.marks) c.advance.ensures.changes known)

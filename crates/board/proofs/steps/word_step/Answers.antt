@@ -47,4 +47,6 @@ returns-in_default c = let s = c.args.words.now.key in let n = c.next-access.res
           (is_written n.how c.in_default.not-BeginRead c.in_default.not-EndRead));
       step = c.write.ensures.step;
       leads = c.write.ensures.leads;
+      lists = c.write.ensures.lists;
+      stands = c.write.ensures.stands;
     }

@@ -1,6 +1,8 @@
-use Rattle.std.proofs.Common.{inr, ap}
+use Rattle.std.proofs.Common.{inr, ap, subst, sym}
+use Rattle.board.specs.Listing.{Lists}
 use Rattle.board.specs.Ports.{with_pending}
-use Rattle.board.specs.WordSteps.{value_after}
+use Rattle.board.specs.WordSteps.{LeadsTo, value_after}
+use Rattle.board.proofs.Listings.{lists_stored}
 use Rattle.board.proofs.Ties.{is_at, leads_stored, may_store, tied_stored}
 use Rattle.board.proofs.steps.write.Goals as goal
 
@@ -21,4 +23,10 @@ returns-clause-step c = inr c.store.ensures.told
 
 pub returns-clause-leads : goal.returns-clause-leads
 returns-clause-leads c = let n = c.requires.next in
-    leads_stored c.args.words.now.key c.args.pending c.args.process.now n.0 c.args.flick c.args.word n.1.0 c.args.seat.now.me.0 c.store.new.seat.me.0 c.advance.result n.1.1 n.1.2 c.store.ensures.told c.advance.ensures.marks
+    subst (λ told. LeadsTo c.args.words.now.key told (with_pending c.args.words.now.key c.args.pending c.args.seat.now.me.0).own c.store.new.seat.me.0.own) (sym c.briefly.ensures)
+    (leads_stored c.args.words.now.key c.args.pending c.args.process.now n.0 c.args.flick c.args.word n.1.0 c.args.seat.now.me.0 c.store.new.seat.me.0 c.advance.result n.1.1 n.1.2 c.store.ensures.told c.advance.ensures.marks)
+
+pub returns-clause-lists : goal.returns-clause-lists
+returns-clause-lists c = λ stamp known. let n = c.requires.next in
+    subst (λ told. Lists stamp told (with_pending c.args.words.now.key c.args.pending c.args.seat.now.me.0) c.store.new.seat.me.0) (sym c.briefly.ensures)
+    (lists_stored c.args.words.now.key c.args.pending c.args.process.now n.0 c.args.flick c.args.seat.now.me.0 c.store.new.seat.me.0 c.advance.result stamp n.1.1 c.store.ensures.told c.advance.ensures.marks c.advance.ensures.changes known)

@@ -8,7 +8,7 @@ pub loop-made-init : goal.loop-made-init
 loop-made-init c = let port = c.args.self.now in record {
   board = c.requires;
   driven = record {
-    same = (refl, refl, refl);
+    same = (refl, refl, refl, refl);
     walks = refl;
     taken = refl;
     goes = goes_unless (kept_at port.setup port.view.own.process port.view.own.doing) (λ h. c.in_default.not-Idle (c.stage.ensures ∙ h)) (λ h. c.in_default.not-Down (c.stage.ensures ∙ h));

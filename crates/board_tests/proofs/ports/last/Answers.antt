@@ -3,7 +3,7 @@ use Rattle.std.specs.Prelude.{Some, option_to_list, slice_get}
 use Rattle.board.specs.Boards.{IsOf}
 use Rattle.board.specs.Ports.{PortState}
 use Rattle.board.proofs.PortLists.{of_front, of_last}
-use Rattle.board.proofs.tests.last.Goals as goal
+use Rattle.board_tests.proofs.ports.last.Goals as goal
 
 pub returns-clause-port : goal.returns-clause-port
 returns-clause-port c = let b = c.args.board.now in

@@ -1,0 +1,312 @@
+-- The calls of each process stand in the list of changes, of every past.
+use Rattle.std.proofs.Common.{◌≡◌, ℕ, suc, ◌+◌, ◌<◌, ◌==◌, ◌||◌, Bool, true, false, cond, List, [], ◌∷◌, ◌++◌, Option, Some, None, Ok, length, refl, sym, ap, subst, ◌∙◌, arith, eqb-true, Contains}
+use Rattle.std.specs.Prelude.{fold}
+use Rattle.std.specs.List.{list_any}
+use Rattle.std.proofs.lemmas.Bool.{eqb-false}
+use Rattle.std.proofs.lemmas.List.{append-nil, length-append}
+use Rattle.plain_store.specs.declared.Answer.{Answer}
+use Rattle.plain_store.specs.declared.Command.{Command}
+use Rattle.plain_store.specs.declared.Reply.{Reply}
+use Rattle.plain_store.specs.declared.Setup.{Setup}
+use Rattle.plain_store.specs.Setups.{checked, opening_store}
+use Rattle.plain_store.specs.Store.{Contents, changes, reply_to}
+use Rattle.record.specs.declared.events.Event.{Event}
+use Rattle.record.specs.declared.marks.Mark.{Mark}
+use Rattle.record.specs.declared.marks.Mark.TheVariants as mark
+use Rattle.record.specs.declared.stages.Stage.{Stage}
+use Rattle.record.specs.Calls.{calls_in, last_command}
+use Rattle.record.specs.Entries.{Entry, Past, own, has, since, is_called}
+use Rattle.record.specs.Given.{AreGiven}
+use Rattle.record.specs.Headline.{IsAnswerTo}
+use Rattle.record.specs.Histories.{history, reply_taken, store_after}
+use Rattle.record.specs.Places.{value_of}
+use Rattle.record.specs.Records.{entry_of, past_of}
+use Rattle.record.specs.Spans.{takings, all_takings}
+use Rattle.record.specs.Stages.{stage, stage_after}
+use Rattle.record.proofs.Width.{IsGood, is_good}
+use Rattle.laws.specs.Doings.{Doing, Rests, Lies, Runs, Closes, call, doing}
+use Rattle.laws.proofs.Frame.{Does, at_rest, lying, running, leaving, settling, Happens, a_call, a_withdrawal, a_failure, a_restart, a_step, a_closing}
+use Rattle.laws.proofs.FrameEvents.{accepted, does_all}
+use Rattle.history_laws.specs.Stamps.{changes_taken}
+use Rattle.history_laws.proofs.CountedChanges.{history-takes, taken_at}
+use Rattle.history_laws.proofs.DataHeadline.{taken}
+use Rattle.history_laws.proofs.Given.{given_before}
+use Rattle.history_laws.proofs.Told.{SaysAfter, says}
+use Rattle.history_laws.proofs.Took.{EachAnswer, begins, goes, doing-few}
+use Rattle.board.specs.Calls.{Calls, and_then, calls_after, calls_of, changes_of, changing}
+use Rattle.board.specs.Lists.{StandsIn}
+use Rattle.board.proofs.Along.{changes_none, so_many_changes}
+use Rattle.board.proofs.Changes.{changing-push, store_of_changes}
+use Rattle.board.proofs.EntryMarks.{StepMarks, plain, takes, answers, downs, call_marks, closing_marks, plain-calls, plain-quiet, plain-reply, plain-takings, plain-uncalled, quiet-before, both-false, tells}
+use Rattle.board.proofs.KnownCalls.{Known, Stands, known, known-own, known-uncalled, known_then, other_entry}
+use Rattle.board.proofs.Standing.{is_quiet, last_caller, one_change, standing_answered, standing_called, standing_down, standing_none, standing_on, standing_taken, taken_here}
+use Rattle.board.proofs.Stands.{finished_stand}
+
+-- An own entry: what its marks are.
+
+data OwnMarks (s : Setup) (past : Past) (e : Entry) : Type 0 where
+  calls_now : (command : Command) → is_quiet (stage e.process past) ≡ true → e.marks ≡ mark.Called command ∷ [] → OwnMarks s past e
+  restarted : is_quiet (stage e.process past) ≡ true → e.marks ≡ mark.Restarted ∷ [] → OwnMarks s past e
+  steps : StepMarks e.marks → OwnMarks s past e
+
+quiet_rests : (s : Setup) (p : ℕ) (mine : Past) (st : Stage) (d : Doing) → Does s p mine st d → d ≡ Rests → is_quiet st ≡ true
+quiet_rests s p mine st d (at_rest i k) h = ap is_quiet i
+quiet_rests s p mine st d (lying i k) h = ap is_quiet i
+quiet_rests s p mine st d (running command b r k) h = let f : Runs (last_command mine) _ _ ≡ Rests = sym k ∙ h in cc
+quiet_rests s p mine st d (leaving b i k) h = let f : Closes (last_command mine) _ _ ≡ Rests = sym k ∙ h in cc
+quiet_rests s p mine st d (settling b i k) h = let f : Closes (last_command mine) _ _ ≡ Rests = sym k ∙ h in cc
+
+quiet_lies : (s : Setup) (p : ℕ) (mine : Past) (st : Stage) (d : Doing) → Does s p mine st d → d ≡ Lies → is_quiet st ≡ true
+quiet_lies s p mine st d (at_rest i k) h = ap is_quiet i
+quiet_lies s p mine st d (lying i k) h = ap is_quiet i
+quiet_lies s p mine st d (running command b r k) h = let f : Runs (last_command mine) _ _ ≡ Lies = sym k ∙ h in cc
+quiet_lies s p mine st d (leaving b i k) h = let f : Closes (last_command mine) _ _ ≡ Lies = sym k ∙ h in cc
+quiet_lies s p mine st d (settling b i k) h = let f : Closes (last_command mine) _ _ ≡ Lies = sym k ∙ h in cc
+
+own_marks : (s : Setup) → IsGood s → (events : List Event) (event : Event) (e : Entry) → entry_of s (past_of s events) event ≡ Some e → OwnMarks s (past_of s events) e
+own_marks s g events event e is = go (accepted s g events event e is).happens
+  where
+    past : Past
+    past = past_of s events
+
+    p : ℕ
+    p = e.process
+
+    does : Does s p (own p past) (stage p past) (doing s p past)
+    does = does_all s g events p
+
+    go : Happens s past p e (doing s p past) (doing s p (e ∷ past)) → OwnMarks s past e
+    go (a_call command number i a m k) = calls_now command (quiet_rests s p (own p past) (stage p past) (doing s p past) does i) m
+    go (a_withdrawal command number t w ws run i a m k) = steps (subst StepMarks (sym m) (plain refl))
+    go (a_failure command number may a m k) = steps (subst StepMarks (sym m) (plain refl))
+    go (a_restart i a m k) = restarted (quiet_lies s p (own p past) (stage p past) (doing s p past) does i) m
+    go (a_step command number at a flick i o access made m k) = steps (subst StepMarks (sym m) (call_marks (call s p command number) at (value_of a.how) (length (history s past))))
+    go (a_closing command number at flick n i next access same m k) = steps (subst StepMarks (sym m) (closing_marks (call s p command number) at flick (length (history s past)) n next))
+
+-- One that takes a command is one change more, or none.
+changes-takes : (s : Setup) (past : Past) (e : Entry) (r : Reply) → reply_taken e.marks ≡ Some r →
+    changes_of s (e ∷ past) ≡ changes_of s past ++ one_change s (changes_of s past) (last_caller s e.process (calls_in (own e.process past))) (last_command (own e.process past)) r
+changes-takes s past e r h =
+    ap (changing (opening_store s)) (history-takes s past e r h)
+    ∙ changing-push (opening_store s) (history s past) (taken_at s past e r)
+    ∙ ap (λ (x : Contents). changes_of s past ++ cond (changes x (last_command (own e.process past))) (taken_at s past e r ∷ []) []) (sym (store_of_changes s past))
+
+-- The moves of an own entry.
+
+own_called : (s : Setup) (past : Past) (e : Entry) (command : Command) → is_quiet (stage e.process past) ≡ true → e.marks ≡ mark.Called command ∷ [] → Stands s e.process (known s past e.process) → Stands s e.process (known_then s past e)
+own_called s past e command quiet is h = subst (λ (ms : List Mark). Stands s e.process (known_then s past (record e { marks = ms }))) (sym is)
+    (standing_called s e.process k.stage _ k.number k.command command k.taken k.list k.calls.done k.calls.now quiet refl h)
+  where
+    k : Known
+    k = known s past e.process
+
+own_restarted : (s : Setup) (past : Past) (e : Entry) → is_quiet (stage e.process past) ≡ true → e.marks ≡ mark.Restarted ∷ [] → Stands s e.process (known s past e.process) → Stands s e.process (known_then s past e)
+own_restarted s past e quiet is h = subst (λ (ms : List Mark). Stands s e.process (known_then s past (record e { marks = ms }))) (sym is)
+    (subst (λ (taken : List (ℕ × Reply)). Stands s e.process (record k { stage = Rattle.record.specs.declared.stages.Stage.TheVariants.Idle; taken = taken })) (sym (append-nil k.taken))
+    (standing_on s e.process k.stage _ k.number k.command k.taken k.list k.calls.done k.calls.now (λ _. quiet) h))
+  where
+    k : Known
+    k = known s past e.process
+
+own_plain : (s : Setup) (past : Past) (e : Entry) → list_any tells e.marks ≡ false → Stands s e.process (known s past e.process) → Stands s e.process (known_then s past e)
+own_plain s past e none h = subst (Stands s p) (sym (known-uncalled s past e uncalled ∙ same)) (standing_on s p k.stage then k.number k.command k.taken k.list k.calls.done k.calls.now (plain-quiet k.stage e.marks none) h)
+  where
+    p : ℕ
+    p = e.process
+
+    k : Known
+    k = known s past p
+
+    then : Stage
+    then = fold stage_after k.stage e.marks
+
+    marks : e.marks ++ [] ≡ e.marks
+    marks = append-nil e.marks
+
+    uncalled : has is_called e ≡ false
+    uncalled = ap (list_any is_called) (sym marks) ∙ plain-uncalled e.marks [] none
+
+    same : record k { stage = then; taken = k.taken ++ takings e.marks; list = changes_of s (e ∷ past); calls = fold (calls_after (changes_taken s past)) k.calls e.marks } ≡ record k { stage = then }
+    same = λ i. record k {
+      stage = then;
+      taken = (ap (λ (l : List (ℕ × Reply)). k.taken ++ l) (ap takings (sym marks) ∙ plain-takings e.marks [] none) ∙ append-nil k.taken) i;
+      list = changes_none s past e (ap reply_taken (sym marks) ∙ plain-reply e.marks [] none) i;
+      calls = (ap (fold (calls_after (changes_taken s past)) k.calls) (sym marks) ∙ plain-calls (changes_taken s past) k.calls e.marks [] none) i;
+    }
+
+-- What the marks of an entry tell of its call's takings, where they begin no call.
+
+append-one : {X : Type 0} (xs : List X) (x : X) → length (xs ++ x ∷ []) < 2 → xs ≡ []
+append-one [] x few = refl
+append-one (y ∷ xs) x few = let n : length (xs ++ x ∷ []) ≡ length xs + 1 = length-append xs (x ∷ []) in absurd (omega (arith, few, n))
+
+-- a call that takes a command has taken none before
+none_before : (s : Setup) (past : Past) (e : Entry) (k : ℕ) (r : Reply) → takings e.marks ≡ (k, r) ∷ [] → SaysAfter s past e → all_takings (since is_called (own e.process past)) ≡ []
+none_before s past e k r is (begins command m t) = let none : length (takings e.marks) ≡ 0 = ap (λ (ms : List Mark). length (takings ms)) m in let one : length (takings e.marks) ≡ 1 = ap (λ (l : List (ℕ × Reply)). length l) is in absurd (omega (arith, none, one))
+none_before s past e k r is (goes t) =
+    let before : List (ℕ × Reply) = all_takings (since is_called (own e.process past)) in
+    append-one before (k, r) (subst (λ (l : List (ℕ × Reply)). length (before ++ l) < 2) is (doing-few (doing s e.process (e ∷ past)) (before ++ takings e.marks) t.took))
+
+one-answer : (P : Answer → Type 0) (m : Mark) (ms : List Mark) → tells m ≡ false → EachAnswer P (m ∷ ms) → EachAnswer P ms
+one-answer P (mark.Answered a) ms none h = cc
+one-answer P _ ms none h = h
+
+last-answer : (P : Answer → Type 0) (before : List Mark) (a : Answer) → list_any tells before ≡ false → EachAnswer P (before ++ mark.Answered a ∷ []) → P a
+last-answer P [] a none h = h.0
+last-answer P (m ∷ before) a none h =
+    let both = both-false (tells m) (list_any tells before) none in
+    last-answer P before a both.1 (one-answer P m (before ++ mark.Answered a ∷ []) both.0 h)
+
+-- a call that is answered is answered what it has taken
+answers_taken : (s : Setup) (past : Past) (e : Entry) (before : List Mark) (a : Answer) → list_any tells before ≡ false → e.marks ≡ before ++ mark.Answered a ∷ [] → SaysAfter s past e →
+    IsAnswerTo a (all_takings (since is_called (own e.process past)))
+answers_taken s past e before a none is (begins command m t) =
+    let f : true ≡ false = sym (ap (list_any is_called) m) ∙ (ap (list_any is_called) is ∙ plain-uncalled before (mark.Answered a ∷ []) none) in cc
+answers_taken s past e before a none is (goes t) =
+    let taken : List (ℕ × Reply) = all_takings (since is_called (own e.process past)) in
+    let here = last-answer _ before a none (subst (EachAnswer _) is t.answers) in
+    subst (IsAnswerTo a) (ap (λ (l : List (ℕ × Reply)). taken ++ l) (ap takings is ∙ plain-takings before (mark.Answered a ∷ []) none) ∙ append-nil taken) here.0
+
+-- The stage after such marks.
+quiet_after : (st : Stage) (before : List Mark) (k : ℕ) (r : Reply) → list_any tells before ≡ false → is_quiet (fold stage_after st (before ++ mark.Taken k r ∷ [])) ≡ true → is_quiet st ≡ true
+quiet_after st [] k r none q = q
+quiet_after st (m ∷ before) k r none q =
+    let both = both-false (tells m) (list_any tells before) none in
+    quiet-before st m both.0 (quiet_after (stage_after st m) before k r both.1 q)
+
+own_takes : (s : Setup) (past : Past) (e : Entry) (before : List Mark) (j : ℕ) (r : Reply) → list_any tells before ≡ false → e.marks ≡ before ++ mark.Taken j r ∷ [] → SaysAfter s past e →
+    r ≡ reply_to (store_after s (history s past)) (last_command (own e.process past)) (last_caller s e.process (calls_in (own e.process past))) →
+    Stands s e.process (known s past e.process) → Stands s e.process (known_then s past e)
+own_takes s past e before j r none is told reply h = subst (Stands s p) (sym (known-uncalled s past e uncalled ∙ same))
+    (standing_taken s p k.stage then k.number k.command j r k.list k.calls.done k.calls.now quiet
+    (reply ∙ ap (λ (x : Contents). reply_to x k.command (last_caller s p k.number)) (sym (store_of_changes s past)))
+    (subst (λ (taken : List (ℕ × Reply)). Stands s p (record k { taken = taken })) nothing h))
+  where
+    p : ℕ
+    p = e.process
+
+    k : Known
+    k = known s past p
+
+    then : Stage
+    then = fold stage_after k.stage e.marks
+
+    uncalled : has is_called e ≡ false
+    uncalled = ap (list_any is_called) is ∙ plain-uncalled before (mark.Taken j r ∷ []) none
+
+    quiet : is_quiet then ≡ true → is_quiet k.stage ≡ true
+    quiet q = quiet_after k.stage before j r none (ap (λ (ms : List Mark). is_quiet (fold stage_after k.stage ms)) (sym is) ∙ q)
+
+    took : takings e.marks ≡ (j, r) ∷ []
+    took = ap takings is ∙ plain-takings before (mark.Taken j r ∷ []) none
+
+    nothing : k.taken ≡ []
+    nothing = none_before s past e j r took told
+
+    place : changes_taken s past ≡ length k.list
+    place = sym (so_many_changes s past)
+
+    same : record k { stage = then; taken = k.taken ++ takings e.marks; list = changes_of s (e ∷ past); calls = fold (calls_after (changes_taken s past)) k.calls e.marks }
+        ≡ record k { stage = then; taken = (j, r) ∷ []; list = k.list ++ one_change s k.list (last_caller s p k.number) k.command r; calls = record k.calls { now = taken_here (length k.list) k.calls.now } }
+    same = λ i. record k {
+      stage = then;
+      taken = nothing i ++ took i;
+      list = changes-takes s past e r (ap reply_taken is ∙ plain-reply before (mark.Taken j r ∷ []) none) i;
+      calls = (ap (fold (calls_after (changes_taken s past)) k.calls) is ∙ plain-calls (changes_taken s past) k.calls before (mark.Taken j r ∷ []) none ∙ ap (λ (n : ℕ). record k.calls { now = taken_here n k.calls.now }) place) i;
+    }
+
+-- An entry that finishes a call.
+own_finishes : (s : Setup) (past : Past) (e : Entry) (before : List Mark) (m : Mark) → list_any tells before ≡ false → e.marks ≡ before ++ m ∷ [] → is_called m ≡ false → reply_taken (m ∷ []) ≡ None → takings (m ∷ []) ≡ [] →
+    known_then s past e ≡ record (known s past e.process) { stage = fold stage_after (stage e.process past) e.marks; calls = calls_after (changes_taken s past) (calls_of s e.process past) m }
+own_finishes s past e before m none is uncalled untaken nothing = known-uncalled s past e (ap (list_any is_called) is ∙ plain-uncalled before (m ∷ []) none ∙ ap (λ b. b || false) uncalled) ∙ same
+  where
+    p : ℕ
+    p = e.process
+
+    k : Known
+    k = known s past p
+
+    then : Stage
+    then = fold stage_after k.stage e.marks
+
+    same : record k { stage = then; taken = k.taken ++ takings e.marks; list = changes_of s (e ∷ past); calls = fold (calls_after (changes_taken s past)) k.calls e.marks } ≡ record k { stage = then; calls = calls_after (changes_taken s past) k.calls m }
+    same = λ i. record k {
+      stage = then;
+      taken = (ap (λ (l : List (ℕ × Reply)). k.taken ++ l) (ap takings is ∙ plain-takings before (m ∷ []) none ∙ nothing) ∙ append-nil k.taken) i;
+      list = changes_none s past e (ap reply_taken is ∙ plain-reply before (m ∷ []) none ∙ untaken) i;
+      calls = (ap (fold (calls_after (changes_taken s past)) k.calls) is ∙ plain-calls (changes_taken s past) k.calls before (m ∷ []) none) i;
+    }
+
+own_answers : (s : Setup) (past : Past) (e : Entry) (before : List Mark) (a : Answer) → list_any tells before ≡ false → e.marks ≡ before ++ mark.Answered a ∷ [] → SaysAfter s past e →
+    Stands s e.process (known s past e.process) → Stands s e.process (known_then s past e)
+own_answers s past e before a none is told h =
+    let k : Known = known s past e.process in
+    subst (Stands s e.process) (sym (own_finishes s past e before (mark.Answered a) none is refl refl refl))
+    (standing_answered s e.process k.stage _ k.number k.command k.taken a k.list k.calls.done k.calls.now (answers_taken s past e before a none is told) h)
+
+own_downs : (s : Setup) (past : Past) (e : Entry) (before : List Mark) → list_any tells before ≡ false → e.marks ≡ before ++ mark.Down ∷ [] → Stands s e.process (known s past e.process) → Stands s e.process (known_then s past e)
+own_downs s past e before none is h =
+    let k : Known = known s past e.process in
+    subst (Stands s e.process) (sym (own_finishes s past e before mark.Down none is refl refl refl))
+    (standing_down s e.process k.stage _ k.number k.command k.taken k.list k.calls.done k.calls.now h)
+
+-- what stands last among marks is among them
+last_among : (before : List Mark) (m : Mark) → Contains (before ++ m ∷ []) m
+last_among [] m = (0, omega arith, refl)
+last_among (x ∷ before) m = let h = last_among before m in let l = h.1 in (suc h.0, omega (arith, l), h.2)
+
+taking_among : (e : Entry) (before : List Mark) (j : ℕ) (r : Reply) → list_any tells before ≡ false → e.marks ≡ before ++ mark.Taken j r ∷ [] → Contains (takings e.marks) (j, r)
+taking_among e before j r none is = subst (λ (l : List (ℕ × Reply)). Contains l (j, r)) (sym (ap takings is ∙ plain-takings before (mark.Taken j r ∷ []) none)) (0, omega arith, refl)
+
+-- Each own entry keeps what is known.
+own_entry : (s : Setup) → checked s ≡ Ok tt → (events : List Event) (event : Event) (e : Entry) → AreGiven s (event ∷ events) → entry_of s (past_of s events) event ≡ Some e →
+    Stands s e.process (known s (past_of s events) e.process) → Stands s e.process (known_then s (past_of s events) e)
+own_entry s ok events event e given is h = go (own_marks s g events event e is)
+  where
+    g : IsGood s
+    g = is_good s ok
+
+    past : Past
+    past = past_of s events
+
+    told : SaysAfter s past e
+    told = says s g events event e is
+
+    by : StepMarks e.marks → Stands s e.process (known_then s past e)
+    by (plain none) = own_plain s past e none h
+    by (takes before j r none m) = own_takes s past e before j r none m told (taken s ok events event e given is j r (taking_among e before j r none m)).1 h
+    by (answers before a none m) = own_answers s past e before a none m told h
+    by (downs before none m) = own_downs s past e before none m h
+
+    go : OwnMarks s past e → Stands s e.process (known_then s past e)
+    go (calls_now command quiet m) = own_called s past e command quiet m h
+    go (restarted quiet m) = own_restarted s past e quiet m h
+    go (steps marks) = by marks
+
+-- The calls of every process of every past.
+pub calls_stand : (s : Setup) → checked s ≡ Ok tt → (events : List Event) → AreGiven s events → (p : ℕ) → Stands s p (known s (past_of s events) p)
+calls_stand s ok [] given p = standing_none s p
+calls_stand s ok (event ∷ events) given p = go (entry_of s past event) refl (calls_stand s ok events (given_before s event events given))
+  where
+    past : Past
+    past = past_of s events
+
+    at : (e : Entry) → entry_of s past event ≡ Some e → ((q : ℕ) → Stands s q (known s past q)) → (b : Bool) → (e.process == p) ≡ b → Stands s p (known s (e ∷ past) p)
+    at e is before true i = subst (λ (q : ℕ). Stands s q (known s (e ∷ past) q)) (eqb-true e.process p i) (subst (Stands s e.process) (sym (known-own s past e)) (own_entry s ok events event e given is (before e.process)))
+    at e is before false i = other_entry s past e p (eqb-false e.process p i) (before p)
+
+    go : (o : Option Entry) → entry_of s past event ≡ o → ((q : ℕ) → Stands s q (known s past q)) → Stands s p (known s (elim o as (λ _. Past) [ None ↦ past | Some e ↦ e ∷ past ]) p)
+    go None is before = before p
+    go (Some e) is before = at e is before (e.process == p) refl
+
+-- so they stand in the changes: those that are finished, and all
+pub calls_in_the_changes : (s : Setup) → checked s ≡ Ok tt → (events : List Event) → AreGiven s events → (p : ℕ) →
+    let calls : Calls = calls_of s p (past_of s events) in
+    StandsIn s p calls.done (changes_of s (past_of s events)) × StandsIn s p (and_then calls.done calls.now) (changes_of s (past_of s events))
+calls_in_the_changes s ok events given p = (finished_stand s p (calls_of s p past).done (calls_of s p past).now (changes_of s past) all, all)
+  where
+    past : Past
+    past = past_of s events
+
+    all : StandsIn s p (and_then (calls_of s p past).done (calls_of s p past).now) (changes_of s past)
+    all = (calls_stand s ok events given p).stands

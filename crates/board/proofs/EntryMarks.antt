@@ -1,0 +1,212 @@
+-- The marks of an entry, as far as they tell of a call: it is taken, it is answered, or its process is down; at most one of these, and with the last mark.
+use Rattle.std.proofs.Common.{◌≡◌, ℕ, ◌&&◌, ◌||◌, Bool, true, false, cond, not, List, [], ◌∷◌, ◌++◌, Option, Some, None, map, refl, ap, subst, ◌∙◌}
+use Rattle.std.specs.Prelude.{fold, if◌then◌else◌}
+use Rattle.std.specs.List.{list_any}
+use Rattle.reader_copies.specs.Runs as copies
+use Rattle.plain_store.specs.declared.Answer.{Answer}
+use Rattle.plain_store.specs.declared.Answer.TheVariants as answer
+use Rattle.plain_store.specs.declared.Reply.{Reply}
+use Rattle.plain_store.specs.Store.{changes}
+use Rattle.record.specs.declared.marks.Mark.{Mark}
+use Rattle.record.specs.declared.marks.Mark.TheVariants.{Called, Waiting, Entered, Taken, Left, Answered, Failed, Settled, Down, Withdrew, Restarted}
+use Rattle.record.specs.declared.stages.Stage.{Stage}
+use Rattle.record.specs.declared.stages.Stage.TheVariants as stage
+use Rattle.record.specs.Closings.{Closing, Withdraws, Settles, Frees, Lowers, Quit, Ended, closing_next, is_last_settled, is_last_written, is_unwritten, no_ticket, settled_marks}
+use Rattle.record.specs.Entries.{is_called}
+use Rattle.record.specs.Histories.{reply_taken}
+use Rattle.record.specs.Parts.{Part, first_marks, last_marks}
+use Rattle.record.specs.Parts as part
+use Rattle.record.specs.Places.{Place, bits_with, is_fresh, is_last, marks_of}
+use Rattle.record.specs.Program.{Wait, entered_if_none, lets_by, reply, store_read, waits_of}
+use Rattle.record.specs.Records.{placed}
+use Rattle.record.specs.Scripts.{Call, Next}
+use Rattle.record.specs.Spans.{takings}
+use Rattle.record.specs.Stages.{stage_after}
+use Rattle.board.specs.Calls.{Calls, calls_after}
+use Rattle.board.proofs.Standing.{is_quiet}
+
+-- a mark that a call begins with, is taken with, or ends with, or with which its process is restarted
+abbrev pub tells : Mark → Bool
+tells (Called command) = true
+tells (Taken k r) = true
+tells (Answered a) = true
+tells Down = true
+tells Restarted = true
+tells _ = false
+
+-- the marks of a step
+pub data StepMarks (ms : List Mark) : Type 0 where
+  plain : list_any tells ms ≡ false → StepMarks ms
+  takes : (before : List Mark) (k : ℕ) (r : Reply) → list_any tells before ≡ false → ms ≡ before ++ Taken k r ∷ [] → StepMarks ms
+  answers : (before : List Mark) (a : Answer) → list_any tells before ≡ false → ms ≡ before ++ Answered a ∷ [] → StepMarks ms
+  downs : (before : List Mark) → list_any tells before ≡ false → ms ≡ before ++ Down ∷ [] → StepMarks ms
+
+-- Of a call, by its part.
+
+entered : (n : ℕ) (ws : List Wait) → list_any tells (map (placed n) (entered_if_none ws)) ≡ false
+entered n [] = refl
+entered n (w ∷ ws) = refl
+
+entered-by : (n : ℕ) (ws : List Wait) (b : Bool) → list_any tells (map (placed n) (cond b (entered_if_none ws) [])) ≡ false
+entered-by n ws true = entered n ws
+entered-by n ws false = refl
+
+first-plain : (n : ℕ) (x : Part) (fresh : Bool) → list_any tells (map (placed n) (cond fresh (first_marks x) [] ++ [])) ≡ false
+first-plain n x false = refl
+first-plain n (part.Clears a) true = refl
+first-plain n _ true = refl
+
+-- nothing marks the first access
+unmarked-first : (X : List Mark → Type 0) (fresh : Bool) (ms : List Mark) → X ms → X (cond {A = List Mark} fresh [] [] ++ ms)
+unmarked-first X true ms h = h
+unmarked-first X false ms h = h
+
+last-marks : (c : Call) (x : Part) (bits : List Bool) (n : ℕ) (fresh : Bool) → StepMarks (map (placed n) (cond fresh (first_marks x) [] ++ last_marks c x bits))
+last-marks c x bits n fresh = go x
+  where
+    X : List Mark → Type 0
+    X ms = StepMarks (map (placed n) ms)
+
+    none : X (cond {A = List Mark} fresh [] [] ++ [])
+    none = unmarked-first X fresh [] (plain refl)
+
+    image : (b : Bool) (r : Reply) → X (cond b [] (Taken 0 r ∷ []))
+    image true r = plain refl
+    image false r = takes [] n r refl refl
+
+    clears : (b : Bool) (a : Answer) → X (cond b (Left ∷ []) [] ++ Answered a ∷ [])
+    clears true a = answers (Left ∷ []) a refl refl
+    clears false a = answers [] a refl refl
+
+    go : (x : Part) → X (cond fresh (first_marks x) [] ++ last_marks c x bits)
+    go part.Raises = none
+    go (part.Asks j js ts) = none
+    go (part.TakesTicket t) = none
+    go (part.Lowers t) = unmarked-first X fresh (last_marks c (part.Lowers t) bits) (plain (entered n (waits_of c)))
+    go (part.Refuses f) = unmarked-first X fresh (last_marks c (part.Refuses f) bits) (answers [] (answer.TicketsFull f) refl refl)
+    go (part.Waits t w ws) = unmarked-first X fresh (last_marks c (part.Waits t w ws) bits) (plain (entered-by n ws (lets_by c t w bits)))
+    go (part.AsksCommit k ks vs) = none
+    go (part.AsksStamp k ks vs b) = none
+    go (part.AsksImage vs) = unmarked-first X fresh (last_marks c (part.AsksImage vs) bits) (image (changes (store_read c bits) c.command) (reply c (store_read c bits)))
+    go (part.WritesImage vs st) = none
+    go (part.WritesStamp vs st) = none
+    go (part.WritesCommit vs st) = unmarked-first X fresh (last_marks c (part.WritesCommit vs st) bits) (takes [] n (reply c st) refl refl)
+    go (part.Clears a) = clears fresh a
+    go part.Over = none
+
+pub call_marks : (c : Call) (at : Place) (v : Bool) (n : ℕ) → StepMarks (map (placed n) (marks_of c at v))
+call_marks c at v n = go (is_last c at.part at.run)
+  where
+    go : (b : Bool) → StepMarks (map (placed n) (cond (is_fresh at.run) (first_marks at.part) [] ++ cond b (last_marks c at.part (bits_with at.run v)) []))
+    go true = last-marks c at.part (bits_with at.run v) n (is_fresh at.run)
+    go false = plain (first-plain n at.part (is_fresh at.run))
+
+-- Of a withdrawal or a memory unit.
+
+settled : (n : ℕ) (begun : Bool) (by : Option Reply) (v : Bool) → StepMarks (map (placed n) (settled_marks begun by v))
+settled n begun None v = plain refl
+settled n begun (Some r) v = go (if v then begun else not begun)
+  where
+    go : (b : Bool) → StepMarks (map (placed n) (Settled v ∷ cond b (Taken 0 r ∷ []) []))
+    go true = takes (Settled v ∷ []) n r refl refl
+    go false = plain refl
+
+pub closing_marks : (c : Call) (at : Closing) (flick : Bool) (n : ℕ) (next : Next) → closing_next c at flick ≡ Some next → StepMarks (map (placed n) next.marks)
+closing_marks c at flick n next h = go at h
+  where
+    of_next : (x : Next) → StepMarks (map (placed n) x.marks) → Some x ≡ Some next → StepMarks (map (placed n) next.marks)
+    of_next x k e = let f : x ≡ next = cc in subst (λ (y : Next). StepMarks (map (placed n) y.marks)) f k
+
+    withdraws : (last : Bool) → StepMarks (map (placed n) (cond last (Answered answer.Withdrawn ∷ []) []))
+    withdraws true = answers [] answer.Withdrawn refl refl
+    withdraws false = plain refl
+
+    settles : (last begun : Bool) (by : Option Reply) (v : Bool) → StepMarks (map (placed n) (cond last (settled_marks begun by v) []))
+    settles true begun by v = settled n begun by v
+    settles false begun by v = plain refl
+
+    frees : (b : Bool) → StepMarks (map (placed n) (cond b (Left ∷ []) []))
+    frees true = plain refl
+    frees false = plain refl
+
+    lowers : (last : Bool) → StepMarks (map (placed n) (cond last (Down ∷ []) []))
+    lowers true = downs [] refl refl
+    lowers false = plain refl
+
+    go : (at : Closing) → closing_next c at flick ≡ Some next → StepMarks (map (placed n) next.marks)
+    go (Withdraws w) h = of_next _ (withdraws (is_last_written c (no_ticket c) w)) h
+    go (Settles f bit begun by is t) h = let v : Bool = copies.settled_at t flick in of_next _ (settles (is_last_settled c t v) begun by v) h
+    go (Frees is w) h = of_next _ (frees (is && is_unwritten w)) h
+    go (Lowers w) h = of_next _ (lowers (is_last_written c (false ∷ []) w)) h
+    go Quit h = cc
+    go Ended h = cc
+
+-- Plain marks tell nothing of a call.
+
+pub both-false : (a b : Bool) → (a || b) ≡ false → (a ≡ false) × (b ≡ false)
+both-false true b h = cc
+both-false false b h = (refl, h)
+
+one-calls : (place : ℕ) (t : Calls) (m : Mark) → tells m ≡ false → calls_after place t m ≡ t
+one-calls place t (Called command) h = cc
+one-calls place t (Taken k r) h = cc
+one-calls place t (Answered a) h = cc
+one-calls place t Down h = cc
+one-calls place t _ h = refl
+
+one-takings : (m : Mark) (ms : List Mark) → tells m ≡ false → takings (m ∷ ms) ≡ takings ms
+one-takings (Taken k r) ms h = cc
+one-takings _ ms h = refl
+
+one-reply : (m : Mark) (ms : List Mark) → tells m ≡ false → reply_taken (m ∷ ms) ≡ reply_taken ms
+one-reply (Taken k r) ms h = cc
+one-reply _ ms h = refl
+
+one-uncalled : (m : Mark) → tells m ≡ false → is_called m ≡ false
+one-uncalled (Called command) h = cc
+one-uncalled _ h = refl
+
+pub plain-calls : (place : ℕ) (t : Calls) (ms more : List Mark) → list_any tells ms ≡ false → fold (calls_after place) t (ms ++ more) ≡ fold (calls_after place) t more
+plain-calls place t [] more h = refl
+plain-calls place t (m ∷ ms) more h =
+    let both = both-false (tells m) (list_any tells ms) h in
+    ap (λ (u : Calls). fold (calls_after place) u (ms ++ more)) (one-calls place t m both.0) ∙ plain-calls place t ms more both.1
+
+pub plain-takings : (ms more : List Mark) → list_any tells ms ≡ false → takings (ms ++ more) ≡ takings more
+plain-takings [] more h = refl
+plain-takings (m ∷ ms) more h = let both = both-false (tells m) (list_any tells ms) h in one-takings m (ms ++ more) both.0 ∙ plain-takings ms more both.1
+
+pub plain-reply : (ms more : List Mark) → list_any tells ms ≡ false → reply_taken (ms ++ more) ≡ reply_taken more
+plain-reply [] more h = refl
+plain-reply (m ∷ ms) more h = let both = both-false (tells m) (list_any tells ms) h in one-reply m (ms ++ more) both.0 ∙ plain-reply ms more both.1
+
+pub plain-uncalled : (ms more : List Mark) → list_any tells ms ≡ false → list_any is_called (ms ++ more) ≡ list_any is_called more
+plain-uncalled [] more h = refl
+plain-uncalled (m ∷ ms) more h = let both = both-false (tells m) (list_any tells ms) h in ap (λ b. b || list_any is_called (ms ++ more)) (one-uncalled m both.0) ∙ plain-uncalled ms more both.1
+
+-- Such a mark leads to no stage without a call.
+left-quiet : (st : Stage) → is_quiet (stage_after st Left) ≡ true → is_quiet st ≡ true
+left-quiet stage.Idle q = refl
+left-quiet stage.Doorway q = q
+left-quiet stage.Waiting q = q
+left-quiet stage.Inside q = q
+left-quiet stage.Leaving q = q
+left-quiet stage.Settling q = q
+left-quiet stage.Down q = refl
+
+pub quiet-before : (st : Stage) (m : Mark) → tells m ≡ false → is_quiet (stage_after st m) ≡ true → is_quiet st ≡ true
+quiet-before st (Called command) h q = cc
+quiet-before st (Waiting t) h q = cc
+quiet-before st Entered h q = cc
+quiet-before st (Taken k r) h q = cc
+quiet-before st Left h q = left-quiet st q
+quiet-before st (Answered a) h q = cc
+quiet-before st Failed h q = cc
+quiet-before st (Settled v) h q = q
+quiet-before st Down h q = cc
+quiet-before st Withdrew h q = cc
+quiet-before st Restarted h q = cc
+
+pub plain-quiet : (st : Stage) (ms : List Mark) → list_any tells ms ≡ false → is_quiet (fold stage_after st ms) ≡ true → is_quiet st ≡ true
+plain-quiet st [] h q = q
+plain-quiet st (m ∷ ms) h q = let both = both-false (tells m) (list_any tells ms) h in quiet-before st m both.0 (plain-quiet (stage_after st m) ms both.1 q)

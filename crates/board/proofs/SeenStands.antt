@@ -1,0 +1,56 @@
+-- The calls of a view stand in the changes that it has seen, over a word step and over an event without an access; and what was seen stays seen.
+use Rattle.std.proofs.Common.{◌≡◌, ℕ, zero, suc, Bool, [], ◌∷◌, inl, inr, sym, ap, ◌∙◌}
+use Rattle.std.proofs.lemmas.List.{append-nil}
+use Rattle.flicks.specs.Flicks.{FlickState, flick_of}
+use Rattle.plain_store.specs.declared.Answer.{Answer}
+use Rattle.plain_store.specs.declared.Command.{Command}
+use Rattle.plain_store.specs.declared.Setup.{Setup}
+use Rattle.record.specs.declared.events.Event.TheVariants as event
+use Rattle.board.specs.Calls.{IsPrefix, called}
+use Rattle.board.specs.Driving.{Drives, EndsWith, Walks, WalksTo, flicks_after}
+use Rattle.board.specs.declared.driving.Driven.{Driven}
+use Rattle.board.specs.declared.driving.Driven.TheVariants as driven
+use Rattle.board.specs.Lists.{StandsInSeen}
+use Rattle.board.specs.Views.{ViewState, at_events, new_view}
+use Rattle.board.specs.WordSteps.{WordStep}
+use Rattle.board.proofs.Along.{prefix-trans}
+use Rattle.board.proofs.Stands.{finished_stand, stands_push}
+
+-- after a word step
+pub stands_then : (s : Setup) (flick : Bool) (v w : ViewState) → WordStep s flick v w → StandsInSeen s w
+stands_then s flick v w (inl load) = load.1.goes.stands
+stands_then s flick v w (inr store) = store.goes.stands
+
+-- after a call: nothing is taken yet
+pub stands_called : (s : Setup) (b : ViewState) (p : ℕ) (command : Command) → StandsInSeen s b → StandsInSeen s (at_events s b (event.Call p command ∷ []))
+stands_called s b p command h = stands_push s b.own.process b.own.calls.done b.seen (called command) (finished_stand s b.own.process b.own.calls.done b.own.calls.now b.seen h) tt (λ place is. cc)
+
+-- of a process that has done nothing
+pub stands_new : (s : Setup) (p made : ℕ) → StandsInSeen s (new_view p made)
+stands_new s p made = record { taken = λ k place call at is. cc; answered = λ k call at. cc; order = λ j k place next call later less at_j at_k is is_next. cc }
+
+-- What was seen stays seen.
+
+step_seen : (s : Setup) (flick : Bool) (v w : ViewState) → WordStep s flick v w → IsPrefix v.seen w.seen
+step_seen s flick v w (inl load) = load.1.goes.seen
+step_seen s flick v w (inr store) = store.goes.seen
+
+same_seen : (v w : ViewState) → w ≡ v → IsPrefix v.seen w.seen
+same_seen v w h = ([], ap (λ (x : ViewState). x.seen) h ∙ sym (append-nil v.seen))
+
+walk_seen : (s : Setup) (flicks : FlickState) (v : ViewState) (n : ℕ) (w : ViewState) → Walks s flicks v n w → IsPrefix v.seen w.seen
+walk_seen s flicks v zero w h = same_seen v w h
+walk_seen s flicks v (suc n) w h = let u = h.0 in prefix-trans v.seen u.seen w.seen (walk_seen s flicks v n u h.1) (step_seen s (flick_of (flicks_after n flicks)) u w h.3)
+
+walk_to_seen : (s : Setup) (flicks : FlickState) (v : ViewState) (n : ℕ) (answer : Answer) (w : ViewState) → WalksTo s flicks v n answer w → IsPrefix v.seen w.seen
+walk_to_seen s flicks v zero answer w h = absurd h
+walk_to_seen s flicks v (suc n) answer w h = let u = h.0 in prefix-trans v.seen u.seen w.seen (walk_seen s flicks v n u h.1) (step_seen s (flick_of (flicks_after n flicks)) u w h.3)
+
+ends_seen : (s : Setup) (flicks : FlickState) (v : ViewState) (turns : ℕ) (end : Driven) (n : ℕ) (w : ViewState) → EndsWith s flicks v turns end n w → IsPrefix v.seen w.seen
+ends_seen s flicks v turns driven.Turns n w h = walk_seen s flicks v n w h.1
+ends_seen s flicks v turns (driven.Answered answer) n w h = walk_to_seen s flicks v n answer w h.1
+ends_seen s flicks v turns driven.Down n w h = walk_seen s flicks v n w h.1
+ends_seen s flicks v turns driven.Idle n w h = same_seen v w h.1
+
+pub drive_seen : (s : Setup) (v : ViewState) (turns : ℕ) (flicks : FlickState) (end : Driven) (w : ViewState) (then : FlickState) → Drives s v turns flicks end w then → IsPrefix v.seen w.seen
+drive_seen s v turns flicks end w then d = ends_seen s flicks v turns end d.made w d.ends

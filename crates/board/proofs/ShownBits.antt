@@ -1,0 +1,56 @@
+-- What words show of registers, as bits, numbers and bytes.
+use Rattle.std.proofs.Common.{◌≡◌, ℕ, zero, suc, ◌+◌, ◌*◌, ◌<◌, ◌==◌, Bool, false, List, [], ◌∷◌, ◌++◌, length, map, take, drop, get_or, if◌then◌else◌, sym, ap, ◌∙◌, add-one, arith}
+use Rattle.std.specs.Prelude.{slice_index}
+use Rattle.std.specs.List.{range_with_len}
+use Rattle.std.proofs.Math.Seq.{drop-cons, take-length}
+use Rattle.std.proofs.lemmas.List.FromFn.{get_or-map-range_with_len, length-map-range_with_len, map-range_with_len_more}
+use mathlib.Core.Option.{some, some-injective, some-ne-none}
+use lib.ListN.{get_elem?}
+use Rattle.safe_number.specs.declared.Field.{Field}
+use Rattle.safe_number.specs.declared.Field.TheVariants.{Commit}
+use Rattle.safe_number.specs.Bytes.{number_of_bits}
+use Rattle.plain_store.specs.declared.Setup.{Setup}
+use Rattle.record.specs.Newest.{copy}
+use Rattle.record.specs.Program.{Version, stamp_field}
+use Rattle.record.specs.Registers.{width}
+use Rattle.board.specs.Closings.{bits_shown, version_shown}
+use Rattle.board.specs.Words.{word_of}
+
+-- the word that is found at a place
+pub word_at : (words : List ℕ) (k found : ℕ) → get_elem? words k ≡ some found → slice_index words k ≡ found
+word_at [] k found e = absurd (some-ne-none found (sym e))
+word_at (x ∷ words) zero found e = some-injective x found e
+word_at (x ∷ words) (suc k) found e = word_at words k found e
+
+-- a bit of a register
+pub bit-at : (s : Setup) (words : List ℕ) (p : ℕ) (field : Field) (k : ℕ) → k < width s field → get_or (bits_shown s words p field) k false ≡ (slice_index words (word_of s (copy p field 0 k)) == 1)
+bit-at s words p field k inside = get_or-map-range_with_len (λ k. slice_index words (word_of s (copy p field 0 k)) == 1) 0 (width s field) k k false inside (omega arith)
+
+pub length-bits : (s : Setup) (words : List ℕ) (p : ℕ) (field : Field) → length (bits_shown s words p field) ≡ width s field
+length-bits s words p field = length-map-range_with_len (λ k. slice_index words (word_of s (copy p field 0 k)) == 1) 0 (width s field)
+
+-- the number of some bits from bit k on, and of one more
+pub number-more : (values : List Bool) (k n : ℕ) → k < length values → number_of_bits (take (n + 1) (drop k values)) ≡ (if get_or values k false then 1 else 0) + 2 * number_of_bits (take n (drop (k + 1) values))
+number-more values k n inside =
+    let number : ℕ → List Bool → ℕ = λ m bits. number_of_bits (take m bits) in
+    (λ i. number (add-one n i) (drop k values))
+    ∙ ap (number (suc n)) (drop-cons values k false inside)
+    ∙ (λ i. (if get_or values k false then 1 else 0) + 2 * number_of_bits (take n (drop (sym (add-one k) i) values)))
+
+-- all the bits of a register
+pub all-bits : (s : Setup) (words : List ℕ) (p : ℕ) (field : Field) → take (width s field) (drop 0 (bits_shown s words p field)) ≡ bits_shown s words p field
+all-bits s words p field = ap (λ m. take m (bits_shown s words p field)) (sym (length-bits s words p field)) ∙ take-length (bits_shown s words p field)
+
+-- the versions of the first processes
+pub versions-more : (s : Setup) (words : List ℕ) (p : ℕ) → map (version_shown s words) (range_with_len 0 (p + 1)) ≡ map (version_shown s words) (range_with_len 0 p) ++ version_shown s words p ∷ []
+versions-more s words p = map-range_with_len_more (version_shown s words) 0 p p (omega arith)
+
+pub many-versions : (s : Setup) (words : List ℕ) (p : ℕ) → length (map (version_shown s words) (range_with_len 0 p)) ≡ p
+many-versions s words p = length-map-range_with_len (version_shown s words) 0 p
+
+-- a commit bit, and the stamp that it chooses
+pub version_is : (s : Setup) (words : List ℕ) (p n bits : ℕ) (b : Bool) → b ≡ get_or (bits_shown s words p Commit) 0 false → n ≡ number_of_bits (take bits (drop 0 (bits_shown s words p (stamp_field b)))) → bits ≡ width s (stamp_field b) →
+    (let v : Version = (b, n) in v) ≡ version_shown s words p
+version_is s words p n bits b is number wide =
+    let all : n ≡ number_of_bits (bits_shown s words p (stamp_field b)) = number ∙ ap (λ m. number_of_bits (take m (drop 0 (bits_shown s words p (stamp_field b))))) wide ∙ ap number_of_bits (all-bits s words p (stamp_field b)) in
+    λ i. (is i, (all ∙ ap (λ b. number_of_bits (bits_shown s words p (stamp_field b))) is) i)

@@ -1,0 +1,241 @@
+-- The calls of one process stand in the list of changes: kept by each mark, the process's stage, calls and takings known.
+use Rattle.std.proofs.Common.{◌≡◌, ℕ, suc, ◌+◌, ◌≤◌, ◌==◌, Bool, true, false, cond, List, [], ◌∷◌, ◌++◌, length, take, slice_get, Option, None, Some, refl, sym, ap, subst, ◌∙◌, arith}
+use Rattle.std.specs.Prelude.{IfSome, option_map}
+use Rattle.std.proofs.lemmas.List.{length-append}
+use Rattle.plain_store.specs.declared.Answer.{Answer}
+use Rattle.plain_store.specs.declared.Answer.TheVariants as answer
+use Rattle.plain_store.specs.declared.Caller.{Caller}
+use Rattle.plain_store.specs.declared.Command.{Command}
+use Rattle.plain_store.specs.declared.Reply.{Reply}
+use Rattle.plain_store.specs.declared.Setup.{Setup}
+use Rattle.plain_store.specs.Store.{Contents, changes, reply_to}
+use Rattle.record.specs.declared.history.Taken.{Taken}
+use Rattle.record.specs.declared.stages.Stage.{Stage}
+use Rattle.record.specs.declared.stages.Stage.TheVariants as stage
+use Rattle.record.specs.Headline.{IsAnswerTo}
+use Rattle.record.specs.Histories.{store_after}
+use Rattle.board.specs.Calls.{and_then, called}
+use Rattle.board.specs.Lists.{PlacedAsAnswered, StandsAt, StandsIn, caller_of, change_at, place_after, store_at}
+use Rattle.weigh.specs.declared.calls.Placed.{Placed}
+use Rattle.board.proofs.Stands.{ComesLast, behind_all, comes_last, last_is, stands_front, stands_longer, stands_push, store-longer}
+
+-- a stage in which no call is under way
+abbrev pub is_quiet : Stage → Bool
+is_quiet stage.Idle = true
+is_quiet stage.Down = true
+is_quiet _ = false
+
+-- the caller of the last of so many calls
+abbrev pub last_caller : Setup → ℕ → ℕ → Caller
+last_caller s p n = record { process = p; number = cond (s.version == 2) n 0 }
+
+-- what a call has taken, by its place: nothing without one, and else one command with the reply of the store there
+abbrev pub TookFrom : Setup → List Taken → Caller → Command → Option ℕ → List (ℕ × Reply) → Type 0
+TookFrom s list caller command None taken = taken ≡ []
+TookFrom s list caller command (Some place) taken = (k : ℕ) × (taken ≡ (k, reply_to (store_at s list place) command caller) ∷ [])
+
+-- what is known of a call that is not finished, the last of n: its command, and what it has taken
+pub record IsNow (s : Setup) (p n : ℕ) (command : Command) (taken : List (ℕ × Reply)) (list : List Taken) (call : Placed) : Type 0 where
+  pub same : call.command ≡ command
+  pub unanswered : call.answer ≡ None
+  pub took : TookFrom s list (last_caller s p n) call.command call.place taken
+
+-- what is known of the calls of a process in this stage, which has called n times, last this command, of which call this was taken
+pub record Standing (s : Setup) (p : ℕ) (st : Stage) (n : ℕ) (command : Command) (taken : List (ℕ × Reply)) (list : List Taken) (done : List Placed) (now : Option Placed) : Type 0 where
+  pub rests : is_quiet st ≡ true → now ≡ None
+  pub count : length (and_then done now) ≡ n
+  pub last : IfSome now (IsNow s p n command taken list)
+  pub stands : StandsIn s p (and_then done now) list
+
+-- A process that has not called.
+pub standing_none : (s : Setup) (p : ℕ) → Standing s p stage.Idle 0 Rattle.plain_store.specs.declared.Command.TheVariants.Ask [] [] [] None
+standing_none s p = record {
+  rests = λ _. refl;
+  count = refl;
+  last = tt;
+  stands = record { taken = λ k place call at is. cc; answered = λ k call at. cc; order = λ j k place next call later less at_j at_k is is_next. cc };
+}
+
+-- A call begins.
+pub standing_called : (s : Setup) (p : ℕ) (st then : Stage) (n : ℕ) (command next : Command) (taken : List (ℕ × Reply)) (list : List Taken) (done : List Placed) (now : Option Placed) → is_quiet st ≡ true → is_quiet then ≡ false →
+    Standing s p st n command taken list done now → Standing s p then (suc n) next [] list done (Some (called next))
+standing_called s p st then n command next taken list done now quiet busy h = by now (h.rests quiet) h.count h.stands
+  where
+    by : (now : Option Placed) → now ≡ None → length (and_then done now) ≡ n → StandsIn s p (and_then done now) list → Standing s p then (suc n) next [] list done (Some (called next))
+    by None is count stands = record {
+      rests = λ q. let f : true ≡ false = sym q ∙ busy in cc;
+      count = let l : length (done ++ called next ∷ []) ≡ length done + 1 = length-append done (called next ∷ []) in omega (arith, l, count);
+      last = record { same = refl; unanswered = refl; took = refl };
+      stands = stands_push s p done list (called next) stands tt (λ place is. cc);
+    }
+    by (Some call) is count stands = cc
+
+-- Its stage goes on.
+pub standing_on : (s : Setup) (p : ℕ) (st then : Stage) (n : ℕ) (command : Command) (taken : List (ℕ × Reply)) (list : List Taken) (done : List Placed) (now : Option Placed) → (is_quiet then ≡ true → is_quiet st ≡ true) →
+    Standing s p st n command taken list done now → Standing s p then n command taken list done now
+standing_on s p st then n command taken list done now quiet h = record { rests = λ q. h.rests (quiet q); count = h.count; last = h.last; stands = h.stands }
+
+-- There are more changes.
+took_longer : (s : Setup) (list more : List Taken) (caller : Caller) (command : Command) (place : Option ℕ) (taken : List (ℕ × Reply)) → ((k : ℕ) → place ≡ Some k → k ≤ length list) → TookFrom s list caller command place taken → TookFrom s (list ++ more) caller command place taken
+took_longer s list more caller command None taken within h = h
+took_longer s list more caller command (Some place) taken within h = (h.0, h.1 ∙ ap (λ (x : Contents). (h.0, reply_to x command caller) ∷ []) (sym (store-longer s list more place (within place refl))))
+
+pub standing_longer : (s : Setup) (p : ℕ) (st : Stage) (n : ℕ) (command : Command) (taken : List (ℕ × Reply)) (list more : List Taken) (done : List Placed) (now : Option Placed) → Standing s p st n command taken list done now →
+    Standing s p st n command taken (list ++ more) done now
+standing_longer s p st n command taken list more done now h = record {
+  rests = h.rests;
+  count = h.count;
+  last = by now h.last h.stands;
+  stands = stands_longer s p (and_then done now) list more h.stands;
+}
+  where
+    by : (now : Option Placed) → IfSome now (IsNow s p n command taken list) → StandsIn s p (and_then done now) list → IfSome now (IsNow s p n command taken (list ++ more))
+    by None h stands = tt
+    by (Some call) h stands = record {
+      same = h.same;
+      unanswered = h.unanswered;
+      took = took_longer s list more (last_caller s p n) call.command call.place taken (λ k is. (comes_last s p done list call stands k is).stands.within) h.took;
+    }
+
+-- A call is taken: its command, with the reply of the store, and a change more if it is one.
+abbrev pub one_change : Setup → List Taken → Caller → Command → Reply → List Taken
+one_change s list caller command reply = cond (changes (store_after s list) command) (record { process = caller.process; command = command; reply = reply; number = caller.number } ∷ []) []
+
+abbrev pub taken_here : ℕ → Option Placed → Option Placed
+taken_here place now = option_map (λ (call : Placed). record call { place = Some place }) now
+
+store-front : (s : Setup) (list more : List Taken) → store_at s (list ++ more) (length list) ≡ store_after s list
+store-front s list more = store-longer s list more (length list) (omega arith) ∙ ap (store_after s) (take-all list)
+  where
+    take-all : (xs : List Taken) → take (length xs) xs ≡ xs
+    take-all [] = refl
+    take-all (x ∷ xs) = ap (λ (ys : List Taken). x ∷ ys) (take-all xs)
+
+-- the last change is that of the command, if it is one
+last_change : (list : List Taken) (b : Bool) (t : Taken) → b ≡ true → slice_get (list ++ cond b (t ∷ []) []) (length list) ≡ Some t
+last_change list true t h = last_is list t
+last_change list false t h = cc
+
+pub standing_taken : (s : Setup) (p : ℕ) (st then : Stage) (n : ℕ) (command : Command) (k : ℕ) (r : Reply) (list : List Taken) (done : List Placed) (now : Option Placed) → (is_quiet then ≡ true → is_quiet st ≡ true) →
+    r ≡ reply_to (store_after s list) command (last_caller s p n) → Standing s p st n command [] list done now →
+    Standing s p then n command ((k, r) ∷ []) (list ++ one_change s list (last_caller s p n) command r) done (taken_here (length list) now)
+standing_taken s p st then n command k r list done None quiet reply h = record {
+  rests = λ _. refl;
+  count = h.count;
+  last = tt;
+  stands = stands_longer s p done list (one_change s list (last_caller s p n) command r) h.stands;
+}
+standing_taken s p st then n command k r list done (Some call) quiet reply h = record {
+  rests = λ q. let f : Some call ≡ None = h.rests (quiet q) in cc;
+  count = length-append done (new ∷ []) ∙ (sym (length-append done (call ∷ [])) ∙ h.count);
+  last = record { same = h.last.same; unanswered = h.last.unanswered; took = (k, ap (λ (q : Reply). (k, q) ∷ []) (reply ∙ ap (λ (c : Command). reply_to (store_after s list) c caller) (sym h.last.same) ∙ ap (λ (x : Contents). reply_to x call.command caller) (sym here))) };
+  stands = stands_push s p done all new (stands_longer s p done list more before) (subst (λ (a : Option Answer). PlacedAsAnswered a (Some (length list))) (sym h.last.unanswered) tt) (λ place is. comes place (some-is place is));
+}
+  where
+    caller : Caller
+    caller = last_caller s p n
+
+    more : List Taken
+    more = one_change s list caller command r
+
+    all : List Taken
+    all = list ++ more
+
+    new : Placed
+    new = record call { place = Some (length list) }
+
+    here : store_at s all (length list) ≡ store_after s list
+    here = store-front s list more
+
+    before : StandsIn s p done list
+    before = stands_front s p done (call ∷ []) list h.stands
+
+    some-is : (place : ℕ) → Some (length list) ≡ Some place → length list ≡ place
+    some-is place e = cc
+
+    same-caller : caller_of s p (length done) ≡ caller
+    same-caller =
+        let l : length (done ++ call ∷ []) ≡ length done + 1 = length-append done (call ∷ []) in
+        let m : length done + 1 ≡ n = sym l ∙ h.count in
+        ap (λ (q : ℕ). last_caller s p q) m
+
+    -- the change that it is
+    changed : changes (store_at s all (length list)) call.command ≡ true → slice_get all (length list) ≡ Some (change_at s all caller call.command (length list))
+    changed c =
+        let d : changes (store_after s list) command ≡ true = ap (λ (x : Command). changes (store_after s list) x) (sym h.last.same) ∙ (ap (λ (x : Contents). changes x call.command) (sym here) ∙ c) in
+        last_change list (changes (store_after s list) command) (record { process = p; command = command; reply = r; number = caller.number }) d
+        ∙ (λ i. Some (record { process = p; command = sym h.last.same i; reply = (reply ∙ (λ j. reply_to (sym here j) (sym h.last.same j) caller)) i; number = caller.number }))
+
+    stands_there : StandsAt s all caller new (length list)
+    stands_there = record {
+      within = let l : length all ≡ length list + length more = length-append list more in omega (arith, l);
+      reply = λ q is. let f : None ≡ Some (answer.Reply q) = sym h.last.unanswered ∙ is in cc;
+      change = changed;
+    }
+
+    comes : (place : ℕ) → length list ≡ place → ComesLast s p done all new place
+    comes place is = subst (ComesLast s p done all new) is (record {
+      stands = subst (λ (x : Caller). StandsAt s all x new (length list)) (sym same-caller) stands_there;
+      order = λ j earlier call at is_earlier. order j earlier call at is_earlier;
+    })
+      where
+        order : (j earlier : ℕ) (first : Placed) → slice_get done j ≡ Some first → first.place ≡ Some earlier → place_after s all first.command earlier ≤ length list
+        order j earlier first at is_earlier = subst (λ (x : Contents). cond (changes x first.command) (earlier + 1) earlier ≤ length list)
+            (sym (store-longer s list more earlier (before.taken j earlier first at is_earlier).within)) (behind_all s p done list before j earlier first at is_earlier)
+
+-- A call is finished: it is answered, or its process is down.
+one_reply : (t u : ℕ × Reply) → t ∷ [] ≡ u ∷ [] → t.1 ≡ u.1
+one_reply t u h = let same : t ≡ u = cc in ap (λ (x : ℕ × Reply). x.1) same
+
+not_none : (t : ℕ × Reply) (xs : List (ℕ × Reply)) → xs ≡ [] → xs ≡ t ∷ [] → ⊥
+not_none t [] h is = cc
+not_none t (x ∷ xs) h is = cc
+
+answered_so : (s : Setup) (list : List Taken) (caller : Caller) (command : Command) (a : Answer) (place : Option ℕ) (taken : List (ℕ × Reply)) → IsAnswerTo a taken → TookFrom s list caller command place taken → PlacedAsAnswered (Some a) place
+answered_so s list caller command (answer.Reply r) None taken told took = absurd (not_none (told.0, r) taken took told.1)
+answered_so s list caller command (answer.Reply r) (Some place) taken told took = (place, refl)
+answered_so s list caller command (answer.TicketsFull j) None taken told took = refl
+answered_so s list caller command (answer.TicketsFull j) (Some place) taken told took = absurd (not_none (took.0, reply_to (store_at s list place) command caller) taken told took.1)
+answered_so s list caller command answer.StampsFull None taken told took = refl
+answered_so s list caller command answer.StampsFull (Some place) taken told took = absurd (not_none (took.0, reply_to (store_at s list place) command caller) taken told took.1)
+answered_so s list caller command answer.Withdrawn None taken told took = refl
+answered_so s list caller command answer.Withdrawn (Some place) taken told took = absurd (not_none (took.0, reply_to (store_at s list place) command caller) taken told took.1)
+
+-- with the reply of the store at its place
+replied_so : (s : Setup) (list : List Taken) (caller : Caller) (command : Command) (place : ℕ) (r : Reply) (taken : List (ℕ × Reply)) → IsAnswerTo (answer.Reply r) taken → TookFrom s list caller command (Some place) taken →
+    r ≡ reply_to (store_at s list place) command caller
+replied_so s list caller command place r taken told took = one_reply (told.0, r) (took.0, reply_to (store_at s list place) command caller) (sym told.1 ∙ took.1)
+
+pub standing_answered : (s : Setup) (p : ℕ) (st then : Stage) (n : ℕ) (command : Command) (taken : List (ℕ × Reply)) (a : Answer) (list : List Taken) (done : List Placed) (now : Option Placed) → IsAnswerTo a taken →
+    Standing s p st n command taken list done now → Standing s p then n command taken list (and_then done (option_map (λ (call : Placed). record call { answer = Some a }) now)) None
+standing_answered s p st then n command taken a list done None told h = record { rests = λ _. refl; count = h.count; last = tt; stands = h.stands }
+standing_answered s p st then n command taken a list done (Some call) told h = record {
+  rests = λ _. refl;
+  count = length-append done (new ∷ []) ∙ (sym (length-append done (call ∷ [])) ∙ h.count);
+  last = tt;
+  stands = stands_push s p done list new (stands_front s p done (call ∷ []) list h.stands) (answered_so s list (last_caller s p n) call.command a call.place taken told h.last.took) comes;
+}
+  where
+    new : Placed
+    new = record call { answer = Some a }
+
+    same-caller : caller_of s p (length done) ≡ last_caller s p n
+    same-caller =
+        let l : length (done ++ call ∷ []) ≡ length done + 1 = length-append done (call ∷ []) in
+        let m : length done + 1 ≡ n = sym l ∙ h.count in
+        ap (λ (q : ℕ). last_caller s p q) m
+
+    told_so : (place : ℕ) → call.place ≡ Some place → (r : Reply) → Some a ≡ Some (answer.Reply r) → r ≡ reply_to (store_at s list place) call.command (caller_of s p (length done))
+    told_so place is r e =
+        let same : a ≡ answer.Reply r = cc in
+        replied_so s list (last_caller s p n) call.command place r taken (subst (λ (x : Answer). IsAnswerTo x taken) same told) (subst (λ (x : Option ℕ). TookFrom s list (last_caller s p n) call.command x taken) is h.last.took)
+        ∙ ap (λ (x : Caller). reply_to (store_at s list place) call.command x) (sym same-caller)
+
+    comes : (place : ℕ) → call.place ≡ Some place → ComesLast s p done list new place
+    comes place is =
+        let c = comes_last s p done list call h.stands place is in
+        record { stands = record { within = c.stands.within; reply = told_so place is; change = c.stands.change }; order = c.order }
+
+pub standing_down : (s : Setup) (p : ℕ) (st then : Stage) (n : ℕ) (command : Command) (taken : List (ℕ × Reply)) (list : List Taken) (done : List Placed) (now : Option Placed) → Standing s p st n command taken list done now →
+    Standing s p then n command taken list (and_then done now) None
+standing_down s p st then n command taken list done now h = record { rests = λ _. refl; count = h.count; last = tt; stands = h.stands }

@@ -1,0 +1,123 @@
+-- Calls that stand in a list of changes: in a longer list, and with one call more or less.
+use Rattle.std.proofs.Common.{◌≡◌, ◌⊎◌, ℕ, zero, suc, ◌+◌, ◌<◌, ◌≤◌, Bool, true, false, cond, List, [], ◌∷◌, ◌++◌, length, slice_get, Option, None, Some, inl, inr, refl, sym, ap, subst, ◌∙◌, arith}
+use Rattle.std.proofs.lemmas.List.{length-append, take-append-le}
+use Rattle.std.proofs.lemmas.Option.{slice_get_within}
+use Rattle.plain_store.specs.declared.Caller.{Caller}
+use Rattle.plain_store.specs.declared.Setup.{Setup}
+use Rattle.plain_store.specs.Store.{Contents, changes, reply_to}
+use Rattle.record.specs.declared.history.Taken.{Taken}
+use Rattle.record.specs.Histories.{store_after}
+use Rattle.record.proofs.Singles.{get-left}
+use Rattle.board.specs.Calls.{IsPrefix, and_then}
+use Rattle.board.specs.Lists.{PlacedAsAnswered, StandsAt, StandsIn, caller_of, place_after, store_at}
+use Rattle.weigh.specs.declared.calls.Placed.{Placed}
+
+-- In a longer list.
+
+pub store-longer : (s : Setup) (list more : List Taken) (place : ℕ) → place ≤ length list → store_at s (list ++ more) place ≡ store_at s list place
+store-longer s list more place within = ap (store_after s) (take-append-le place list more within)
+
+at_longer : (s : Setup) (list more : List Taken) (caller : Caller) (call : Placed) (place : ℕ) → StandsAt s list caller call place → StandsAt s (list ++ more) caller call place
+at_longer s list more caller call place h = record {
+  within = let w = h.within in let n = length-append list more in omega (arith, w, n);
+  reply = λ r is. h.reply r is ∙ sym (ap (λ (x : Contents). reply_to x call.command caller) same);
+  change = λ c.
+      let here = h.change (sym (ap (λ (x : Contents). changes x call.command) same) ∙ c) in
+      get-left list more place (slice_get_within list place _ here)
+      ∙ here
+      ∙ sym (ap (λ (x : Contents). Some (record { process = caller.process; command = call.command; reply = reply_to x call.command caller; number = caller.number })) same);
+}
+  where
+    same : store_at s (list ++ more) place ≡ store_at s list place
+    same = store-longer s list more place h.within
+
+pub stands_longer : (s : Setup) (p : ℕ) (calls : List Placed) (list more : List Taken) → StandsIn s p calls list → StandsIn s p calls (list ++ more)
+stands_longer s p calls list more h = record {
+  taken = λ k place call at is. at_longer s list more (caller_of s p k) call place (h.taken k place call at is);
+  answered = h.answered;
+  order = λ j k place next call later less at_j at_k is is_next.
+      subst (λ (x : Contents). cond (changes x call.command) (place + 1) place ≤ next) (sym (store-longer s list more place (h.taken j place call at_j is).within)) (h.order j k place next call later less at_j at_k is is_next);
+}
+
+pub stands_in_longer : (s : Setup) (p : ℕ) (calls : List Placed) (first all : List Taken) → IsPrefix first all → StandsIn s p calls first → StandsIn s p calls all
+stands_in_longer s p calls first all more h = subst (StandsIn s p calls) (sym more.1) (stands_longer s p calls first more.0 h)
+
+-- The first of the calls.
+
+front : {X : Type 0} (xs ys : List X) (k : ℕ) (x : X) → slice_get xs k ≡ Some x → slice_get (xs ++ ys) k ≡ Some x
+front xs ys k x at = get-left xs ys k (slice_get_within xs k x at) ∙ at
+
+pub stands_front : (s : Setup) (p : ℕ) (calls more : List Placed) (list : List Taken) → StandsIn s p (calls ++ more) list → StandsIn s p calls list
+stands_front s p calls more list h = record {
+  taken = λ k place call at is. h.taken k place call (front calls more k call at) is;
+  answered = λ k call at. h.answered k call (front calls more k call at);
+  order = λ j k place next call later less at_j at_k is is_next. h.order j k place next call later less (front calls more j call at_j) (front calls more k later at_k) is is_next;
+}
+
+-- the finished calls stand where they do with the one that is not finished
+pub finished_stand : (s : Setup) (p : ℕ) (done : List Placed) (now : Option Placed) (list : List Taken) → StandsIn s p (and_then done now) list → StandsIn s p done list
+finished_stand s p done None list h = h
+finished_stand s p done (Some call) list h = stands_front s p done (call ∷ []) list h
+
+-- One call more.
+
+-- what stands in a list with one more at its end: it is in the list, or the last
+last_or : {X : Type 0} (xs : List X) (x : X) (k : ℕ) (y : X) → slice_get (xs ++ x ∷ []) k ≡ Some y → (slice_get xs k ≡ Some y) ⊎ ((x ≡ y) × (k ≡ length xs))
+last_or [] x zero y h = inr (cc, refl)
+last_or [] x (suc k) y h = cc
+last_or (z ∷ xs) x zero y h = inl h
+last_or (z ∷ xs) x (suc k) y h = elim (last_or xs x k y h) [
+  | inl a ↦ inl a
+  | inr a ↦ inr (a.0, ap suc a.1)
+]
+
+pub last_is : {X : Type 0} (xs : List X) (x : X) → slice_get (xs ++ x ∷ []) (length xs) ≡ Some x
+last_is [] x = refl
+last_is (y ∷ xs) x = last_is xs x
+
+-- what is to be known of one call more, where it was taken: it stands at its place, which is behind those of the others
+pub record ComesLast (s : Setup) (p : ℕ) (calls : List Placed) (list : List Taken) (call : Placed) (place : ℕ) : Type 0 where
+  pub stands : StandsAt s list (caller_of s p (length calls)) call place
+  pub order : (j earlier : ℕ) (before : Placed) → slice_get calls j ≡ Some before → before.place ≡ Some earlier → place_after s list before.command earlier ≤ place
+
+pub stands_push : (s : Setup) (p : ℕ) (calls : List Placed) (list : List Taken) (call : Placed) → StandsIn s p calls list → PlacedAsAnswered call.answer call.place →
+    ((place : ℕ) → call.place ≡ Some place → ComesLast s p calls list call place) → StandsIn s p (calls ++ call ∷ []) list
+stands_push s p calls list call h answered last = record {
+  taken = λ k place x at is. elim (last_or calls call k x at) [
+    | inl a ↦ h.taken k place x a is
+    | inr a ↦ subst (λ (n : ℕ). StandsAt s list (caller_of s p n) x place) (sym a.1) (subst (λ (y : Placed). StandsAt s list (caller_of s p (length calls)) y place) a.0 (last place (ap (λ (y : Placed). y.place) a.0 ∙ is)).stands)
+  ];
+  answered = λ k x at. elim (last_or calls call k x at) [
+    | inl a ↦ h.answered k x a
+    | inr a ↦ subst (λ (y : Placed). PlacedAsAnswered y.answer y.place) a.0 answered
+  ];
+  order = λ j k place next x later less at_j at_k is is_next. elim (last_or calls call j x at_j) [
+    | inl a ↦ elim (last_or calls call k later at_k) [
+      | inl b ↦ h.order j k place next x later less a b is is_next
+      | inr b ↦ (last next (ap (λ (y : Placed). y.place) b.0 ∙ is_next)).order j place x a is
+    ]
+    | inr a ↦ absurd (not-after j k later less a.1 at_k)
+  ];
+}
+  where
+    not-after : (j k : ℕ) (later : Placed) → j < k → j ≡ length calls → slice_get (calls ++ call ∷ []) k ≡ Some later → ⊥
+    not-after j k later less is at = let w = slice_get_within (calls ++ call ∷ []) k later at in let n : length (calls ++ call ∷ []) ≡ length calls + 1 = length-append calls (call ∷ []) in omega (arith, less, is, w, n)
+
+-- what is known of the last call
+pub comes_last : (s : Setup) (p : ℕ) (calls : List Placed) (list : List Taken) (call : Placed) → StandsIn s p (calls ++ call ∷ []) list → (place : ℕ) → call.place ≡ Some place → ComesLast s p calls list call place
+comes_last s p calls list call h place is = record {
+  stands = h.taken (length calls) place call (last_is calls call) is;
+  order = λ j earlier before at is_earlier. h.order j (length calls) earlier place before call (slice_get_within calls j before at) (front calls (call ∷ []) j before at) (last_is calls call) is_earlier is;
+}
+
+-- no call of those before has a place above the number of changes; one that is a change is among them
+pub behind_all : (s : Setup) (p : ℕ) (calls : List Placed) (list : List Taken) → StandsIn s p calls list → (j earlier : ℕ) (before : Placed) → slice_get calls j ≡ Some before → before.place ≡ Some earlier →
+    place_after s list before.command earlier ≤ length list
+behind_all s p calls list h j earlier before at is = by (changes (store_at s list earlier) before.command) refl
+  where
+    stands : StandsAt s list (caller_of s p j) before earlier
+    stands = h.taken j earlier before at is
+
+    by : (b : Bool) → changes (store_at s list earlier) before.command ≡ b → cond b (earlier + 1) earlier ≤ length list
+    by true c = let w = slice_get_within list earlier _ (stands.change c) in omega (arith, w)
+    by false c = stands.within

@@ -1,0 +1,25 @@
+use Rattle.std.proofs.Common.{◌≡◌, ◌+◌, vec_len, sym, ap, ◌∙◌, subst, arith}
+use Rattle.plain_store.specs.declared.Setup.{Setup}
+use Rattle.board.specs.Agreement.{Agree}
+use Rattle.board.specs.Boards.{BoardState}
+use Rattle.board.specs.Closings.{IsStill, Leaves}
+use Rattle.board.specs.Views.{OwnView}
+use Rattle.board.proofs.Closings.{closes}
+use Rattle.board.proofs.board.Board.shut.Goals as goal
+
+pub returns : goal.returns
+returns c =
+    let b = c.self.inside in
+    let s = b.setup in
+    let same : s ≡ c.args.self.setup = ap (λ (b : BoardState). b.setup) c.self.view_is in
+    let z = c.close_with-closed.ensures.values.2 in
+    let j = c.join_all.ensures.joined in
+    let v = c.join_all.new.first.me.0 in
+    let first = c.args.first.me.0 in
+    let still : IsStill s v.own = subst (IsStill s) (sym j.own) (subst (λ s. IsStill s first.own) (sym same) c.requires.first.2) in
+    let many : vec_len c.args.others + 1 ≡ s.processes = c.requires.all ∙ ap (λ (s : Setup). s.processes) (sym same) in
+    let left : Leaves s v.own.calls v.seen c.image_shown-image.result =
+    closes s c.join_all.new.first.id v c.close_with-closed.result.words.items z.0 c.image_shown-image.result (subst (λ s. Agree s z.0.words z.0.views) c.self.invariant.keyed z.1.0) z.1.1 z.2 (j.live ∙ c.requires.first.0)
+    (ap (λ (o : OwnView). o.process) j.own ∙ c.requires.first.1) still (λ p low below. j.joined p low (omega (arith, many))) c.image_shown-image.ensures in
+    subst (λ s. Leaves s first.own.calls first.seen c.image_shown-image.result) same
+    (subst (λ (o : OwnView). Leaves s o.calls first.seen c.image_shown-image.result) j.own (subst (λ seen. Leaves s v.own.calls seen c.image_shown-image.result) j.seen left))

@@ -1,0 +1,89 @@
+-- Closing a board: what its words show, and what is handed back.
+use Rattle.std.specs.Prelude.{◌≡◌, ◌⊎◌, ℕ, suc, ◌<◌, ◌≤◌, ◌==◌, Bool, false, List, length, map, slice_get, slice_index, slice_index_or, Some}
+use Rattle.std.specs.List.{range_with_len}
+use Rattle.atomic_table.specs.Seated.{TableId}
+use Rattle.safe_number.specs.declared.Field.{Field}
+use Rattle.safe_number.specs.declared.Field.TheVariants.{Commit}
+use Rattle.safe_number.specs.Bytes.{number_of_bits}
+use Rattle.plain_store.specs.declared.Setup.{Setup}
+use Rattle.plain_store.specs.Store.{Contents}
+use Rattle.record.specs.declared.events.Event.{Event}
+use Rattle.record.specs.declared.history.Taken.{Taken}
+use Rattle.record.specs.declared.stages.Stage.TheVariants.{Down, Idle}
+use Rattle.record.specs.Given.{AreGiven}
+use Rattle.record.specs.Histories.{store_after}
+use Rattle.record.specs.Newest.{copy}
+use Rattle.record.specs.Program.{Version, image_field, newest_process, stamp_field, version_of}
+use Rattle.record.specs.Records.{past_of}
+use Rattle.record.specs.Registers.{bytes_of_bits, image_bytes, processes, width}
+use Rattle.laws.specs.Doings.{doing}
+use Rattle.board.specs.Agreement.{IsIn, IsQuiet}
+use Rattle.board.specs.Boards.{BoardState, IsOf}
+use Rattle.board.specs.Calls.{Calls, IsPrefix, calls_of, changes_of}
+use Rattle.board.specs.Headlines.{KeepsAllClauses}
+use Rattle.board.specs.Ports.{PortState}
+use Rattle.board.specs.Views.{OwnView, ViewState, stage_in}
+use Rattle.board.specs.Words.{word_of}
+
+-- the bits that words show of a register, by the copies of reader 0
+abbrev pub bits_shown : Setup → List ℕ → ℕ → Field → List Bool
+bits_shown s words owner field = map (λ k. slice_index words (word_of s (copy owner field 0 k)) == 1) (range_with_len 0 (width s field))
+
+-- the version that they show as committed by a process
+abbrev pub version_shown : Setup → List ℕ → ℕ → Version
+version_shown s words p =
+    let commit = slice_index_or (bits_shown s words p Commit) 0 false in
+    (commit, number_of_bits (bits_shown s words p (stamp_field commit)))
+
+-- the versions of all processes
+abbrev pub versions_shown : Setup → List ℕ → List Version
+versions_shown s words = map (version_shown s words) (processes s)
+
+-- the bytes of the committed image with the greatest stamp, of the lowest process on a tie
+abbrev pub bytes_shown : Setup → List ℕ → List ℕ
+bytes_shown s words =
+    let versions = versions_shown s words in
+    let newest = newest_process versions in
+    bytes_of_bits (image_bytes s) (bits_shown s words newest (image_field (version_of versions newest)))
+
+-- these are ports of the board, of the processes from 0 on, in order, and perhaps not of all
+pub record AreFirstPortsOf (board : BoardState) (ports : List PortState) : Type 0 where
+  pub few : length ports ≤ board.setup.processes
+  pub each : (k : ℕ) (port : PortState) → slice_get ports k ≡ Some port → IsOf board port × (port.view.own.process ≡ k)
+
+-- the process is idle or down
+abbrev pub IsStill : Setup → OwnView → Type 0
+IsStill s o = (stage_in s o ≡ Idle) ⊎ (stage_in s o ≡ Down)
+
+-- each port's is
+abbrev pub AreQuiet : List PortState → Type 0
+AreQuiet ports = (k : ℕ) (port : PortState) → slice_get ports k ≡ Some port → IsStill port.setup port.view.own
+
+-- the view of a quiet port's seat: what is pending, a restart at most, has changed neither its calls nor what it has seen
+pub record IsSeatOf (port : PortState) (v : ViewState) : Type 0 where
+  pub live : v.spent ≡ false
+  pub process : v.own.process ≡ port.view.own.process
+  pub still : IsStill port.setup v.own
+  pub calls : v.own.calls ≡ port.view.own.calls
+  pub seen : v.seen ≡ port.view.seen
+
+-- these are the ports of all processes but the first, in order: of this table, and of its setup
+abbrev pub AreOthers : TableId → Setup → List PortState → Type 0
+AreOthers table s ports = (k : ℕ) (port : PortState) → slice_get ports k ≡ Some port → (port.table_id ≡ table) × (port.setup ≡ s) × (port.view.own.process ≡ suc k)
+
+-- port 0's view, once the seats of so many processes are joined to it
+pub record HasJoined (count : ℕ) (v w : ViewState) : Type 0 where
+  pub live : w.spent ≡ v.spent
+  pub own : w.own ≡ v.own
+  pub seen : w.seen ≡ v.seen
+  pub joined : (p : ℕ) → 0 < p → p ≤ count → IsIn p w.joined
+
+-- a closed board leaves this store: that after the changes of the record of some events, which keeps the headline, in which each process is quiet, and which begins with what port 0 has seen
+pub record Leaves (s : Setup) (its_calls : Calls) (has_seen : List Taken) (image : Contents) : Type 0 where
+  pub events : List Event
+  pub given : AreGiven s events
+  pub headline : KeepsAllClauses s (past_of s events)
+  pub quiet : (p : ℕ) → p < s.processes → IsQuiet (doing s p (past_of s events))
+  pub calls : its_calls ≡ calls_of s 0 (past_of s events)
+  pub seen : IsPrefix has_seen (changes_of s (past_of s events))
+  pub store : image ≡ store_after s (changes_of s (past_of s events))

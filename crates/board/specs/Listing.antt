@@ -1,0 +1,34 @@
+-- What a port knows of the place of its call, and what a word step tells its list.
+use Rattle.std.specs.Prelude.{◌≡◌, ℕ, Bool, true, false, length, fold, Option, Some}
+use Rattle.record.specs.Closings.{Settles}
+use Rattle.laws.specs.Doings.{Doing, Closes, is_inside}
+use Rattle.history_laws.specs.Stamps.{stamp_read}
+use Rattle.process.specs.declared.told.Told.{Told}
+use Rattle.process.specs.declared.told.Told.TheVariants as told
+use Rattle.process.specs.Telling.{marks_told}
+use Rattle.board.specs.Calls.{calls_after}
+use Rattle.board.specs.Views.{ViewState}
+
+-- this is the place of the command that is taken, if one is; the stamp is what was kept for a memory unit
+abbrev pub IsPlace : Told → (stamp : Option ℕ) → ℕ → Type 0
+IsPlace (told.Took reply changes) stamp place = changes ≡ place
+IsPlace (told.SettlesAndTakes value reply) stamp place = stamp ≡ Some place
+IsPlace _ stamp place = Unit {0}
+
+-- a memory unit may take the command
+abbrev pub may_take : Doing → Bool
+may_take (Closes command number (Settles field bit begun (Some reply) inside torn)) = true
+may_take _ = false
+
+-- a view has seen as many changes as the greatest stamp that its process has read; and the stamp kept is as many where a memory unit may take the command, which is inside then
+pub record KnowsPlace (stamp : Option ℕ) (v : ViewState) : Type 0 where
+  pub read : (newest : ℕ) → stamp_read v.own.doing ≡ Some newest → length v.seen ≡ newest
+  pub inside : may_take v.own.doing ≡ true → is_inside v.own.doing ≡ true
+  pub kept : may_take v.own.doing ≡ true → stamp ≡ Some (length v.seen)
+
+-- what a word step that leads to this makes of the calls that a view knows
+pub record Lists (stamp : Option ℕ) (told : Told) (v w : ViewState) : Type 0 where
+  pub place : ℕ
+  pub is : IsPlace told stamp place
+  pub calls : w.own.calls ≡ fold (calls_after place) v.own.calls (marks_told told)
+  pub known : KnowsPlace stamp w

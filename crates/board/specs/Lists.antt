@@ -1,0 +1,53 @@
+-- How the calls of a process stand in a list of changes: each one that was taken at its place, and the places in order.
+use Rattle.std.specs.Prelude.{◌≡◌, ℕ, ◌+◌, ◌<◌, ◌≤◌, ◌==◌, true, cond, List, length, take, slice_get, Option, None, Some}
+use Rattle.plain_store.specs.declared.Answer.{Answer}
+use Rattle.plain_store.specs.declared.Answer.TheVariants as answer
+use Rattle.plain_store.specs.declared.Caller.{Caller}
+use Rattle.plain_store.specs.declared.Command.{Command}
+use Rattle.plain_store.specs.declared.Reply.{Reply}
+use Rattle.plain_store.specs.declared.Setup.{Setup}
+use Rattle.plain_store.specs.Store.{Contents, changes, reply_to}
+use Rattle.record.specs.declared.history.Taken.{Taken}
+use Rattle.record.specs.Histories.{store_after}
+use Rattle.board.specs.Calls.{and_then}
+use Rattle.board.specs.Views.{ViewState}
+use Rattle.weigh.specs.declared.calls.Placed.{Placed}
+
+-- who makes call k of process p, counted from 0: in version 2 its number is k + 1, in version 1 it is 0
+abbrev pub caller_of : Setup → ℕ → ℕ → Caller
+caller_of s p k = record { process = p; number = cond (s.version == 2) (k + 1) 0 }
+
+-- the store at a place of a list of changes: the opening store after so many of them
+abbrev pub store_at : Setup → List Taken → ℕ → Contents
+store_at s list place = store_after s (take place list)
+
+-- the change that a command makes there
+abbrev pub change_at : Setup → List Taken → Caller → Command → ℕ → Taken
+change_at s list caller command place = record { process = caller.process; command = command; reply = reply_to (store_at s list place) command caller; number = caller.number }
+
+-- a call that was taken at this place: the store there gives the reply, if the call was answered; and if its command changes that store, it is the change there
+pub record StandsAt (s : Setup) (list : List Taken) (caller : Caller) (call : Placed) (place : ℕ) : Type 0 where
+  pub within : place ≤ length list
+  pub reply : (r : Reply) → call.answer ≡ Some (answer.Reply r) → r ≡ reply_to (store_at s list place) call.command caller
+  pub change : changes (store_at s list place) call.command ≡ true → slice_get list place ≡ Some (change_at s list caller call.command place)
+
+-- a call that was answered with a reply of the store has a place, and one that was answered otherwise has none; one that was cut, or is not finished, may have one
+abbrev pub PlacedAsAnswered : Option Answer → Option ℕ → Type 0
+PlacedAsAnswered None place = Unit {0}
+PlacedAsAnswered (Some (answer.Reply r)) place = (k : ℕ) × (place ≡ Some k)
+PlacedAsAnswered (Some _) place = place ≡ None
+
+-- how many changes were taken once a command was, at this place
+abbrev pub place_after : Setup → List Taken → Command → ℕ → ℕ
+place_after s list command place = cond (changes (store_at s list place) command) (place + 1) place
+
+-- The calls of process p stand in a list of changes.
+pub record StandsIn (s : Setup) (p : ℕ) (calls : List Placed) (list : List Taken) : Type 0 where
+  pub taken : (k place : ℕ) (call : Placed) → slice_get calls k ≡ Some call → call.place ≡ Some place → StandsAt s list (caller_of s p k) call place  -- each one that was taken stands at its place
+  pub answered : (k : ℕ) (call : Placed) → slice_get calls k ≡ Some call → PlacedAsAnswered call.answer call.place  -- those answered with a reply were taken
+  pub order : (j k place next : ℕ) (call later : Placed) → j < k → slice_get calls j ≡ Some call → slice_get calls k ≡ Some later → call.place ≡ Some place → later.place ≡ Some next →
+      place_after s list call.command place ≤ next  -- places never fall, and after a change they are above its place
+
+-- The calls that a view knows stand in the changes that it has seen.
+abbrev pub StandsInSeen : Setup → ViewState → Type 0
+StandsInSeen s v = StandsIn s v.own.process (and_then v.own.calls.done v.own.calls.now) v.seen

@@ -1,0 +1,152 @@
+//! The image that the words of a board show, off the copies of reader 0.
+ghost use Rattle.std.specs.Prelude.{◌≡◌, ◌+◌, ◌*◌, ◌<◌, ◌≤◌, false, length, slice_index_or, take, drop, Ok};
+ghost use Rattle.std.specs.Slots.{slots_items, slots_len, IsFull};
+ghost use Rattle.safe_number.specs.Bytes.{number_of_bits};
+ghost use Rattle.store_image.specs.Reading.{store_in};
+ghost use Rattle.plain_store.specs.Setups.{callers_of, checked};
+ghost use Rattle.record.specs.Program.{image_field, newest_process, version_of};
+ghost use Rattle.record.specs.Registers.{bytes_of_bits, image_bytes, width};
+ghost use Rattle.board.specs.Closings.{bits_shown, bytes_shown, version_shown, versions_shown};
+ghost use Rattle.board.specs.Words.{words_in};
+
+use crate::words::word_of;
+use atomic_table::Closed;
+use plain_store::Setup;
+use safe_bit::Move;
+use safe_number::{Access, Field};
+use std::alloc::Global;
+use store_image::Image;
+
+/// The words of a board that no thread shares any more.
+pub(crate) type Words = Closed<(), Global>;
+
+/// The bytes of the longest image: 8 slots, and 16 callers.
+const MOST_IMAGE_BYTES: usize = 216;
+
+/// A bit of a register.
+fn bit_shown(setup: &Setup, words: &Words, owner: u8, field: Field, bit: u16) -> bool
+    requires good { checked setup.now ≡ Ok tt }
+    requires words { (slots_len words.now.words ≡ words_in setup.now) × IsFull words.now.words }
+    requires there { (owner < setup.now.processes) × (bit < width setup.now field) }
+    ensures { result ≡ slice_index_or (bits_shown setup.now (slots_items words.now.words) owner field) bit false }
+{
+    let access = Access {
+        owner,
+        field,
+        bit,
+        reader: 0,
+        how: Move::BeginRead,
+    };
+    words.word(word_of(setup, &access)) == 1
+}
+
+/// The number of some bits of a register, from a bit on.
+fn number_shown(setup: &Setup, words: &Words, owner: u8, field: Field, from: u16, count: u16) -> u32
+    requires good { checked setup.now ≡ Ok tt }
+    requires words { (slots_len words.now.words ≡ words_in setup.now) × IsFull words.now.words }
+    requires few { count ≤ 32 }
+    requires inside { from + count ≤ 1728 }
+    requires there { (owner < setup.now.processes) × (from + count ≤ width setup.now field) }
+    ensures { result ≡ number_of_bits (take count (drop from (bits_shown setup.now (slots_items words.now.words) owner field))) }
+{
+    let mut number = 0;
+    for done in 0..count {
+        let bit = bit_shown(setup, words, owner, field, from + (count - 1 - done));
+        number = 2 * number + u32::from(bit);
+    }
+    number
+}
+
+/// The first bytes of a register, of each byte the least significant bit first; zeros follow them.
+fn bytes_of(
+    setup: &Setup,
+    words: &Words,
+    owner: u8,
+    field: Field,
+    count: u16,
+) -> [u8; MOST_IMAGE_BYTES]
+    requires good { checked setup.now ≡ Ok tt }
+    requires words { (slots_len words.now.words ≡ words_in setup.now) × IsFull words.now.words }
+    requires few { count ≤ 216 }
+    requires there { (owner < setup.now.processes) × (8 * count ≤ width setup.now field) }
+    ensures length { length result ≡ 216 }
+    ensures bytes { take count result ≡ bytes_of_bits count (bits_shown setup.now (slots_items words.now.words) owner field) }
+{
+    let mut bytes = [0; MOST_IMAGE_BYTES];
+    for k in 0..count {
+        bytes[usize::from(k)] = number_shown(setup, words, owner, field, 8 * k, 8) as u8;
+    }
+    bytes
+}
+
+/// The commit bit of a process, and the stamp of the version that it chooses.
+fn version_shown(setup: &Setup, words: &Words, owner: u8) -> (bool, u32)
+    requires good { checked setup.now ≡ Ok tt }
+    requires words { (slots_len words.now.words ≡ words_in setup.now) × IsFull words.now.words }
+    requires there { owner < setup.now.processes }
+    ensures { result ≡ version_shown setup.now (slots_items words.now.words) owner }
+{
+    let bits = u16::from(setup.stamp_bits);
+    if bit_shown(setup, words, owner, Field::Commit, 0) {
+        (
+            true,
+            number_shown(setup, words, owner, Field::Stamp1, 0, bits),
+        )
+    } else {
+        (
+            false,
+            number_shown(setup, words, owner, Field::Stamp0, 0, bits),
+        )
+    }
+}
+
+/// The process with the greatest stamp, the lowest on a tie, and its commit bit.
+fn newest_shown(setup: &Setup, words: &Words) -> (u8, bool)
+    requires good { checked setup.now ≡ Ok tt }
+    requires words { (slots_len words.now.words ≡ words_in setup.now) × IsFull words.now.words }
+    ensures process { result.0 ≡ newest_process (versions_shown setup.now (slots_items words.now.words)) }
+    ensures commit { result.1 ≡ version_of (versions_shown setup.now (slots_items words.now.words)) result.0 }
+    ensures there { result.0 < setup.now.processes }
+{
+    let mut newest = 0;
+    let mut chosen = false;
+    let mut greatest = 0;
+    for process in 0..setup.processes {
+        let (commit, stamp) = version_shown(setup, words, process);
+        if process == 0 || greatest < stamp {
+            newest = process;
+            chosen = commit;
+            greatest = stamp;
+        }
+    }
+    (newest, chosen)
+}
+
+/// The store whose image the bytes are. The empty store stands in place of bytes that are none.
+fn image_in(setup: &Setup, bytes: &[u8]) -> Image
+    requires good { checked setup.now ≡ Ok tt }
+    requires length { length bytes.now ≡ image_bytes setup.now }
+    ensures store { result ≡ store_in setup.now.slots (callers_of setup.now) bytes.now }
+{
+    let callers = setup.callers();
+    match Image::read(bytes, callers) {
+        Ok(image) => image,
+        Err(_) => Image::empty(setup.slots, callers),
+    }
+}
+
+/// The store whose image the words show as committed, with the greatest stamp, of the lowest process on a tie.
+pub(crate) fn image_shown(setup: &Setup, words: &Words) -> Image
+    requires good { checked setup.now ≡ Ok tt }
+    requires words { (slots_len words.now.words ≡ words_in setup.now) × IsFull words.now.words }
+    ensures { result ≡ store_in setup.now.slots (callers_of setup.now) (bytes_shown setup.now (slots_items words.now.words)) }
+{
+    let (newest, commit) = newest_shown(setup, words);
+    let count = 23 * u16::from(setup.slots) + 2 * u16::from(setup.callers());
+    let bytes = if commit {
+        bytes_of(setup, words, newest, Field::Image1, count)
+    } else {
+        bytes_of(setup, words, newest, Field::Image0, count)
+    };
+    image_in(setup, &bytes[..usize::from(count)])
+}

@@ -1,0 +1,54 @@
+//! Boards that are closed.
+use crate::ports::a;
+use board::Board;
+use plain_store::{Opening, Setup, Store, Value};
+use std::test::Fail;
+use store_image::Image;
+
+// Nothing has happened: the image is that of the opening store.
+#[test]
+fn a_board_closes(rt: HostRuntime) -> Result<(), Fail> {
+    let (board, ports) = Board::new(rt.alloc(), &Setup::one(2, 2, 2, 1))?;
+    match board.close(ports) {
+        Ok(closing) => assert!(rt; closing.image == Image::empty(1, 0)),
+        Err(_) => panic!(rt; "all ports are idle"),
+    }
+    Ok(())
+}
+
+#[test]
+fn a_board_with_pairs_closes(rt: HostRuntime) -> Result<(), Fail> {
+    let mut opening = Opening::empty();
+    assert!(rt; opening.add(a(&rt), Value::Count(7)).is_ok());
+    let setup = Setup {
+        version: 2,
+        processes: 3,
+        ticket_bits: 2,
+        stamp_bits: 2,
+        slots: 2,
+        opening,
+    };
+    assert_eq!(rt; setup.check(), Ok(()));
+    let (board, ports) = Board::new(rt.alloc(), &setup)?;
+    match board.close(ports) {
+        Ok(closing) => {
+            assert!(rt; closing.image.len() == 1);
+            assert!(rt; closing.image.entry(0) == Some((a(&rt), Value::Count(7))));
+        }
+        Err(_) => panic!(rt; "all ports are idle"),
+    }
+    Ok(())
+}
+
+// Where a port is not there the board and all ports that are come back.
+#[test]
+fn a_board_without_a_port_comes_back(rt: HostRuntime) -> Result<(), Fail> {
+    let (board, mut ports) = Board::new(rt.alloc(), &Setup::one(2, 2, 2, 1))?;
+    let one = ports.pop();
+    assert!(rt; one.is_some());
+    match board.close(ports) {
+        Ok(_) => panic!(rt; "a port is not there"),
+        Err(back) => assert_eq!(rt; back.ports.len(), 1),
+    }
+    Ok(())
+}
