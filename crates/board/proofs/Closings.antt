@@ -48,7 +48,9 @@ use Rattle.history_laws.proofs.Sound.{IsStoreOf}
 use Rattle.history_laws.proofs.Sounding.{after_is_same}
 use Rattle.process.proofs.Stages.{stage-process}
 use Rattle.board.specs.Agreement.{Agree, IsIn, IsQuiet, KnowsSeats, Shows}
-use Rattle.board.specs.Calls.{changing}
+use Rattle.board.specs.Calls.{Calls, changes_of, changing}
+use Rattle.board.specs.Lists.{StandsIn}
+use Rattle.board.proofs.CallsStand.{calls_in_the_changes}
 use Rattle.board.specs.Closings.{IsStill, Leaves, bits_shown, bytes_shown, version_shown, versions_shown}
 use Rattle.board.specs.Views.{OwnView, ViewState, own_view, spent_view, stage_in, with_joined}
 use Rattle.board.specs.Words.{closed_word, shown, word_of}
@@ -185,6 +187,7 @@ closes s id v words t image agree at same live zero_ still joined is = record {
   quiet = quiet;
   calls = ap (λ (o : OwnView). o.calls) mine;
   seen = k.seen;
+  stands = subst (λ (calls : Calls). StandsIn s 0 calls.done (changes_of s past)) (sym (ap (λ (o : OwnView). o.calls) mine)) (calls_in_the_changes s f.good events f.given 0).0;
   store =
       is
       ∙ ap (λ ws. store_in s.slots (callers_of s) (bytes_shown s ws)) (sym same)

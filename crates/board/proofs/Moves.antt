@@ -1,6 +1,6 @@
 -- Each load and each store of a port keeps the rule.
-use Rattle.std.proofs.Common.{◌≡◌, ℕ, ◌<◌, Bool, true, false, cond, if◌then◌else◌, List, ◌∷◌, ◌++◌, set, length, refl, sym, ap, ◌∙◌, subst, Some, None, length-set, map}
-use Rattle.std.proofs.lemmas.List.{set-get_or}
+use Rattle.std.proofs.Common.{◌≡◌, ℕ, ◌<◌, Bool, true, false, cond, if◌then◌else◌, List, [], ◌∷◌, ◌++◌, set, length, refl, sym, ap, ◌∙◌, subst, Some, None, length-set, map}
+use Rattle.std.proofs.lemmas.List.{append-nil, set-get_or}
 use Rattle.std.specs.Prelude.{Ok, fold, slice_index}
 use mathlib.Core.Option.{some}
 use lib.ListN.{get_elem?}
@@ -87,7 +87,7 @@ goes_on s good events given v below seen = record {
   at = is-at s (is_good s good) events v.own.process;
   seen = seen;
   stamped = λ stamp h. so_many_changes s (past_of s events) ∙ sym (stamps_count s good events given v.own.process stamp below h);
-  stands = (calls_in_the_changes s good events given v.own.process).1;
+  stands = record { stands = (calls_in_the_changes s good events given v.own.process).1; seen = record { events = events; given = given; first = ([], sym (append-nil (changes_of s (past_of s events)))) } };
 }
 
 -- the next access of a seat to whose process this has happened

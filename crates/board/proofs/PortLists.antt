@@ -50,3 +50,8 @@ pub item_at : {A : Type 0} (xs : List A) (k : ℕ) (x : A) → k < length xs →
 item_at [] k x h e = absurd (omega arith)
 item_at (y ∷ xs) zero x h e = ap (λ z. Some z) (sym e)
 item_at (y ∷ xs) (suc k) x h e = item_at xs k x (omega arith) e
+
+-- a list that is not empty is its first item, and the rest
+pub first_and_rest : {A : Type 0} (xs : List A) (x : A) → 0 < length xs → x ≡ get_or xs 0 x → xs ≡ x ∷ drop 1 xs
+first_and_rest [] x h e = absurd (omega arith)
+first_and_rest (y ∷ xs) x h e = ap (λ z. z ∷ xs) (sym e)

@@ -1,12 +1,15 @@
 -- The calls of a view stand in the changes that it has seen, over a word step and over an event without an access; and what was seen stays seen.
-use Rattle.std.proofs.Common.{◌≡◌, ℕ, zero, suc, Bool, [], ◌∷◌, inl, inr, sym, ap, ◌∙◌}
+use Rattle.std.proofs.Common.{◌≡◌, ℕ, zero, suc, Bool, true, [], ◌∷◌, inl, inr, refl, sym, ap, ◌∙◌}
 use Rattle.std.proofs.lemmas.List.{append-nil}
 use Rattle.flicks.specs.Flicks.{FlickState, flick_of}
 use Rattle.plain_store.specs.declared.Answer.{Answer}
 use Rattle.plain_store.specs.declared.Command.{Command}
 use Rattle.plain_store.specs.declared.Setup.{Setup}
+use Rattle.plain_store.specs.Store.{are_pairs}
 use Rattle.record.specs.declared.events.Event.TheVariants as event
-use Rattle.board.specs.Calls.{IsPrefix, called}
+use Rattle.record.specs.Records.{past_of}
+use Rattle.board.specs.Calls.{IsPrefix, called, changes_of}
+use Rattle.board.specs.Closings.{StandsInRecord}
 use Rattle.board.specs.Driving.{Drives, EndsWith, Walks, WalksTo, flicks_after}
 use Rattle.board.specs.declared.driving.Driven.{Driven}
 use Rattle.board.specs.declared.driving.Driven.TheVariants as driven
@@ -14,7 +17,7 @@ use Rattle.board.specs.Lists.{StandsInSeen}
 use Rattle.board.specs.Views.{ViewState, at_events, new_view}
 use Rattle.board.specs.WordSteps.{WordStep}
 use Rattle.board.proofs.Along.{prefix-trans}
-use Rattle.board.proofs.Stands.{finished_stand, stands_push}
+use Rattle.board.proofs.Stands.{finished_stand, stands_in_longer, stands_push}
 
 -- after a word step
 pub stands_then : (s : Setup) (flick : Bool) (v w : ViewState) → WordStep s flick v w → StandsInSeen s w
@@ -23,11 +26,25 @@ stands_then s flick v w (inr store) = store.goes.stands
 
 -- after a call: nothing is taken yet
 pub stands_called : (s : Setup) (b : ViewState) (p : ℕ) (command : Command) → StandsInSeen s b → StandsInSeen s (at_events s b (event.Call p command ∷ []))
-stands_called s b p command h = stands_push s b.own.process b.own.calls.done b.seen (called command) (finished_stand s b.own.process b.own.calls.done b.own.calls.now b.seen h) tt (λ place is. cc)
+stands_called s b p command h = record {
+  stands = stands_push s b.own.process b.own.calls.done b.seen (called command) (finished_stand s b.own.process b.own.calls.done b.own.calls.now b.seen h.stands) tt (λ place is. cc);
+  seen = h.seen;
+}
 
 -- of a process that has done nothing
-pub stands_new : (s : Setup) (p made : ℕ) → StandsInSeen s (new_view p made)
-stands_new s p made = record { taken = λ k place call at is. cc; answered = λ k call at. cc; order = λ j k place next call later less at_j at_k is is_next. cc }
+pub stands_new : (s : Setup) → are_pairs s.opening ≡ true → (p made : ℕ) → StandsInSeen s (new_view p made)
+stands_new s pairs p made = record {
+  stands = record { taken = λ k place call at is. cc; answered = λ k call at. cc; order = λ j k place next call later less at_j at_k is is_next. cc };
+  seen = record { events = []; given = record { opening = pairs; commands = refl }; first = ([], refl) };
+}
+
+-- so its finished calls stand in the changes of a record
+pub in_record : (s : Setup) (v : ViewState) → StandsInSeen s v → StandsInRecord s v.own.process v.own.calls.done
+in_record s v h = record {
+  events = h.seen.events;
+  given = h.seen.given;
+  stands = stands_in_longer s v.own.process v.own.calls.done v.seen (changes_of s (past_of s h.seen.events)) h.seen.first (finished_stand s v.own.process v.own.calls.done v.own.calls.now v.seen h.stands);
+}
 
 -- What was seen stays seen.
 

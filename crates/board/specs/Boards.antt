@@ -1,22 +1,28 @@
 -- What a board is to its callers, and which ports are of it.
-use Rattle.std.specs.Prelude.{◌≡◌, ℕ, List, Ok, Some, length, slice_get}
+use Rattle.std.specs.Prelude.{◌≡◌, ◌≤◌, ℕ, List, [], Ok, Some, true, length, slice_get, vec_capacity}
+use Rattle.std.specs.Global.{Vec}
 use Rattle.atomic_table.specs.Seated.{TableId}
 use Rattle.plain_store.specs.declared.Setup.{Setup}
 use Rattle.plain_store.specs.Setups.{checked}
+use Rattle.plain_store.specs.Store.{are_pairs}
 use Rattle.board.specs.Ports.{PortState}
 use Rattle.board.specs.Words.{words_in}
+use Rattle.weigh.specs.declared.calls.Placed.{Placed}
 
 -- the table of its words, and its setup
 pub record BoardState : Type 0 where
   pub table_id : TableId
   pub setup : Setup
 
--- what the fields of a board keep: the table was made with the setup, has its words, and has no slots
-pub record KeepsBoard (s key : Setup) (id : TableId) : Type 0 where
+-- what the fields of a board keep: the setup is good, with opening pairs that are given; the table was made with it, has its words, and has no slots; and there is room for the lists of all ports
+pub record KeepsBoard (s key : Setup) (id : TableId) (answers : Vec (Vec Placed)) : Type 0 where
   pub good : checked s ≡ Ok tt
+  pub pairs : are_pairs s.opening ≡ true
   pub keyed : key ≡ s
   pub sized : id.words ≡ words_in s
   pub slotless : id.slots ≡ 0
+  pub none : answers.items ≡ []
+  pub room : s.processes ≤ vec_capacity answers
 
 -- the port was made with the board
 abbrev pub IsOf : BoardState → PortState → Type 0

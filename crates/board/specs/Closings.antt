@@ -1,5 +1,5 @@
 -- Closing a board: what its words show, and what is handed back.
-use Rattle.std.specs.Prelude.{◌≡◌, ◌⊎◌, ℕ, suc, ◌<◌, ◌≤◌, ◌==◌, Bool, false, List, length, map, slice_get, slice_index, slice_index_or, Some}
+use Rattle.std.specs.Prelude.{◌≡◌, ◌⊎◌, ℕ, ◌+◌, ◌<◌, ◌≤◌, ◌==◌, Bool, false, List, length, map, slice_get, slice_index, slice_index_or, Some}
 use Rattle.std.specs.List.{range_with_len}
 use Rattle.atomic_table.specs.Seated.{TableId}
 use Rattle.safe_number.specs.declared.Field.{Field}
@@ -21,9 +21,11 @@ use Rattle.board.specs.Agreement.{IsIn, IsQuiet}
 use Rattle.board.specs.Boards.{BoardState, IsOf}
 use Rattle.board.specs.Calls.{Calls, IsPrefix, calls_of, changes_of}
 use Rattle.board.specs.Headlines.{KeepsAllClauses}
+use Rattle.board.specs.Lists.{StandsIn}
 use Rattle.board.specs.Ports.{PortState}
 use Rattle.board.specs.Views.{OwnView, ViewState, stage_in}
 use Rattle.board.specs.Words.{word_of}
+use Rattle.weigh.specs.declared.calls.Placed.{Placed}
 
 -- the bits that words show of a register, by the copies of reader 0
 abbrev pub bits_shown : Setup → List ℕ → ℕ → Field → List Bool
@@ -67,9 +69,9 @@ pub record IsSeatOf (port : PortState) (v : ViewState) : Type 0 where
   pub calls : v.own.calls ≡ port.view.own.calls
   pub seen : v.seen ≡ port.view.seen
 
--- these are the ports of all processes but the first, in order: of this table, and of its setup
-abbrev pub AreOthers : TableId → Setup → List PortState → Type 0
-AreOthers table s ports = (k : ℕ) (port : PortState) → slice_get ports k ≡ Some port → (port.table_id ≡ table) × (port.setup ≡ s) × (port.view.own.process ≡ suc k)
+-- these are ports of the processes from this one on, in order: of this table, and of its setup
+abbrev pub AreOthers : TableId → Setup → ℕ → List PortState → Type 0
+AreOthers table s first ports = (k : ℕ) (port : PortState) → slice_get ports k ≡ Some port → (port.table_id ≡ table) × (port.setup ≡ s) × (port.view.own.process ≡ first + k)
 
 -- port 0's view, once the seats of so many processes are joined to it
 pub record HasJoined (count : ℕ) (v w : ViewState) : Type 0 where
@@ -78,7 +80,7 @@ pub record HasJoined (count : ℕ) (v w : ViewState) : Type 0 where
   pub seen : w.seen ≡ v.seen
   pub joined : (p : ℕ) → 0 < p → p ≤ count → IsIn p w.joined
 
--- a closed board leaves this store: that after the changes of the record of some events, which keeps the headline, in which each process is quiet, and which begins with what port 0 has seen
+-- a closed board leaves this store: that after the changes of the record of some events, which keeps the headline, in which each process is quiet, and which begins with what port 0 has seen; its calls stand in these changes
 pub record Leaves (s : Setup) (its_calls : Calls) (has_seen : List Taken) (image : Contents) : Type 0 where
   pub events : List Event
   pub given : AreGiven s events
@@ -86,4 +88,19 @@ pub record Leaves (s : Setup) (its_calls : Calls) (has_seen : List Taken) (image
   pub quiet : (p : ℕ) → p < s.processes → IsQuiet (doing s p (past_of s events))
   pub calls : its_calls ≡ calls_of s 0 (past_of s events)
   pub seen : IsPrefix has_seen (changes_of s (past_of s events))
+  pub stands : StandsIn s 0 its_calls.done (changes_of s (past_of s events))
   pub store : image ≡ store_after s (changes_of s (past_of s events))
+
+-- the finished calls of each of these ports
+abbrev pub done_calls : List PortState → List (List Placed)
+done_calls ports = map (λ (port : PortState). port.view.own.calls.done) ports
+
+-- the calls of process p stand in the changes of the record of some events
+pub record StandsInRecord (s : Setup) (p : ℕ) (calls : List Placed) : Type 0 where
+  pub events : List Event
+  pub given : AreGiven s events
+  pub stands : StandsIn s p calls (changes_of s (past_of s events))
+
+-- of these lists each one does, list p as that of process p
+abbrev pub EachStandsInRecord : Setup → List (List Placed) → Type 0
+EachStandsInRecord s lists = (p : ℕ) (calls : List Placed) → slice_get lists p ≡ Some calls → StandsInRecord s p calls

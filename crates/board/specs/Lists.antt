@@ -7,9 +7,12 @@ use Rattle.plain_store.specs.declared.Command.{Command}
 use Rattle.plain_store.specs.declared.Reply.{Reply}
 use Rattle.plain_store.specs.declared.Setup.{Setup}
 use Rattle.plain_store.specs.Store.{Contents, changes, reply_to}
+use Rattle.record.specs.declared.events.Event.{Event}
 use Rattle.record.specs.declared.history.Taken.{Taken}
+use Rattle.record.specs.Given.{AreGiven}
 use Rattle.record.specs.Histories.{store_after}
-use Rattle.board.specs.Calls.{and_then}
+use Rattle.record.specs.Records.{past_of}
+use Rattle.board.specs.Calls.{IsPrefix, and_then, changes_of}
 use Rattle.board.specs.Views.{ViewState}
 use Rattle.weigh.specs.declared.calls.Placed.{Placed}
 
@@ -48,6 +51,17 @@ pub record StandsIn (s : Setup) (p : ℕ) (calls : List Placed) (list : List Tak
   pub order : (j k place next : ℕ) (call later : Placed) → j < k → slice_get calls j ≡ Some call → slice_get calls k ≡ Some later → call.place ≡ Some place → later.place ≡ Some next →
       place_after s list call.command place ≤ next  -- places never fall, and after a change they are above its place
 
+-- These are the first changes of the record of some events.
+pub record AreFirstChanges (s : Setup) (list : List Taken) : Type 0 where
+  pub events : List Event
+  pub given : AreGiven s events
+  pub first : IsPrefix list (changes_of s (past_of s events))
+
+-- The calls of process p stand in these changes, which are the first ones of a record.
+pub record StandsInFirst (s : Setup) (p : ℕ) (calls : List Placed) (list : List Taken) : Type 0 where
+  pub stands : StandsIn s p calls list
+  pub seen : AreFirstChanges s list
+
 -- The calls that a view knows stand in the changes that it has seen.
 abbrev pub StandsInSeen : Setup → ViewState → Type 0
-StandsInSeen s v = StandsIn s v.own.process (and_then v.own.calls.done v.own.calls.now) v.seen
+StandsInSeen s v = StandsInFirst s v.own.process (and_then v.own.calls.done v.own.calls.now) v.seen

@@ -13,12 +13,15 @@ use plain_store::Setup;
 use process::Process;
 use std::alloc::{AllocError, Global};
 use std::marker::Model;
+use weigh::Placed;
 
 /// The words of all single-reader bits, which the ports share.
 #[derive(Drop)]
 pub struct Board {
     pub(crate) table: Table<(), View, Setup, Agreement, Global>,
     pub(crate) setup: Setup,
+    /// Room for the lists of all ports, which are handed over when it is closed.
+    pub(crate) answers: Vec<Vec<Placed>>,
 }
 
 impl Model for Board {
@@ -28,7 +31,7 @@ impl Model for Board {
 
     ghost view = { λ b. record { table_id = b.table.shared.table_id; setup = b.setup } };
 
-    ghost invariant = { λ b. KeepsBoard b.setup b.table.shared.key b.table.shared.table_id };
+    ghost invariant = { λ b. KeepsBoard b.setup b.table.shared.key b.table.shared.table_id b.answers };
 }
 
 impl Board {
@@ -87,10 +90,12 @@ fn opened(alloc: Global, setup: &Setup) -> Result<(Board, Place), AllocError>
     setup.opening.pairs_are_sound();
     let words = opening_words(alloc, setup)?;
     let (table, seat) = Table::of_words(alloc, words.as_slice(), setup)?;
+    let answers = Vec::with_capacity(alloc, usize::from(setup.processes))?;
     Ok((
         Board {
             table,
             setup: *setup,
+            answers,
         },
         seat,
     ))

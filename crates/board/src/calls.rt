@@ -48,6 +48,14 @@ impl CallList {
         &self.done
     }
 
+    /// The same, once nothing more is added.
+    pub fn into_done(self) -> Vec<Placed>
+        ensures { result.items ≡ self.done }
+    {
+        let CallList { done, .. } = self;
+        done
+    }
+
     /// A call begins, for whose entry there is room then. Want of memory leaves the list.
     pub fn begin(&mut self, command: Command) -> Result<(), AllocError>
         ensures begun { OnOk result (self.new ≡ calls_after 0 self.old (Called command)) }

@@ -1,7 +1,8 @@
 //! Closing a board.
-ghost use Rattle.std.specs.Prelude.{◌≡◌, ◌≤◌, ◌+◌, ◌<◌, ◌↔◌, ℕ, IsOk, IfOk, IfErr, IsTrue, Some, false, length, slice_get, vec_len};
-ghost use Rattle.board.specs.Closings.{AreFirstPortsOf, AreOthers, AreQuiet, HasJoined, IsStill, Leaves};
+ghost use Rattle.std.specs.Prelude.{◌≡◌, ◌≤◌, ◌+◌, ◌<◌, ◌↔◌, ◌∷◌, ◌++◌, ℕ, IsOk, IfOk, IfErr, IsTrue, Some, false, length, slice_get, vec_capacity, vec_len};
+ghost use Rattle.board.specs.Closings.{AreFirstPortsOf, AreOthers, AreQuiet, EachStandsInRecord, HasJoined, IsStill, Leaves, StandsInRecord, done_calls};
 ghost use Rattle.board.specs.Ports.{PortState};
+ghost use Rattle.weigh.specs.Weighing.{lists_of};
 
 use crate::board::Board;
 use crate::port::Port;
@@ -9,11 +10,13 @@ use crate::rule::Return;
 use crate::shown_image::image_shown;
 use crate::steps::{Place, Words};
 use store_image::Image;
+use weigh::Placed;
 
-/// What a board leaves: the image of its store.
-#[derive(Clone, Copy, Debug)]
+/// What a board leaves: the image of its store, and the lists of its ports' finished calls, by the number of the process.
+#[derive(Drop)]
 pub struct Closing {
     pub image: Image,
+    pub answers: Vec<Vec<Placed>>,
 }
 
 /// A board and ports that could not be closed: a process was at work, or a port was not there.
@@ -30,30 +33,39 @@ impl Board {
         requires ports { AreFirstPortsOf self ports.items }
         ensures quiet { IsOk result ↔ ((length ports.items ≡ self.setup.processes) × AreQuiet ports.items) }
         ensures leaves { IfOk result (λ closing. (port : PortState) → slice_get ports.items 0 ≡ Some port → Leaves self.setup port.view.own.calls port.view.seen closing.image) }
+        ensures answers { IfOk result (λ closing. lists_of closing.answers.items ≡ done_calls ports.items) }
+        ensures stand { IfOk result (λ closing. EachStandsInRecord self.setup (lists_of closing.answers.items)) }
         ensures back { IfErr result (λ back. (back.board ≡ self) × (back.ports.items ≡ ports.items)) }
     {
         if ports.len() < usize::from(self.setup.processes) || !are_quiet(&ports) {
             return Err(NotQuiet { board: self, ports });
         }
-        let first = ports.remove(0).into_seat();
-        let image = self.shut(first, ports);
-        Ok(Closing { image })
+        let (first, calls) = ports.remove(0).into_parts();
+        Ok(self.shut(first, calls, ports))
     }
 
-    /// The image that its words show, once all seats are joined.
-    fn shut(self, mut first: Place, others: Vec<Port>) -> Image
+    /// The image that its words show, once all seats are joined, and the lists: first that of port 0.
+    fn shut(self, mut first: Place, calls: Vec<Placed>, others: Vec<Port>) -> Closing
         requires board { first.table_id ≡ self.table_id }
         requires first { (first.me.0.spent ≡ false) × (first.me.0.own.process ≡ 0) × IsStill self.setup first.me.0.own }
-        requires others { AreOthers self.table_id self.setup others.items × AreQuiet others.items }
+        requires others { AreOthers self.table_id self.setup 1 others.items × AreQuiet others.items }
         requires all { vec_len others + 1 ≡ self.setup.processes }
-        ensures { Leaves self.setup first.me.0.own.calls first.me.0.seen result }
+        requires calls { StandsInRecord self.setup 0 calls.items }
+        ensures leaves { Leaves self.setup first.me.0.own.calls first.me.0.seen result.image }
+        ensures answers { lists_of result.answers.items ≡ calls.items ∷ done_calls others.items }
+        ensures stand { EachStandsInRecord self.setup (lists_of result.answers.items) }
     {
-        let Board { table, setup } = self;
-        join_all(&table.shared, &mut first, others);
+        let Board {
+            table,
+            setup,
+            mut answers,
+        } = self;
+        answers.push_reserved(calls);
+        join_all(&table.shared, &mut first, others, &mut answers);
         let closed = table.close_with(first);
         let image = image_shown(&setup, &closed);
         closed.free();
-        image
+        Closing { image, answers }
     }
 }
 
@@ -69,15 +81,28 @@ fn are_quiet(ports: &Vec<Port>) -> bool
     true
 }
 
-/// Joins the seats of all other ports to port 0's.
-fn join_all(words: &Words, first: &mut Place, mut others: Vec<Port>)
+/// Joins the seats of all other ports to port 0's, and adds their lists to those that there are, of which the next is that
+/// of the first of these ports.
+fn join_all(
+    words: &Words,
+    first: &mut Place,
+    mut others: Vec<Port>,
+    answers: &mut Vec<Vec<Placed>>,
+)
     requires table { (first.old.table_id ≡ words.now.table_id) × (0 < words.now.table_id.words) }
     requires first { (first.old.me.0.spent ≡ false) × (first.old.me.0.own.process ≡ 0) }
-    requires others { AreOthers words.now.table_id words.now.key others.items × AreQuiet others.items }
+    requires others { AreOthers words.now.table_id words.now.key (vec_len answers.old) others.items × AreQuiet others.items }
+    requires answers { vec_len answers.old ≡ 1 }
+    requires stand { EachStandsInRecord words.now.key (lists_of answers.old.items) }
+    requires room { vec_len answers.old + vec_len others ≤ vec_capacity answers.old }
     ensures seat { (first.new.table_id ≡ first.old.table_id) × (first.new.id ≡ first.old.id) }
     ensures joined { HasJoined (vec_len others) first.old.me.0 first.new.me.0 }
+    ensures answers { lists_of answers.new.items ≡ lists_of answers.old.items ++ done_calls others.items }
+    ensures stand { EachStandsInRecord words.now.key (lists_of answers.new.items) }
 {
-    while let Some(port) = others.pop() {
-        words.join_seat::<Return>(first, port.into_seat());
+    while !others.is_empty() {
+        let (seat, calls) = others.remove(0).into_parts();
+        words.join_seat::<Return>(first, seat);
+        answers.push_reserved(calls);
     }
 }

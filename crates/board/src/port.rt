@@ -1,9 +1,10 @@
 //! Ports, each of which runs one process.
 ghost use Rattle.std.specs.Prelude.{◌≡◌, ◌↔◌, Bool, IsTrue, ℕ, OnErr, OnOk, true, []};
+ghost use Rattle.plain_store.specs.Store.{are_pairs};
 ghost use Rattle.record.specs.declared.Event.TheVariants.{Call, Fail, Restart, Withdraw};
 ghost use Rattle.board.specs.Boards.{IsOf};
-ghost use Rattle.board.specs.Closings.{IsSeatOf, IsStill};
-ghost use Rattle.board.specs.Lists.{StandsIn};
+ghost use Rattle.board.specs.Closings.{IsSeatOf, IsStill, StandsInRecord};
+ghost use Rattle.board.specs.Lists.{AreFirstChanges, StandsIn};
 ghost use Rattle.board.specs.Ports.{IsBegun, SamePort, answer_to, port_after};
 ghost use Rattle.board.specs.Views.{new_view, stage_in};
 ghost use Rattle.board.specs.WordSteps.{LeadsTo, WordStep, goes};
@@ -50,6 +51,7 @@ impl Port {
     pub(crate) fn new(alloc: Global, seat: Place, process: Process) -> Port
         requires process { process ≡ process_after process.setup [] process.process }
         requires seat { (made : ℕ) × (seat.me ≡ (new_view process.process made, [])) }
+        requires pairs { are_pairs process.setup.opening ≡ true }
         ensures { result ≡ record { table_id = seat.table_id; id = seat.id; setup = process.setup; view = seat.me.0 } }
     {
         Port {
@@ -69,15 +71,17 @@ impl Port {
         matches!(self.stage(), Stage::Idle | Stage::Down)
     }
 
-    /// Its seat, once its process is idle or down.
-    pub(crate) fn into_seat(self) -> Place
+    /// Its seat and its finished calls, once its process is idle or down.
+    pub(crate) fn into_parts(self) -> (Place, Vec<Placed>)
         requires still { IsStill self.setup self.view.own }
-        ensures table { result.table_id ≡ self.table_id }
-        ensures holds { result.me.1 ≡ [] }
-        ensures seat { IsSeatOf self result.me.0 }
+        ensures table { result.0.table_id ≡ self.table_id }
+        ensures holds { result.0.me.1 ≡ [] }
+        ensures seat { IsSeatOf self result.0.me.0 }
+        ensures calls { result.1.items ≡ self.view.own.calls.done }
+        ensures stands { StandsInRecord self.setup self.view.own.process result.1.items }
     {
-        let Port { seat, .. } = self;
-        seat
+        let Port { seat, calls, .. } = self;
+        (seat, calls.into_done())
     }
 
     /// Where its process stands.
@@ -92,6 +96,7 @@ impl Port {
     pub fn answers(&self) -> &[Placed]
         ensures list { result.now ≡ self.now.view.own.calls.done }
         ensures stands { StandsIn self.now.setup self.now.view.own.process result.now self.now.view.seen }
+        ensures seen { AreFirstChanges self.now.setup self.now.view.seen }
     {
         self.calls.done()
     }

@@ -1,36 +1,45 @@
-use Rattle.std.proofs.Common.{◌≡◌, ◌<◌, ℕ, suc, List, Some, length, refl, rules, sym, ap, ◌∙◌, subst, arith}
+use Rattle.std.proofs.Common.{◌≡◌, ◌+◌, ◌<◌, ℕ, suc, List, Some, length, refl, rules, sym, ap, ◌∙◌, subst, arith}
 use Rattle.std.specs.Prelude.{slice_get}
 use Rattle.critical.proofs.Widths.{ranges}
 use Rattle.board.specs.Boards.{BoardState, IsOf}
-use Rattle.board.specs.Closings.{AreQuiet, IsStill}
+use Rattle.plain_store.specs.declared.Setup.{Setup}
+use Rattle.board.specs.Closings.{AreQuiet, IsStill, StandsInRecord}
 use Rattle.board.specs.Ports.{PortState}
 use Rattle.board.proofs.PortLists.{item_at, rest_of}
 use Rattle.board.proofs.board.Board.close.Goals as goal
 
-pub shut-image-requires-clause-board : goal.shut-image-requires-clause-board
-shut-image-requires-clause-board c =
+pub shut-requires-clause-board : goal.shut-requires-clause-board
+shut-requires-clause-board c =
     let many = (ranges c.self.inside.setup c.self.invariant.good).some_processes in
     let some : 0 < length c.args.ports.items = omega (arith, many, c.if-len-from.false, c.from.ensures, c.len.ensures, ap (λ (b : BoardState). b.setup.processes) c.self.view_is) in
     let at = item_at c.args.ports.items 0 c.remove.result some c.remove.ensures.value in
-    c.into_seat-first.ensures.table ∙ (c.requires.ports.each 0 c.remove.result at).0.0
+    c.into_parts-first.ensures.table ∙ (c.requires.ports.each 0 c.remove.result at).0.0
 
-pub shut-image-requires-clause-first : goal.shut-image-requires-clause-first
-shut-image-requires-clause-first c =
+pub shut-requires-clause-first : goal.shut-requires-clause-first
+shut-requires-clause-first c =
     let many = (ranges c.self.inside.setup c.self.invariant.good).some_processes in
     let some : 0 < length c.args.ports.items = omega (arith, many, c.if-len-from.false, c.from.ensures, c.len.ensures, ap (λ (b : BoardState). b.setup.processes) c.self.view_is) in
     let at = item_at c.args.ports.items 0 c.remove.result some c.remove.ensures.value in
     let each = c.requires.ports.each 0 c.remove.result at in
-    let seat = c.into_seat-first.ensures.seat in
-    (seat.live, seat.process ∙ each.1, subst (λ s. IsStill s c.into_seat-first.result.me.0.own) each.0.1 seat.still)
+    let seat = c.into_parts-first.ensures.seat in
+    (seat.live, seat.process ∙ each.1, subst (λ s. IsStill s c.into_parts-first.result.0.me.0.own) each.0.1 seat.still)
 
-pub shut-image-requires-clause-others : goal.shut-image-requires-clause-others
-shut-image-requires-clause-others c =
+pub shut-requires-clause-others : goal.shut-requires-clause-others
+shut-requires-clause-others c =
     let b = c.args.self in
     let quiet : AreQuiet c.args.ports.items = c.are_quiet.ensures.0 (search rules) in (
       (λ k port e. let r = subst (λ (xs : List PortState). (k : ℕ) (port : PortState) → slice_get xs k ≡ Some port → IsOf b port × (port.view.own.process ≡ suc k)) (sym c.remove.ensures.items)
-          (rest_of (λ k port. IsOf b port × (port.view.own.process ≡ k)) c.args.ports.items c.requires.ports.each) k port e in (r.0.0, r.0.1, r.1)),
+          (rest_of (λ k port. IsOf b port × (port.view.own.process ≡ k)) c.args.ports.items c.requires.ports.each) k port e in let z : suc k ≡ 1 + k = omega arith in (r.0.0, r.0.1, r.1 ∙ z)),
       subst AreQuiet (sym c.remove.ensures.items) (rest_of (λ _ (port : PortState). IsStill port.setup port.view.own) c.args.ports.items quiet),
     )
+
+pub shut-requires-clause-calls : goal.shut-requires-clause-calls
+shut-requires-clause-calls c =
+    let many = (ranges c.self.inside.setup c.self.invariant.good).some_processes in
+    let some : 0 < length c.args.ports.items = omega (arith, many, c.if-len-from.false, c.from.ensures, c.len.ensures, ap (λ (b : BoardState). b.setup.processes) c.self.view_is) in
+    let each = c.requires.ports.each 0 c.remove.result (item_at c.args.ports.items 0 c.remove.result some c.remove.ensures.value) in
+    let calls = c.into_parts-first.result.1.items in
+    subst (λ (p : ℕ). StandsInRecord c.args.self.setup p calls) each.1 (subst (λ (s : Setup). StandsInRecord s c.remove.result.view.own.process calls) each.0.1 c.into_parts-first.ensures.stands)
 
 pub returns-clause-quiet : goal.returns-clause-quiet
 returns-clause-quiet c =

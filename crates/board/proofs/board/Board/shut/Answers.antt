@@ -2,13 +2,14 @@ use Rattle.std.proofs.Common.{◌≡◌, ◌+◌, vec_len, sym, ap, ◌∙◌, s
 use Rattle.plain_store.specs.declared.Setup.{Setup}
 use Rattle.board.specs.Agreement.{Agree}
 use Rattle.board.specs.Boards.{BoardState}
-use Rattle.board.specs.Closings.{IsStill, Leaves}
+use Rattle.board.specs.Closings.{EachStandsInRecord, IsStill, Leaves}
 use Rattle.board.specs.Views.{OwnView}
+use Rattle.weigh.specs.Weighing.{lists_of}
 use Rattle.board.proofs.Closings.{closes}
 use Rattle.board.proofs.board.Board.shut.Goals as goal
 
-pub returns : goal.returns
-returns c =
+pub returns-clause-leaves : goal.returns-clause-leaves
+returns-clause-leaves c =
     let b = c.self.inside in
     let s = b.setup in
     let same : s ≡ c.args.self.setup = ap (λ (b : BoardState). b.setup) c.self.view_is in
@@ -23,3 +24,6 @@ returns c =
     (ap (λ (o : OwnView). o.process) j.own ∙ c.requires.first.1) still (λ p low below. j.joined p low (omega (arith, many))) c.image_shown-image.ensures in
     subst (λ s. Leaves s first.own.calls first.seen c.image_shown-image.result) same
     (subst (λ (o : OwnView). Leaves s o.calls first.seen c.image_shown-image.result) j.own (subst (λ seen. Leaves s v.own.calls seen c.image_shown-image.result) j.seen left))
+
+pub returns-clause-stand : goal.returns-clause-stand
+returns-clause-stand c = subst (λ (s : Setup). EachStandsInRecord s (lists_of c.join_all.new.answers.items)) (c.self.invariant.keyed ∙ ap (λ (b : BoardState). b.setup) c.self.view_is) c.join_all.ensures.stand

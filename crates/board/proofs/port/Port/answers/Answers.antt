@@ -1,6 +1,6 @@
 use Rattle.std.proofs.Common.{List, subst, sym, ap, ◌∙◌}
 use Rattle.board.specs.Calls.{Calls}
-use Rattle.board.specs.Lists.{StandsIn}
+use Rattle.board.specs.Lists.{AreFirstChanges, StandsIn}
 use Rattle.board.specs.Ports.{PortState, with_pending}
 use Rattle.board.specs.Views.{ViewState}
 use Rattle.weigh.specs.declared.calls.Placed.{Placed}
@@ -14,4 +14,7 @@ returns-clause-stands c =
     let b : ViewState = with_pending s f.pending f.seat.me.0 in
     subst (λ (p : PortState). StandsIn p.setup p.view.own.process c.done.result.now p.view.seen) c.self.view_is
     (subst (λ (list : List Placed). StandsIn s b.own.process list b.seen) (sym (c.done.ensures ∙ ap (λ (k : Calls). k.done) c.self.invariant.calls))
-    (finished_stand s b.own.process b.own.calls.done b.own.calls.now b.seen c.self.invariant.stands))
+    (finished_stand s b.own.process b.own.calls.done b.own.calls.now b.seen c.self.invariant.stands.stands))
+
+pub returns-clause-seen : goal.returns-clause-seen
+returns-clause-seen c = subst (λ (p : PortState). AreFirstChanges p.setup p.view.seen) c.self.view_is c.self.invariant.stands.seen

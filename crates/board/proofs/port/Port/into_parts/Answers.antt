@@ -1,10 +1,13 @@
 use Rattle.std.proofs.Common.{sym, ap, ◌∙◌, subst}
-use Rattle.board.specs.Closings.{IsStill}
+use Rattle.board.specs.Calls.{Calls}
+use Rattle.board.specs.Closings.{IsStill, StandsInRecord}
 use Rattle.board.specs.Pending.{events_of}
-use Rattle.board.specs.Ports.{PortState}
+use Rattle.board.specs.Ports.{PortState, with_pending}
+use Rattle.board.specs.Views.{ViewState}
+use Rattle.board.proofs.SeenStands.{in_record}
 use Rattle.board.proofs.Happenings.{same_process_all}
 use Rattle.board.proofs.StillSeats.{still_seat}
-use Rattle.board.proofs.port.Port.into_seat.Goals as goal
+use Rattle.board.proofs.port.Port.into_parts.Goals as goal
 
 pub returns-clause-seat : goal.returns-clause-seat
 returns-clause-seat c = let f = c.self.inside in let s = f.process.setup in let v = f.seat.me.0 in let t = c.self.invariant.tied in let is = c.self.view_is in
@@ -16,3 +19,14 @@ returns-clause-seat c = let f = c.self.inside in let s = f.process.setup in let 
       calls = still.1 ∙ ap (λ (p : PortState). p.view.own.calls) is;
       seen = ap (λ (p : PortState). p.view.seen) is;
     }
+
+pub returns-clause-calls : goal.returns-clause-calls
+returns-clause-calls c = c.into_done.ensures ∙ ap (λ (k : Calls). k.done) c.self.invariant.calls ∙ ap (λ (p : PortState). p.view.own.calls.done) c.self.view_is
+
+pub returns-clause-stands : goal.returns-clause-stands
+returns-clause-stands c =
+    let f = c.self.inside in
+    let s = f.process.setup in
+    let b : ViewState = with_pending s f.pending f.seat.me.0 in
+    subst (λ (p : PortState). StandsInRecord p.setup p.view.own.process c.into_done.result.items) c.self.view_is
+    (subst (StandsInRecord s b.own.process) (sym (c.into_done.ensures ∙ ap (λ (k : Calls). k.done) c.self.invariant.calls)) (in_record s b c.self.invariant.stands))
