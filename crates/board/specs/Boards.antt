@@ -5,8 +5,9 @@ use Rattle.atomic_table.specs.Seated.{TableId}
 use Rattle.plain_store.specs.declared.Setup.{Setup}
 use Rattle.plain_store.specs.Setups.{checked}
 use Rattle.plain_store.specs.Store.{are_pairs}
+use Rattle.board.specs.declared.layout.Layout.{Layout}
 use Rattle.board.specs.Ports.{PortState}
-use Rattle.board.specs.Words.{words_in}
+use Rattle.board.specs.Words.{layout_of, words_in}
 use Rattle.weigh.specs.declared.calls.Placed.{Placed}
 
 -- the table of its words, and its setup
@@ -14,10 +15,11 @@ pub record BoardState : Type 0 where
   pub table_id : TableId
   pub setup : Setup
 
--- what the fields of a board keep: the setup is good, with opening pairs that are given; the table was made with it, has its words, and has no slots; and there is room for the lists of all ports
-pub record KeepsBoard (s key : Setup) (id : TableId) (answers : Vec (Vec Placed)) : Type 0 where
+-- what the fields of a board keep: the setup is good, with opening pairs that are given, and the layout is that of it; the table was made with it, has its words, and has no slots; and there is room for the lists of all ports
+pub record KeepsBoard (s : Setup) (layout : Layout) (key : Setup) (id : TableId) (answers : Vec (Vec Placed)) : Type 0 where
   pub good : checked s ≡ Ok tt
   pub pairs : are_pairs s.opening ≡ true
+  pub laid : layout ≡ layout_of s
   pub keyed : key ≡ s
   pub sized : id.words ≡ words_in s
   pub slotless : id.slots ≡ 0

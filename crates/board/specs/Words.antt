@@ -1,5 +1,5 @@
 -- The words of a board: one for each single-reader bit of each register, and what it shows of that bit.
-use Rattle.std.specs.Prelude.{ℕ, ◌+◌, ◌-◌, ◌*◌, ◌/◌, ◌%◌, ◌==◌, nat_lt, Bool, true, false, cond, List, [], ◌∷◌, take}
+use Rattle.std.specs.Prelude.{ℕ, ◌+◌, ◌-◌, ◌*◌, ◌/◌, ◌%◌, ◌==◌, nat_lt, Bool, true, false, cond, List, [], ◌∷◌, map, take}
 use Rattle.safe_bit.specs.Cell.{Cell}
 use Rattle.safe_bit.specs.declared.Move.{Move}
 use Rattle.safe_bit.specs.declared.Move.TheVariants.{BeginWrite, EndWrite, BeginRead, EndRead, Settle}
@@ -9,6 +9,7 @@ use Rattle.safe_number.specs.declared.Field.TheVariants.{Choosing, Ticket, Commi
 use Rattle.plain_store.specs.declared.Setup.{Setup}
 use Rattle.record.specs.Moves.{field_number}
 use Rattle.record.specs.Registers.{opening_bit, width}
+use Rattle.board.specs.declared.layout.Layout.{Layout}
 
 -- the registers of an owner, in order
 abbrev pub fields : List Field
@@ -30,6 +31,10 @@ first_bit s field = bits_of s (take (field_number field) fields)
 -- the word of the bit of an access: by owner, then by reader, then by its place in the row
 abbrev pub word_of : Setup → Access → ℕ
 word_of s a = (a.owner * s.processes + a.reader) * row_bits s + (first_bit s a.field + a.bit)
+
+-- what the word goes by, worked out once
+abbrev pub layout_of : Setup → Layout
+layout_of s = record { processes = s.processes; row = row_bits s; firsts = map (first_bit s) fields }
 
 -- how many words there are
 abbrev pub words_in : Setup → ℕ

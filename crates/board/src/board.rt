@@ -4,6 +4,7 @@ ghost use Rattle.board.specs.Ports.{PortState};
 ghost use Rattle.board.specs.Views.{first_view};
 ghost use Rattle.plain_store.specs.Setups.{checked};
 
+use crate::layout::Layout;
 use crate::opening::opening_words;
 use crate::port::Port;
 use crate::rule::{Agreement, Newcomer, View};
@@ -20,6 +21,8 @@ use weigh::Placed;
 pub struct Board {
     pub(crate) table: Table<(), View, Setup, Agreement, Global>,
     pub(crate) setup: Setup,
+    /// Where the words of its bits lie.
+    pub(crate) layout: Layout,
     /// Room for the lists of all ports, which are handed over when it is closed.
     pub(crate) answers: Vec<Vec<Placed>>,
 }
@@ -31,7 +34,7 @@ impl Model for Board {
 
     ghost view = { λ b. record { table_id = b.table.shared.table_id; setup = b.setup } };
 
-    ghost invariant = { λ b. KeepsBoard b.setup b.table.shared.key b.table.shared.table_id b.answers };
+    ghost invariant = { λ b. KeepsBoard b.setup b.layout b.table.shared.key b.table.shared.table_id b.answers };
 }
 
 impl Board {
@@ -95,6 +98,7 @@ fn opened(alloc: Global, setup: &Setup) -> Result<(Board, Place), AllocError>
         Board {
             table,
             setup: *setup,
+            layout: Layout::of(setup),
             answers,
         },
         seat,

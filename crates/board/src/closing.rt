@@ -59,6 +59,7 @@ impl Board {
             table,
             setup,
             mut answers,
+            ..
         } = self;
         answers.push_reserved(calls);
         join_all(&table.shared, &mut first, others, &mut answers);
@@ -83,12 +84,7 @@ fn are_quiet(ports: &Vec<Port>) -> bool
 
 /// Joins the seats of all other ports to port 0's, and adds their lists to those that there are, of which the next is that
 /// of the first of these ports.
-fn join_all(
-    words: &Words,
-    first: &mut Place,
-    mut others: Vec<Port>,
-    answers: &mut Vec<Vec<Placed>>,
-)
+fn join_all(words: &Words, first: &mut Place, mut others: Vec<Port>, answers: &mut Vec<Vec<Placed>>)
     requires table { (first.old.table_id ≡ words.now.table_id) × (0 < words.now.table_id.words) }
     requires first { (first.old.me.0.spent ≡ false) × (first.old.me.0.own.process ≡ 0) }
     requires others { AreOthers words.now.table_id words.now.key (vec_len answers.old) others.items × AreQuiet others.items }

@@ -7,6 +7,7 @@ mod calls;
 mod closing;
 mod driving;
 mod laws_of_boards;
+mod layout;
 mod opening;
 mod pending;
 mod port;

@@ -13,7 +13,7 @@ ghost use Rattle.process.specs.Processes.{process_after};
 use crate::board::Board;
 use crate::calls::CallList;
 use crate::pending::Pending;
-use crate::steps::{Place, word_step};
+use crate::steps::{Place, step_within, word_step};
 use plain_store::Command;
 use process::{Process, Told};
 use record::{Event, Refusal, Stage};
@@ -101,8 +101,8 @@ impl Port {
         self.calls.done()
     }
 
-    /// One word step.
-    #[inline]
+    /// One word step. Nearly all are within a number access at the data, and lead to nothing.
+    #[inline(always)]
     pub(crate) fn turn(&mut self, board: &Board, flick: bool) -> Told
         requires board { IsOf board.now self.old }
         requires goes { goes self.old.setup self.old.view.own ≡ true }
@@ -110,9 +110,24 @@ impl Port {
         ensures step { WordStep self.old.setup flick self.old.view self.new.view }
         ensures leads { LeadsTo self.old.setup result self.old.view.own self.new.view.own }
     {
+        if self.process.bits_within() > 1 {
+            step_within(
+                &board.table.shared,
+                &board.setup,
+                &board.layout,
+                &mut self.seat,
+                &mut self.process,
+                self.pending,
+                &mut self.value,
+                flick,
+            );
+            self.pending.clear();
+            return Told::Nothing;
+        }
         let told = word_step(
             &board.table.shared,
             &board.setup,
+            &board.layout,
             &mut self.seat,
             &mut self.process,
             self.pending,

@@ -9,7 +9,7 @@ ghost use Rattle.record.specs.Registers.{bytes_of_bits, image_bytes, width};
 ghost use Rattle.board.specs.Closings.{bits_shown, bytes_shown, version_shown, versions_shown};
 ghost use Rattle.board.specs.Words.{words_in};
 
-use crate::words::word_of;
+use crate::layout::Layout;
 use atomic_table::Closed;
 use plain_store::Setup;
 use safe_bit::Move;
@@ -37,7 +37,7 @@ fn bit_shown(setup: &Setup, words: &Words, owner: u8, field: Field, bit: u16) ->
         reader: 0,
         how: Move::BeginRead,
     };
-    words.word(word_of(setup, &access)) == 1
+    words.word(Layout::of(setup).word_of(setup, &access)) == 1
 }
 
 /// The number of some bits of a register, from a bit on.

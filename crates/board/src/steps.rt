@@ -4,19 +4,19 @@ ghost use Rattle.atomic_table.specs.Table.{Allows};
 ghost use Rattle.reader_copies.specs.Written.{IsWrite};
 ghost use Rattle.safe_bit.specs.declared.Move.TheVariants.{BeginRead};
 ghost use Rattle.safe_number.specs.declared.Access.{Access as Made};
-ghost use Rattle.plain_store.specs.Setups.{checked};
-ghost use Rattle.process.specs.Steps.{may_step};
+ghost use Rattle.process.specs.Steps.{bits_within, may_step};
+ghost use Rattle.process.specs.declared.told.Told.TheVariants as tells;
 ghost use Rattle.board.specs.Agreement.{Agree};
 ghost use Rattle.board.specs.Listing.{KnowsPlace, Lists};
 ghost use Rattle.board.specs.Lists.{StandsInSeen};
 ghost use Rattle.board.specs.Pending.{nothing};
 ghost use Rattle.board.specs.Ports.{IsNext, IsTied, with_pending};
-ghost use Rattle.board.specs.Words.{loaded, stored, words_in};
+ghost use Rattle.board.specs.Words.{layout_of, loaded, stored, words_in};
 ghost use Rattle.board.specs.WordSteps.{LeadsTo, Loads, Stores, WordStep, value_after};
 
+use crate::layout::Layout;
 use crate::pending::Pending;
 use crate::rule::{Agreement, Load, Store, Turn, View};
-use crate::words::word_of;
 use atomic_table::{Seat, Shared};
 use plain_store::Setup;
 use process::{Process, Told};
@@ -109,6 +109,32 @@ fn read(
     briefly(process.advance(flick, loaded(flick, found)))
 }
 
+/// The same within a number access at the data, where it leads to nothing.
+#[inline(always)]
+fn read_within(
+    words: &Words,
+    seat: &mut Place,
+    process: &mut Process,
+    word: usize,
+    pending: Pending,
+    flick: bool,
+)
+    requires place { (seat.old.table_id ≡ words.now.table_id) × (word < words.now.table_id.words) }
+    requires tied { (value : Bool) × IsTied words.now.key pending process.old value seat.old.me.0 }
+    requires next { (access : Made) × IsNext words.now.key process.old flick word access × (access.how ≡ BeginRead) }
+    requires within { 1 < bits_within process.old.kept }
+    ensures same { (seat.new.table_id ≡ seat.old.table_id) × (seat.new.id ≡ seat.old.id) × (seat.new.me.1 ≡ seat.old.me.1) }
+    ensures tied { (value : Bool) → IsTied words.now.key pending process.old value seat.old.me.0 → IsTied words.now.key nothing process.new value seat.new.me.0 }
+    ensures step { WordStep words.now.key flick (with_pending words.now.key pending seat.old.me.0) seat.new.me.0 }
+    ensures leads { LeadsTo words.now.key tells.Nothing (with_pending words.now.key pending seat.old.me.0).own seat.new.me.0.own }
+    ensures lists { (stamp : Option ℕ) → KnowsPlace stamp (with_pending words.now.key pending seat.old.me.0) → Lists stamp tells.Nothing (with_pending words.now.key pending seat.old.me.0) seat.new.me.0 }
+    ensures stands { StandsInSeen words.now.key seat.new.me.0 }
+{
+    let found = load::<Brand>(words, seat, word, flick, pending);
+    process.advance_within(false);
+    process.advance_within(loaded(flick, found));
+}
+
 /// One access of a write of one bit: one store.
 #[inline]
 fn write(
@@ -134,6 +160,31 @@ fn write(
     briefly(process.advance(flick, false))
 }
 
+/// The same within a number access at the data, where it leads to nothing.
+#[inline(always)]
+fn write_within(
+    words: &Words,
+    seat: &mut Place,
+    process: &mut Process,
+    word: usize,
+    new: u64,
+    pending: Pending,
+    flick: bool,
+)
+    requires place { (seat.old.table_id ≡ words.now.table_id) × (word < words.now.table_id.words) }
+    requires next { (value : Bool) × ((access : Made) × IsTied words.now.key pending process.old value seat.old.me.0 × IsNext words.now.key process.old flick word access × IsWrite access.how × (new ≡ stored value access.how)) }
+    requires within { 0 < bits_within process.old.kept }
+    ensures same { (seat.new.table_id ≡ seat.old.table_id) × (seat.new.id ≡ seat.old.id) × (seat.new.me.1 ≡ seat.old.me.1) }
+    ensures tied { (value : Bool) (access : Made) → IsTied words.now.key pending process.old value seat.old.me.0 → IsNext words.now.key process.old flick word access → IsWrite access.how → IsTied words.now.key nothing process.new (value_after access.how value) seat.new.me.0 }
+    ensures step { WordStep words.now.key flick (with_pending words.now.key pending seat.old.me.0) seat.new.me.0 }
+    ensures leads { LeadsTo words.now.key tells.Nothing (with_pending words.now.key pending seat.old.me.0).own seat.new.me.0.own }
+    ensures lists { (stamp : Option ℕ) → KnowsPlace stamp (with_pending words.now.key pending seat.old.me.0) → Lists stamp tells.Nothing (with_pending words.now.key pending seat.old.me.0) seat.new.me.0 }
+    ensures stands { StandsInSeen words.now.key seat.new.me.0 }
+{
+    store::<Brand>(words, seat, word, new, flick, pending);
+    process.advance_within(false);
+}
+
 /// What the store of a write's access writes, where the bit is written to `value`: the value of a begin, from then on.
 #[inline]
 fn stored(how: Move, value: &mut bool) -> u64
@@ -153,17 +204,18 @@ fn stored(how: Move, value: &mut bool) -> u64
 }
 
 /// One word step: the next access of the port's process, or of its memory unit; of a read, begin and end.
-#[inline]
+#[inline(never)]
 pub(crate) fn word_step(
     words: &Words,
     setup: &Setup,
+    layout: &Layout,
     seat: &mut Place,
     process: &mut Process,
     pending: Pending,
     value: &mut bool,
     flick: bool,
 ) -> Told
-    requires good { checked setup.now ≡ Ok tt }
+    requires laid { layout.now ≡ layout_of setup.now }
     requires table { (seat.old.table_id ≡ words.now.table_id) × (words.now.table_id.words ≡ words_in setup.now) × (words.now.key ≡ setup.now) }
     requires tied { IsTied words.now.key pending process.old value.old seat.old.me.0 }
     requires goes { may_step process.old.kept ≡ true }
@@ -175,13 +227,48 @@ pub(crate) fn word_step(
     ensures stands { StandsInSeen words.now.key seat.new.me.0 }
 {
     let access = process.next(flick);
-    let word = word_of(setup, &access);
+    let word = layout.word_of(setup, &access);
     match access.how {
         Move::BeginRead => read(words, seat, process, word, pending, flick),
         Move::EndRead(_) => unreachable!(),
         _ => {
             let new = stored(access.how, value);
             write(words, seat, process, word, new, pending, flick)
+        }
+    }
+}
+
+/// The same within a number access at the data, where nearly all word steps are: it leads to nothing.
+#[inline(always)]
+pub(crate) fn step_within(
+    words: &Words,
+    setup: &Setup,
+    layout: &Layout,
+    seat: &mut Place,
+    process: &mut Process,
+    pending: Pending,
+    value: &mut bool,
+    flick: bool,
+)
+    requires laid { layout.now ≡ layout_of setup.now }
+    requires table { (seat.old.table_id ≡ words.now.table_id) × (words.now.table_id.words ≡ words_in setup.now) × (words.now.key ≡ setup.now) }
+    requires tied { IsTied words.now.key pending process.old value.old seat.old.me.0 }
+    requires within { 1 < bits_within process.old.kept }
+    ensures same { (seat.new.table_id ≡ seat.old.table_id) × (seat.new.id ≡ seat.old.id) × (seat.new.me.1 ≡ seat.old.me.1) }
+    ensures tied { IsTied words.now.key nothing process.new value.new seat.new.me.0 }
+    ensures step { WordStep words.now.key flick (with_pending words.now.key pending seat.old.me.0) seat.new.me.0 }
+    ensures leads { LeadsTo words.now.key tells.Nothing (with_pending words.now.key pending seat.old.me.0).own seat.new.me.0.own }
+    ensures lists { (stamp : Option ℕ) → KnowsPlace stamp (with_pending words.now.key pending seat.old.me.0) → Lists stamp tells.Nothing (with_pending words.now.key pending seat.old.me.0) seat.new.me.0 }
+    ensures stands { StandsInSeen words.now.key seat.new.me.0 }
+{
+    let access = process.next_at_data();
+    let word = layout.word_of(setup, &access);
+    match access.how {
+        Move::BeginRead => read_within(words, seat, process, word, pending, flick),
+        Move::EndRead(_) => unreachable!(),
+        _ => {
+            let new = stored(access.how, value);
+            write_within(words, seat, process, word, new, pending, flick);
         }
     }
 }

@@ -3,8 +3,7 @@
 ghost use Rattle.std.specs.Prelude.{◌≡◌, ◌+◌, ◌<◌, ◌≤◌, Ok};
 ghost use Rattle.plain_store.specs.Setups.{checked};
 ghost use Rattle.record.specs.Registers.{width};
-ghost use Rattle.laws.specs.Held.{IsThere};
-ghost use Rattle.board.specs.Words.{bit_of, first_bit, row_bits, word_of, words_in};
+ghost use Rattle.board.specs.Words.{bit_of, first_bit, row_bits, words_in};
 
 use plain_store::Setup;
 use safe_bit::Move;
@@ -29,7 +28,7 @@ fn width(setup: &Setup, field: Field) -> usize
 
 /// Where in a row the bits of a register begin.
 #[inline]
-fn first_bit(setup: &Setup, field: Field) -> usize
+pub(crate) fn first_bit(setup: &Setup, field: Field) -> usize
     requires { checked setup.now ≡ Ok tt }
     ensures first { result ≡ first_bit setup.now field }
     ensures most { result ≤ 1826 }
@@ -65,18 +64,6 @@ pub(crate) fn words_in(setup: &Setup) -> usize
 {
     let processes = usize::from(setup.processes);
     processes * processes * row_bits(setup)
-}
-
-/// The word of the bit of an access.
-#[inline]
-pub(crate) fn word_of(setup: &Setup, access: &Access) -> usize
-    requires good { checked setup.now ≡ Ok tt }
-    requires there { IsThere setup.now access.now }
-    ensures word { result ≡ word_of setup.now access.now }
-{
-    let processes = usize::from(setup.processes);
-    let copy = usize::from(access.owner) * processes + usize::from(access.reader);
-    copy * row_bits(setup) + first_bit(setup, access.field) + usize::from(access.bit)
 }
 
 /// The register at a place in a row.

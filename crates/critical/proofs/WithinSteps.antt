@@ -22,10 +22,11 @@ use Rattle.critical.specs.declared.standing.Called.{Called}
 use Rattle.critical.specs.declared.standing.Standing.TheVariants as keeps
 use Rattle.critical.specs.declared.standing.Versions.{Versions}
 use Rattle.critical.specs.Changes.{change_bits, change_field}
-use Rattle.critical.specs.Keeping.{call_of, register_asked, section_of}
+use Rattle.critical.specs.declared.standing.Standing as kept
+use Rattle.critical.specs.Keeping.{IsRunOf, call_of, made_next, register_asked, register_next, section_of}
 use Rattle.critical.specs.Registers.{DataRow, after_access, answered, register_at, MayMake}
 use Rattle.critical.specs.Sections.{GoesOnWithin, MayStep, Section, bits_within, field_read, goes, is_going, section_at}
-use Rattle.critical.specs.Standings.{asking, standing_at}
+use Rattle.critical.specs.Standings.{asking, shown, standing_at}
 use Rattle.critical.proofs.Advances.{read-asked, written-bits, written-field}
 use Rattle.critical.proofs.Ends.{goes-asking, of-call, run-read, run-write}
 use Rattle.critical.proofs.Within.{is_within, read-fewer, within-marks, within-place, write-fewer}
@@ -50,6 +51,14 @@ run-moved : (c : Call) (part : Part) (r : NumberRead) (me : ℕ) (v : Bool) → 
 run-moved c part r me v = by r.begun
   where
     by : (begun : Bool) → (let now = number_read_after (record { width = r.width; bits = r.bits; begun = begun; room = r.room }) v in Reading now.bits now.begun) ≡ run_after c part (Reading r.bits begun) (value_of (if begun then EndRead v else BeginRead))
+    by true = refl
+    by false = refl
+
+-- and so it does by the value, at which a begin does not look
+pub run-on : (c : Call) (part : Part) (r : NumberRead) (v : Bool) → (let now = number_read_after r v in Reading now.bits now.begun) ≡ run_after c part (Reading r.bits r.begun) v
+run-on c part r v = by r.begun
+  where
+    by : (begun : Bool) → (let now = number_read_after (record { width = r.width; bits = r.bits; begun = begun; room = r.room }) v in Reading now.bits now.begun) ≡ run_after c part (Reading r.bits begun) v
     by true = refl
     by false = refl
 
@@ -82,11 +91,50 @@ read-access called part versions asked r w row flick is =
         ∙ ap (λ (f : ℕ × Field). answered row flick (access_of f.0 f.1 (next_of_read called.process r false))) same-asked
         ∙ ap (λ run. answered row flick (access_at c at.part run)) (sym (run-read called part versions r w c at same))
 
+-- told as a section tells it
+pub read-next : (called : Called) (part : Asked) (versions : Versions) (r : NumberRead) (w : NumberWrite) (v : Bool) → (c : Call) (at : Place) → section_of called (keeps.Reads part versions) r w ≡ section_at c at →
+    access_of (register_asked part versions).0 (register_asked part versions).1 (next_of_read called.process r v) ≡ ended_with v (access_at c at.part at.run)
+read-next called part versions r w v =
+    of-call called (keeps.Reads part versions) r w (λ c at. access_of asked.0 asked.1 (next_of_read called.process r v) ≡ ended_with v (access_at c at.part at.run)) here
+  where
+    asked : ℕ × Field
+    asked = register_asked part versions
+
+    to : Move → Access
+    to how = record { owner = asked.0; field = asked.1; bit = length r.bits; reader = called.process; how = how }
+
+    here : (at : Place) → section_of called (keeps.Reads part versions) r w ≡ section_at (call_of called) at → access_of asked.0 asked.1 (next_of_read called.process r v) ≡ ended_with v (access_at (call_of called) at.part at.run)
+    here at same =
+        let c = call_of called in
+        let same-asked : asked ≡ read_at c at.part = sym (read-asked c at.part called.setup.processes part versions (ap (λ (s : Section). s.standing) (sym same))) in
+        ap to (sym (ended-read v r.begun))
+        ∙ ap (λ (f : ℕ × Field). ended_with v (access_of f.0 f.1 (next_of_read called.process r false))) same-asked
+        ∙ ap (λ run. ended_with v (access_at c at.part run)) (sym (run-read called part versions r w c at same))
+
 -- it may be made
 pub read-may : (called : Called) (part : Asked) (versions : Versions) (asked : ℕ × Field) (r : NumberRead) (w : NumberWrite) (row : DataRow) (flick : Bool) → asked ≡ register_asked part versions →
     MayStep (section_of called (keeps.Reads part versions) r w) row flick →
     MayMake row (access_of asked.0 asked.1 (next_of_read called.process r (loaded (register_at row asked.0 asked.1) called.process r flick)))
 read-may called part versions asked r w row flick is m = subst (MayMake row) (sym (read-access called part versions asked r w row flick is m.call m.place m.is_shown)) m.may
+
+-- the section past it
+pub read-past : (called : Called) (part : Asked) (versions : Versions) (r now : NumberRead) (w : NumberWrite) (v : Bool) → is_within (section_of called (keeps.Reads part versions) r w) ≡ true →
+    ((c : Call) (part : Part) → Reading now.bits now.begun ≡ run_after c part (Reading r.bits r.begun) v) →
+    (c : Call) (at : Place) → section_of called (keeps.Reads part versions) r w ≡ section_at c at → section_of called (keeps.Reads part versions) now w ≡ section_at c (place_after c at v)
+read-past called part versions r now w v within moved c at same =
+    stays (section_of called (keeps.Reads part versions) r w) c at (Reading now.bits now.begun) same (goes-asking called.setup.processes part versions)
+    ∙ ap (λ run. section_at c (record { part = at.part; run = run })) (moved c at.part ∙ ap (λ run. run_after c at.part run v) (sym (run-read called part versions r w c at same)))
+    ∙ ap (section_at c) (sym (within-place c at v (ap is_within (sym same) ∙ within)))
+
+-- it has at most one bit less to go
+pub read-counts : (called : Called) (part : Asked) (versions : Versions) (r now : NumberRead) (w : NumberWrite) (v : Bool) → now ≡ number_read_after r v →
+    bits_within (section_of called (keeps.Reads part versions) r w) ≤ bits_within (section_of called (keeps.Reads part versions) now w) + 1
+read-counts called part versions r now w v moved =
+    let n = called.setup.processes in
+    let wide : ℕ = width called.setup (field_read (asking n part versions)) in
+    let counted : Bool → NumberRead → ℕ = λ b x. cond b (wide - (length x.bits + 1)) 0 in
+    subst (λ (x : NumberRead). counted (goes (asking n part versions)) r ≤ counted (goes (asking n part versions)) x + 1) (sym moved)
+    (subst (λ b. counted b r ≤ counted b (number_read_after r v) + 1) (sym (goes-asking n part versions)) (read-fewer r v wide))
 
 -- the section and the registers past it
 pub read-goes : (called : Called) (part : Asked) (versions : Versions) (asked : ℕ × Field) (r now : NumberRead) (w : NumberWrite) (row after : DataRow) (flick : Bool) → asked ≡ register_asked part versions →
@@ -99,9 +147,9 @@ read-goes called part versions asked r now w row after flick is within moved mad
       access = access;
       is_next = read-access called part versions asked r w row flick is;
       registers = made;
-      place = λ c at same. past c at same;
+      place = read-past called part versions r now w (value_of access.how) within (λ c part. ap (λ (x : NumberRead). Reading x.bits x.begun) moved ∙ run-moved c part r called.process v);
       marks = λ c at same. within-marks c at _ (ap is_within (sym same) ∙ within);
-      fewer = fewer-bits;
+      fewer = read-counts called part versions r now w v moved;
       going = goes-asking called.setup.processes part versions;
     }
   where
@@ -110,21 +158,6 @@ read-goes called part versions asked r now w row after flick is within moved mad
 
     access : Access
     access = access_of asked.0 asked.1 (next_of_read called.process r v)
-
-    fewer-bits : bits_within (section_of called (keeps.Reads part versions) r w) ≤ bits_within (section_of called (keeps.Reads part versions) now w) + 1
-    fewer-bits =
-        let n = called.setup.processes in
-        let wide : ℕ = width called.setup (field_read (asking n part versions)) in
-        let counted : Bool → NumberRead → ℕ = λ b x. cond b (wide - (length x.bits + 1)) 0 in
-        subst (λ (x : NumberRead). counted (goes (asking n part versions)) r ≤ counted (goes (asking n part versions)) x + 1) (sym moved)
-        (subst (λ b. counted b r ≤ counted b (number_read_after r v) + 1) (sym (goes-asking n part versions)) (read-fewer r v wide))
-
-    past : (c : Call) (at : Place) → section_of called (keeps.Reads part versions) r w ≡ section_at c at → section_of called (keeps.Reads part versions) now w ≡ section_at c (place_after c at (value_of access.how))
-    past c at same =
-        ap (λ (x : NumberRead). section_of called (keeps.Reads part versions) x w) moved
-        ∙ stays (section_of called (keeps.Reads part versions) r w) c at (Reading (number_read_after r v).bits (number_read_after r v).begun) same (goes-asking called.setup.processes part versions)
-        ∙ ap (λ run. section_at c (record { part = at.part; run = run })) (run-moved c at.part r called.process v ∙ ap (λ run. run_after c at.part run (value_of access.how)) (sym (run-read called part versions r w c at same)))
-        ∙ ap (section_at c) (sym (within-place c at (value_of access.how) (ap is_within (sym same) ∙ within)))
 
 -- the access of a write: of a register of the section's own process, and as it was where only the ends of reads are answered
 write-at : (called : Called) (part : Written) (change : Change) (r : NumberRead) (w : NumberWrite) (f : Access → Access) → w.width ≡ width called.setup (change_field part change) →
@@ -175,6 +208,40 @@ pub write-may : (called : Called) (part : Written) (change : Change) (r : Number
     MayMake row (access_of called.process (change_field part change) (next_written (change_bits part change w.width) w))
 write-may called part change r w row flick wide m = subst (MayMake row) (sym (write-access called part change r w row flick wide m.call m.place m.is_shown)) m.may
 
+-- the section past it
+pub write-past : (called : Called) (part : Written) (change : Change) (r : NumberRead) (w now : NumberWrite) (v : Bool) → w.width ≡ width called.setup (change_field part change) →
+    is_within (section_of called (keeps.Writes part change) r w) ≡ true →
+    now ≡ write_moved called.setup.processes (change_bits part change w.width) w →
+    (c : Call) (at : Place) → section_of called (keeps.Writes part change) r w ≡ section_at c at → section_of called (keeps.Writes part change) r now ≡ section_at c (place_after c at v)
+write-past called part change r w now v wide within moved =
+    of-call called (keeps.Writes part change) r w (λ c at. section_of called (keeps.Writes part change) r now ≡ section_at c (place_after c at v)) past
+  where
+    bits : List Bool
+    bits = change_bits part change w.width
+
+    past : (at : Place) → section_of called (keeps.Writes part change) r w ≡ section_at (call_of called) at → section_of called (keeps.Writes part change) r now ≡ section_at (call_of called) (place_after (call_of called) at v)
+    past at same =
+        let c = call_of called in
+        let standing = ap (λ (s : Section). s.standing) (sym same) in
+        ap (λ (x : NumberWrite). section_of called (keeps.Writes part change) r x) moved
+        ∙ stays (section_of called (keeps.Writes part change) r w) c at (Writing (write_moved called.setup.processes bits w)) same refl
+        ∙ ap (λ bs. section_at c (record { part = at.part; run = Writing (write_moved called.setup.processes bs w) })) (sym (written-bits c at.part part change w.width standing wide))
+        ∙ ap (λ run. section_at c (record { part = at.part; run = run_after c at.part run v })) (sym (run-write called part change r w c at same))
+        ∙ ap (section_at c) (sym (within-place c at v (ap is_within (sym same) ∙ within)))
+
+-- it has at most one bit less to go
+pub write-counts : (called : Called) (part : Written) (change : Change) (r : NumberRead) (w now : NumberWrite) → now ≡ write_moved called.setup.processes (change_bits part change w.width) w →
+    bits_within (section_of called (keeps.Writes part change) r w) ≤ bits_within (section_of called (keeps.Writes part change) r now) + 1
+write-counts called part change r w now moved = subst (λ (x : NumberWrite). w.width - (w.bit + 1) ≤ x.width - (x.bit + 1) + 1) (sym moved) (write-fewer w _)
+
+-- the next access, as a section tells it
+pub next-shown : (called : Called) (standing : kept.Standing) (r : NumberRead) (w : NumberWrite) (v : Bool) → IsRunOf called.setup standing r w → goes (shown called.setup.processes standing) ≡ true →
+    (c : Call) (at : Place) → section_of called standing r w ≡ section_at c at →
+    access_of (register_next called standing).0 (register_next called standing).1 (made_next called standing r w v) ≡ ended_with v (access_at c at.part at.run)
+next-shown called (keeps.Reads part versions) r w v run going = read-next called part versions r w v
+next-shown called (keeps.Writes part change) r w v run going = write-next called part change r w v run.wide
+next-shown called keeps.Done r w v run going = absurd (cc)
+
 -- the section and the registers past it
 pub write-goes : (called : Called) (part : Written) (change : Change) (r : NumberRead) (w now : NumberWrite) (row after : DataRow) (flick : Bool) → w.width ≡ width called.setup (change_field part change) →
     is_within (section_of called (keeps.Writes part change) r w) ≡ true →
@@ -186,9 +253,9 @@ write-goes called part change r w now row after flick wide within moved made =
       access = access;
       is_next = write-access called part change r w row flick wide;
       registers = made;
-      place = of-call called (keeps.Writes part change) r w (λ c at. section_of called (keeps.Writes part change) r now ≡ section_at c (place_after c at (value_of access.how))) past;
+      place = write-past called part change r w now (value_of access.how) wide within moved;
       marks = λ c at same. within-marks c at _ (ap is_within (sym same) ∙ within);
-      fewer = subst (λ (x : NumberWrite). w.width - (w.bit + 1) ≤ x.width - (x.bit + 1) + 1) (sym moved) (write-fewer w _);
+      fewer = write-counts called part change r w now moved;
       going = refl;
     }
   where
@@ -197,13 +264,3 @@ write-goes called part change r w now row after flick wide within moved made =
 
     access : Access
     access = access_of called.process (change_field part change) (next_written bits w)
-
-    past : (at : Place) → section_of called (keeps.Writes part change) r w ≡ section_at (call_of called) at → section_of called (keeps.Writes part change) r now ≡ section_at (call_of called) (place_after (call_of called) at (value_of access.how))
-    past at same =
-        let c = call_of called in
-        let standing = ap (λ (s : Section). s.standing) (sym same) in
-        ap (λ (x : NumberWrite). section_of called (keeps.Writes part change) r x) moved
-        ∙ stays (section_of called (keeps.Writes part change) r w) c at (Writing (write_moved called.setup.processes bits w)) same refl
-        ∙ ap (λ bs. section_at c (record { part = at.part; run = Writing (write_moved called.setup.processes bs w) })) (sym (written-bits c at.part part change w.width standing wide))
-        ∙ ap (λ run. section_at c (record { part = at.part; run = run_after c at.part run (value_of access.how) })) (sym (run-write called part change r w c at same))
-        ∙ ap (section_at c) (sym (within-place c at (value_of access.how) (ap is_within (sym same) ∙ within)))

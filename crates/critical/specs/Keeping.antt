@@ -1,11 +1,13 @@
 -- What the fields of a section keep.
-use Rattle.std.specs.Prelude.{◌≡◌, ℕ, ◌+◌, ◌*◌, ◌^◌, ◌<◌, false, [], length, Ok}
+use Rattle.std.specs.Prelude.{◌≡◌, ℕ, ◌+◌, ◌*◌, ◌^◌, ◌<◌, Bool, false, [], length, Ok}
+use Rattle.safe_bit.specs.declared.Move.TheVariants.{BeginRead}
+use Rattle.reader_copies.specs.declared.Made.{Made}
 use Rattle.safe_number.specs.declared.Field.{Field}
 use Rattle.safe_number.specs.declared.Field.TheVariants as field
-use Rattle.safe_number.specs.Runs.{NumberRead, NumberWrite, new_write}
+use Rattle.safe_number.specs.Runs.{NumberRead, NumberWrite, new_write, next_of_read}
 use Rattle.plain_store.specs.Setups.{checked, callers_of}
 use Rattle.plain_store.specs.declared.Setup.{Setup}
-use Rattle.record.specs.Places.{Run, Reading, Writing}
+use Rattle.record.specs.Places.{Run, Reading, Writing, next_written}
 use Rattle.record.specs.Program.{stamp_field, image_field}
 use Rattle.record.specs.Registers.{width, image_bytes}
 use Rattle.record.specs.Scripts.{Call}
@@ -17,7 +19,7 @@ use Rattle.critical.specs.declared.standing.Called.{Called}
 use Rattle.critical.specs.declared.standing.Standing.{Standing}
 use Rattle.critical.specs.declared.standing.Standing.TheVariants.{Reads, Writes, Done}
 use Rattle.critical.specs.declared.standing.Versions.{Versions}
-use Rattle.critical.specs.Changes.{change_field, made_so_far}
+use Rattle.critical.specs.Changes.{change_bits, change_field, made_so_far}
 use Rattle.critical.specs.Sections.{Section}
 use Rattle.critical.specs.Standings.{shown}
 
@@ -30,6 +32,18 @@ abbrev pub register_asked : Asked → Versions → ℕ × Field
 register_asked (asked.Commit k) versions = (k, field.Commit)
 register_asked (asked.Stamp k commit) versions = (k, stamp_field commit)
 register_asked asked.Image versions = (versions.newest.process, image_field versions.newest.commit)
+
+-- the register of the next access, and whose it is
+abbrev pub register_next : Called → Standing → ℕ × Field
+register_next c (Reads part versions) = register_asked part versions
+register_next c (Writes part change) = (c.process, change_field part change)
+register_next c Done = (c.process, field.Commit)
+
+-- its bit, and what is made of it; the end of a read gives this value
+abbrev pub made_next : Called → Standing → NumberRead → NumberWrite → Bool → ℕ × Made
+made_next c (Reads part versions) r w value = next_of_read c.process r value
+made_next c (Writes part change) r w value = next_written (change_bits part change w.width) w
+made_next c Done r w value = (0, record { reader = c.process; how = BeginRead })
 
 -- the number access, as a read or as a write
 abbrev pub run_of : Standing → NumberRead → NumberWrite → Run

@@ -1,4 +1,4 @@
-ghost use Rattle.std.specs.Prelude.{◌≡◌, ◌<◌, ◌≤◌, ◌*◌, true, length, IfOk, IfSome, Ok};
+ghost use Rattle.std.specs.Prelude.{◌≡◌, ◌+◌, ◌<◌, ◌≤◌, ◌*◌, true, [], length, IfOk, IfSome, Ok};
 ghost use Rattle.safe_number.specs.Runs.{new_write};
 ghost use Rattle.plain_store.specs.Setups.{checked};
 ghost use Rattle.record.specs.Cuts.{IsTornOf, pending_at, torn_at, torn_in};
@@ -92,23 +92,21 @@ impl Section {
     }
 
     /// The next access: the process's local program, parts E to G. The end of a read gives `value`.
-    #[inline]
+    #[inline(always)]
     pub fn next(&self, value: bool) -> Access
         requires going { is_going self.now ≡ true }
         ensures place { (c : Call) (at : Place) → self.now ≡ section_at c at → result ≡ ended_with value (access_at c at.part at.run) }
         ensures in_range { IsInRange self.now.call.setup result }
     {
-        let me = self.call.process;
-        match &self.standing {
-            Standing::Reads { part, versions } => {
-                let (owner, field) = standing::register_asked(part, versions);
-                Access::of(owner, field, self.reading.next(me, value))
-            }
-            Standing::Writes { part, change } => {
-                Access::of(me, change.field(*part), change.next(*part, &self.writing))
-            }
-            Standing::Done => unreachable!(),
-        }
+        let (owner, field) = standing::register_next(&self.call, &self.standing);
+        let made = standing::made_next(
+            &self.call,
+            &self.standing,
+            &self.reading,
+            &self.writing,
+            value,
+        );
+        Access::of(owner, field, made)
     }
 
     /// Goes on by that access. The end of a read keeps `value`; with any other access it is not looked at.
@@ -158,6 +156,27 @@ impl Section {
                         progress
                     }
                 }
+            }
+            Standing::Done => unreachable!(),
+        }
+    }
+
+    /// Goes on as `advance` does by an access that is within a number access, and tells nothing.
+    #[inline(always)]
+    pub fn advance_within(&mut self, value: bool)
+        requires { 0 < bits_within self.old }
+        ensures place { (c : Call) (at : Place) → self.old ≡ section_at c at → self.new ≡ section_at c (place_after c at value) }
+        ensures marks { (c : Call) (at : Place) → self.old ≡ section_at c at → marks_of c at value ≡ [] }
+        ensures going { is_going self.new ≡ true }
+        ensures fewer { bits_within self.old ≤ bits_within self.new + 1 }
+    {
+        match &self.standing {
+            Standing::Reads { .. } => {
+                self.reading.advance(value);
+            }
+            Standing::Writes { part, change } => {
+                let readers = self.call.setup.processes;
+                change.advance(*part, &mut self.writing, readers);
             }
             Standing::Done => unreachable!(),
         }

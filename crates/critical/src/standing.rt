@@ -8,7 +8,7 @@ ghost use Rattle.record.specs.Parts.{Part, part_after, to_e};
 ghost use Rattle.record.specs.Program.{Version, store_read, reply};
 ghost use Rattle.record.specs.Registers.{width};
 ghost use Rattle.record.specs.Scripts.{Call, caller};
-ghost use Rattle.critical.specs.Keeping.{call_of, register_asked, IsCall, IsAsked, IsNewest, IsChange, IsStanding};
+ghost use Rattle.critical.specs.Keeping.{call_of, made_next, register_asked, register_next, IsCall, IsKept, IsAsked, IsNewest, IsChange, IsStanding};
 ghost use Rattle.critical.specs.Sections.{changes_at, told, goes, goes_on};
 ghost use Rattle.critical.specs.Standings.{standing_at, versions_of, asking, shown, Writes};
 
@@ -17,7 +17,8 @@ use crate::image;
 use crate::newest::Newest;
 use crate::progress::SectionProgress;
 use plain_store::{Caller, Command, Reply, Setup, Store, Value};
-use safe_number::{Field, ReadRun, number_of};
+use reader_copies::Made;
+use safe_number::{Field, ReadRun, WriteRun, number_of};
 use store_image::Image;
 
 /// A call inside the critical section.
@@ -81,6 +82,39 @@ pub(crate) fn register_asked(part: &Asked, versions: &Versions) -> (u8, Field)
             versions.newest.process,
             change::image_field(versions.newest.commit),
         ),
+    }
+}
+
+/// The register of the next access, and whose it is.
+#[inline(always)]
+pub(crate) fn register_next(call: &Called, standing: &Standing) -> (u8, Field)
+    requires { goes (shown call.now.setup.processes standing.now) ≡ true }
+    ensures { result ≡ register_next call.now standing.now }
+{
+    match standing {
+        Standing::Reads { part, versions } => register_asked(part, versions),
+        Standing::Writes { part, change } => (call.process, change.field(*part)),
+        Standing::Done => unreachable!(),
+    }
+}
+
+/// The bit of that access, and what is made of it. The end of a read gives `value`.
+#[inline(always)]
+pub(crate) fn made_next(
+    call: &Called,
+    standing: &Standing,
+    reading: &ReadRun,
+    writing: &WriteRun,
+    value: bool,
+) -> (u16, Made)
+    requires going { goes (shown call.now.setup.processes standing.now) ≡ true }
+    requires kept { IsKept call.now standing.now reading.now writing.now }
+    ensures { result ≡ made_next call.now standing.now reading.now writing.now value }
+{
+    match standing {
+        Standing::Reads { .. } => reading.next(call.process, value),
+        Standing::Writes { part, change } => change.next(*part, writing),
+        Standing::Done => unreachable!(),
     }
 }
 

@@ -1,12 +1,12 @@
 //! The next access of a process, and how it goes on by it.
-ghost use Rattle.std.specs.Prelude.{◌≡◌, true, false, Bool, IfSome, None, Some};
+ghost use Rattle.std.specs.Prelude.{◌≡◌, ◌+◌, ◌<◌, ◌≤◌, true, false, Bool, [], IfSome, None, Some};
 ghost use Rattle.critical.specs.Registers.{is_data};
 ghost use Rattle.laws.specs.Doings.{Doing};
 ghost use Rattle.laws.specs.Held.{IsThere};
 ghost use Rattle.laws.specs.Steps.{does_then, marks_with, next_of};
 ghost use Rattle.process.specs.Keeping.{is_at_data, is_clearing, is_door, is_unit_freeing, is_unit_settling, is_withdrawing, stage_waiting};
 ghost use Rattle.process.specs.Processes.{kept_at, stage_kept};
-ghost use Rattle.process.specs.Steps.{IsAt, changes_read, is_at_door, may_step};
+ghost use Rattle.process.specs.Steps.{IsAt, bits_within, changes_read, is_at_door, may_step};
 ghost use Rattle.process.specs.Telling.{changes_told, marks_told};
 ghost use Rattle.process.specs.declared.process.Work.TheVariants as works;
 
@@ -34,9 +34,9 @@ impl Process {
         }
     }
 
-    /// The same at the data, where it is to a register of the versions.
-    #[inline]
-    pub(crate) fn next_at_data(&self) -> Access
+    /// The next access at the data, where it is to a register of the versions.
+    #[inline(always)]
+    pub fn next_at_data(&self) -> Access
         requires { is_at_data self.now.kept ≡ true }
         ensures access { (d : Doing) (flick : Bool) → IsAt self.now d → next_of self.now.setup self.now.process d flick ≡ Some result }
         ensures there { IsThere self.now.setup result }
@@ -45,7 +45,7 @@ impl Process {
         self.section.next(false)
     }
 
-    /// The same elsewhere than at the data.
+    /// The next access elsewhere than at the data.
     #[inline]
     pub(crate) fn next_elsewhere(&self, flick: bool) -> Access
         requires goes { may_step self.now.kept ≡ true }
@@ -143,6 +143,18 @@ impl Process {
             }
         }
         told_at_data(&progress)
+    }
+
+    /// Goes on by an access within a number access at the data, which leads to nothing.
+    #[inline(always)]
+    pub fn advance_within(&mut self, value: bool)
+        requires within { 0 < bits_within self.old.kept }
+        requires at { (d : Doing) × IsAt self.old d }
+        ensures process { (flick : Bool) (d : Doing) → IsAt self.old d → self.new ≡ record self.old { kept = kept_at self.old.setup self.old.process (does_then self.old.setup self.old.process d flick value) } }
+        ensures marks { (flick : Bool) (d : Doing) → IsAt self.old d → marks_with self.old.setup self.old.process d flick value ≡ [] }
+        ensures fewer { bits_within self.old.kept ≤ bits_within self.new.kept + 1 }
+    {
+        self.section.advance_within(value);
     }
 
     /// The same while the ticket is cleared before the answer.

@@ -11,7 +11,6 @@ use Rattle.board.specs.Ports.{PortState}
 use Rattle.board.specs.Views.{OwnView, ViewState, with_joined}
 use Rattle.weigh.specs.declared.calls.Placed.{Placed}
 use Rattle.weigh.specs.Weighing.{lists_of}
-
 use Rattle.board.proofs.Closings.{joins_still}
 use Rattle.board.proofs.PortLists.{all_push, first_and_rest, item_at, rest_of}
 use Rattle.board.proofs.closing.join_all.Goals as goal

@@ -1,16 +1,11 @@
-use Rattle.std.proofs.Common.{◌≡◌, ◌∙◌, sym, ap, subst}
+use Rattle.std.proofs.Common.{◌∙◌, ap}
 use Rattle.safe_number.specs.Accesses.{access_of}
-use Rattle.critical.specs.declared.standing.Standing.TheVariants as keeps
-use Rattle.critical.specs.Changes.{change_field}
-use Rattle.critical.specs.Keeping.{section_of, IsRunOf, IsWriteOf}
-use Rattle.critical.specs.Sections.{section_at}
-use Rattle.critical.proofs.WithinSteps.{write-next}
+use Rattle.critical.specs.Sections.{is_going}
+use Rattle.critical.proofs.WithinSteps.{next-shown}
 use Rattle.critical.proofs.section.Section.next.Goals as goal
 
-pub returns-in-Writes-clause-place : goal.returns-in-Writes-clause-place
-returns-in-Writes-clause-place c = λ call at same.
+pub returns-clause-place : goal.returns-clause-place
+returns-clause-place c = λ call at same.
     let s = c.self.inside in
-    let run : IsWriteOf s.call.setup (change_field c.in-Writes.part c.in-Writes.change) s.writing = subst (λ st. IsRunOf s.call.setup st s.reading s.writing) c.in-Writes.is c.self.invariant.run in
-    let shown : section_of s.call (keeps.Writes c.in-Writes.part c.in-Writes.change) s.reading s.writing ≡ section_at call at = ap (λ st. section_of s.call st s.reading s.writing) (sym c.in-Writes.is) ∙ c.self.view_is ∙ same in
-    c.of-in-Writes.ensures ∙ (λ i. access_of s.call.process (c.field.ensures i) (c.next-in-Writes.ensures i))
-    ∙ write-next s.call c.in-Writes.part c.in-Writes.change s.reading s.writing c.args.value run.wide call at shown
+    c.of.ensures ∙ (λ i. access_of (c.register_next-owner.ensures i).0 (c.register_next-owner.ensures i).1 (c.made_next-made.ensures i))
+    ∙ next-shown s.call s.standing s.reading s.writing c.args.value c.self.invariant.run (ap is_going c.self.view_is ∙ c.requires.going) call at (c.self.view_is ∙ same)

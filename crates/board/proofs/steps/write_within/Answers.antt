@@ -1,0 +1,30 @@
+use Rattle.std.proofs.Common.{inr, ap, sym}
+use Rattle.process.specs.declared.told.Told.TheVariants.{Nothing}
+use Rattle.board.specs.Ports.{with_pending}
+use Rattle.board.specs.WordSteps.{value_after}
+use Rattle.board.proofs.Listings.{lists_stored}
+use Rattle.board.proofs.Ties.{is_at, leads_stored, may_store, tied_stored}
+use Rattle.board.proofs.steps.write_within.Goals as goal
+
+pub store-requires-clause-keeps : goal.store-requires-clause-keeps
+store-requires-clause-keeps c = let n = c.requires.next in
+    may_store c.args.words.now.key _ _ _ _ c.args.flick n.0 c.args.seat.now.me c.args.pending c.args.process.now n.1.0 n.1.1 n.1.2 n.1.3 n.1.4
+
+pub advance_within-requires-clause-at : goal.advance_within-requires-clause-at
+advance_within-requires-clause-at c = let n = c.requires.next in
+    ((with_pending c.args.words.now.key c.args.pending c.args.seat.now.me.0).own.doing, is_at c.args.words.now.key c.args.pending c.args.process.now n.0 c.args.seat.now.me.0 n.1.1)
+
+pub returns-clause-tied : goal.returns-clause-tied
+returns-clause-tied c = λ value access t next writes.
+    tied_stored c.args.words.now.key c.args.pending c.args.process.now c.advance_within.new.self value (value_after access.how value) c.args.flick c.args.word access c.args.seat.now.me.0 c.store.new.seat.me.0 t next writes (λ u e. ap (λ m. value_after m value) e) c.store.ensures.told (c.advance_within.ensures.process c.args.flick)
+
+pub returns-clause-step : goal.returns-clause-step
+returns-clause-step c = inr c.store.ensures.told
+
+pub returns-clause-leads : goal.returns-clause-leads
+returns-clause-leads c = let n = c.requires.next in
+    leads_stored c.args.words.now.key c.args.pending c.args.process.now n.0 c.args.flick c.args.word n.1.0 c.args.seat.now.me.0 c.store.new.seat.me.0 Nothing n.1.1 n.1.2 c.store.ensures.told (λ d is. sym (c.advance_within.ensures.marks c.args.flick d is))
+
+pub returns-clause-lists : goal.returns-clause-lists
+returns-clause-lists c = λ stamp known. let n = c.requires.next in
+    lists_stored c.args.words.now.key c.args.pending c.args.process.now n.0 c.args.flick c.args.seat.now.me.0 c.store.new.seat.me.0 Nothing stamp n.1.1 c.store.ensures.told (λ d is. sym (c.advance_within.ensures.marks c.args.flick d is)) (λ d is. tt) known

@@ -1,0 +1,87 @@
+//! Where the words of a board's bits lie, worked out once, since each word step asks it.
+ghost use Rattle.std.specs.Prelude.{◌≡◌, ◌<◌, Ok};
+ghost use Rattle.plain_store.specs.Setups.{checked};
+ghost use Rattle.record.specs.Moves.{field_number};
+ghost use Rattle.board.specs.Words.{first_bit, layout_of, word_of};
+
+use crate::words::{first_bit, row_bits};
+use plain_store::Setup;
+use safe_number::{Access, Field};
+
+/// What the word of a bit goes by.
+#[derive(Clone, Copy, Debug)]
+pub(crate) struct Layout {
+    pub(crate) processes: u8,
+    /// How many bits one owner has for one reader.
+    pub(crate) row: u16,
+    /// Where in a row the bits of each register begin, in the order of the registers.
+    pub(crate) firsts: [u16; 7],
+}
+
+/// Where in a row the bits of a register begin, as a `u16`, which holds it.
+fn first(setup: &Setup, field: Field) -> u16
+    requires { checked setup.now ≡ Ok tt }
+    ensures { result ≡ first_bit setup.now field }
+{
+    first_bit(setup, field) as u16
+}
+
+/// The place of a register in the order of the registers.
+#[inline(always)]
+fn number_of(field: Field) -> usize
+    ensures number { result ≡ field_number field }
+    ensures few { result < 7 }
+{
+    match field {
+        Field::Choosing => 0,
+        Field::Ticket => 1,
+        Field::Commit => 2,
+        Field::Stamp0 => 3,
+        Field::Stamp1 => 4,
+        Field::Image0 => 5,
+        Field::Image1 => 6,
+    }
+}
+
+impl Layout {
+    /// That of a setup.
+    pub(crate) fn of(setup: &Setup) -> Layout
+        requires { checked setup.now ≡ Ok tt }
+        ensures { result ≡ layout_of setup.now }
+    {
+        Layout {
+            processes: setup.processes,
+            row: row_bits(setup) as u16,
+            firsts: [
+                first(setup, Field::Choosing),
+                first(setup, Field::Ticket),
+                first(setup, Field::Commit),
+                first(setup, Field::Stamp0),
+                first(setup, Field::Stamp1),
+                first(setup, Field::Image0),
+                first(setup, Field::Image1),
+            ],
+        }
+    }
+
+    /// Where in a row the bits of a register begin. `_setup` is for the proof alone.
+    #[inline(always)]
+    fn first(&self, _setup: &Setup, field: Field) -> u16
+        requires { self.now ≡ layout_of _setup.now }
+        ensures { result ≡ first_bit _setup.now field }
+    {
+        self.firsts[number_of(field)]
+    }
+
+    /// The word of the bit of an access. `setup` is for the proof alone.
+    #[inline(always)]
+    pub(crate) fn word_of(&self, setup: &Setup, access: &Access) -> usize
+        requires { self.now ≡ layout_of setup.now }
+        ensures word { result ≡ word_of setup.now access.now }
+    {
+        let processes = usize::from(self.processes);
+        let copy = usize::from(access.owner) * processes + usize::from(access.reader);
+        let first = usize::from(self.first(setup, access.field));
+        copy * usize::from(self.row) + first + usize::from(access.bit)
+    }
+}
