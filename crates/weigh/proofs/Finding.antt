@@ -12,11 +12,12 @@ use Rattle.plain_store.specs.Setups.{checked}
 use Rattle.plain_store.specs.Store.{Contents}
 use Rattle.plain_store.proofs.GoodSetups.{few-processes, good-checked}
 use Rattle.weigh.specs.declared.calls.Placed.{Placed}
+use Rattle.weigh.specs.declared.notes.Note.{Note}
 use Rattle.weigh.specs.declared.verdicts.Weighed.{Weighed}
-use Rattle.weigh.specs.Following.{AreFew, HasStores, IsFewIn}
+use Rattle.weigh.specs.Following.{AreFew, IsFollowed}
 use Rattle.weigh.specs.Weighing.{IsBadAt, IsBadIn, IsLowestBad, IsVerdict, IsWeighed, NoneIsBad, all_calls, lists_of}
 use Rattle.weigh.proofs.Followed.{from_some}
-use Rattle.weigh.proofs.Grouped.{all_few}
+use Rattle.weigh.proofs.AllCalls.{all_few}
 
 -- few calls
 
@@ -38,14 +39,6 @@ few_all s vecs good lists calls = all_few s 0 (lists_of vecs) (λ other.
 -- a list of the lists
 pub list_there : (vecs : List (Vec Placed)) (p : ℕ) (v : Vec Placed) → p < length vecs → v ≡ get_or vecs p v → slice_get (lists_of vecs) p ≡ Some v.items
 list_there vecs p v within at = slice_get-map (λ (w : Vec Placed). w.items) vecs p ∙ ap (option_map (λ (w : Vec Placed). w.items)) (slice_get_read vecs (length vecs) p v refl within at)
-
-pub few_list : (s : Setup) (vecs : List (Vec Placed)) (p : ℕ) (v : Vec Placed) → checked s ≡ Ok tt → (s.version ≡ 2 → length vecs ≤ s.processes) → (s.version ≡ 2 → All (λ (list : List Placed). length list ≤ 65535) (lists_of vecs)) → p < length vecs → v ≡ get_or vecs p v → IsFewIn s p v.items
-few_list s vecs p v good lists calls within at = λ other.
-    let most : length (lists_of vecs) ≤ 16 = lists_few s vecs good lists other in
-    let size : length (lists_of vecs) ≡ length vecs = length-map vecs (λ (w : Vec Placed). w.items) in
-    let here : p < length (lists_of vecs) = omega (arith, within, size) in
-    let is : get_or (lists_of vecs) p v.items ≡ v.items = get_or_from_slice_get (lists_of vecs) p v.items v.items (list_there vecs p v within at) in
-    (omega (arith, most, here), subst (λ (l : List Placed). length l ≤ 65535) is (calls (is_two s good other) p v.items here))
 
 -- the lists so far
 
@@ -78,5 +71,5 @@ none_at_all s vecs c store p over before q j (list, there, bad) =
     let size : length (lists_of vecs) ≡ length vecs = length-map vecs (λ (v : Vec Placed). v.items) in
     before q j (omega (arith, within, size, over)) (list, there, bad)
 
-pub weighed : (s : Setup) (lists : List (List Placed)) (image : Contents) (stores : List Contents) (several : Bool) (verdict : Weighed) (h : HasStores s (all_calls lists) stores several) → IsVerdict s lists image h.c h.store verdict → IsWeighed s lists image verdict
-weighed s lists image stores several verdict h is = record { c = h.c; store = h.store; end = record { last = h.last; ends = h.ends }; verdict = is }
+pub weighed : (s : Setup) (lists : List (List Placed)) (image : Contents) (notes : List Note) (c : ℕ) (store : Contents) (several : Bool) (verdict : Weighed) → IsFollowed s (all_calls lists) notes c store several → IsVerdict s lists image c store verdict → IsWeighed s lists image verdict
+weighed s lists image notes c store several verdict followed is = record { c = c; store = store; end = record { last = followed.last; ends = followed.ends }; verdict = is }

@@ -106,11 +106,17 @@ as_many s calls (suc k) store is =
     let more : length (calls_below calls k) + length (calls_at calls k) ≡ length (calls_below calls (suc k)) = below_more calls k in
     omega (arith, early, one, few, more)
 
--- after as many changes as calls there is none
-pub none_left : (s : Setup) (calls : List Call) (store : Contents) → store_at s calls (length calls) ≡ Some store → length (changes_at calls (length calls) store) ≡ 0
-none_left s calls store is =
+-- after as many changes as calls there is no call
+pub none_at : (s : Setup) (calls : List Call) (store : Contents) → store_at s calls (length calls) ≡ Some store → length (calls_at calls (length calls)) ≡ 0
+none_at s calls store is =
     let early : length calls ≤ length (calls_below calls (length calls)) = as_many s calls (length calls) store is in
-    let few : length (changes_at calls (length calls) store) ≤ length (calls_at calls (length calls)) = filter_few (λ (call : Call). changes store call.placed.command) (calls_at calls (length calls)) in
     let more : length (calls_below calls (length calls)) + length (calls_at calls (length calls)) ≡ length (calls_below calls (suc (length calls))) = below_more calls (length calls) in
     let most : length (calls_below calls (suc (length calls))) ≤ length calls = filter_few (λ (call : Call). is_below (suc (length calls)) call.placed.place) calls in
-    omega (arith, early, few, more, most)
+    omega (arith, early, more, most)
+
+-- and so no change
+pub none_left : (s : Setup) (calls : List Call) (store : Contents) → store_at s calls (length calls) ≡ Some store → length (changes_at calls (length calls) store) ≡ 0
+none_left s calls store is =
+    let none : length (calls_at calls (length calls)) ≡ 0 = none_at s calls store is in
+    let few : length (changes_at calls (length calls) store) ≤ length (calls_at calls (length calls)) = filter_few (λ (call : Call). changes store call.placed.command) (calls_at calls (length calls)) in
+    omega (arith, none, few)

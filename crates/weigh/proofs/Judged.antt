@@ -11,38 +11,10 @@ use Rattle.plain_store.specs.declared.Setup.{Setup}
 use Rattle.plain_store.specs.Store.{Contents, reply_to}
 use Rattle.weigh.specs.declared.calls.Call.{Call}
 use Rattle.weigh.specs.declared.calls.Placed.{Placed}
-use Rattle.weigh.specs.Following.{HasStores, IsFew, IsFewIn, IsJudged, IsLeast}
+use Rattle.weigh.specs.declared.notes.Note.{Note}
+use Rattle.weigh.specs.Following.{ArePart, IsFollowed, IsJudged, IsLeast, IsNote}
 use Rattle.weigh.specs.Weighing.{HasWrongReply, IsBad, IsBadIn, above, several, falling, wrong_reply, without_place, with_place, caller_of, falls, is_above, is_one_of_several, is_other_with_place, is_reply_without_place}
 use Rattle.weigh.proofs.Followed.{from_some}
-
--- a wrong reply
-
-not_true : (b : Bool) → (b ≡ true → ⊥) → not b ≡ true
-not_true true h = absurd (h refl)
-not_true false h = refl
-
-is_not : (b : Bool) → not b ≡ true → b ≡ true → ⊥
-is_not true h e = absurd (true≢false (sym h))
-is_not false h e = absurd (true≢false (sym e))
-
-abbrev some_reply : Reply → Option Answer → Reply
-some_reply d (Some (answer.Reply r)) = r
-some_reply d None = d
-some_reply d (Some (answer.TicketsFull p)) = d
-some_reply d (Some answer.StampsFull) = d
-some_reply d (Some answer.Withdrawn) = d
-
-pub wrong_reply_is : (s : Setup) (calls : List Call) (call : Call) (stores : List Contents) (some : Bool) (place : ℕ) (store : Contents) (reply : Reply) (result : Bool) → HasStores s calls stores some → call.placed.place ≡ Some place → slice_get stores place ≡ Some store → call.placed.answer ≡ Some (answer.Reply reply) →
-    ((IsTrue result → reply ≡ reply_to store call.placed.command (caller_of s call)) × (reply ≡ reply_to store call.placed.command (caller_of s call) → IsTrue result)) →
-    ((IsTrue (not result) → HasWrongReply s calls call) × (HasWrongReply s calls call → IsTrue (not result)))
-wrong_reply_is s calls call stores some place store reply result has placed there answered tells = (
-  λ h. record { place = place; store = store; reply = reply; taken = placed; there = has.each place ∙ there; answered = answered; wrong = λ e. is_not result h (tells.1 e) },
-  λ (w : HasWrongReply s calls call).
-      let same_place : place ≡ w.place = from_some place w.place (sym placed ∙ w.taken) in
-      let same_store : w.store ≡ store = from_some w.store store (sym w.there ∙ has.each w.place ∙ ap (slice_get stores) (sym same_place) ∙ there) in
-      let same_reply : w.reply ≡ reply = ap (some_reply reply) (sym w.answered ∙ answered) in
-      not_true result (λ t. w.wrong (same_reply ∙ tells.0 t ∙ ap (λ (st : Contents). reply_to st call.placed.command (caller_of s call)) (sym same_store))),
-)
 
 -- where nothing else is bad, a call is bad that has another answer and a place
 pub bad_at_last : (s : Setup) (calls : List Call) (c : ℕ) (store : Contents) (earlier : List Placed) (call : Call) (result : Bool) → is_above c call.placed.place ≡ false → is_one_of_several calls c store call.placed ≡ false → falls s calls earlier call.placed.place ≡ false → (HasWrongReply s calls call → ⊥) → is_reply_without_place call.placed ≡ false → result ≡ is_other_with_place call.placed →
@@ -80,8 +52,11 @@ none_bad s calls c store p list i least over judged j bad =
     let within : j < length list = slice_get_within list j bad.0 bad.1 in
     judged.good j (omega (arith, within, over)) bad
 
--- a call of a list that is not too long is not too late
-pub few_in : (s : Setup) (p : ℕ) (list : List Placed) (i : ℕ) (placed : Placed) → i < length list → IsFewIn s p list → IsFew s (record { placed = placed; port = p; index = i })
-few_in s p list i placed within few = λ two.
-    let most : length list ≤ 65535 = (few two).1 in
-    ((few two).0, omega (arith, most, within))
+-- the note of the present call
+pub note_there : (s : Setup) (calls : List Call) (notes : List Note) (c : ℕ) (store : Contents) (several : Bool) (p before : ℕ) (list : List Placed) (i : ℕ) (placed : Placed) (note : Note) → ArePart calls p before list → IsFollowed s calls notes c store several → i < length list → placed ≡ get_or list i placed → note ≡ get_or notes (before + i) note → IsNote s calls (record { placed = placed; port = p; index = i }) note
+note_there s calls notes c store more p before list i placed note part followed within at note_at =
+    let call : Call = record { placed = placed; port = p; index = i } in
+    let there : slice_get calls (before + i) ≡ Some call = part i placed (call_there list i placed within at) in
+    let (own, own_there, own_is) = followed.each (before + i) call there in
+    let note_is : slice_get notes (before + i) ≡ Some note = slice_get_read notes (length notes) (before + i) note refl (slice_get_within notes (before + i) own own_there) note_at in
+    subst (λ (n : Note). IsNote s calls call n) (from_some own note (sym own_there ∙ note_is)) own_is

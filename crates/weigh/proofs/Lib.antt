@@ -1,10 +1,12 @@
 -- What weigh does
 pub mod Callers
-pub mod Filters
 pub mod Followed
-pub mod Chains
+pub mod Places
+pub mod AllCalls
+pub mod Linking
+pub mod Walking
+pub mod Stores
 pub mod Judged
-pub mod Grouped
 pub mod Finding
 -- What its verdicts mean: merges
 pub mod Merging

@@ -2,11 +2,11 @@
 #![tactic(auto)]
 
 mod calls;
-mod grouping;
+mod chains;
 mod judging;
 mod laws_of_weighing;
+mod notes;
 mod shown;
-mod stores;
 #[cfg(test)]
 mod tests;
 mod verdicts;

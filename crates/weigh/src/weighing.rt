@@ -4,8 +4,7 @@ ghost use Rattle.weigh.specs.declared.calls.Placed.{Placed as Finished};
 ghost use Rattle.weigh.specs.Weighing.{IsWeighed, lists_of};
 
 use crate::calls::Placed;
-use crate::grouping::group;
-use crate::stores::Stores;
+use crate::notes::Followed;
 use crate::verdicts::Weighed;
 use plain_store::Setup;
 use std::alloc::{AllocError, Global};
@@ -25,14 +24,15 @@ pub fn weigh(
     requires few_calls { setup.now.version ≡ 2 → All (λ (list : List Finished). length list ≤ 65535) (lists_of lists.now) }
     ensures { IfOk result (λ weighed. IsWeighed setup.now (lists_of lists.now) image.now weighed) }
 {
-    let groups = group(alloc, lists)?;
-    let stores = Stores::follow(alloc, setup, &groups)?;
+    let followed = Followed::follow(alloc, setup, lists)?;
+    let mut before = 0;
     for (port, list) in lists.iter().enumerate() {
-        if let Some(index) = stores.first_bad(setup, port, list) {
+        if let Some(index) = followed.first_bad(before, list) {
             return Ok(Weighed::Bad(port, index));
         }
+        before += list.len();
     }
-    if stores.end_with(image) {
+    if followed.end_with(image) {
         Ok(Weighed::Good)
     } else {
         Ok(Weighed::BadEnd)

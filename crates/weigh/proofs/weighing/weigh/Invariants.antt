@@ -1,8 +1,11 @@
-use Rattle.std.proofs.Common.{ℕ, ◌<◌}
-use Rattle.weigh.specs.Following.{HasStores}
+use Rattle.std.proofs.Common.{◌≡◌, ℕ, ◌<◌, length, take}
+use Rattle.weigh.specs.Following.{IsFollowed}
 use Rattle.weigh.specs.Weighing.{IsBadAt, all_calls, lists_of}
 use Rattle.weigh.proofs.weighing.weigh.Given as goal
 
--- no call of the lists before the present one is bad
+-- so many calls stand in the lists before the present one, and none of them is bad
 abbrev pub invariant-loop-port : goal.invariant-loop-port
-invariant-loop-port l = (h : HasStores l.setup (all_calls (lists_of l.lists)) l.stores.stores.items l.stores.several) → (q j : ℕ) → q < l.port → IsBadAt l.setup (lists_of l.lists) h.c h.store q j → ⊥
+invariant-loop-port l = record {
+  before : l.before ≡ length (all_calls (lists_of (take l.port l.lists)));
+  good : (q j : ℕ) → q < l.port → IsBadAt l.setup (lists_of l.lists) l.followed.count l.followed.store q j → ⊥;
+}
