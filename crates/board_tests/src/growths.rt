@@ -25,9 +25,9 @@ fn made(alloc: Global, setup: &Setup) -> Result<(Board, Vec<Port>), AllocError>
     }
 }
 
-/// A call of a port, driven to what it leads to. Where it is refused for want of memory, the port is idle as before, and
-/// the same call is accepted then.
-fn call(rt: &impl Abort, board: &Board, port: &mut Port, command: &Command, end: Driven)
+/// Begins a call of a port. Where it is refused for want of memory, the port is idle as before, and the same call is
+/// accepted then.
+fn begin(rt: &impl Abort, board: &Board, port: &mut Port, command: &Command)
     requires { IsOf board.now port.old }
     ensures { SamePort port.old port.new }
 {
@@ -37,8 +37,32 @@ fn call(rt: &impl Abort, board: &Board, port: &mut Port, command: &Command, end:
         assert!(rt; port.begin(board, *command).is_ok());
     }
     assert_eq!(rt; port.stage(), Stage::Doorway);
+}
+
+/// A call of a port, driven to what it leads to.
+fn call(rt: &impl Abort, board: &Board, port: &mut Port, command: &Command, end: Driven)
+    requires { IsOf board.now port.old }
+    ensures { SamePort port.old port.new }
+{
+    begin(rt, board, port, command);
     let mut flicks = Flicks::constant(false);
     assert_eq!(rt; port.drive(board, 10_000_000, &mut flicks), end);
+}
+
+/// A call of a port, which fails after so many turns, is driven until it is down, and restarts. The call is the next one of
+/// its list.
+fn cut(rt: &impl Abort, board: &Board, port: &mut Port, command: &Command, turns: u64)
+    requires { IsOf board.now port.old }
+    ensures { SamePort port.old port.new }
+{
+    let before = port.answers().len();
+    begin(rt, board, port, command);
+    let mut flicks = Flicks::constant(false);
+    assert_eq!(rt; port.drive(board, turns, &mut flicks), Driven::Turns);
+    assert_eq!(rt; port.fail(), Ok(()));
+    assert_eq!(rt; port.drive(board, 10_000_000, &mut flicks), Driven::Down);
+    assert_eq!(rt; port.restart(), Ok(()));
+    assert!(rt; port.answers().len() == before + 1);
 }
 
 /// Reads of a port, one after another.
@@ -48,6 +72,19 @@ fn reads(rt: &impl Abort, board: &Board, port: &mut Port, count: i64)
 {
     let command = Command::Read(a(rt));
     for _ in 0..5 {
+        call(rt, board, port, &command, read(count));
+    }
+}
+
+/// Writes of a port that are cut, in its doorway, inside before its image is written and amid that, each followed by a read.
+fn cuts(rt: &impl Abort, board: &Board, port: &mut Port, count: i64)
+    requires { IsOf board.now port.old }
+    ensures { SamePort port.old port.new }
+{
+    let write = Command::Write(a(rt), Value::Count(6));
+    let command = Command::Read(a(rt));
+    for turns in [1, 10, 100, 500, 1, 10, 100, 500] {
+        cut(rt, board, port, &write, turns);
         call(rt, board, port, &command, read(count));
     }
 }
@@ -65,5 +102,20 @@ fn ports_go_on_after_refused_growths(rt: HostRuntime) -> Result<(), Fail> {
     call(&rt, &board, &mut zero, &write, done());
     reads(&rt, &board, &mut one, 5);
     reads(&rt, &board, &mut zero, 5);
+    Ok(())
+}
+
+// The same of a port that fails and restarts. The growths of its list are met right after restarts.
+#[test]
+fn ports_that_failed_go_on_after_refused_growths(rt: HostRuntime) -> Result<(), Fail> {
+    let (board, mut ports) = made(rt.alloc(), &Setup::one(2, 2, 2, 1))?;
+    let (Some(mut one), Some(mut zero)) = (last(&board, &mut ports), last(&board, &mut ports))
+    else {
+        panic!(rt; "there are two ports");
+    };
+    let write = Command::Write(a(&rt), Value::Count(5));
+    call(&rt, &board, &mut zero, &write, done());
+    cuts(&rt, &board, &mut zero, 5);
+    reads(&rt, &board, &mut one, 5);
     Ok(())
 }
