@@ -23,8 +23,9 @@ PROGRAM = TOP / "crates" / "bakerystore" / "out" / "bakerystore"
 ENGINES = ["plain", "bits", "replay", "audit", "sweep"]
 MOST_GROWTHS = 20_000
 WANT_OF_MEMORY = re.compile(r"out of memory\n|line \d+: memory\n")
-# how a test tells it: as its own error, or as the one that it found in place of what it asserts
-TEST_WANTS_MEMORY = re.compile(r"\b(AllocError|Memory)\b")
+# how a test tells it: as its own error, or as the one that it found in place of what it asserts; a race that could not start
+# a thread tells that
+TEST_WANTS_MEMORY = re.compile(r"\b(AllocError|Memory|Spawn)\b")
 # tests that take memory of their own where what they assert does not tell it
 LEFT_OUT = re.compile(
     r"store_tests_tests (scenarios::writes_outputs|printing::"

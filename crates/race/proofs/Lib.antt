@@ -1,0 +1,5 @@
+pub mod Calling
+pub mod Lists
+pub mod Makings
+pub mod Raced
+pub mod Threads

@@ -1,0 +1,61 @@
+-- What a race leaves: the calls of each plan, answered, and the image of the store after one list of changes.
+use Rattle.std.specs.Prelude.{◌≡◌, ℕ, List, length, map, slice_get, Some}
+use Rattle.std.specs.Global.{Vec}
+use Rattle.plain_store.specs.declared.Answer.{Answer}
+use Rattle.plain_store.specs.declared.Command.{Command}
+use Rattle.plain_store.specs.declared.Setup.{Setup}
+use Rattle.plain_store.specs.Store.{Contents}
+use Rattle.record.specs.declared.events.Event.{Event}
+use Rattle.record.specs.declared.history.Taken.{Taken}
+use Rattle.record.specs.declared.stages.Stage.TheVariants.{Idle}
+use Rattle.record.specs.Given.{AreGiven}
+use Rattle.record.specs.Histories.{store_after}
+use Rattle.record.specs.Records.{past_of}
+use Rattle.board.specs.Boards.{BoardState, IsOf}
+use Rattle.board.specs.Calls.{changes_of}
+use Rattle.board.specs.Closings.{EachStandsInRecord}
+use Rattle.board.specs.Lists.{StandsIn}
+use Rattle.board.specs.Ports.{PortState}
+use Rattle.board.specs.Views.{new_own, stage_in}
+use Rattle.weigh.specs.declared.calls.Placed.{Placed}
+
+-- the plans: list p is that of process p
+abbrev pub plans_of : List (Vec Command) → List (List Command)
+plans_of vecs = map (λ (v : Vec Command). v.items) vecs
+
+-- these calls are those of a plan: its commands, in order, each with an answer
+pub record AreMade (plan : List Command) (calls : List Placed) : Type 0 where
+  pub commands : map (λ (call : Placed). call.command) calls ≡ plan
+  pub answered : (k : ℕ) (call : Placed) → slice_get calls k ≡ Some call → (answer : Answer) × (call.answer ≡ Some answer)
+
+-- a list of changes: that of the record of some events
+abbrev pub AreChanges : Setup → List Taken → Type 0
+AreChanges s list = (events : List Event) × AreGiven s events × (list ≡ changes_of s (past_of s events))
+
+-- What a race leaves: the calls of each plan; those of each process by itself stand in the changes of the record of some events; and the image is that of the store after one such list of changes, in which those of process 0 stand.
+pub record IsRaced (s : Setup) (plans : List (List Command)) (answers : List (List Placed)) (image : Contents) : Type 0 where
+  pub all : length answers ≡ s.processes
+  pub made : (p : ℕ) (calls : List Placed) → slice_get answers p ≡ Some calls → (plan : List Command) × (slice_get plans p ≡ Some plan) × AreMade plan calls
+  pub stands : EachStandsInRecord s answers
+  pub end : (calls : List Placed) → slice_get answers 0 ≡ Some calls → (list : List Taken) × AreChanges s list × StandsIn s 0 calls list × (image ≡ store_after s list)
+
+-- the port of process p has made the calls of its plan, and rests
+pub record HasMade (board : BoardState) (p : ℕ) (plan : List Command) (port : PortState) : Type 0 where
+  pub of_board : IsOf board port
+  pub process : port.view.own.process ≡ p
+  pub rests : stage_in port.setup port.view.own ≡ Idle
+  pub calls : AreMade plan port.view.own.calls.done
+
+-- each port has made the calls of its plan
+abbrev pub AllHaveMade : BoardState → List (List Command) → List PortState → Type 0
+AllHaveMade board plans ports = (length ports ≡ length plans) × ((p : ℕ) (port : PortState) → slice_get ports p ≡ Some port → (plan : List Command) × (slice_get plans p ≡ Some plan) × HasMade board p plan port)
+
+-- these are ports of the board, of the processes in order, which have done nothing
+abbrev pub AreNew : BoardState → List PortState → Type 0
+AreNew board ports = (p : ℕ) (port : PortState) → slice_get ports p ≡ Some port → IsOf board port × (port.view.own ≡ new_own p)
+
+-- thread p is for its plan, on the board
+pub record IsFor (board : BoardState) (plans : List (List Command)) (p : ℕ) (its_board : BoardState) (its_number : ℕ) (its_plan : List Command) : Type 0 where
+  pub on_board : its_board ≡ board
+  pub for_process : its_number ≡ p
+  pub makes_plan : slice_get plans p ≡ Some its_plan

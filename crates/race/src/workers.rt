@@ -1,0 +1,168 @@
+//! What each thread of a race does: its port makes the calls of a plan, one after the other.
+ghost use Rattle.std.specs.Prelude.{◌≡◌, IfOk, OnOk, Some};
+ghost use Rattle.board.specs.Boards.{IsOf};
+ghost use Rattle.board.specs.Ports.{SamePort};
+ghost use Rattle.board.specs.Views.{new_own};
+ghost use Rattle.race.specs.Calling.{ComesTo, HasCalled, IsCalling};
+ghost use Rattle.race.specs.Races.{HasMade};
+ghost use Rattle.race.specs.declared.workers.Reached.TheVariants.{Answer};
+
+use crate::faults::RaceFault;
+use crate::gates::{Gate, Moment, passes};
+use board::{Board, Driven, Port};
+use flicks::Flicks;
+use plain_store::Command;
+use record::Stage;
+use std::sync::Wait;
+use std::thread;
+
+/// What a call has come to.
+#[derive(Clone, Copy, Debug, PartialEq, Eq)]
+pub(crate) enum Reached {
+    /// Its port is inside.
+    Section,
+    /// It is answered.
+    Answer,
+}
+
+/// After so many word steps at the door the processor is left to another thread, which may be the one that is waited
+/// for.
+const TURNS_AT_THE_DOOR: u32 = 256;
+
+/// One of the threads of a race.
+#[derive(Drop)]
+pub(crate) struct Worker<'a, G> {
+    pub board: &'a Board,
+    pub gate: &'a G,
+    /// The process of its port.
+    pub number: u8,
+}
+
+impl<'a, G: Gate> Worker<'a, G> {
+    /// Makes the calls of the plan, in order, and gives the port back.
+    pub fn run<R: Wait>(&self, rt: &R, mut port: Port, plan: &[Command]) -> Result<Port, RaceFault>
+        requires board { IsOf self.now.board.now port }
+        requires new { port.view.own ≡ new_own self.now.number }
+        ensures { IfOk result (HasMade self.now.board.now self.now.number plan.now) }
+    {
+        let mut flicks = Flicks::pcg(u64::from(self.number));
+        for command in plan {
+            self.call(rt, &mut port, &mut flicks, *command)?;
+        }
+        Ok(port)
+    }
+
+    /// Makes one call. Where the gate holds the port, the port fails and is driven down.
+    fn call<R: Wait>(
+        &self,
+        rt: &R,
+        port: &mut Port,
+        flicks: &mut Flicks,
+        command: Command,
+    ) -> Result<(), RaceFault>
+        requires board { IsOf self.now.board.now port.old }
+        ensures same { SamePort port.old port.new }
+        ensures called { OnOk result (HasCalled port.old.setup command port.old.view port.new.view) }
+    {
+        if port.begin(self.board, command).is_err() {
+            return Err(RaceFault::Memory);
+        }
+        self.pass(rt, port, flicks, Moment::Begun)?;
+        match self.come_inside(rt, port, flicks) {
+            Reached::Section => {
+                self.pass(rt, port, flicks, Moment::Inside)?;
+                self.finish(rt, port, flicks);
+            }
+            Reached::Answer => {}
+        }
+        Ok(())
+    }
+
+    /// Asks the gate. A port that it holds fails, and is driven down.
+    fn pass<R: Wait>(
+        &self,
+        rt: &R,
+        port: &mut Port,
+        flicks: &mut Flicks,
+        moment: Moment,
+    ) -> Result<(), RaceFault>
+        requires board { IsOf self.now.board.now port.old }
+        ensures same { SamePort port.old port.new }
+        ensures passed { OnOk result (port.new ≡ port.old) }
+    {
+        if passes(self.gate, self.number, moment) {
+            return Ok(());
+        }
+        let _ = port.fail();
+        self.take_down(rt, port, flicks);
+        Err(RaceFault::Held(self.number))
+    }
+
+    /// Drives a port that has failed until it is down.
+    #[tactic(auto, using(crate::proofs::Calling::is_of_then, board::proofs::Drives::same_on))]
+    fn take_down<R: Wait>(&self, rt: &R, port: &mut Port, flicks: &mut Flicks)
+        requires board { IsOf self.now.board.now port.old }
+        ensures same { SamePort port.old port.new }
+    {
+        for _ in rt.forever() {
+            match port.drive(self.board, u64::MAX, flicks) {
+                Driven::Turns => {}
+                _ => return,
+            }
+        }
+        unreachable!()
+    }
+
+    /// Drives a port whose call has begun until it comes inside, or the call is answered.
+    #[tactic(auto, using(crate::proofs::Calling::still_on_its_way, crate::proofs::Calling::comes_there))]
+    fn come_inside<R: Wait>(&self, rt: &R, port: &mut Port, flicks: &mut Flicks) -> Reached
+        requires board { IsOf self.now.board.now port.old }
+        requires calling { IsCalling port.old.setup port.old.view.own }
+        ensures same { SamePort port.old port.new }
+        ensures comes { ComesTo port.old.setup (Some result) port.old.view port.new.view }
+    {
+        for _ in rt.forever() {
+            if let Some(reached) = self.come_nearer(port, flicks) {
+                return reached;
+            }
+            thread::yield_now();
+        }
+        unreachable!()
+    }
+
+    /// The same, by a few word steps at most: None where they do not suffice. The stage is looked at after each of them,
+    /// so that the port makes no access of the section before the gate is asked.
+    fn come_nearer(&self, port: &mut Port, flicks: &mut Flicks) -> Option<Reached>
+        requires board { IsOf self.now.board.now port.old }
+        requires calling { IsCalling port.old.setup port.old.view.own }
+        ensures same { SamePort port.old port.new }
+        ensures comes { ComesTo port.old.setup result port.old.view port.new.view }
+    {
+        for _ in 0..TURNS_AT_THE_DOOR {
+            match port.drive(self.board, 1, flicks) {
+                Driven::Turns => {}
+                _ => return Some(Reached::Answer),
+            }
+            if port.stage() == Stage::Inside {
+                return Some(Reached::Section);
+            }
+        }
+        None
+    }
+
+    /// Drives a port from inside until its call is answered.
+    fn finish<R: Wait>(&self, rt: &R, port: &mut Port, flicks: &mut Flicks)
+        requires board { IsOf self.now.board.now port.old }
+        requires calling { IsCalling port.old.setup port.old.view.own }
+        ensures same { SamePort port.old port.new }
+        ensures answered { ComesTo port.old.setup (Some Answer) port.old.view port.new.view }
+    {
+        for _ in rt.forever() {
+            match port.drive(self.board, u64::MAX, flicks) {
+                Driven::Turns => {}
+                _ => return,
+            }
+        }
+        unreachable!()
+    }
+}

@@ -1,0 +1,212 @@
+//! Gates that a race on one thread does not pass, and one that asks for patience.
+use crate::plans::{a, additions, answer, is_good, is_no_name_or_full, raced};
+use plain_store::{Answer, Setup};
+use race::{Gate, Moment, Pass, RaceFault, race};
+use std::sync::atomic::Ordering::SeqCst;
+use std::sync::atomic::{AtomicBool, AtomicU32};
+use std::test::Fail;
+
+/// Whether the flag is seen, in so many looks at most.
+fn sees(flag: &AtomicBool, looks: u32) -> bool {
+    for _ in 0..looks {
+        if flag.load(SeqCst) {
+            return true;
+        }
+    }
+    false
+}
+
+/// On, if the flag is seen in a hundred looks.
+fn on_if(flag: &AtomicBool) -> Pass {
+    if sees(flag, 100) {
+        Pass::On
+    } else {
+        Pass::Again
+    }
+}
+
+/// Holds a port inside until another one was seen at its begin.
+#[derive(Drop)]
+struct UntilBegun {
+    held: u8,
+    begun: AtomicBool,
+}
+
+impl Gate for UntilBegun {
+    fn at(&self, port: u8, moment: Moment) -> Pass {
+        if port == self.held {
+            return match moment {
+                Moment::Begun => Pass::On,
+                Moment::Inside => on_if(&self.begun),
+            };
+        }
+        self.begun.store(true, SeqCst);
+        Pass::On
+    }
+}
+
+/// Two ports meet: each, at its begin, looks for the other.
+#[derive(Drop)]
+struct Meeting {
+    came: [AtomicBool; 2],
+    found: [AtomicBool; 2],
+}
+
+impl Gate for Meeting {
+    fn at(&self, port: u8, moment: Moment) -> Pass {
+        if moment == Moment::Inside || port > 1 {
+            return Pass::On;
+        }
+        let (own, other) = if port == 0 { (0, 1) } else { (1, 0) };
+        self.came[own].store(true, SeqCst);
+        self.found[own].store(sees(&self.came[other], 100_000_000), SeqCst);
+        Pass::On
+    }
+}
+
+/// Port 1 begins once port 0 is inside, and port 0 goes on once port 1, let on, has begun again.
+#[derive(Drop)]
+struct Passing {
+    inside: AtomicBool,
+    let_on: AtomicBool,
+    begun_again: AtomicBool,
+}
+
+impl Gate for Passing {
+    fn at(&self, port: u8, moment: Moment) -> Pass {
+        match (port, moment) {
+            (0, Moment::Inside) => {
+                self.inside.store(true, SeqCst);
+                on_if(&self.begun_again)
+            }
+            (1, Moment::Begun) => {
+                if self.let_on.load(SeqCst) {
+                    self.begun_again.store(true, SeqCst);
+                    return Pass::On;
+                }
+                let pass = on_if(&self.inside);
+                self.let_on.store(pass == Pass::On, SeqCst);
+                pass
+            }
+            _ => Pass::On,
+        }
+    }
+}
+
+/// Answers `Again` so often, and then `On`.
+#[derive(Drop)]
+struct Patient {
+    asked: AtomicU32,
+    refused: u32,
+}
+
+impl Gate for Patient {
+    fn at(&self, _port: u8, _moment: Moment) -> Pass {
+        if self.asked.fetch_add(1, SeqCst) < self.refused {
+            Pass::Again
+        } else {
+            Pass::On
+        }
+    }
+}
+
+/// Two ports add once each, and the gate holds one of them inside until the other has begun.
+#[test]
+fn one_waits_inside_for_the_other_to_begin(rt: HostRuntime) -> Result<(), Fail> {
+    let setup = Setup::one(2, 4, 4, 1);
+    let name = a(&rt);
+    let alloc = rt.alloc();
+    for held in [0, 1] {
+        let gate = UntilBegun {
+            held,
+            begun: AtomicBool::new(false),
+        };
+        let plans = vec![in alloc; additions(alloc, name, 1)?, additions(alloc, name, 1)?]?;
+        let closing = raced(&rt, alloc, &setup, plans.as_slice(), &gate);
+        assert!(&rt; is_good(alloc, &setup, &closing)?);
+        assert!(&rt; is_no_name_or_full(answer(&closing, 0, 0)));
+        assert!(&rt; is_no_name_or_full(answer(&closing, 1, 0)));
+    }
+    Ok(())
+}
+
+// Within one ask each looks for the other, so that no body that serves the ports in turns lets them meet.
+#[test]
+fn two_ports_meet(rt: HostRuntime) -> Result<(), Fail> {
+    let setup = Setup::one(2, 4, 4, 1);
+    let name = a(&rt);
+    let alloc = rt.alloc();
+    let gate = Meeting {
+        came: [AtomicBool::new(false), AtomicBool::new(false)],
+        found: [AtomicBool::new(false), AtomicBool::new(false)],
+    };
+    let plans = vec![in alloc; additions(alloc, name, 1)?, additions(alloc, name, 1)?]?;
+    let closing = raced(&rt, alloc, &setup, plans.as_slice(), &gate);
+    assert!(&rt; is_good(alloc, &setup, &closing)?);
+    assert!(&rt; gate.found[0].load(SeqCst));
+    assert!(&rt; gate.found[1].load(SeqCst));
+    Ok(())
+}
+
+// One ticket bit: while port 0 is inside, port 1 finds the tickets full, and calls again.
+#[test]
+fn one_passes_a_full_door_while_the_other_is_inside(rt: HostRuntime) -> Result<(), Fail> {
+    let setup = Setup::one(2, 1, 4, 1);
+    let name = a(&rt);
+    let alloc = rt.alloc();
+    let gate = Passing {
+        inside: AtomicBool::new(false),
+        let_on: AtomicBool::new(false),
+        begun_again: AtomicBool::new(false),
+    };
+    let plans = vec![in alloc; additions(alloc, name, 1)?, additions(alloc, name, 2)?]?;
+    let closing = raced(&rt, alloc, &setup, plans.as_slice(), &gate);
+    assert!(&rt; is_good(alloc, &setup, &closing)?);
+    assert_eq!(&rt;
+        answer(&closing, 1, 0),
+        Some(Answer::TicketsFull { process: 0 })
+    );
+    Ok(())
+}
+
+#[test]
+fn a_gate_is_asked_ten_million_times(rt: HostRuntime) -> Result<(), Fail> {
+    let setup = Setup::one(1, 4, 4, 1);
+    let name = a(&rt);
+    let alloc = rt.alloc();
+    let plans = vec![in alloc; additions(alloc, name, 1)?]?;
+    let gate = Patient {
+        asked: AtomicU32::new(0),
+        refused: 9_999_999,
+    };
+    let closing = raced(&rt, alloc, &setup, plans.as_slice(), &gate);
+    assert!(&rt; is_good(alloc, &setup, &closing)?);
+    let gate = Patient {
+        asked: AtomicU32::new(0),
+        refused: u32::MAX,
+    };
+    assert_eq!(&rt;
+        race(&rt, alloc, &setup, plans.as_slice(), &gate).err(),
+        Some(RaceFault::Held(0))
+    );
+    assert_eq!(&rt; gate.asked.load(SeqCst), 10_000_000);
+    Ok(())
+}
+
+// Both ports are held for good: the lower one is told.
+#[test]
+fn the_lowest_held_port_is_told(rt: HostRuntime) -> Result<(), Fail> {
+    let setup = Setup::one(2, 4, 4, 1);
+    let name = a(&rt);
+    let alloc = rt.alloc();
+    let plans = vec![in alloc; additions(alloc, name, 1)?, additions(alloc, name, 1)?]?;
+    let gate = Patient {
+        asked: AtomicU32::new(0),
+        refused: u32::MAX,
+    };
+    assert_eq!(&rt;
+        race(&rt, alloc, &setup, plans.as_slice(), &gate).err(),
+        Some(RaceFault::Held(0))
+    );
+    Ok(())
+}

@@ -1,0 +1,11 @@
+//! Tests of races: gates that no race on one thread passes, held ports, and two ports that add to one counter.
+#![tactic(auto)]
+
+#[cfg(test)]
+mod adding;
+#[cfg(test)]
+mod gates;
+#[cfg(test)]
+mod growths;
+#[cfg(test)]
+mod plans;
