@@ -5,9 +5,11 @@ use Rattle.plain_store.specs.declared.Setup.{Setup}
 use Rattle.record.specs.declared.events.Event.{Event}
 use Rattle.record.specs.Entries.{Entry, Past}
 use Rattle.record.specs.Records.{entry_of, past_of}
+use Rattle.record.proofs.Width.{is_good}
+use Rattle.laws.proofs.HeldThere.{access_there}
 use Rattle.world.proofs.WorldShows.{past-after}
 use Rattle.auditor.specs.Hearing.{AuditorState, HasHeard}
-use Rattle.auditor.specs.Verdicts.{AllKeep, GoodIsOfEvents, IsOfEvent, IsTrueRecord, OfEventsIsGood}
+use Rattle.auditor.specs.Verdicts.{AllKeep, GoodAccessesAreThere, GoodIsOfEvents, IsOfEvent, IsTrueRecord, OfEventsIsGood}
 use Rattle.record.specs.Given.{AreGiven}
 use Rattle.record.specs.Headline.{KeepsHeadlineThroughout}
 use Rattle.history_laws.proofs.Given.{given_before}
@@ -44,3 +46,10 @@ good_of s good (what ∷ events) given = go (entry_of s (past_of s events) what)
     go : (o : Option Entry) → entry_of s (past_of s events) what ≡ o → AllKeep s (past_of s events) → AllKeep s (past_of s (what ∷ events))
     go None k before = subst (AllKeep s) (sym (ap (λ o. elim o as (λ _. Past) [ None ↦ past_of s events | Some e ↦ e ∷ past_of s events ]) k)) before
     go (Some e) k before = subst (AllKeep s) (sym (past-after s events what e k)) (obeys s good events what e given k, before)
+
+pub there_of : GoodAccessesAreThere
+there_of s good [] kept = tt
+there_of s good (e ∷ past) kept =
+    let before : (events : List Event) × (past_of s events ≡ past) = of_events s past kept.1 in
+    let here : IsOfEvent s past e = recovers s past e kept.0 in
+    (λ a access. access_there s (is_good s good) before.0 here.0 e (ap (λ l. entry_of s l here.0) before.1 ∙ here.1) a access, there_of s good past kept.1)

@@ -1,4 +1,3 @@
 pub mod Verdicts
 pub mod Shown
 pub mod Hearing
-pub mod Looks

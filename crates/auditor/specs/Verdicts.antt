@@ -1,8 +1,5 @@
 -- The laws that an entry keeps, by looking back over the entries before it, and the verdict on a record.
 use Rattle.std.specs.Prelude.{◌≡◌, ℕ, ◌<◌, Bool, true, false, List, [], ◌∷◌, ◌++◌, length, map, reverse, Some, Ok, IsTrue}
-use Rattle.safe_bit.specs.declared.Move.TheVariants.{EndRead}
-use Rattle.safe_bit.specs.SafeRule.{MayEndWith}
-use Rattle.safe_number.specs.declared.Access.{Access}
 use Rattle.plain_store.specs.declared.Setup.{Setup}
 use Rattle.plain_store.specs.Setups.{checked}
 use Rattle.record.specs.declared.events.Event.{Event}
@@ -13,20 +10,16 @@ use Rattle.record.specs.declared.stages.Stage.TheVariants.{Idle, Settling, Down}
 use Rattle.record.specs.Entries.{Entry, Past, has, is_entered}
 use Rattle.record.specs.Given.{AreGiven}
 use Rattle.record.specs.Headline.{KeepsHeadlineThroughout, OvertakesNobody, TakesItsPlace}
-use Rattle.record.specs.Moves.{begins_read, moves_of}
 use Rattle.record.specs.Records.{entry_of, past_of, placed, record_of, stepped}
-use Rattle.record.specs.Registers.{opening_bit}
 use Rattle.record.specs.Stages.{inside, stage}
+use Rattle.watch.specs.Safe.{KeepsSafe}
+use Rattle.watch.specs.Watching.{AllAreOfThere}
 use Rattle.auditor.specs.declared.verdicts.Law.{Law}
 use Rattle.auditor.specs.declared.verdicts.Law.TheVariants as law
 use Rattle.auditor.specs.declared.verdicts.Verdict.{Verdict}
 use Rattle.auditor.specs.declared.verdicts.Verdict.TheVariants.{Good, Bad}
 
 -- The laws.
-
--- A read that no write of its bit overlapped ends with the value last written or settled before it began, and else with the opening value. The read is the one of its bit that began last, whoever began it.
-abbrev pub KeepsSafe : Setup → Past → Entry → Type 0
-KeepsSafe s past e = (a : Access) (v : Bool) → e.access ≡ Some a → a.how ≡ EndRead v → begins_read (moves_of a past) ≡ true → MayEndWith (opening_bit s a) (moves_of a past) v
 
 -- with these marks an event is told that is no step
 abbrev pub tells_event : Mark → Bool
@@ -142,3 +135,7 @@ OfEventsIsGood = (s : Setup) → checked s ≡ Ok tt → (events : List Event) �
 -- A record has one verdict.
 abbrev pub VerdictsAreUnique : Type 0
 VerdictsAreUnique = (s : Setup) (entries : List Entry) (v w : Verdict) → IsVerdict s entries v → IsVerdict s entries w → v ≡ w
+
+-- In a past in which each entry keeps all laws, each access is of a bit that there is.
+abbrev pub GoodAccessesAreThere : Type 0
+GoodAccessesAreThere = (s : Setup) → checked s ≡ Ok tt → (past : Past) → AllKeep s past → AllAreOfThere s past

@@ -5,11 +5,11 @@ ghost use Rattle.auditor.specs.declared.verdicts.Verdict.TheVariants.{Good};
 ghost use Rattle.auditor.specs.Verdicts.{BreaksFirst, IsTrueRecord, IsVerdict};
 
 use crate::auditor::Auditor;
-use crate::looking::is_unsafe;
 use crate::verdicts::{Law, Verdict};
 use plain_store::Setup;
 use record::{Entry, Record};
 use std::alloc::{AllocError, Global};
+use watch::is_unsafe;
 
 /// The verdict on a record: the lowest entry that breaks a law, and the first law that it breaks. The one fault is want
 /// of memory. It takes the entries one by one, and looks back at most once. A good record is that of some list of

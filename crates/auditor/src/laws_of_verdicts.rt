@@ -1,5 +1,5 @@
 //! What verdicts say of records. Each law is a function with nothing to do, whose contract is the law.
-ghost use Rattle.auditor.specs.Verdicts.{GoodIsOfEvents, OfEventsIsGood, VerdictsAreUnique};
+ghost use Rattle.auditor.specs.Verdicts.{GoodAccessesAreThere, GoodIsOfEvents, OfEventsIsGood, VerdictsAreUnique};
 
 /// A record in which each entry keeps each law is the record of some list of events. So the headline holds of it.
 pub fn good_records_are_of_events()
@@ -14,4 +14,10 @@ pub fn records_of_events_are_good()
 /// A record has one verdict.
 pub fn records_have_one_verdict()
     ensures { VerdictsAreUnique }
+{}
+
+/// In a record in which each entry keeps each law, each access is of a bit that is there. So a watch that has heard it
+/// tells exactly whether the next entry keeps the law `Safe`, whatever that entry is.
+pub fn good_records_access_what_is_there()
+    ensures { GoodAccessesAreThere }
 {}

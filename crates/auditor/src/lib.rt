@@ -4,7 +4,6 @@
 mod auditing;
 mod auditor;
 mod laws_of_verdicts;
-mod looking;
 mod matching;
 mod shown;
 #[cfg(test)]
@@ -14,7 +13,8 @@ mod verdicts;
 pub use auditing::audit;
 pub use auditor::Auditor;
 pub use laws_of_verdicts::{
-    good_records_are_of_events, records_have_one_verdict, records_of_events_are_good,
+    good_records_access_what_is_there, good_records_are_of_events, records_have_one_verdict,
+    records_of_events_are_good,
 };
 pub use record::{Entry, Record};
 pub use verdicts::{Audited, Law, Verdict};

@@ -5,4 +5,4 @@ mod bits;
 mod plain;
 
 pub use bits::run_bits;
-pub use plain::run_plain;
+pub use plain::{no_process_line, run_plain};

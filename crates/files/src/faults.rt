@@ -40,7 +40,7 @@ pub enum FaultKind {
 #[derive(Clone, Copy, Debug, PartialEq, Eq, Error)]
 #[error("line {line}: {kind}")]
 pub struct LineFault {
-    pub line: u32,
+    pub line: u64,
     pub kind: FaultKind,
 }
 

@@ -10,7 +10,7 @@ use bstr::ByteSlice;
 use std::alloc::Global;
 
 /// The most lines of a file, skipped ones among them.
-const MOST_LINES: u32 = 4096;
+const MOST_LINES: u64 = 4096;
 
 /// The most bytes of a line, without its end.
 const MOST_BYTES: usize = 128;
@@ -53,7 +53,7 @@ pub fn read_file<T: FromLines>(alloc: Global, text: &[u8]) -> Result<T, LineFaul
 /// Reads one line after what was read before.
 fn read_line<T: FromLines>(
     alloc: Global,
-    number: u32,
+    number: u64,
     line: &[u8],
     read: &mut Option<T>,
 ) -> Result<(), FaultKind>

@@ -22,7 +22,7 @@ use Rattle.files.proofs.Passing.{passed, length_of}
 use Rattle.files.proofs.Said.{said_line, said_read, later_then, first_then, text_said, text_is_read}
 
 -- the first word of a line
-abbrev bit_key : BitWord → List ℕ
+abbrev pub bit_key : BitWord → List ℕ
 bit_key Bits = codes "bits"
 bit_key Write = codes "write"
 bit_key End = codes "end"
@@ -31,7 +31,7 @@ bit_key Read = codes "read"
 bit_key Value = codes "value"
 bit_key Drop = codes "drop"
 
-key_spelled : (w : List ℕ) (k : BitWord) → bit_word_of w ≡ Some k → w ≡ bit_key k
+pub key_spelled : (w : List ℕ) (k : BitWord) → bit_word_of w ≡ Some k → w ≡ bit_key k
 key_spelled w k found = found_spelled bit_key w bit_words k found refl
 
 bit_spelled : (w : List ℕ) (v : Bool) → bit_at w ≡ Ok v → w ≡ bit_word v
@@ -41,7 +41,7 @@ bit_spelled w v read = by (lookup (bytes_eq w) bits) refl read
     by None is read = absurd (cc)
     by (Some u) is read = let same : u ≡ v = cc in found_spelled bit_word w bits v (is ∙ ap Some same) refl
 
-one_bit_spelled : (ws : List (List ℕ)) (v : Bool) → one_bit_of ws ≡ Ok v → ws ≡ bit_word v ∷ []
+pub one_bit_spelled : (ws : List (List ℕ)) (v : Bool) → one_bit_of ws ≡ Ok v → ws ≡ bit_word v ∷ []
 one_bit_spelled ws v read =
     let a = passed (counted 1 ws) (λ counts. bit_at (word 0 ws)) v read in
     one_of ws (length_of 1 ws a.value a.first) ∙ ap (λ w. w ∷ []) (bit_spelled (word 0 ws) v a.next)

@@ -56,16 +56,16 @@ abbrev IsRead : {A : Type 0} → Result A FaultKind → A → Type 0
 IsRead r x = r ≡ Ok x
 
 -- what was read as a command
-record CommandSaid (v : Verb) (ws : List (List ℕ)) (c : Command) : Type 0 where
-  words : verb_word v ∷ ws ≡ command_words c
-  good : is_command c ≡ true
-  verb_is : verb_in c ≡ v
+pub record CommandSaid (v : Verb) (ws : List (List ℕ)) (c : Command) : Type 0 where
+  pub words : verb_word v ∷ ws ≡ command_words c
+  pub good : is_command c ≡ true
+  pub verb_is : verb_in c ≡ v
 
 command_made : (v : Verb) (ws : List (List ℕ)) (made c : Command) → IsRead (Ok made) c → verb_word v ∷ ws ≡ command_words made → is_command made ≡ true → verb_in made ≡ v → CommandSaid v ws c
 command_made v ws made c is words good verb_is = let same : made ≡ c = cc in subst (CommandSaid v ws) same (record { words = words; good = good; verb_is = verb_is })
 
 -- a command, by the words behind its key word
-command_said : (v : Verb) (ws : List (List ℕ)) (u : Unit {0}) (c : Command) → counted (operand_count v) ws ≡ Ok u → command_of v ws ≡ Ok c → CommandSaid v ws c
+pub command_said : (v : Verb) (ws : List (List ℕ)) (u : Unit {0}) (c : Command) → counted (operand_count v) ws ≡ Ok u → command_of v ws ≡ Ok c → CommandSaid v ws c
 unfolding command_of
 command_said verb.Ask ws u c counts read = command_made verb.Ask ws command.Ask c read (ap (λ ws. codes "ask" ∷ ws) (none_of ws (length_of 0 ws u counts))) refl refl
 command_said verb.Read ws u c counts read =
@@ -114,7 +114,7 @@ line_made : (version : ℕ) (ws : List (List ℕ)) (made l : Line) → IsRead (O
 line_made version ws made l is words good allowed = let same : made ≡ l = cc in subst (LineSaid version ws) same (record { words = words; good = good; allowed = allowed })
 
 -- the number of a process
-process_spelled : (p : List ℕ) (q : ℕ) → number_at 255 p ≡ Ok q → (p ≡ decimal q) × (nat_lt q 256 ≡ true)
+pub process_spelled : (p : List ℕ) (q : ℕ) → number_at 255 p ≡ Ok q → (p ≡ decimal q) × (nat_lt q 256 ≡ true)
 process_spelled p q read =
     let is = number_spelled 255 p q (omega arith) read in
     let within : nat_le q 255 ≡ true = is.1 in

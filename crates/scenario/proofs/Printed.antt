@@ -8,7 +8,7 @@ use Rattle.plain_store.specs.declared.commands.Command.{Command}
 use Rattle.plain_store.specs.declared.commands.Command.TheVariants as command
 use Rattle.plain_store.specs.declared.commands.Value.{Value}
 use Rattle.plain_store.specs.declared.setups.Setup.{Setup}
-use Rattle.scenario.specs.Printing.{command_words, flick_words, line_words, open_words, setup_words, spaced, printed_line}
+use Rattle.scenario.specs.Printing.{command_words, flick_words, kind_words, line_words, open_words, spaced, printed_line}
 use Rattle.scenario.specs.declared.lines.Flick.{Flick}
 use Rattle.scenario.specs.declared.lines.Flick.TheVariants as flick
 use Rattle.scenario.specs.declared.lines.Line.{Line}
@@ -47,10 +47,10 @@ two_words : (key digits rest : List ℕ) → printed_line (key ∷ digits ∷ []
 two_words key digits rest = simp append_assoc
 
 -- the first five lines
-pub setup_lines_are : (s : Setup) → codes "bakery " ++ (decimal s.version ++ (codes "\nprocesses " ++ (decimal s.processes ++ (codes "\ntickets " ++ (decimal s.ticket_bits ++ (codes "\nstamps " ++ (decimal s.stamp_bits ++ (codes "\nslots " ++ (decimal s.slots ++ codes "\n"))))))))) ≡ flat_map printed_line (setup_words s)
-setup_lines_are s = sym (
-    two_words (codes "bakery") (decimal s.version) _
-    ∙ ap (λ t. codes "bakery " ++ (decimal s.version ++ (codes "\n" ++ t))) (two_words (codes "processes") (decimal s.processes) _
+pub setup_lines_are : (kind : List ℕ) (s : Setup) → kind ++ (codes " " ++ (decimal s.version ++ (codes "\nprocesses " ++ (decimal s.processes ++ (codes "\ntickets " ++ (decimal s.ticket_bits ++ (codes "\nstamps " ++ (decimal s.stamp_bits ++ (codes "\nslots " ++ (decimal s.slots ++ codes "\n")))))))))) ≡ flat_map printed_line (kind_words kind s)
+setup_lines_are kind s = sym (
+    two_words kind (decimal s.version) _
+    ∙ ap (λ t. kind ++ (codes " " ++ (decimal s.version ++ (codes "\n" ++ t)))) (two_words (codes "processes") (decimal s.processes) _
     ∙ ap (λ t. codes "processes " ++ (decimal s.processes ++ (codes "\n" ++ t))) (two_words (codes "tickets") (decimal s.ticket_bits) _
     ∙ ap (λ t. codes "tickets " ++ (decimal s.ticket_bits ++ (codes "\n" ++ t))) (two_words (codes "stamps") (decimal s.stamp_bits) _
     ∙ ap (λ t. codes "stamps " ++ (decimal s.stamp_bits ++ (codes "\n" ++ t))) (two_words (codes "slots") (decimal s.slots) [])))))

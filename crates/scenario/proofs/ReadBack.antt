@@ -43,11 +43,11 @@ use Rattle.files.proofs.Said.{said_line}
 use Rattle.scenario.proofs.Spelled.{number_again, integer_again, name_again, value_again}
 
 -- the number of a process is read again
-process_again : (p : ℕ) → nat_lt p 256 ≡ true → number_at 255 (decimal p) ≡ Ok p
+pub process_again : (p : ℕ) → nat_lt p 256 ≡ true → number_at 255 (decimal p) ≡ Ok p
 process_again p small = number_again 255 p (grind (arith, nat_tests)) (grind (arith, nat_tests))
 
 -- the words behind the key word of a command
-abbrev operands_of : Command → List (List ℕ)
+abbrev pub operands_of : Command → List (List ℕ)
 operands_of (command.Read name) = name ∷ []
 operands_of (command.Write name value) = name ∷ value_text value ∷ []
 operands_of (command.Add name by) = name ∷ signed_decimal by ∷ []
@@ -55,7 +55,7 @@ operands_of (command.Cas name expected value) = name ∷ value_text expected ∷
 operands_of command.Ask = []
 
 -- by which it is read again
-command_again : (c : Command) → is_command c ≡ true → command_of (verb_in c) (operands_of c) ≡ Ok c
+pub command_again : (c : Command) → is_command c ≡ true → command_of (verb_in c) (operands_of c) ≡ Ok c
 unfolding command_of
 command_again (command.Read name) good = ap (λ r. r >>= λ n. Ok (command.Read n)) (name_again name good)
 command_again (command.Write name value) good =

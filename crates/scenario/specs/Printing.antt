@@ -72,9 +72,13 @@ heading_words heading = heading_word heading.0 ∷ decimal heading.1 ∷ []
 abbrev pub headings_of : Setup → List (Heading × ℕ)
 headings_of s = (Processes, s.processes) ∷ (Tickets, s.ticket_bits) ∷ (Stamps, s.stamp_bits) ∷ (Slots, s.slots) ∷ []
 
--- the words of the first line and of the four headings
+-- the words of the first line of a file of some kind, and of the four headings
+abbrev pub kind_words : List ℕ → Setup → List (List (List ℕ))
+kind_words kind s = (kind ∷ decimal s.version ∷ []) ∷ map heading_words (headings_of s)
+
+-- those of a scenario file
 abbrev pub setup_words : Setup → List (List (List ℕ))
-setup_words s = version_words s.version ∷ map heading_words (headings_of s)
+setup_words = kind_words (codes "bakery")
 
 -- the words of all lines, in their order
 abbrev pub script_words : Script → List (List (List ℕ))

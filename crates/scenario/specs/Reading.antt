@@ -34,12 +34,15 @@ pub record Progress : Type 0 where
 abbrev pub version_of : List ℕ → Result ℕ FaultKind
 version_of text = ok_or (lookup (bytes_eq text) ((codes "1", 1) ∷ (codes "2", 2) ∷ [])) NotFirst
 
+-- where the first line names this version: no heading, no pair, no line
+abbrev pub at_version : List ℕ → Result Progress FaultKind
+at_version text = version_of text >>= λ version. Ok (record { given = none_given; setup = default_setup version; lines = [] })
+
 -- `bakery 1` or `bakery 2`
 unfoldable pub first_read : List ℕ → List (List ℕ) → Result Progress FaultKind
 first_read first words = do
   named ← fault_if (not (bytes_eq first (codes "bakery")) || not (length words == 1)) NotFirst
-  version ← version_of (word 0 words)
-  Ok (record { given = none_given; setup = default_setup version; lines = [] })
+  at_version (word 0 words)
 
 -- a heading and its number: at most once, and before all lines of other kinds
 unfoldable pub heading_read : Heading → List (List ℕ) → Progress → Result Progress FaultKind

@@ -36,7 +36,7 @@ pub fn read_bits(alloc: Global, text: &[u8]) -> Result<Vec<BitLine>, LineFault>
 
 /// The first word of a line.
 #[derive(Clone, Copy, Debug, PartialEq, Eq)]
-enum BitWord {
+pub enum BitWord {
     Bits,
     Write,
     End,
@@ -47,7 +47,8 @@ enum BitWord {
 }
 
 impl BitWord {
-    fn of(word: &[u8]) -> Option<BitWord>
+    /// What the first word of a line means.
+    pub fn of(word: &[u8]) -> Option<BitWord>
         ensures { result ≡ bit_word_of word.now }
     {
         match word {
@@ -137,7 +138,7 @@ fn alone(line: BitLine, words: &[&[u8]]) -> Result<BitLine, FaultKind>
 }
 
 /// The one operand of a line.
-fn one_bit(words: &[&[u8]]) -> Result<bool, FaultKind>
+pub fn one_bit(words: &[&[u8]]) -> Result<bool, FaultKind>
     ensures { result ≡ one_bit_of (texts words.now) }
 {
     if words.len() != 1 {

@@ -1,19 +1,19 @@
 //! Scenario files and bits files: what their lines say, how they are read, and how scenarios are printed.
 #![tactic(auto)]
 
-mod bit_files;
+pub mod bit_files;
 mod headings;
-mod keywords;
+pub mod keywords;
 mod laws;
 mod lines;
 mod numbers;
-mod operands;
-mod printing;
+pub mod operands;
+pub mod printing;
 mod reading;
 mod scenarios;
 mod sound;
 mod spelling;
-mod statements;
+pub mod statements;
 
 pub use bit_files::{BitLine, read_bits};
 pub use files::{
@@ -23,7 +23,7 @@ pub use files::{
 pub use laws::cut_texts_have_the_fault_of_the_whole;
 pub use lines::{Flick, Line, Target};
 pub use printing::print_scenario;
-pub use reading::read_scenario;
+pub use reading::{Reader, read_scenario};
 pub use scenarios::Scenario;
 pub use spelling::{
     files_are_spelled_in_one_way, lines_are_spelled_in_one_way, printed_scenarios_are_read_again,

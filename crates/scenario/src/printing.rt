@@ -1,7 +1,7 @@
 //! How scenarios are printed.
 ghost use Rattle.std.specs.Prelude.{◌≡◌, ◌++◌, ◌∷◌, codes, flat_map, map, true, IfOk, OnOk, Ok};
 ghost use Rattle.std.specs.String.{string_bytes};
-ghost use Rattle.scenario.specs.Printing.{command_words, target_word, flick_words, line_words, open_words, setup_words, spaced, printed_line, scenario_text};
+ghost use Rattle.scenario.specs.Printing.{command_words, target_word, flick_words, line_words, kind_words, open_words, spaced, printed_line, scenario_text};
 ghost use Rattle.scenario.specs.Reading.{scenario_of};
 ghost use Rattle.scenario.specs.Reads.{script};
 ghost use Rattle.scenario.specs.Scripts.{is_line};
@@ -21,16 +21,16 @@ pub fn print_scenario(alloc: Global, scenario: &Scenario) -> Result<Vec<u8>, All
     ensures read_again { IfOk result (λ bytes. scenario_of bytes.items ≡ Ok (script scenario.now)) }
 {
     scenario.setup.opening.pairs_are_sound();
-    let mut text = setup_lines(alloc, &scenario.setup)?;
+    let mut text = setup_lines(alloc, "bakery", &scenario.setup)?;
     print_opening(alloc, &scenario.setup.opening, &mut text)?;
     print_lines(alloc, scenario.lines.as_slice(), &mut text)?;
     Ok(text.into_bytes())
 }
 
-/// The first line, and the four headings.
+/// The first line of a file of this kind, and the four headings.
 #[tactic(auto, using(crate::proofs::Printed::setup_lines_are))]
-fn setup_lines(alloc: Global, setup: &Setup) -> Result<String, AllocError>
-    ensures { IfOk result (λ text. string_bytes text ≡ flat_map printed_line (setup_words setup.now)) }
+pub fn setup_lines(alloc: Global, kind: &str, setup: &Setup) -> Result<String, AllocError>
+    ensures { IfOk result (λ text. string_bytes text ≡ flat_map printed_line (kind_words kind.now setup.now)) }
 {
     let Setup {
         version,
@@ -41,13 +41,13 @@ fn setup_lines(alloc: Global, setup: &Setup) -> Result<String, AllocError>
         ..
     } = *setup;
     format!(in alloc;
-        "bakery {version}\nprocesses {processes}\ntickets {ticket_bits}\nstamps {stamp_bits}\nslots {slots}\n"
+        "{kind} {version}\nprocesses {processes}\ntickets {ticket_bits}\nstamps {stamp_bits}\nslots {slots}\n"
     )
 }
 
 /// Writes a line for each opening pair.
 #[tactic(auto, using(crate::proofs::Printed::opening_more))]
-fn print_opening(alloc: Global, opening: &Opening, text: &mut String) -> Result<(), AllocError>
+pub fn print_opening(alloc: Global, opening: &Opening, text: &mut String) -> Result<(), AllocError>
     ensures { OnOk result (string_bytes text.new ≡ string_bytes text.old ++ flat_map printed_line (map open_words opening.now)) }
 {
     for place in 0..opening.len() {

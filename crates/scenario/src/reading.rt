@@ -1,10 +1,11 @@
 //! Reading a scenario file, line by line.
-ghost use Rattle.std.specs.Prelude.{◌≡◌, [], true, false, not, ◌&&◌, length};
+ghost use Rattle.std.specs.Prelude.{◌≡◌, [], true, false, not, ◌&&◌, length, Ok};
 ghost use Rattle.std.specs.Int.{is_in_range};
 ghost use Rattle.files.specs.Files.{one_more};
+ghost use Rattle.plain_store.specs.Setups.{checked};
 ghost use Rattle.files.specs.Reads.{Makes, Takes};
 ghost use Rattle.scenario.specs.Reads.{Gives, script};
-ghost use Rattle.scenario.specs.Reading.{first_read, heading_read, pair_read, open_read, kept_read, other_read, opened_read, script_of, scenario_of};
+ghost use Rattle.scenario.specs.Reading.{first_read, at_version, heading_read, pair_read, open_read, kept_read, other_read, opened_read, script_of, scenario_of};
 ghost use Rattle.scenario.specs.Setting.{most_of, may_open, and_given, with_heading, with_pair};
 ghost use Rattle.scenario.specs.Statements.{is_line_of};
 ghost use Rattle.files.specs.Words.{texts};
@@ -86,7 +87,14 @@ impl Reader {
         if word != b"bakery".as_slice() || words.len() != 1 {
             return Err(FaultKind::NotFirst);
         }
-        let version = match words[0] {
+        Reader::at_version(alloc, words[0])
+    }
+
+    /// The file is of the version that this word names, and nothing more was read.
+    pub fn at_version(alloc: Global, word: &[u8]) -> Result<Reader, FaultKind>
+        ensures { Makes result (at_version word.now) }
+    {
+        let version = match word {
             b"1" => 1,
             b"2" => 2,
             _ => return Err(FaultKind::NotFirst),
@@ -96,6 +104,14 @@ impl Reader {
             setup: default_setup(version),
             lines: Vec::new(alloc),
         })
+    }
+
+    /// The setup so far.
+    pub fn setup(&self) -> &Setup
+        ensures value { result.now ≡ self.now.setup }
+        ensures good { checked result.now ≡ Ok tt }
+    {
+        &self.setup
     }
 
     /// A later line, by what its first word means.
@@ -112,7 +128,7 @@ impl Reader {
 
     /// A heading and its number.
     #[tactic(auto, unfolding(crate::specs::Reading::heading_read))]
-    fn heading(&mut self, heading: Heading, words: &[&[u8]]) -> Result<(), FaultKind>
+    pub fn heading(&mut self, heading: Heading, words: &[&[u8]]) -> Result<(), FaultKind>
         ensures { Takes result (heading_read heading (texts words.now) self.old) self.new }
     {
         if self.given.has(heading) || self.setup.opening.len() != 0 || !self.lines.is_empty() {
@@ -143,7 +159,7 @@ impl Reader {
 
     /// `open NAME VALUE`.
     #[tactic(auto, unfolding(crate::specs::Reading::open_read))]
-    fn open(&mut self, words: &[&[u8]]) -> Result<(), FaultKind>
+    pub fn open(&mut self, words: &[&[u8]]) -> Result<(), FaultKind>
         ensures { Takes result (open_read (texts words.now) self.old) self.new }
     {
         if self.setup.version != 2 {

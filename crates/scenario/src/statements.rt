@@ -10,7 +10,8 @@ use files::FaultKind;
 use plain_store::Command;
 
 impl Verb {
-    fn operands(self) -> usize
+    /// How many words follow the key word of a call.
+    pub fn operands(self) -> usize
         ensures { result ≡ operand_count self }
     {
         match self {
@@ -52,8 +53,9 @@ pub fn line(version: u8, name: LineWord, words: &[&[u8]]) -> Result<Line, FaultK
     }
 }
 
+/// The command of a call, by the words behind its key word, as many as it takes.
 #[tactic(auto, unfolding(crate::specs::Statements::command_of))]
-fn command(verb: Verb, words: &[&[u8]]) -> Result<Command, FaultKind>
+pub fn command(verb: Verb, words: &[&[u8]]) -> Result<Command, FaultKind>
     requires { length words.now ≡ operand_count verb }
     ensures value { result ≡ command_of verb (texts words.now) }
     ensures verb { IfOk result (λ command. verb_in command ≡ verb) }

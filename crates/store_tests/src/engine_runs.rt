@@ -24,7 +24,7 @@ const REPLIES_PRINT: &str =
     5 0 no-name\n6 0 kept c:9223372036854775807\n7 0 swapped\n8 0 not-counter\n9 0 value t:\n";
 
 // Scenario files, with what `plain` prints or the fault of a line.
-const PLAIN: [(&str, Result<&str, (u32, FaultKind)>); 8] = [
+const PLAIN: [(&str, Result<&str, (u64, FaultKind)>); 8] = [
     (ASK, Ok(ASK_PRINTS)),
     (REPLIES, Ok(REPLIES_PRINT)),
     ("bakery 1\nshow", Ok("show empty\n")),
@@ -45,7 +45,7 @@ const PLAIN: [(&str, Result<&str, (u32, FaultKind)>); 8] = [
 ];
 
 // Bits files, with what `bits` prints or the fault of a line.
-const BITS: [(&str, Result<&str, (u32, FaultKind)>); 5] = [
+const BITS: [(&str, Result<&str, (u64, FaultKind)>); 5] = [
     (TORN, Ok(TORN_PRINTS)),
     ("bits 1\nwrite 1\nend\nread\nvalue 0\n", Ok("1\n")),
     ("bits 1\nend\n", Ok("refused\n")),

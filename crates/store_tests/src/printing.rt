@@ -72,7 +72,7 @@ fn prints_each_kind_of_line(rt: HostRuntime) -> Result<(), Fail> {
 
 // Each line of a file, with its number, and what a cut within it tells: at less than so many bytes of the line
 // this kind.
-const CUTS: [(u32, &str, &[(usize, FaultKind)]); 10] = [
+const CUTS: [(u64, &str, &[(usize, FaultKind)]); 10] = [
     (1, "bakery 1", &[(8, NotFirst)]),
     (2, "tickets 2", &[(7, Unknown), (9, Words)]),
     (3, "stamps 2", &[(6, Unknown), (8, Words)]),

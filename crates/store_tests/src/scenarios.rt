@@ -9,7 +9,7 @@ use std::io::{self, Read, Write};
 use std::test::Fail;
 
 /// The fault of a scenario file, if it has one.
-pub fn fault_of(alloc: Global, text: &[u8]) -> Option<(u32, FaultKind)> {
+pub fn fault_of(alloc: Global, text: &[u8]) -> Option<(u64, FaultKind)> {
     match read_scenario(alloc, text) {
         Ok(_) => None,
         Err(fault) => Some((fault.line, fault.kind)),

@@ -1,0 +1,11 @@
+-- Words and their parts
+pub mod Cuts
+pub mod Dots
+pub mod Parts
+-- What is printed
+pub mod Printed
+-- What is printed, and read again
+pub mod NoSigns
+pub mod ReadBack
+-- What was read has the words that are printed for it
+pub mod Spelled

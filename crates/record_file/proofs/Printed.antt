@@ -1,0 +1,106 @@
+-- What `format!` puts together is what is printed.
+use Rattle.std.proofs.Common.{◌≡◌, ℕ, ◌+◌, ◌<◌, true, false, List, [], ◌∷◌, ◌++◌, length, drop, get_or, flat_map, map, codes, Some, None, refl, ap, sym, ◌∙◌, append_assoc, append-nil}
+use Rattle.std.specs.Fmt.{decimal}
+use Rattle.safe_bit.specs.declared.Move.{Move}
+use Rattle.safe_bit.specs.declared.Move.TheVariants.{BeginWrite, EndWrite, BeginRead, EndRead, Settle}
+use Rattle.safe_number.specs.declared.Access.{Access}
+use Rattle.plain_store.specs.Shown.{command_text, reply_text, answer_text}
+use Rattle.plain_store.specs.declared.commands.Answer.{Answer}
+use Rattle.plain_store.specs.declared.commands.Answer.TheVariants as answer
+use Rattle.plain_store.specs.declared.commands.Command.{Command}
+use Rattle.plain_store.specs.declared.commands.Command.TheVariants as command
+use Rattle.plain_store.specs.declared.commands.Reply.{Reply}
+use Rattle.plain_store.specs.declared.commands.Reply.TheVariants as reply
+use Rattle.record.specs.Entries.{Entry}
+use Rattle.record.specs.Shown.{mark_text}
+use Rattle.record.specs.declared.marks.Mark.{Mark}
+use Rattle.record.specs.declared.marks.Mark.TheVariants as mark
+use Rattle.scenario.specs.Printing.{command_words, spaced, printed_line}
+use Rattle.scenario.proofs.Places.{drop_in}
+use Rattle.record_file.specs.Printing.{access_words, answer_words, behind_spaces, copy_word, entry_line, entry_words, field_word, mark_words, move_words, reply_words, signed_words}
+
+-- words with a single space between them, the first and the others
+spaced_first : (w : List ℕ) (ws : List (List ℕ)) → spaced (w ∷ ws) ≡ w ++ behind_spaces ws
+spaced_first w [] = sym (append-nil w)
+spaced_first w (v ∷ vs) = ap (λ t. w ++ (codes " " ++ t)) (spaced_first v vs)
+
+-- words behind spaces, in two parts
+spaces_append : (vs ws : List (List ℕ)) → behind_spaces (vs ++ ws) ≡ behind_spaces vs ++ behind_spaces ws
+spaces_append [] ws = refl
+spaces_append (v ∷ vs) ws = ap (λ t. codes " " ++ (v ++ t)) (spaces_append vs ws) ∙ sym (append_assoc (codes " " ++ v) (behind_spaces vs) (behind_spaces ws))
+
+command_is : (c : Command) → codes "call " ++ command_text c ≡ codes "call" ++ behind_spaces (command_words c)
+command_is (command.Read name) = simp (append_assoc, append-nil)
+command_is (command.Write name value) = simp (append_assoc, append-nil)
+command_is (command.Add name by) = simp (append_assoc, append-nil)
+command_is (command.Cas name expected value) = simp (append_assoc, append-nil)
+command_is command.Ask = refl
+
+reply_is : (r : Reply) → codes " " ++ reply_text r ≡ behind_spaces (reply_words r)
+reply_is (reply.Value v) = simp (append_assoc, append-nil)
+reply_is reply.Done = refl
+reply_is (reply.Sum n) = simp (append_assoc, append-nil)
+reply_is reply.Swapped = refl
+reply_is (reply.Kept v) = simp (append_assoc, append-nil)
+reply_is reply.NoName = refl
+reply_is reply.NotCounter = refl
+reply_is reply.Overflow = refl
+reply_is reply.StoreFull = refl
+reply_is (reply.Last n) = simp (append_assoc, append-nil)
+
+answer_is : (a : Answer) → codes " " ++ answer_text a ≡ behind_spaces (answer_words a)
+answer_is (answer.Reply r) = reply_is r
+answer_is (answer.TicketsFull p) = simp (append_assoc, append-nil)
+answer_is answer.StampsFull = refl
+answer_is answer.Withdrawn = refl
+
+-- a mark's text is its words
+mark_is : (m : Mark) → codes " " ++ mark_text m ≡ behind_spaces (mark_words m)
+mark_is (mark.Called c) = ap (λ t. codes " " ++ t) (command_is c)
+mark_is (mark.Waiting ticket) = simp (append_assoc, append-nil)
+mark_is mark.Entered = refl
+mark_is (mark.Taken place r) = ap (λ t. codes " taken " ++ t) (append_assoc (decimal place) (codes " ") (reply_text r)) ∙ ap (λ t. codes " taken " ++ (decimal place ++ t)) (reply_is r)
+mark_is mark.Left = refl
+mark_is (mark.Answered a) = ap (λ t. codes " answer" ++ t) (answer_is a)
+mark_is mark.Failed = refl
+mark_is (mark.Settled false) = refl
+mark_is (mark.Settled true) = refl
+mark_is mark.Down = refl
+mark_is mark.Withdrew = refl
+mark_is mark.Restarted = refl
+
+-- and so is a mark behind its sign
+pub signed_is : (m : Mark) → codes " : " ++ mark_text m ≡ behind_spaces (signed_words m)
+signed_is m = ap (λ t. codes " :" ++ t) (mark_is m)
+
+-- a move's words
+pub move_is : (m : Move) → codes " " ++ spaced (move_words m) ≡ behind_spaces (move_words m)
+move_is (BeginWrite false) = refl
+move_is (BeginWrite true) = refl
+move_is EndWrite = refl
+move_is BeginRead = refl
+move_is (EndRead false) = refl
+move_is (EndRead true) = refl
+move_is (Settle false) = refl
+move_is (Settle true) = refl
+
+-- the words of an access
+pub access_is : (a : Access) → codes " " ++ (decimal a.owner ++ (codes "." ++ (field_word a.field ++ (codes "." ++ (decimal a.bit ++ (codes "." ++ (decimal a.reader ++ (codes " " ++ spaced (move_words a.how))))))))) ≡ behind_spaces (access_words (Some a))
+access_is a = ap (λ t. codes " " ++ (decimal a.owner ++ (codes "." ++ (field_word a.field ++ (codes "." ++ (decimal a.bit ++ (codes "." ++ (decimal a.reader ++ t)))))))) (move_is a.how) ∙ simp append_assoc
+
+-- a line and the marks from a place on, one mark later
+pub marks_more : (told : List ℕ) (marks : List Mark) (k : ℕ) (here : Mark) → k < length marks → here ≡ get_or marks k here → (told ++ behind_spaces (signed_words here)) ++ behind_spaces (flat_map signed_words (drop (k + 1) marks)) ≡ told ++ behind_spaces (flat_map signed_words (drop k marks))
+marks_more told marks k here within is =
+    append_assoc told _ _
+    ∙ ap (λ t. told ++ t) (sym (spaces_append (signed_words here) (flat_map signed_words (drop (k + 1) marks))))
+    ∙ ap (λ ms. told ++ behind_spaces (flat_map signed_words ms)) (sym (drop_in marks k here within is))
+
+-- without an access nothing is added
+pub no_access_is : (line : List ℕ) → line ≡ line ++ behind_spaces (access_words None)
+no_access_is line = sym (append-nil line)
+
+-- The line of an entry, by its parts.
+pub entry_is : (e : Entry) → ((decimal e.process ++ behind_spaces (access_words e.access)) ++ behind_spaces (flat_map signed_words e.marks)) ++ codes "\n" ≡ entry_line e
+entry_is e =
+    ap (λ t. t ++ codes "\n") (append_assoc (decimal e.process) (behind_spaces (access_words e.access)) (behind_spaces (flat_map signed_words e.marks)) ∙ ap (λ t. decimal e.process ++ t) (sym (spaces_append (access_words e.access) (flat_map signed_words e.marks))))
+    ∙ ap (λ t. t ++ codes "\n") (sym (spaced_first (decimal e.process) (access_words e.access ++ flat_map signed_words e.marks)))

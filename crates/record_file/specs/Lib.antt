@@ -1,0 +1,5 @@
+pub mod Faults
+pub mod Given
+pub mod Keywords
+pub mod Printing
+pub mod Reading

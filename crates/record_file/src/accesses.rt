@@ -1,0 +1,102 @@
+//! Reading an access: a copy of a bit, and a move on it.
+ghost use Rattle.std.specs.Prelude.{◌≡◌, ◌∷◌, [], ◌==◌, length, not, true, ◌<◌, IfSome, MatchOption};
+ghost use Rattle.std.specs.Option.{option_map_or};
+ghost use Rattle.std.specs.List.{position};
+ghost use Rattle.files.specs.Words.{texts};
+ghost use Rattle.record_file.specs.Reading.{access_of, dotted, lone_move_of, move_of};
+
+use crate::keywords::field as field_named;
+use files::FaultKind;
+use safe_bit::Move;
+use safe_number::{Access, Field};
+use scenario::bit_files::{BitWord, one_bit};
+use scenario::operands::{number, process};
+
+/// The words of an access: a copy of a bit, and a move. There may be none.
+#[tactic(auto, unfolding(crate::specs::Reading::access_of, crate::specs::Reading::copy_of))]
+pub fn access(words: &[&[u8]]) -> Result<Option<Access>, FaultKind>
+    ensures { result ≡ access_of (texts words.now) }
+{
+    let [copy, behind @ ..] = words else {
+        return Ok(None);
+    };
+    let Some(parts) = dotted_parts(copy) else {
+        return Err(FaultKind::Unknown);
+    };
+    let Some(field) = field_named(parts.1) else {
+        return Err(FaultKind::Unknown);
+    };
+    let [name, operands @ ..] = behind else {
+        return Err(FaultKind::Words);
+    };
+    let Some(name) = BitWord::of(name) else {
+        return Err(FaultKind::Unknown);
+    };
+    let how = move_named(name, operands)?;
+    Ok(Some(Access {
+        owner: process(parts.0)?,
+        field,
+        bit: number(parts.2, 65_535)? as u16,
+        reader: process(parts.3)?,
+        how,
+    }))
+}
+
+/// The parts of a word between its dots, if there are four.
+fn dotted_parts(word: &[u8]) -> Option<(&[u8], &[u8], &[u8], &[u8])>
+    ensures { MatchOption result (not (length (dotted word.now) == 4) ≡ true) (λ parts. dotted word.now ≡ parts.0.now ∷ parts.1.now ∷ parts.2.now ∷ parts.3.now ∷ []) }
+{
+    let (first, behind) = up_to_dot(word);
+    let (second, behind) = up_to_dot(behind?);
+    let (third, behind) = up_to_dot(behind?);
+    let (fourth, behind) = up_to_dot(behind?);
+    if behind.is_some() {
+        return None;
+    }
+    Some((first, second, third, fourth))
+}
+
+/// The bytes before the first dot, and those behind it, if there is one.
+#[tactic(auto, using(crate::proofs::Cuts::bytes_cut, crate::proofs::Cuts::bytes_uncut, crate::proofs::Dots::some_part))]
+fn up_to_dot(word: &[u8]) -> (&[u8], Option<&[u8]>)
+    ensures split { dotted word.now ≡ result.0.now ∷ option_map_or (λ rest. dotted rest.now) result.1 [] }
+    ensures more { IfSome result.1 (λ rest. 0 < length (dotted rest.now)) }
+{
+    match place_of_dot(word) {
+        None => (word, None),
+        Some(at) => (&word[..at], Some(&word[at + 1..])),
+    }
+}
+
+/// How many bytes stand before the first dot, if there is one.
+fn place_of_dot(word: &[u8]) -> Option<usize>
+    ensures place { result ≡ position (λ b. b == 46) word.now }
+    ensures within { IfSome result (λ at. at < length word.now) }
+{
+    word.iter().position(|byte| *byte == b'.')
+}
+
+/// What the words of a move say, by its first word and those behind it.
+fn move_named(name: BitWord, words: &[&[u8]]) -> Result<Move, FaultKind>
+    ensures { result ≡ move_of name (texts words.now) }
+{
+    match name {
+        BitWord::Write => Ok(Move::BeginWrite(one_bit(words)?)),
+        BitWord::End => alone(Move::EndWrite, words),
+        BitWord::Read => alone(Move::BeginRead, words),
+        BitWord::Value => Ok(Move::EndRead(one_bit(words)?)),
+        BitWord::Settle => Ok(Move::Settle(one_bit(words)?)),
+        BitWord::Bits | BitWord::Drop => Err(FaultKind::Unknown),
+    }
+}
+
+/// A move that is its first word alone.
+fn alone(how: Move, words: &[&[u8]]) -> Result<Move, FaultKind>
+    ensures { result ≡ lone_move_of how (texts words.now) }
+{
+    if words.is_empty() {
+        Ok(how)
+    } else {
+        Err(FaultKind::Words)
+    }
+}

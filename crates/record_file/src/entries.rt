@@ -1,0 +1,120 @@
+//! Reading an entry by its words.
+ghost use Rattle.std.specs.Prelude.{◌≡◌, ◌∷◌, [], ◌+◌, ◌<◌, ◌≤◌, Ok, IfOk, IfSome, length};
+ghost use Rattle.std.specs.List.{position};
+ghost use Rattle.files.specs.Words.{texts};
+ghost use Rattle.record_file.specs.Reading.{entry_of, is_sign as sign, marks_read, parts_behind, parts_of, with_mark as one_more};
+
+use crate::accesses::access;
+use crate::faults::both;
+use crate::marks::mark;
+use files::FaultKind;
+use plain_store::NestedTypes;
+use record::{Act, Entry, Mark};
+use scenario::operands::process;
+use smallvec::SmallVec;
+use std::alloc::Global;
+use std::marker::Model;
+
+/// The most marks of an entry.
+const MOST_MARKS: usize = 3;
+
+/// The marks that were read so far, which stand in place. Contracts see their list.
+#[derive(Drop)]
+struct MarkList {
+    read: SmallVec<Mark, 3>,
+}
+
+impl Model for MarkList {
+    ghost use Rattle.std.specs.Prelude.{List, ◌≤◌};
+    ghost use Rattle.record.specs.declared.marks.Mark.{Mark};
+
+    ghost Value = { List Mark };
+
+    ghost view = { λ m. m.read.items };
+
+    ghost invariant = { λ m. 3 ≤ m.read.capacity };
+}
+
+/// What a line says as an entry, by its first word and the words behind it. A line is an entry of some record
+/// wherever it is spelled so: what no run does is no fault. It takes no memory.
+pub fn read_entry(alloc: Global, first: &[u8], words: &[&[u8]]) -> Result<Entry, FaultKind>
+    ensures { result ≡ entry_of first.now (texts words.now) }
+{
+    let _nested: NestedTypes = None;
+    let (place, signed) = up_to_sign(words);
+    let marks = marks(alloc, signed);
+    let ((process, access), marks) = both(both(process(first), access(place)), marks)?;
+    Ok(Entry {
+        process,
+        act: Act {
+            access,
+            marks: marks.read,
+        },
+    })
+}
+
+/// The marks behind the first sign, if there is one.
+fn marks(alloc: Global, signed: Option<&[&[u8]]>) -> Result<MarkList, FaultKind>
+    ensures { result ≡ marks_read 0 (parts_behind signed.entry) (Ok []) }
+{
+    let mut marks = Ok(MarkList {
+        read: SmallVec::new(alloc),
+    });
+    let mut number = 0;
+    let mut left = signed;
+    'marks: while let Some(words) = left {
+        let (part, behind) = up_to_sign(words);
+        marks = with_mark(number, marks, mark(part));
+        number += 1;
+        left = behind;
+    }
+    marks
+}
+
+/// One more mark behind so many others, of which a line has at most three.
+fn with_mark(
+    number: usize,
+    before: Result<MarkList, FaultKind>,
+    mark: Result<Mark, FaultKind>,
+) -> Result<MarkList, FaultKind>
+    requires { IfOk before (λ marks. length marks ≤ number) }
+    ensures value { result ≡ one_more number before mark }
+    ensures few { IfOk result (λ marks. length marks ≤ number + 1) }
+{
+    let _nested: NestedTypes = None;
+    let few = if number < MOST_MARKS {
+        Ok(())
+    } else {
+        Err(FaultKind::Words)
+    };
+    let ((mut marks, mark), ()) = both(both(before, mark), few)?;
+    marks.read.push_reserved(mark);
+    Ok(marks)
+}
+
+/// The words before the first sign, and those behind it, if there is one.
+#[tactic(auto, using(crate::proofs::Cuts::words_cut, crate::proofs::Cuts::words_uncut))]
+fn up_to_sign<'a, 'w>(words: &'a [&'w [u8]]) -> (&'a [&'w [u8]], Option<&'a [&'w [u8]]>)
+    ensures split { parts_of (texts words.now) ≡ texts result.0.now ∷ parts_behind result.1 }
+    ensures shorter { IfSome result.1 (λ behind. length behind.now < length words.now) }
+{
+    match place_of_sign(words) {
+        None => (words, None),
+        Some(at) => (&words[..at], Some(&words[at + 1..])),
+    }
+}
+
+/// How many words stand before the first sign, if there is one.
+fn place_of_sign(words: &[&[u8]]) -> Option<usize>
+    ensures place { result ≡ position (λ w. sign w.now) words.now }
+    ensures within { IfSome result (λ at. at < length words.now) }
+{
+    words.iter().position(|word| is_sign(word))
+}
+
+/// Whether a word is the sign before a mark.
+fn is_sign(word: &[u8]) -> bool
+    ensures { result ≡ sign word.now }
+{
+    word == b":".as_slice()
+}

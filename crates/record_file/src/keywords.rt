@@ -1,0 +1,144 @@
+//! The words of the grammar that scenario files and bits files do not have.
+ghost use Rattle.std.specs.Prelude.{◌≡◌};
+ghost use Rattle.record_file.specs.Keywords.{field_of, mark_word_of, reply_word_of, answer_word_of, own_answer_of};
+
+use safe_number::Field;
+
+/// The first word of a mark.
+#[derive(Clone, Copy, Debug, PartialEq, Eq)]
+pub enum MarkWord {
+    Call,
+    Wait,
+    Enter,
+    Taken,
+    Leave,
+    Answer,
+    Fail,
+    Settled,
+    Down,
+    Withdraw,
+    Restart,
+}
+
+/// The first word of a reply.
+#[derive(Clone, Copy, Debug, PartialEq, Eq)]
+pub enum ReplyWord {
+    Value,
+    Done,
+    Sum,
+    Swapped,
+    Kept,
+    NoName,
+    NotCounter,
+    Overflow,
+    StoreFull,
+    Last,
+}
+
+/// The first word of an answer.
+#[derive(Clone, Copy, Debug, PartialEq, Eq)]
+pub enum AnswerWord {
+    Reply(ReplyWord),
+    TicketsFull,
+    StampsFull,
+    Withdrawn,
+}
+
+impl MarkWord {
+    /// What the first word of a mark means.
+    pub fn of(word: &[u8]) -> Option<MarkWord>
+        ensures { result ≡ mark_word_of word.now }
+    {
+        match word {
+            b"call" => Some(MarkWord::Call),
+            b"wait" => Some(MarkWord::Wait),
+            b"enter" => Some(MarkWord::Enter),
+            b"taken" => Some(MarkWord::Taken),
+            b"leave" => Some(MarkWord::Leave),
+            b"answer" => Some(MarkWord::Answer),
+            b"fail" => Some(MarkWord::Fail),
+            b"settled" => Some(MarkWord::Settled),
+            b"down" => Some(MarkWord::Down),
+            b"withdraw" => Some(MarkWord::Withdraw),
+            b"restart" => Some(MarkWord::Restart),
+            _ => None,
+        }
+    }
+}
+
+impl ReplyWord {
+    /// What the first word of a reply means.
+    pub fn of(word: &[u8]) -> Option<ReplyWord>
+        ensures { result ≡ reply_word_of word.now }
+    {
+        if word == b"value".as_slice() {
+            Some(ReplyWord::Value)
+        } else if word == b"done".as_slice() {
+            Some(ReplyWord::Done)
+        } else if word == b"sum".as_slice() {
+            Some(ReplyWord::Sum)
+        } else if word == b"swapped".as_slice() {
+            Some(ReplyWord::Swapped)
+        } else if word == b"kept".as_slice() {
+            Some(ReplyWord::Kept)
+        } else if word == b"no-name".as_slice() {
+            Some(ReplyWord::NoName)
+        } else if word == b"not-counter".as_slice() {
+            Some(ReplyWord::NotCounter)
+        } else if word == b"overflow".as_slice() {
+            Some(ReplyWord::Overflow)
+        } else if word == b"store-full".as_slice() {
+            Some(ReplyWord::StoreFull)
+        } else if word == b"last".as_slice() {
+            Some(ReplyWord::Last)
+        } else {
+            None
+        }
+    }
+}
+
+impl AnswerWord {
+    /// What the first word of an answer means.
+    pub fn of(word: &[u8]) -> Option<AnswerWord>
+        ensures { result ≡ answer_word_of word.now }
+    {
+        match AnswerWord::own(word) {
+            Some(own) => Some(own),
+            None => match ReplyWord::of(word) {
+                Some(name) => Some(AnswerWord::Reply(name)),
+                None => None,
+            },
+        }
+    }
+
+    /// The same of answers that are no replies.
+    fn own(word: &[u8]) -> Option<AnswerWord>
+        ensures { result ≡ own_answer_of word.now }
+    {
+        if word == b"tickets-full".as_slice() {
+            Some(AnswerWord::TicketsFull)
+        } else if word == b"stamps-full".as_slice() {
+            Some(AnswerWord::StampsFull)
+        } else if word == b"withdrawn".as_slice() {
+            Some(AnswerWord::Withdrawn)
+        } else {
+            None
+        }
+    }
+}
+
+/// The register that a word names.
+pub fn field(word: &[u8]) -> Option<Field>
+    ensures { result ≡ field_of word.now }
+{
+    match word {
+        b"choosing" => Some(Field::Choosing),
+        b"ticket" => Some(Field::Ticket),
+        b"commit" => Some(Field::Commit),
+        b"stamp0" => Some(Field::Stamp0),
+        b"stamp1" => Some(Field::Stamp1),
+        b"image0" => Some(Field::Image0),
+        b"image1" => Some(Field::Image1),
+        _ => None,
+    }
+}

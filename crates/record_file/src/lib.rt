@@ -1,0 +1,17 @@
+//! Records as text: how an entry is spelled, how a record is printed, and how one is read line by line.
+#![tactic(auto)]
+
+mod accesses;
+mod entries;
+mod faults;
+mod keywords;
+mod laws;
+mod marks;
+mod printing;
+mod sound;
+#[cfg(test)]
+mod tests;
+
+pub use entries::read_entry;
+pub use laws::{entries_are_spelled_in_one_way, printed_entries_are_read_again};
+pub use printing::{print_entry, print_setup};

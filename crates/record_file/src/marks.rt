@@ -1,0 +1,203 @@
+//! Reading a mark by its words.
+ghost use Rattle.std.specs.Prelude.{◌≡◌, length};
+ghost use Rattle.scenario.specs.Statements.{operand_count};
+ghost use Rattle.files.specs.Words.{texts};
+ghost use Rattle.record_file.specs.Reading.{answer_count, answer_of, answered_of, called_of, lone_mark_of, mark_of, named_mark_of, reply_count, reply_of, sum_first, taken_of, waiting_of};
+
+use crate::keywords::{AnswerWord, MarkWord, ReplyWord};
+use files::FaultKind;
+use plain_store::{Answer, NestedTypes, Reply};
+use record::Mark;
+use scenario::bit_files::one_bit;
+use scenario::keywords::Verb;
+use scenario::operands::{integer, number, process, value};
+use scenario::statements::command;
+
+/// What the words behind a sign say.
+pub fn mark(words: &[&[u8]]) -> Result<Mark, FaultKind>
+    ensures { result ≡ mark_of (texts words.now) }
+{
+    let [name, operands @ ..] = words else {
+        return Err(FaultKind::Words);
+    };
+    match MarkWord::of(name) {
+        None => Err(FaultKind::Unknown),
+        Some(name) => named_mark(name, operands),
+    }
+}
+
+/// A mark, by its first word and the words behind it.
+fn named_mark(name: MarkWord, words: &[&[u8]]) -> Result<Mark, FaultKind>
+    ensures { result ≡ named_mark_of name (texts words.now) }
+{
+    let _nested: NestedTypes = None;
+    match name {
+        MarkWord::Call => called(words),
+        MarkWord::Wait => waiting(words),
+        MarkWord::Enter => lone_mark(&Mark::Entered, words),
+        MarkWord::Taken => taken(words),
+        MarkWord::Leave => lone_mark(&Mark::Left, words),
+        MarkWord::Answer => answered(words),
+        MarkWord::Fail => lone_mark(&Mark::Failed, words),
+        MarkWord::Settled => Ok(Mark::Settled(one_bit(words)?)),
+        MarkWord::Down => lone_mark(&Mark::Down, words),
+        MarkWord::Withdraw => lone_mark(&Mark::Withdrew, words),
+        MarkWord::Restart => lone_mark(&Mark::Restarted, words),
+    }
+}
+
+/// A mark that is its first word alone.
+fn lone_mark(mark: &Mark, words: &[&[u8]]) -> Result<Mark, FaultKind>
+    ensures { result ≡ lone_mark_of mark.now (texts words.now) }
+{
+    let _nested: NestedTypes = None;
+    if words.is_empty() {
+        Ok(*mark)
+    } else {
+        Err(FaultKind::Words)
+    }
+}
+
+/// `wait TICKET`.
+fn waiting(words: &[&[u8]]) -> Result<Mark, FaultKind>
+    ensures { result ≡ waiting_of (texts words.now) }
+{
+    if words.len() != 1 {
+        return Err(FaultKind::Words);
+    }
+    Ok(Mark::Waiting(number(words[0], 4_294_967_295)? as u32))
+}
+
+/// `call COMMAND`: any command, whatever the version of the file.
+#[tactic(auto, unfolding(crate::specs::Reading::called_of))]
+fn called(words: &[&[u8]]) -> Result<Mark, FaultKind>
+    ensures { result ≡ called_of (texts words.now) }
+{
+    let [verb, operands @ ..] = words else {
+        return Err(FaultKind::Words);
+    };
+    let Some(verb) = Verb::of(verb) else {
+        return Err(FaultKind::Unknown);
+    };
+    if operands.len() != verb.operands() {
+        return Err(FaultKind::Words);
+    }
+    check_sum(verb, operands)?;
+    Ok(Mark::Called(command(verb, operands)?))
+}
+
+/// Looks at the number of an `add` before its name is looked at, as the order of faults has it.
+fn check_sum(verb: Verb, operands: &[&[u8]]) -> Result<(), FaultKind>
+    requires { length operands.now ≡ operand_count verb }
+    ensures { result ≡ sum_first verb (texts operands.now) }
+{
+    match verb {
+        Verb::Add => {
+            let _by = integer(operands[1])?;
+            Ok(())
+        }
+        Verb::Read | Verb::Write | Verb::Cas | Verb::Ask => Ok(()),
+    }
+}
+
+/// `taken PLACE REPLY`.
+#[tactic(auto, unfolding(crate::specs::Reading::taken_of))]
+fn taken(words: &[&[u8]]) -> Result<Mark, FaultKind>
+    ensures { result ≡ taken_of (texts words.now) }
+{
+    let [place, behind @ ..] = words else {
+        return Err(FaultKind::Words);
+    };
+    let [name, operands @ ..] = behind else {
+        return Err(FaultKind::Words);
+    };
+    let Some(name) = ReplyWord::of(name) else {
+        return Err(FaultKind::Unknown);
+    };
+    if operands.len() != name.operands() {
+        return Err(FaultKind::Words);
+    }
+    let place = number(place, u64::MAX)?;
+    Ok(Mark::Taken(place, reply(name, operands)?))
+}
+
+/// `answer ANSWER`.
+#[tactic(auto, unfolding(crate::specs::Reading::answered_of))]
+fn answered(words: &[&[u8]]) -> Result<Mark, FaultKind>
+    ensures { result ≡ answered_of (texts words.now) }
+{
+    let [name, operands @ ..] = words else {
+        return Err(FaultKind::Words);
+    };
+    let Some(name) = AnswerWord::of(name) else {
+        return Err(FaultKind::Unknown);
+    };
+    if operands.len() != name.operands() {
+        return Err(FaultKind::Words);
+    }
+    Ok(Mark::Answered(answer(name, operands)?))
+}
+
+/// An answer, by its first word and the words behind it, as many as it takes.
+fn answer(name: AnswerWord, words: &[&[u8]]) -> Result<Answer, FaultKind>
+    requires { length words.now ≡ answer_count name }
+    ensures { result ≡ answer_of name (texts words.now) }
+{
+    Ok(match name {
+        AnswerWord::Reply(name) => Answer::Reply(reply(name, words)?),
+        AnswerWord::TicketsFull => Answer::TicketsFull {
+            process: process(words[0])?,
+        },
+        AnswerWord::StampsFull => Answer::StampsFull,
+        AnswerWord::Withdrawn => Answer::Withdrawn,
+    })
+}
+
+/// A reply, by its first word and the words behind it, as many as it takes.
+fn reply(name: ReplyWord, words: &[&[u8]]) -> Result<Reply, FaultKind>
+    requires { length words.now ≡ reply_count name }
+    ensures { result ≡ reply_of name (texts words.now) }
+{
+    Ok(match name {
+        ReplyWord::Value => Reply::Value(value(words[0])?),
+        ReplyWord::Done => Reply::Done,
+        ReplyWord::Sum => Reply::Sum(integer(words[0])?),
+        ReplyWord::Swapped => Reply::Swapped,
+        ReplyWord::Kept => Reply::Kept(value(words[0])?),
+        ReplyWord::NoName => Reply::NoName,
+        ReplyWord::NotCounter => Reply::NotCounter,
+        ReplyWord::Overflow => Reply::Overflow,
+        ReplyWord::StoreFull => Reply::StoreFull,
+        ReplyWord::Last => Reply::Last(number(words[0], 65_535)? as u16),
+    })
+}
+
+impl ReplyWord {
+    /// How many words follow the first word of a reply.
+    fn operands(self) -> usize
+        ensures { result ≡ reply_count self }
+    {
+        match self {
+            ReplyWord::Value | ReplyWord::Sum | ReplyWord::Kept | ReplyWord::Last => 1,
+            ReplyWord::Done
+            | ReplyWord::Swapped
+            | ReplyWord::NoName
+            | ReplyWord::NotCounter
+            | ReplyWord::Overflow
+            | ReplyWord::StoreFull => 0,
+        }
+    }
+}
+
+impl AnswerWord {
+    /// How many words follow the first word of an answer.
+    fn operands(self) -> usize
+        ensures { result ≡ answer_count self }
+    {
+        match self {
+            AnswerWord::Reply(name) => name.operands(),
+            AnswerWord::TicketsFull => 1,
+            AnswerWord::StampsFull | AnswerWord::Withdrawn => 0,
+        }
+    }
+}

@@ -1,0 +1,7 @@
+pub mod Calm
+pub mod Entries
+pub mod Hears
+pub mod Opened
+pub mod Openings
+pub mod OwnPlaces
+pub mod Packs

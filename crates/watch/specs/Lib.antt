@@ -1,0 +1,4 @@
+pub mod Looks
+pub mod Packing
+pub mod Safe
+pub mod Watching

@@ -1,0 +1,14 @@
+//! The law `Safe` of an entry: told by a look back over the entries before it, or in a stream by a watch.
+#![tactic(auto)]
+
+mod look;
+mod looking;
+mod opening;
+mod packed;
+mod places;
+#[cfg(test)]
+mod tests;
+mod watch;
+
+pub use looking::is_unsafe;
+pub use watch::Watch;

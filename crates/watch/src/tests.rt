@@ -1,0 +1,258 @@
+ghost use Rattle.std.specs.Prelude.{◌≡◌, Ok};
+ghost use Rattle.plain_store.specs.Setups.{checked};
+
+use crate::Watch;
+use plain_store::{Name, Opening, Setup, Value};
+use record::{Act, Entry};
+use safe_bit::Move;
+use safe_number::{Access, Field};
+use smallvec::SmallVec;
+use std::alloc::{AllocError, Global};
+use std::test::Fail;
+
+const BEGIN_READ: Move = Move::BeginRead;
+
+const ONE: Move = Move::EndRead(true);
+
+const ZERO: Move = Move::EndRead(false);
+
+/// A move on bit 1 of the ticket that process 0 has for process 1.
+fn on_ticket(how: Move) -> Access {
+    Access {
+        owner: 0,
+        field: Field::Ticket,
+        bit: 1,
+        reader: 1,
+        how,
+    }
+}
+
+/// The number of the first access to which the watch does not answer so, if there is one.
+fn first_otherwise(
+    alloc: Global,
+    setup: &Setup,
+    heard: &[(Access, bool)],
+) -> Result<Option<usize>, AllocError>
+    requires { checked setup.now ≡ Ok tt }
+{
+    let mut watch = Watch::new(alloc, setup)?;
+    for (number, (access, keeps)) in heard.iter().enumerate() {
+        let act = Act {
+            access: Some(*access),
+            marks: SmallVec::new(alloc),
+        };
+        if watch.hear(&Entry { process: 0, act }) != *keeps {
+            return Ok(Some(number));
+        }
+    }
+    Ok(None)
+}
+
+/// The same of moves on one bit that opens at 0.
+fn first_other_move(alloc: Global, heard: &[(Move, bool)]) -> Result<Option<usize>, AllocError> {
+    let mut accesses = Vec::new(alloc);
+    for (how, keeps) in heard {
+        accesses.push((on_ticket(*how), *keeps))?;
+    }
+    first_otherwise(alloc, &Setup::one(2, 2, 2, 1), &accesses)
+}
+
+#[test]
+fn a_read_alone_gives_what_was_written(rt: HostRuntime) -> Result<(), Fail> {
+    let heard = [
+        (BEGIN_READ, true),
+        (ONE, false),
+        (ZERO, true),
+        (Move::BeginWrite(true), true),
+        (Move::EndWrite, true),
+        (BEGIN_READ, true),
+        (ZERO, false),
+        (ONE, true),
+    ];
+    assert_eq!(rt; first_other_move(rt.alloc(), &heard)?, None);
+    Ok(())
+}
+
+#[test]
+fn an_overlapped_read_gives_anything(rt: HostRuntime) -> Result<(), Fail> {
+    let heard = [
+        // It begins during a write.
+        (Move::BeginWrite(true), true),
+        (BEGIN_READ, true),
+        (ZERO, true),
+        (ONE, true),
+        // The write has ended in between.
+        (Move::EndWrite, true),
+        (ZERO, true),
+        // A write begins and ends during it.
+        (BEGIN_READ, true),
+        (ZERO, false),
+        (Move::BeginWrite(false), true),
+        (Move::EndWrite, true),
+        (ONE, true),
+        (ZERO, true),
+        // The next one is bound again.
+        (BEGIN_READ, true),
+        (ONE, false),
+    ];
+    assert_eq!(rt; first_other_move(rt.alloc(), &heard)?, None);
+    Ok(())
+}
+
+#[test]
+fn a_settled_bit_has_the_value_that_it_was_settled_at(rt: HostRuntime) -> Result<(), Fail> {
+    let heard = [
+        (Move::BeginWrite(false), true),
+        (BEGIN_READ, true),
+        (Move::Settle(true), true),
+        (ZERO, true),
+        (BEGIN_READ, true),
+        (ZERO, false),
+        (ONE, true),
+    ];
+    assert_eq!(rt; first_other_move(rt.alloc(), &heard)?, None);
+    Ok(())
+}
+
+// No read began that this could be the end of, so the law says nothing.
+#[test]
+fn an_end_without_a_begin_keeps_the_law(rt: HostRuntime) -> Result<(), Fail> {
+    let heard = [
+        (ONE, true),
+        (ZERO, true),
+        (Move::BeginWrite(true), true),
+        (Move::EndWrite, true),
+        (ZERO, true),
+    ];
+    assert_eq!(rt; first_other_move(rt.alloc(), &heard)?, None);
+    Ok(())
+}
+
+// A write that ends twice ends with what it began with; and a read has what was there before it, though a write ends in
+// it that never began.
+#[test]
+fn moves_out_of_turn_are_looked_up(rt: HostRuntime) -> Result<(), Fail> {
+    let heard = [
+        (Move::BeginWrite(true), true),
+        (Move::Settle(false), true),
+        (BEGIN_READ, true),
+        (Move::EndWrite, true),
+        (ONE, false),
+        (ZERO, true),
+        (BEGIN_READ, true),
+        (ZERO, false),
+        (ONE, true),
+    ];
+    assert_eq!(rt; first_other_move(rt.alloc(), &heard)?, None);
+    Ok(())
+}
+
+// Each copy of each bit of each register is heard by itself.
+#[test]
+fn bits_are_told_apart(rt: HostRuntime) -> Result<(), Fail> {
+    let written = on_ticket(Move::BeginWrite(true));
+    let ended = on_ticket(Move::EndWrite);
+    let begins = on_ticket(BEGIN_READ);
+    let ends = on_ticket(ONE);
+    let heard = [
+        (written, true),
+        (ended, true),
+        (Access { bit: 0, ..begins }, true),
+        (Access { bit: 0, ..ends }, false),
+        (
+            Access {
+                reader: 0,
+                ..begins
+            },
+            true,
+        ),
+        (Access { reader: 0, ..ends }, false),
+        (Access { owner: 1, ..begins }, true),
+        (Access { owner: 1, ..ends }, false),
+        (
+            Access {
+                field: Field::Stamp1,
+                ..begins
+            },
+            true,
+        ),
+        (
+            Access {
+                field: Field::Stamp1,
+                ..ends
+            },
+            false,
+        ),
+        (begins, true),
+        (ends, true),
+    ];
+    let setup = Setup::one(2, 2, 2, 1);
+    assert_eq!(rt; first_otherwise(rt.alloc(), &setup, &heard)?, None);
+    Ok(())
+}
+
+// There is no process 2, and no ticket bit 2: the first of their entries keep the law.
+#[test]
+fn bits_that_are_not_there_are_heard(rt: HostRuntime) -> Result<(), Fail> {
+    let ends = on_ticket(ONE);
+    let heard = [
+        (Access { owner: 2, ..ends }, true),
+        (
+            Access {
+                reader: 255,
+                ..ends
+            },
+            true,
+        ),
+        (Access { bit: 2, ..ends }, true),
+        (Access { bit: 65535, ..ends }, true),
+        (on_ticket(BEGIN_READ), true),
+        (ends, false),
+    ];
+    let setup = Setup::one(2, 2, 2, 1);
+    assert_eq!(rt; first_otherwise(rt.alloc(), &setup, &heard)?, None);
+    Ok(())
+}
+
+// The image of a store with one count begins with the bytes 1 and 1: its kind, and the length of its name.
+#[test]
+fn the_first_image_opens_at_the_opening_store(rt: HostRuntime) -> Result<(), Fail> {
+    let mut opening = Opening::empty();
+    let Ok(()) = opening.add(Name::new(b"a").unwrap(), Value::Count(5)) else {
+        panic!(rt; "an opening has room for a pair");
+    };
+    let setup = Setup {
+        version: 2,
+        opening,
+        ..Setup::one(2, 2, 2, 1)
+    };
+    let Ok(()) = setup.check() else {
+        panic!(rt; "the setup is good");
+    };
+    let mut heard = Vec::new(rt.alloc());
+    for (owner, field, bit, value) in [
+        (0, Field::Image0, 0, true),
+        (0, Field::Image0, 1, false),
+        (0, Field::Image0, 8, true),
+        (0, Field::Image1, 0, false),
+        (1, Field::Image0, 0, false),
+    ] {
+        for (how, keeps) in [
+            (BEGIN_READ, true),
+            (Move::EndRead(!value), false),
+            (Move::EndRead(value), true),
+        ] {
+            let reader = 1;
+            let access = Access {
+                owner,
+                field,
+                bit,
+                reader,
+                how,
+            };
+            heard.push((access, keeps))?;
+        }
+    }
+    assert_eq!(rt; first_otherwise(rt.alloc(), &setup, &heard)?, None);
+    Ok(())
+}
