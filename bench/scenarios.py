@@ -10,6 +10,9 @@ each by `wander`, so that no read is overlapped; `crowd-N` where all call at onc
 
 For `sweep`, of the same kind: `swept-2` where both of 2 processes call twice, and `swept-4` where three of 4 call once, and
 `wander`, with seeded flicks.
+
+For `race`, with 16 ticket and 13 stamp bits and one slot: `race-N` where each of N processes adds 1 to a counter and reads it
+by turns, 4,000 calls in all.
 """
 
 import pathlib
@@ -67,12 +70,18 @@ def swept(processes):
     return counting(processes, 1, ["flick pcg 1"] + (calls + ["wander 100000"]) * rounds)
 
 
+def raced(processes):
+    head = ["bakery 2", f"processes {processes}", "tickets 16", "stamps 13", "slots 1", "open a c:0"]
+    calls = [f"call {p} {'read a' if k % 2 else 'add a 1'}" for k in range(4000 // processes) for p in range(processes)]
+    return "\n".join(head + calls) + "\n"
+
+
 def main():
     folder = pathlib.Path(sys.argv[1] if len(sys.argv) > 1 else ".")
     folder.mkdir(parents=True, exist_ok=True)
     (folder / "calls").write_bytes(calls().encode())
     (folder / "largest").write_bytes(largest().encode())
-    for name, scenario, sizes in [("lone", lone, [2, 16]), ("turns", turns, [2, 8, 16]), ("crowd", crowd, [2, 4, 8, 16]), ("swept", swept, [2, 4])]:
+    for name, scenario, sizes in [("lone", lone, [2, 16]), ("turns", turns, [2, 8, 16]), ("crowd", crowd, [2, 4, 8, 16]), ("swept", swept, [2, 4]), ("race", raced, [2, 4, 8, 16])]:
         for processes in sizes:
             (folder / f"{name}-{processes}").write_bytes(scenario(processes).encode())
 

@@ -1,13 +1,14 @@
 #!/usr/bin/env python3
 """Refuses each growth in turn: of `plain`, of `bits`, of `replay` and of `audit` on every file of a folder and on its worked
 scenarios (examples/, if none is given), of `sweep` on these where a worked scenario has its output (others take minutes), of
-a long replay, and of the tests of the crates.
+`race` on the worked scenarios that have its output (of others the threads decide it), of a long replay, and of the tests of
+the crates.
 
-A run whose growth was refused must end with status 4 and tell `out of memory`, or `memory` on a line, and must have
-printed a front of what the file prints with ample memory. A test whose growth was refused must pass, or fail and tell
-want of memory; left out are the tests of the program, four of the scenario files, and each with more than 20,000 growths. It
-needs `cc`, and the programs that `rt ci` leaves: the proved program and the crates' tests. The growths are those of the
-compiled programs, which a library loaded before them counts and refuses.
+A run whose growth was refused must end with status 4 and tell `out of memory`, or `memory` on a line, or that a thread could
+not be started, and must have printed a front of what the file prints with ample memory. A test whose growth was refused must
+pass, or fail and tell want of memory; left out are the tests of the program, four of the scenario files, and each with more
+than 20,000 growths. It needs `cc`, and the programs that `rt ci` leaves: the proved program and the crates' tests. The
+growths are those of the compiled programs, which a library loaded before them counts and refuses.
 """
 
 import os
@@ -20,9 +21,9 @@ from concurrent.futures import ThreadPoolExecutor
 
 TOP = pathlib.Path(__file__).resolve().parent.parent
 PROGRAM = TOP / "crates" / "bakerystore" / "out" / "bakerystore"
-ENGINES = ["plain", "bits", "replay", "audit", "sweep"]
+ENGINES = ["plain", "bits", "replay", "audit", "sweep", "race"]
 MOST_GROWTHS = 20_000
-WANT_OF_MEMORY = re.compile(r"out of memory\n|line \d+: memory\n")
+WANT_OF_MEMORY = re.compile(r"out of memory\n|no thread\n|line \d+: memory\n")
 # how a test tells it: as its own error, or as the one that it found in place of what it asserts; a race that could not start
 # a thread tells that
 TEST_WANTS_MEMORY = re.compile(r"\b(AllocError|Memory|Spawn)\b")
@@ -63,12 +64,17 @@ def is_lost(ran, whole):
     return ran.returncode == 4 and bool(WANT_OF_MEMORY.fullmatch(ran.stderr)) and whole.stdout.startswith(ran.stdout)
 
 
+def is_left_out(engine, file):
+    """Whether what the file prints is no example's, and takes minutes or is for threads to decide."""
+    return not (file.parent / engine).exists() and (engine == "race" or (engine == "sweep" and file.name == "scenario"))
+
+
 def file_runs(refuser, folder):
     """For each engine and file: how many growths were refused, and those whose run ended otherwise."""
     files = sorted(path for path in folder.iterdir() if path.is_file()) + sorted(folder.glob("worked/*/scenario"))
     for engine in ENGINES:
         for file in files:
-            if engine == "sweep" and file.name == "scenario" and not (file.parent / "sweep").exists():
+            if is_left_out(engine, file):
                 continue
             whole, runs = refuser.each([PROGRAM, engine, file])
             wrong = [k for k, ran in enumerate(runs, 1) if not is_lost(ran, whole)]

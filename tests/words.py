@@ -9,12 +9,13 @@ import sys
 import tempfile
 
 PROGRAM = pathlib.Path(__file__).resolve().parent.parent / "crates" / "bakerystore" / "out" / "bakerystore"
-USAGE = "usage: bakerystore [plain|bits|replay|audit|sweep FILE]  (FILE - is standard input; without words: plain -)\n"
+USAGE = "usage: bakerystore [plain|bits|replay|audit|sweep|race FILE]  (FILE - is standard input; without words: plain -)\n"
 SCENARIO = "bakery 1\ncall 0 add a 1\n"
 PLAIN = (0, "0 0 no-name\n", "")
 REPLAY = (0, "0 0 call add a 1\nend events 1 taken 0 refused 0\n", "")
 AUDIT = (0, "good 1\n", "")
 SWEEP = (0, "sweep runs 2 good 2 stuck 0\n", "")
+RACE = (0, "0 0 no-name\nshow empty\ngood\n", "")
 
 # the words, standard input, and what is wanted: exit status, standard output, standard error
 CASES = [
@@ -26,6 +27,8 @@ CASES = [
     (["audit", "a file"], "", AUDIT),
     (["sweep", "-"], SCENARIO, SWEEP),
     (["sweep", "a file"], "", SWEEP),
+    (["race", "-"], SCENARIO, RACE),
+    (["race", "a file"], "", RACE),
     (["bits", "-"], "bits 1\nend\n", (0, "refused\n", "")),
     (["bits", "a file"], "", (1, "", "line 1: not-first\n")),
     (["plain"], SCENARIO, (2, "", USAGE)),
@@ -39,10 +42,12 @@ CASES = [
     (["replay", "."], SCENARIO, (1, "", "read fault\n")),
     (["audit", "."], SCENARIO, (1, "", "read fault\n")),
     (["sweep", "."], SCENARIO, (1, "", "read fault\n")),
+    (["race", "."], SCENARIO, (1, "", "read fault\n")),
     (["plain", "-"], "", (1, "", "line 1: not-first\n")),
     (["replay", "-"], "bakery 1\nprocesses 0\n", (1, "", "line 2: bad-setup\n")),
     (["audit", "-"], "bakery 1\nprocesses 0\n", (1, "", "line 2: bad-setup\n")),
     (["sweep", "-"], "bakery 1\nprocesses 0\n", (1, "", "line 2: bad-setup\n")),
+    (["race", "-"], "bakery 1\nprocesses 0\n", (1, "", "line 2: bad-setup\n")),
 ]
 
 
@@ -61,7 +66,7 @@ def main():
         for words, text, want in CASES:
             compare(words, subprocess.run([PROGRAM, *words], input=text, capture_output=True, text=True, cwd=folder), want)
         with open("/dev/full", "w") as full:
-            for command in ["plain", "replay", "audit", "sweep"]:
+            for command in ["plain", "replay", "audit", "sweep", "race"]:
                 ran = subprocess.run([PROGRAM, command, "-"], input=SCENARIO, stdout=full, stderr=subprocess.PIPE, text=True)
                 compare(f"{command} to a full device", ran, (1, "", "write fault\n"))
     print(f"{passed} passed, {failed} failed")

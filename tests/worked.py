@@ -13,7 +13,7 @@ import sys
 TOP = pathlib.Path(__file__).resolve().parent.parent
 PROGRAM = TOP / "crates" / "bakerystore" / "out" / "bakerystore"
 # each command with the file that it runs
-COMMANDS = {"plain": "scenario", "bits": "bits-file", "replay": "scenario", "audit": "scenario", "sweep": "scenario"}
+COMMANDS = {"plain": "scenario", "bits": "bits-file", "replay": "scenario", "audit": "scenario", "sweep": "scenario", "race": "scenario"}
 
 
 def content(path, default):

@@ -16,6 +16,8 @@ pub enum Engine {
     Audit,
     /// The runs in which a process fails after one event of a scenario's run, counted.
     Sweep,
+    /// The calls of a scenario, those of each process on a thread of its own, weighed.
+    Race,
 }
 
 impl Engine {
@@ -27,6 +29,7 @@ impl Engine {
             "replay" => Some(Engine::Replay),
             "audit" => Some(Engine::Audit),
             "sweep" => Some(Engine::Sweep),
+            "race" => Some(Engine::Race),
             _ => None,
         }
     }

@@ -1,0 +1,46 @@
+-- Lists and texts that are put together part by part.
+use Rattle.std.proofs.Common.{◌≡◌, ℕ, suc, ◌+◌, ◌<◌, ◌≤◌, List, [], ◌∷◌, ◌++◌, None, Some, codes, flat_map, get_or, length, length-take-le, take, ap, sym, ◌∙◌, append-nil, append_assoc, arith}
+use Rattle.std.proofs.lemmas.Grind.{flat_map-append}
+use Rattle.std.proofs.lemmas.List.{length-map, map-append, take_all, take_more}
+use Rattle.std.specs.Fmt.{decimal}
+use Rattle.std.specs.Global.{Vec}
+use Rattle.plain_store.specs.Shown.{answer_text}
+use Rattle.plain_store.specs.declared.commands.Answer.{Answer}
+use Rattle.weigh.specs.Weighing.{lists_of}
+use Rattle.weigh.specs.declared.calls.Placed.{Placed}
+use Rattle.race_engine.specs.Texts.{answer_line, answers_from, list_text}
+
+-- one item more
+pub items_more : {X A : Type 0} (f : X → List A) (xs : List X) (k : ℕ) (x : X) → k < length xs → x ≡ get_or xs k x → flat_map f (take (k + 1) xs) ≡ flat_map f (take k xs) ++ f x
+items_more f xs k x within is =
+    ap (flat_map f) (take_more xs k x within) ∙ flat_map-append f (take k xs) (get_or xs k x ∷ []) ∙ ap (λ l. flat_map f (take k xs) ++ l) (append-nil (f (get_or xs k x)) ∙ ap f (sym is))
+
+-- all of them
+pub items_all : {X A : Type 0} (f : X → List A) (xs : List X) (k : ℕ) → length xs ≤ k → flat_map f (take k xs) ≡ flat_map f xs
+items_all f xs k past = ap (flat_map f) (take_all k xs past)
+
+-- lines, as `format!` puts them together
+pub placed_line_is : (p place : ℕ) (answer : Answer) → decimal p ++ (codes " " ++ (decimal place ++ (codes " " ++ (answer_text answer ++ codes "\n")))) ≡ answer_line p (Some place) answer
+placed_line_is p place answer = simp append_assoc
+
+pub unplaced_line_is : (p : ℕ) (answer : Answer) → decimal p ++ (codes " - " ++ (answer_text answer ++ codes "\n")) ≡ answer_line p None answer
+unplaced_line_is p answer = simp append_assoc
+
+-- one list more
+answers_snoc : (p i : ℕ) (lists : List (List Placed)) (calls : List Placed) → p + length lists ≡ i → answers_from p (lists ++ calls ∷ []) ≡ answers_from p lists ++ list_text i calls
+answers_snoc p i [] calls at = append-nil (list_text p calls) ∙ ap (λ k. list_text k calls) (let same : p ≡ i = omega (arith, at) in same)
+answers_snoc p i (list ∷ lists) calls at =
+    let later : suc p + length lists ≡ i = omega (arith, at) in
+    ap (λ l. list_text p list ++ l) (answers_snoc (suc p) i lists calls later) ∙ sym (append_assoc (list_text p list) (answers_from (suc p) lists) (list_text i calls))
+
+pub answers_more : (vecs : List (Vec Placed)) (i : ℕ) (v : Vec Placed) → i < length vecs → v ≡ get_or vecs i v → answers_from 0 (lists_of (take (i + 1) vecs)) ≡ answers_from 0 (lists_of (take i vecs)) ++ list_text i v.items
+answers_more vecs i v within at =
+    let size : length (take i vecs) ≡ i = length-take-le i vecs (omega (arith, within)) in
+    let lists : length (lists_of (take i vecs)) ≡ length (take i vecs) = length-map (take i vecs) (λ (w : Vec Placed). w.items) in
+    ap (λ (l : List (Vec Placed)). answers_from 0 (lists_of l)) (take_more vecs i v within ∙ ap (λ (x : Vec Placed). take i vecs ++ x ∷ []) (sym at))
+    ∙ ap (answers_from 0) (map-append (λ (w : Vec Placed). w.items) (take i vecs) (v ∷ []))
+    ∙ answers_snoc 0 i (lists_of (take i vecs)) v.items (omega (arith, size, lists))
+
+-- all of them
+pub answers_all : (vecs : List (Vec Placed)) (i : ℕ) → length vecs ≤ i → answers_from 0 (lists_of (take i vecs)) ≡ answers_from 0 (lists_of vecs)
+answers_all vecs i past = ap (λ (l : List (Vec Placed)). answers_from 0 (lists_of l)) (take_all i vecs past)

@@ -1,0 +1,14 @@
+use Rattle.std.proofs.Common.{◌≡◌, ℕ, List, ◌++◌, ap, sym, ◌∙◌, rules, take}
+use Rattle.std.specs.String.{string_bytes}
+use Rattle.weigh.specs.Weighing.{lists_of}
+use Rattle.race_engine.specs.Texts.{answers_from, list_text}
+use Rattle.race_engine.proofs.Parts.{answers_more}
+use Rattle.race_engine.proofs.texts.answer_lines.Goals as goal
+
+pub loop-process-preserved : goal.loop-process-preserved
+loop-process-preserved c =
+    let p : ℕ = c.loop-process.process in
+    let before : List ℕ = answers_from 0 (lists_of (take p c.args.lists.now)) in
+    let told : string_bytes c.push_str.new.self ≡ string_bytes c.loop-process.text ++ list_text p c.deref.result.now = search rules in
+    told ∙ ap (λ t. t ++ list_text p c.deref.result.now) c.loop-process.invariant ∙ ap (λ calls. before ++ list_text p calls) c.deref.ensures.value
+    ∙ sym (answers_more c.args.lists.now p c.index-lists-process.result c.loop-process-test.true c.index-lists-process.is)

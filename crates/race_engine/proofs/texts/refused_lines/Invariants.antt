@@ -1,0 +1,8 @@
+use Rattle.std.proofs.Common.{◌≡◌, take}
+use Rattle.std.specs.String.{string_bytes}
+use Rattle.race_engine.specs.Texts.{refused_lines}
+use Rattle.race_engine.proofs.texts.refused_lines.Given as goal
+
+-- what is printed for the lines before the present one
+abbrev pub invariant-loop-line : goal.invariant-loop-line
+invariant-loop-line l = string_bytes l.text ≡ refused_lines l.setup (take l.line-index l.lines)

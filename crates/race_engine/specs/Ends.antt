@@ -1,0 +1,72 @@
+-- What `race` answers and writes. Which race it was the threads decide: the text is that of one that keeps what every race keeps.
+use Rattle.std.specs.Prelude.{◌≡◌, ℕ, ◌<◌, List, [], Option, IfSome, Result, Ok, Err}
+use Rattle.std.specs.Io.KnownBytes.{Appends, IsAtEnd, Keeps}
+use Rattle.plain_store.specs.Store.{Contents}
+use Rattle.files.specs.Engines.{Ran, Streams, text_by}
+use Rattle.files.specs.Streams.{WritesFront}
+use Rattle.files.specs.declared.faults.Fault.TheVariants.{Line, Read, Write, Memory}
+use Rattle.files.specs.declared.faults.LineFault.{LineFault}
+use Rattle.scenario.specs.Reading.{Script, scenario_of}
+use Rattle.race.specs.Races.{IsRaced}
+use Rattle.weigh.specs.Weighing.{IsWeighed}
+use Rattle.weigh.specs.declared.calls.Placed.{Placed}
+use Rattle.weigh.specs.declared.verdicts.Weighed.{Weighed}
+use Rattle.race_engine.specs.Statuses.{status_of_race}
+use Rattle.race_engine.specs.Texts.{plans_in, race_text}
+use Rattle.race_engine.specs.declared.faults.RunFault.{RunFault}
+use Rattle.race_engine.specs.declared.faults.RunFault.TheVariants.{File, Race}
+
+-- a race of a scenario: its plans were raced, and this is the verdict on what that left
+pub record Raced (said : Script) : Type 0 where
+  pub lists : List (List Placed)
+  pub image : Contents
+  pub verdict : Weighed
+  pub raced : IsRaced said.setup (plans_in said) lists image
+  pub weighed : IsWeighed said.setup lists image verdict
+
+-- its text
+abbrev pub text_of : (said : Script) → Raced said → List ℕ
+text_of said race = race_text said race.lists race.image race.verdict
+
+-- this is the text of a race of the scenario, of which weighing gives this verdict
+pub record TellsRace (said : Script) (verdict : Weighed) (text : List ℕ) : Type 0 where
+  pub race : Raced said
+  pub is_verdict : verdict ≡ race.verdict
+  pub is_text : text ≡ text_of said race
+
+-- the text of a race was written, and the status is that of its verdict
+abbrev pub WritesRace : Script → ℕ → Option (List ℕ) → Option (List ℕ) → Type 0
+WritesRace said status old new = (race : Raced said) × (status ≡ status_of_race (Ok race.verdict)) × Appends old new (text_of said race)
+
+-- a front of it was written
+abbrev pub WritesRaceFront : Script → Option (List ℕ) → Option (List ℕ) → Type 0
+WritesRaceFront said old new = (race : Raced said) × WritesFront old new (text_of said race)
+
+-- this holds of the scenario that the whole input says
+abbrev pub OfInput : Option (List ℕ) → (Script → Type 0) → Type 0
+OfInput to_come P = IfSome to_come (λ input. (said : Script) × (scenario_of input ≡ Ok said) × P said)
+
+-- the text of a file of which nothing is printed, or its fault
+abbrev pub no_text : List ℕ → Result (List ℕ) LineFault
+no_text = text_by scenario_of (λ said. [])
+
+-- the whole input was read, and it says a scenario
+abbrev pub ReadsScenario : Option (List ℕ) → Option (List ℕ) → Type 0
+ReadsScenario old new = OfInput old (λ said. Unit {0}) × IsAtEnd new
+
+-- How `race` ends: nothing is written before the race has ended, so that a fault of a line, of reading or of the race, and want of memory, leave what was written.
+abbrev pub RanRace : Result ℕ RunFault → Streams → Streams → Type 0
+RanRace (Ok status) old new = OfInput old.to_come (λ said. WritesRace said status old.taken new.taken) × IsAtEnd new.to_come
+RanRace (Err (File (Line fault))) old new = Ran no_text (Err (Line fault)) old new
+RanRace (Err (File Read)) old new = Ran no_text (Err Read) old new
+RanRace (Err (File Write)) old new = (old.write_failures < new.write_failures) × OfInput old.to_come (λ said. WritesRaceFront said old.taken new.taken)
+RanRace (Err (File Memory)) old new = Keeps old.taken new.taken
+RanRace (Err (Race fault)) old new = ReadsScenario old.to_come new.to_come × Keeps old.taken new.taken
+
+-- what may end it between reading and writing
+abbrev pub IsFaultOfRacing : RunFault → Type 0
+IsFaultOfRacing (File Memory) = Unit {0}
+IsFaultOfRacing (File (Line fault)) = ⊥
+IsFaultOfRacing (File Read) = ⊥
+IsFaultOfRacing (File Write) = ⊥
+IsFaultOfRacing (Race fault) = Unit {0}

@@ -1,0 +1,64 @@
+//! The engine itself.
+ghost use Rattle.std.specs.Prelude.{◌≡◌, ◌-◌, ◌^◌, ◌<◌, IfErr, IfOk};
+ghost use Rattle.std.specs.String.{string_bytes};
+ghost use Rattle.files.specs.Streams.{ReadsFront};
+ghost use Rattle.scenario.specs.Reads.{script};
+ghost use Rattle.race_engine.specs.Ends.{IsFaultOfRacing, RanRace, TellsRace};
+
+use crate::faults::{RunFault, race_status};
+use crate::plans::plans_of;
+use crate::texts::race_text;
+use race::{AlwaysOn, race};
+use scenario::{Scenario, Sink, Source, read_input, read_scenario, write_all};
+use std::alloc::Global;
+use std::sync::Wait;
+use std::thread::Threads;
+use weigh::{Weighed, weigh};
+
+/// What there is to tell of a race that has ended.
+#[derive(Drop)]
+struct Report {
+    text: String,
+    verdict: Weighed,
+}
+
+/// Reads a whole scenario file, races its plans, each on a thread of its own, and then writes the calls that are refused,
+/// the answers, the store that is left and the verdict on both; answers the exit status. Nothing is written before the
+/// race has ended, so that after a fault of a line, of reading or of the race, and for want of memory, nothing was. It
+/// may wait for a thread. However it ends, at most `INPUT_LIMIT` bytes are taken from the front of the input.
+pub fn run_race<T: Threads + Wait + Sync, R: Source, W: Sink>(
+    rt: &T,
+    alloc: Global,
+    input: &mut R,
+    output: &mut W,
+) -> Result<u8, RunFault>
+    requires reads { R.failures input.old < 2 ^ 64 - 1 }
+    requires writes { W.failures output.old < 2 ^ 64 - 1 }
+    ensures ran { RanRace result
+        (record { to_come = R.to_come input.old; taken = W.taken output.old; read_failures = R.failures input.old; write_failures = W.failures output.old })
+        (record { to_come = R.to_come input.new; taken = W.taken output.new; read_failures = R.failures input.new; write_failures = W.failures output.new }) }
+    ensures input { ReadsFront (R.to_come input.old) (R.to_come input.new) }
+{
+    let file = read_input(alloc, input)?;
+    let scenario = read_scenario(alloc, file.as_slice())?;
+    let report = race_scenario(rt, alloc, &scenario)?;
+    write_all(output, report.text.as_bytes())?;
+    Ok(race_status(&Ok(report.verdict)))
+}
+
+/// Races the plans of a scenario.
+fn race_scenario<T: Threads + Wait + Sync>(
+    rt: &T,
+    alloc: Global,
+    scenario: &Scenario,
+) -> Result<Report, RunFault>
+    ensures raced { IfOk result (λ report. TellsRace (script scenario.now) report.verdict (string_bytes report.text)) }
+    ensures fault { IfErr result IsFaultOfRacing }
+{
+    let plans = plans_of(alloc, scenario)?;
+    let closing = race(rt, alloc, &scenario.setup, plans.as_slice(), &AlwaysOn)?;
+    let lists = closing.answers.as_slice();
+    let verdict = weigh(alloc, &scenario.setup, lists, &closing.image)?;
+    let text = race_text(alloc, scenario, lists, &closing.image, &verdict)?;
+    Ok(Report { text, verdict })
+}

@@ -1,0 +1,129 @@
+//! The text of a race.
+ghost use Rattle.std.specs.Prelude.{◌≡◌, IfOk, None, Some};
+ghost use Rattle.std.specs.String.{string_bytes};
+ghost use Rattle.scenario.specs.Reads.{script};
+ghost use Rattle.weigh.specs.Weighing.{lists_of};
+ghost use Rattle.race_engine.specs.Texts.{answer_line as line_of_answer, answers_from, call_text, list_text, race_text as text_of_race, refused_lines as lines_of_refused, refused_text, verdict_line as line_of_verdict};
+
+use engines::no_process_line;
+use plain_store::{Answer, NestedTypes, Setup, show_line};
+use scenario::{Line, Scenario};
+use std::alloc::{AllocError, Global};
+use store_image::Image;
+use weigh::{Placed, Weighed};
+
+/// The text of a race of the scenario that left these lists and this image, with this verdict on them.
+pub(crate) fn race_text(
+    alloc: Global,
+    scenario: &Scenario,
+    lists: &[Vec<Placed>],
+    image: &Image,
+    verdict: &Weighed,
+) -> Result<String, AllocError>
+    ensures { IfOk result (λ text. string_bytes text ≡ text_of_race (script scenario.now) (lists_of lists.now) image.now verdict.now) }
+{
+    let mut text = refused_lines(alloc, &scenario.setup, scenario.lines.as_slice())?;
+    text.push_str(answer_lines(alloc, lists)?.as_str())?;
+    text.push_str(show_line(alloc, image)?.as_str())?;
+    text.push_str(verdict_line(alloc, verdict)?.as_str())?;
+    Ok(text)
+}
+
+/// The calls of processes that are not there.
+#[tactic(auto, using(crate::proofs::Parts::items_more, crate::proofs::Parts::items_all))]
+fn refused_lines(alloc: Global, setup: &Setup, lines: &[Line]) -> Result<String, AllocError>
+    ensures { IfOk result (λ text. string_bytes text ≡ lines_of_refused setup.now lines.now) }
+{
+    let mut text = String::new(alloc);
+    for line in lines {
+        text.push_str(refused_line(alloc, setup, line)?.as_str())?;
+    }
+    Ok(text)
+}
+
+/// What is printed for a line.
+fn refused_line(alloc: Global, setup: &Setup, line: &Line) -> Result<String, AllocError>
+    ensures { IfOk result (λ text. string_bytes text ≡ refused_text setup.now line.now) }
+{
+    match line {
+        Line::Call(process, _) if *process >= setup.processes => no_process_line(alloc, *process),
+        _ => Ok(String::new(alloc)),
+    }
+}
+
+/// The answers of all lists.
+fn answer_lines(alloc: Global, lists: &[Vec<Placed>]) -> Result<String, AllocError>
+    ensures { IfOk result (λ text. string_bytes text ≡ answers_from 0 (lists_of lists.now)) }
+{
+    let mut text = String::new(alloc);
+    for (process, calls) in lists.iter().enumerate() {
+        text.push_str(list_lines(alloc, process, calls)?.as_str())?;
+    }
+    Ok(text)
+}
+
+/// The answers to one process.
+#[tactic(auto, using(crate::proofs::Parts::items_more, crate::proofs::Parts::items_all))]
+fn list_lines(alloc: Global, process: usize, calls: &[Placed]) -> Result<String, AllocError>
+    ensures { IfOk result (λ text. string_bytes text ≡ list_text process calls.now) }
+{
+    let mut text = String::new(alloc);
+    for call in calls {
+        text.push_str(call_line(alloc, process, call)?.as_str())?;
+    }
+    Ok(text)
+}
+
+/// What is printed for a call: nothing, if it was not answered.
+fn call_line(alloc: Global, process: usize, call: &Placed) -> Result<String, AllocError>
+    ensures { IfOk result (λ text. string_bytes text ≡ call_text process call.now) }
+{
+    let _nested: NestedTypes = None;
+    match &call.answer {
+        None => Ok(String::new(alloc)),
+        Some(answer) => answer_line(alloc, process, call.place, answer),
+    }
+}
+
+/// The line of an answer.
+fn answer_line(
+    alloc: Global,
+    process: usize,
+    place: Option<u32>,
+    answer: &Answer,
+) -> Result<String, AllocError>
+    ensures { IfOk result (λ line. string_bytes line ≡ line_of_answer process place answer.now) }
+{
+    match place {
+        Some(place) => placed_line(alloc, process, place, answer),
+        None => unplaced_line(alloc, process, answer),
+    }
+}
+
+/// That of a call that was taken.
+#[tactic(auto, using(crate::proofs::Parts::placed_line_is))]
+fn placed_line(
+    alloc: Global,
+    process: usize,
+    place: u32,
+    answer: &Answer,
+) -> Result<String, AllocError>
+    ensures { IfOk result (λ line. string_bytes line ≡ line_of_answer process (Some place) answer.now) }
+{
+    format!(in alloc; "{process} {place} {answer}\n")
+}
+
+/// That of a call that was not.
+#[tactic(auto, using(crate::proofs::Parts::unplaced_line_is))]
+fn unplaced_line(alloc: Global, process: usize, answer: &Answer) -> Result<String, AllocError>
+    ensures { IfOk result (λ line. string_bytes line ≡ line_of_answer process None answer.now) }
+{
+    format!(in alloc; "{process} - {answer}\n")
+}
+
+/// The line of the verdict.
+fn verdict_line(alloc: Global, verdict: &Weighed) -> Result<String, AllocError>
+    ensures { IfOk result (λ line. string_bytes line ≡ line_of_verdict verdict.now) }
+{
+    format!(in alloc; "{verdict}\n")
+}
