@@ -10,7 +10,8 @@ import subprocess
 import sys
 
 TOP = pathlib.Path(__file__).resolve().parent.parent
-RUNS = [["rt", "ci"], *([sys.executable, f"tests/{name}.py"] for name in ["worked", "cut_file", "words", "readme"])]
+SCRIPTS = ["worked", "cut_file", "words", "readme", "races", "refused_threads"]
+RUNS = [["rt", "ci"], *([sys.executable, f"tests/{name}.py"] for name in SCRIPTS)]
 COUNTS = re.compile(r"(\d+) passed, (\d+) failed")
 
 
