@@ -41,8 +41,8 @@ RACES = {
     + "".join(f"call {p} add a {p}\ncall {p} ask\ncall {p} cas b t:x t:y\n" for p in range(16)),
 }
 # how a test tells it: as its own error, or as the one that it found in place of what it asserts; a race that could not start
-# a thread tells that
-TEST_WANTS_MEMORY = re.compile(r"\b(AllocError|Memory|Spawn)\b")
+# a thread tells that, and one of which a port waited at its gate for one that wanted memory tells that it was held
+TEST_WANTS_MEMORY = re.compile(r"\b(AllocError|AllocFailed|Memory|Spawn|Held)\b")
 # tests that take memory of their own where what they assert does not tell it
 LEFT_OUT = re.compile(
     r"store_tests_tests (scenarios::writes_outputs|printing::"
