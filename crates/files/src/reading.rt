@@ -2,7 +2,7 @@
 ghost use Rattle.std.specs.Prelude.{◌≡◌, ◌≤◌, [], ◌∷◌, ◌++◌, length, OnErr, OnOk};
 ghost use Rattle.files.specs.Files.{Grammar, file_of, line_read, words_read, statement_read, one_more};
 ghost use Rattle.files.specs.Reads.{Makes, MakesFile, Takes};
-ghost use Rattle.files.specs.Words.{texts};
+ghost use Rattle.files.specs.Words.{texts, words_of};
 
 use crate::faults::{FaultKind, LineFault};
 use crate::words::words;
@@ -62,6 +62,18 @@ fn read_line<T: FromLines>(
     if number > MOST_LINES || line.len() > MOST_BYTES {
         return Err(FaultKind::TooLong);
     }
+    read_any_line(alloc, line, read)
+}
+
+/// Reads one line after what was read before, however long it is and whatever its number is: for who has limits of
+/// his own.
+pub fn read_any_line<T: FromLines>(
+    alloc: Global,
+    line: &[u8],
+    read: &mut Option<T>,
+) -> Result<(), FaultKind>
+    ensures { Takes result (words_read T.grammar (words_of line.now) read.old) read.new }
+{
     let words = words(alloc, line)?;
     read_words(alloc, words.as_slice(), read)
 }

@@ -5,6 +5,7 @@ ghost use Rattle.std.specs.Io.KnownBytes.{Appends, WriteAppends};
 ghost use Rattle.files.specs.Streams.{GivesByte, failed_read, failed_put, failed_reading, failed_writing, IsReadFault, ReadsInput, ReadsFront, WritesFront};
 
 use crate::faults::Fault;
+use crate::retries::{read_again, write_again};
 use std::alloc::Global;
 use std::io::{Read, Write};
 
@@ -43,8 +44,8 @@ pub trait Sink {
         ensures failures { failures self.new ≡ failures self.old + failed_put result bytes.now };
 }
 
-/// A reader of std as a source: an error of any kind is a `Failed`. Each byte is a call of `read`, so put a
-/// buffer before a file.
+/// A reader of std as a source: a read that a signal interrupts is made again, and any other error is a `Failed`.
+/// Each byte is a call of `read`, so put a buffer before a file.
 #[derive(Drop)]
 pub struct FromRead<R: Read> {
     reader: R,
@@ -71,7 +72,7 @@ impl<R: Read> Source for FromRead<R> {
 
     fn next_byte(&mut self) -> Result<Option<u8>, Failed> {
         let mut buffer = [0];
-        match self.reader.read(&mut buffer) {
+        match read_again(&mut self.reader, &mut buffer) {
             Ok(0) => Ok(None),
             Ok(_) => Ok(Some(buffer[0])),
             Err(_) => {
@@ -82,7 +83,7 @@ impl<R: Read> Source for FromRead<R> {
     }
 }
 
-/// A writer of std as a sink: an error of any kind is a `Failed`.
+/// A writer of std as a sink: a write that a signal interrupts is made again, and any other error is a `Failed`.
 #[derive(Drop)]
 pub struct IntoWrite<W: Write> {
     writer: W,
@@ -108,7 +109,7 @@ impl<W: Write> Sink for IntoWrite<W> {
     ghost failures = { λ s. s.failures };
 
     fn put(&mut self, bytes: &[u8]) -> Result<usize, Failed> {
-        match self.writer.write(bytes) {
+        match write_again(&mut self.writer, bytes) {
             Ok(n) => {
                 if n == 0 && !bytes.is_empty() {
                     self.failures += 1;

@@ -57,7 +57,7 @@ found (x ∷ xs) name p rest same none = by (found xs name p rest same) (bytes_e
     by more false none = more none
 
 -- a name that comes later in a list of different names has no value before
-none_before : (done : List Pair) (p : Pair) (rest : List Pair) → names_differ (done ++ p ∷ rest) ≡ true → is_some (value_at done p.0) ≡ false
+pub none_before : (done : List Pair) (p : Pair) (rest : List Pair) → names_differ (done ++ p ∷ rest) ≡ true → is_some (value_at done p.0) ≡ false
 none_before [] p rest differ = refl
 none_before (q ∷ qs) p rest differ =
     by (bytes_eq p.0 q.0) refl (none_before qs p rest (and_parts (is_none (value_at (qs ++ p ∷ rest) q.0)) (names_differ (qs ++ p ∷ rest)) differ).1) (and_parts (is_none (value_at (qs ++ p ∷ rest) q.0)) (names_differ (qs ++ p ∷ rest)) differ).0
@@ -67,7 +67,7 @@ none_before (q ∷ qs) p rest differ =
     by false other before alone = ap (λ t. is_some (cond t (Some q.1) (value_at qs p.0))) other ∙ before
 
 -- a pair may be added where there is a slot and its name is new
-may_add : (s : Setup) (name : List ℕ) → length s.opening < s.slots → is_some (value_at s.opening name) ≡ false → may_open s name ≡ true
+pub may_add : (s : Setup) (name : List ℕ) → length s.opening < s.slots → is_some (value_at s.opening name) ≡ false → may_open s name ≡ true
 may_add s name free new = let test : nat_lt (length s.opening) s.slots ≡ true = grind (arith, nat_tests) in ap (λ t. t && not (is_some (value_at s.opening name))) test ∙ ap not new
 
 -- the opening pairs are read one after another, and then the lines
@@ -98,7 +98,7 @@ headings_again (h ∷ hs) more given s none free once fits =
     (λ k. ap (λ v. is_in_range 1 (most_of k v) (heading_in k (with_headings hs (with_heading h.0 h.1 s)))) (version_keeps h.0 h.1 s) ∙ fits k)
 
 -- at first nothing was given
-all_free : (hs : List (Heading × ℕ)) → are_free none_given hs ≡ true
+pub all_free : (hs : List (Heading × ℕ)) → are_free none_given hs ≡ true
 all_free [] = refl
 all_free (h ∷ hs) = by h.0 (all_free hs)
   where
@@ -109,7 +109,7 @@ all_free (h ∷ hs) = by h.0 (all_free hs)
     by Slots rest = rest
 
 -- only version 2 has opening pairs
-two_if_open : (version slots : ℕ) (pairs : List Pair) → is_in_range 1 2 version ≡ true → is_good_opening version slots pairs ≡ true → 0 < length pairs → version ≡ 2
+pub two_if_open : (version slots : ℕ) (pairs : List Pair) → is_in_range 1 2 version ≡ true → is_good_opening version slots pairs ≡ true → 0 < length pairs → version ≡ 2
 two_if_open version slots pairs known good some = by (version == 1) refl good
   where
     by : (b : Bool) → (version == 1) ≡ b → nat_le (length pairs) (if b then 0 else slots) ≡ true → version ≡ 2

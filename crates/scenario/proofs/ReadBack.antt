@@ -231,7 +231,7 @@ heading_said_again h n given s fresh none fits small =
     key Slots = refl
 
 -- The version is read again.
-version_again : (v : ℕ) → is_in_range 1 2 v ≡ true → version_of (decimal v) ≡ Ok v
+pub version_again : (v : ℕ) → is_in_range 1 2 v ≡ true → version_of (decimal v) ≡ Ok v
 version_again zero fits = absurd (grind (arith, nat_tests))
 version_again (suc zero) fits = ap version_of (decimal_digit 1 (omega arith))
 version_again (suc (suc zero)) fits = ap version_of (decimal_digit 2 (omega arith))

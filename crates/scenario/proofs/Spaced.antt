@@ -113,14 +113,25 @@ line_printable ws is =
     let short : nat_le (size ws) 128 ≡ true = others.1 in
     record { words = parts.0; said = others.0; short = grind (arith, nat_tests) }
 
--- the lines of printed lines are these lines
-lines_of_printed : (all : List (List (List ℕ))) → list_all is_printable all ≡ true → lines (flat_map printed_line all) ≡ map spaced all
-lines_of_printed [] h = refl
-lines_of_printed (ws ∷ more) h =
-    let parts = and_parts (is_printable ws) (list_all is_printable more) h in
+-- printed words make these lines
+pub lines_of_words : (all : List (List (List ℕ))) → list_all (list_all is_word) all ≡ true → lines (flat_map printed_line all) ≡ map spaced all
+lines_of_words [] h = refl
+lines_of_words (ws ∷ more) h =
+    let parts = and_parts (list_all is_word ws) (list_all (list_all is_word) more) h in
     ap lines (append_assoc (spaced ws) (codes "\n") (flat_map printed_line more))
-    ∙ inner_line (spaced ws) (flat_map printed_line more) (inner_spaced ws (line_printable ws parts.0).words)
-    ∙ ap (λ ls. spaced ws ∷ ls) (lines_of_printed more parts.1)
+    ∙ inner_line (spaced ws) (flat_map printed_line more) (inner_spaced ws parts.0)
+    ∙ ap (λ ls. spaced ws ∷ ls) (lines_of_words more parts.1)
+
+-- printable lines are of words
+pub printable_words : (all : List (List (List ℕ))) → list_all is_printable all ≡ true → list_all (list_all is_word) all ≡ true
+printable_words [] h = refl
+printable_words (ws ∷ more) h =
+    let parts = and_parts (is_printable ws) (list_all is_printable more) h in
+    and_from (list_all is_word ws) (list_all (list_all is_word) more) (line_printable ws parts.0).words (printable_words more parts.1)
+
+-- so the lines of printed lines are these lines,
+lines_of_printed : (all : List (List (List ℕ))) → list_all is_printable all ≡ true → lines (flat_map printed_line all) ≡ map spaced all
+lines_of_printed all h = lines_of_words all (printable_words all h)
 
 -- none of them is too long,
 short_lines : (all : List (List (List ℕ))) → list_all is_printable all ≡ true → list_all is_short (map spaced all) ≡ true

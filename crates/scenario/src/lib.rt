@@ -1,4 +1,9 @@
-//! Scenario files and bits files: what their lines say, how they are read, and how scenarios are printed.
+//! Scenario files and bits files: what their lines say, how they are read, and how scenarios are printed. A text is
+//! accepted exactly if it is in the grammar, else its first fault is told. What is printed is read again as the same scenario.
+//!
+//! ```rust
+//! let scenario = read_scenario(alloc, file.as_bytes())?;
+//! ```
 #![tactic(auto)]
 
 pub mod bit_files;

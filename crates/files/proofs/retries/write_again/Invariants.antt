@@ -1,0 +1,6 @@
+use Rattle.std.specs.Io.KnownBytes.{Keeps}
+use Rattle.files.proofs.retries.write_again.Given as goal
+
+-- of a write that failed nothing was taken
+abbrev pub invariant-loop : goal.invariant-loop
+invariant-loop g l = Keeps (g.W.Write.contents l.initial.writer) (g.W.Write.contents l.writer)
