@@ -7,6 +7,7 @@ pub mod Others
 -- An access of the door, and what it leads to
 pub mod Accesses
 pub mod Telling
+pub mod Within
 -- Numbers and registers
 pub mod Cells
 pub mod Greatest

@@ -143,7 +143,7 @@ same-access : (c : Call) (x : Command) (n : ℕ) (shown part : Part) (run : Run)
 same-access c x n shown part (Writing w) is = ap (λ (y : Field × List Bool). access_of c.process y.0 (next_written y.1 w)) is.written
 same-access c x n shown part (Reading bits begun) is = ap (λ (y : ℕ × Field). access_of y.0 y.1 (next_read c.process bits begun)) is.read
 
-same-last : (c : Call) (shown part : Part) (run : Run) → IsShown c c shown part → is_last c shown run ≡ is_last c part run
+pub same-last : (c : Call) (shown part : Part) (run : Run) → IsShown c c shown part → is_last c shown run ≡ is_last c part run
 same-last c shown part (Writing w) is = ap (λ (y : Field × List Bool). (write_moved c.setup.processes y.1 w).bit == w.width) is.written
 same-last c shown part (Reading bits begun) is = ap (λ (y : ℕ × Field). begun && (length bits + 1 == width c.setup y.1)) is.read
 

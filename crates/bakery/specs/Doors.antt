@@ -1,8 +1,8 @@
 -- The cursor of the doorway and the waiting: what it keeps of a place of the local program, and what it tells.
-use Rattle.std.specs.Prelude.{◌≡◌, ℕ, ◌*◌, ◌==◌, ◌<◌, ◌≤◌, Bool, true, false, cond, not, List, [], ◌∷◌, length, Option, None, Some, IfSome}
+use Rattle.std.specs.Prelude.{◌≡◌, ℕ, ◌+◌, ◌-◌, ◌*◌, ◌==◌, ◌<◌, ◌≤◌, Bool, true, false, cond, not, List, [], ◌∷◌, length, Option, None, Some, IfSome}
 use Rattle.safe_number.specs.declared.Access.{Access}
 use Rattle.safe_number.specs.declared.Field.{Field}
-use Rattle.safe_number.specs.declared.Field.TheVariants.{Choosing}
+use Rattle.safe_number.specs.declared.Field.TheVariants.{Choosing, Ticket}
 use Rattle.safe_number.specs.declared.TornBit.{TornBit}
 use Rattle.safe_number.specs.Bytes.{number_of_bits}
 use Rattle.safe_number.specs.Runs.{NumberWrite, NumberRead}
@@ -17,7 +17,7 @@ use Rattle.record.specs.Cuts.{torn_run}
 use Rattle.record.specs.Moves.{ended_with}
 use Rattle.record.specs.Parts as part
 use Rattle.record.specs.Parts.{Part, is_read, is_over, read_at, written_at}
-use Rattle.record.specs.Places.{Run, Writing, Reading, Place, bit_written, new_run, access_at, place_of, place_after, stage_at}
+use Rattle.record.specs.Places.{Run, Writing, Reading, Place, bit_written, new_run, access_at, marks_of, place_of, place_after, stage_at, value_of}
 use Rattle.record.specs.Program.{greatest, max_of, first_full}
 use Rattle.record.specs.Registers.{width}
 use Rattle.record.specs.Scripts.{Call}
@@ -25,7 +25,7 @@ use Rattle.bakery.specs.declared.progress.DoorProgress.{DoorProgress}
 use Rattle.bakery.specs.declared.progress.DoorProgress.TheVariants as told
 use Rattle.bakery.specs.declared.standing.Standing.{Standing}
 use Rattle.bakery.specs.declared.standing.Standing.TheVariants.{Away, Raises, Asks, TakesTicket, Lowers, Refuses, AwaitsChoosing, AwaitsTicket}
-use Rattle.bakery.specs.Locks.{LockRows, row_in, lock_of, locks_without_reads}
+use Rattle.bakery.specs.Locks.{LockRows, answered, row_in, lock_of, locks_after, locks_without_reads}
 use Rattle.bakery.specs.Standings.{part_of}
 
 -- what a door keeps: which number access it stands for, and how far that has come
@@ -174,6 +174,26 @@ bits_at s (Asks j greatest full) = s.ticket_bits
 bits_at s (TakesTicket t) = s.ticket_bits
 bits_at s (AwaitsTicket t j) = s.ticket_bits
 bits_at s _ = 1
+
+-- how many bits a number access has come to or has before it, without its last one
+abbrev pub bits_before_last : ℕ → Run → ℕ
+bits_before_last width (Writing w) = width - (w.bit + 1)
+bits_before_last width (Reading bits begun) = width - (length bits + 1)
+
+-- as many accesses of a door at least are within its number access
+abbrev pub bits_within : DoorState → ℕ
+bits_within d = bits_before_last (bits_at d.setup d.standing) d.run
+
+-- one access within a number access, of a ticket, and what it leaves: the call goes on by it, and it has no mark
+pub record GoesOnWithin (d : DoorState) (locks : List LockRows) (flick : Bool) (then : DoorState) (locks_then : List LockRows) : Type 0 where
+  pub access : Access
+  pub ticket : access.field ≡ Ticket
+  pub is_next : (c : Call) (accesses : List Access) → IsDoorAfter d c accesses → access ≡ answered locks flick (next_after c accesses)
+  pub registers : locks_then ≡ locks_after locks access
+  pub door : (c : Call) (accesses : List Access) → IsDoorAfter d c accesses → IsDoorAfter then c (access ∷ accesses)
+  pub marks : (c : Call) (accesses : List Access) → IsDoorAfter d c accesses → marks_of c (place_of c accesses) (value_of access.how) ≡ []
+  pub standing : then.standing ≡ d.standing
+  pub fewer : bits_within d ≤ bits_within then + 1
 
 -- what the fields of a door keep
 pub record KeepsDoor (s : Setup) (p : ℕ) (standing : Standing) (w : NumberWrite) (r : NumberRead) : Type 0 where

@@ -1,11 +1,12 @@
 ghost use Rattle.std.specs.Prelude.{◌≡◌, ◌<◌, List, [], ◌∷◌, true, false, Ok, IfOk, IfSome};
 ghost use Rattle.safe_number.specs.declared.Access.{Access};
+ghost use Rattle.safe_number.specs.declared.Field.TheVariants.{Ticket};
 ghost use Rattle.plain_store.specs.Setups.{checked};
 ghost use Rattle.record.specs.Cuts.{torn_at, IsTornOf};
 ghost use Rattle.record.specs.Moves.{ended_with};
 ghost use Rattle.record.specs.Places.{place_of, place_after, stage_at, marks_of, value_of};
 ghost use Rattle.record.specs.Scripts.{Call};
-ghost use Rattle.bakery.specs.Doors.{door_at, new_door, IsDoorAfter, next_after, is_going, is_waiting, next_of, read_of, torn_of, IsNamed, progress_at, marks_told, MayDrop, dropped, goes_on, tells_wait};
+ghost use Rattle.bakery.specs.Doors.{door_at, new_door, IsDoorAfter, next_after, bits_within, is_going, is_waiting, next_of, GoesOnWithin, read_of, torn_of, IsNamed, progress_at, marks_told, MayDrop, dropped, goes_on, tells_wait};
 ghost use Rattle.bakery.specs.Locks.{lock_of, CanAccess, answered, locks_after};
 
 use crate::lock::Locks;
@@ -128,6 +129,37 @@ impl Door {
         let access = self.next(value);
         locks.apply(access);
         (access, self.advance(value))
+    }
+
+    /// How many bits its number access has come to or has before it, without the last one: so many of the next
+    /// accesses at least are within that number access. Only a ticket has more than one bit.
+    #[inline]
+    pub fn bits_within(&self) -> u16
+        ensures { result ≡ bits_within self.now }
+    {
+        match self.standing {
+            Standing::Asks { .. } | Standing::AwaitsTicket { .. } => self.runs.read.bits_within(),
+            Standing::TakesTicket(_) => self.runs.write.bits_within(),
+            _ => 0,
+        }
+    }
+
+    /// Makes the next access on the locks' registers as `step` does, where it is within a number access, and tells
+    /// nothing: it is of a ticket, and has to be in its turn there.
+    #[inline(always)]
+    pub fn step_within(&mut self, locks: &mut Locks, flick: bool)
+        requires within { 0 < bits_within self.old }
+        requires turn { (next_of self.old false).field ≡ Ticket → let next = answered locks.old flick (next_of self.old false) in CanAccess (lock_of locks.old next.owner) next }
+        ensures { GoesOnWithin self.old locks.old flick self.new locks.new }
+    {
+        let me = self.process;
+        match self.standing.read() {
+            Some((owner, _)) => locks.read_on(owner, me, &mut self.runs.read, flick),
+            None => {
+                let readers = self.setup.processes;
+                locks.write_on(me, readers, &mut self.runs.write, self.standing.written().1);
+            }
+        }
     }
 
     /// Becomes as the other, of the same setup: of its process, and come as far. It takes no memory.

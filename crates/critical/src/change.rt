@@ -78,7 +78,7 @@ impl Change {
 
     /// Makes that access on the registers of the process that writes, and goes on by it. It is quick for an
     /// image, which has many bits.
-    #[inline]
+    #[inline(always)]
     pub fn write_on(
         &self,
         part: Written,

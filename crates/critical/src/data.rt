@@ -103,7 +103,7 @@ impl Data {
 
     /// Makes the next access of a read of a register by its reader, whose end gives what `answer` tells. It is
     /// quick for an image, which has many bits.
-    #[inline]
+    #[inline(always)]
     pub(crate) fn read_on(&mut self, field: Field, reader: u8, run: &mut ReadRun, flick: bool)
         requires going { length run.old.bits < run.old.width }
         requires there { HasCell (register_of self.old field) (length run.old.bits) reader }
@@ -140,7 +140,7 @@ impl Data {
     }
 
     /// Makes the next access of a write of `value` to a register with copies for `readers` readers.
-    #[inline]
+    #[inline(always)]
     pub(crate) fn write_on(&mut self, field: Field, readers: u8, run: &mut WriteRun, value: &[u8])
         requires going { run.old.bit < run.old.width × (bit_write value.now run.old).made < 2 * readers }
         requires readers { readers ≤ 16 }

@@ -118,7 +118,7 @@ impl DataRow {
 
     /// Makes the next access of a read of a register by its reader, whose end gives what the reader's copy
     /// answers.
-    #[inline]
+    #[inline(always)]
     pub(crate) fn read_on(
         &mut self,
         owner: u8,
@@ -138,7 +138,7 @@ impl DataRow {
     }
 
     /// Makes the next access of a write of `value` to a register with copies for `readers` readers.
-    #[inline]
+    #[inline(always)]
     pub(crate) fn write_on(
         &mut self,
         owner: u8,

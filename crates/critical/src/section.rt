@@ -219,7 +219,7 @@ impl Section {
 
     /// Makes the next access as `step` does, where it is within a number access, and tells nothing: so it is the
     /// quickest way through the many bits of an image.
-    #[inline]
+    #[inline(always)]
     pub fn step_within(&mut self, row: &mut DataRow, flick: bool)
         requires within { 0 < bits_within self.old }
         requires may { MayStep self.old row.old flick }

@@ -1,5 +1,5 @@
 -- A process within a number access at the data.
-use Rattle.std.proofs.Common.{◌≡◌, ◌<◌, true, refl, arith}
+use Rattle.std.proofs.Common.{◌≡◌, ◌<◌, true, false, refl, arith}
 use Rattle.bakery.specs.Doors.{DoorState}
 use Rattle.critical.specs.Sections as sections
 use Rattle.critical.specs.Sections.{Section}
@@ -8,7 +8,7 @@ use Rattle.process.specs.declared.process.Work.TheVariants as work
 use Rattle.process.specs.Keeping.{is_at_data, kept_shown}
 use Rattle.process.specs.Processes as kept
 use Rattle.process.specs.Processes.{Kept}
-use Rattle.process.specs.Steps.{bits_within}
+use Rattle.process.specs.Steps.{bits_to_walk, bits_within, is_at_door}
 
 -- it is at the data
 pub data-within : (k : Kept) → 0 < bits_within k → is_at_data k ≡ true
@@ -31,3 +31,14 @@ section-within (work.Leaves answer fresh leaving) door section h = absurd (omega
 section-within (work.Withdraws leaving) door section h = absurd (omega (arith, h))
 section-within (work.Settles inside taken value unit) door section h = absurd (omega (arith, h))
 section-within (work.Frees inside unit) door section h = absurd (omega (arith, h))
+
+-- where it is not at the door, what it has to walk is at the data
+pub data-to-walk : (k : Kept) → is_at_door k ≡ false → 0 < bits_to_walk k → 0 < bits_within k
+data-to-walk (kept.AtData section) elsewhere h = h
+data-to-walk kept.Rests elsewhere h = h
+data-to-walk kept.Lies elsewhere h = h
+data-to-walk (kept.AtDoor door) elsewhere h = absurd (cc)
+data-to-walk (kept.Leaves answer fresh leaving) elsewhere h = h
+data-to-walk (kept.Withdraws leaving) elsewhere h = h
+data-to-walk (kept.Settles inside taken value unit) elsewhere h = h
+data-to-walk (kept.Frees inside unit) elsewhere h = h

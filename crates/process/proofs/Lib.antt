@@ -7,6 +7,7 @@ pub mod AtDoor
 pub mod Steps
 pub mod Data
 pub mod DataWithin
+pub mod DoorWithin
 pub mod Clears
 pub mod Withdraws
 pub mod Units

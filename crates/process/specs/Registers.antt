@@ -11,7 +11,7 @@ use Rattle.critical.specs.Registers.{DataRow, after_access, is_data, opening_cel
 use Rattle.laws.specs.Doings.{Doing}
 use Rattle.laws.specs.Steps.{does_then, marks_with, next_of}
 use Rattle.process.specs.Processes.{ProcessState, kept_at, stage_kept}
-use Rattle.process.specs.Steps.{IsAt, bits_within}
+use Rattle.process.specs.Steps.{IsAt, bits_to_walk}
 
 pub record RegistersState : Type 0 where
   pub locks : List LockRows
@@ -49,12 +49,13 @@ pub record MayStep (now : ProcessState) (r : RegistersState) (flick : Bool) : Ty
   pub is_next : next_of now.setup now.process doing flick ≡ Some next
   pub can : CanMake r (answered r flick next)
 
--- a step within a number access at the data, and what it leaves: it has no mark
+-- a step within a number access at the door or at the data, and what it leaves: it has no mark, and the process waits
+-- after it exactly if it waited before
 pub record StepsWithin (r : RegistersState) (flick : Bool) (now : ProcessState) (r_then : RegistersState) (then : ProcessState) : Type 0 where
   pub access : Access
   pub is_next : (d : Doing) (next : Access) → IsAt now d → next_of now.setup now.process d flick ≡ Some next → access ≡ answered r flick next
   pub then_is : (d : Doing) → IsAt now d → then ≡ record now { kept = kept_at now.setup now.process (does_then now.setup now.process d flick (value_of access.how)) }
-  pub stays : is_waiting_stage (stage_kept then.kept) ≡ false
+  pub stays : is_waiting_stage (stage_kept then.kept) ≡ is_waiting_stage (stage_kept now.kept)
   pub marks : (d : Doing) → IsAt now d → marks_with now.setup now.process d flick (value_of access.how) ≡ []
-  pub fewer : bits_within now.kept ≤ bits_within then.kept + 1
+  pub fewer : bits_to_walk now.kept ≤ bits_to_walk then.kept + 1
   pub registers : r_then ≡ made r access

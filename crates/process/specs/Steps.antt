@@ -4,6 +4,7 @@ use Rattle.plain_store.specs.declared.Command.TheVariants.{Ask}
 use Rattle.plain_store.specs.declared.Setup.{Setup}
 use Rattle.record.specs.Closings.{withdrawing}
 use Rattle.record.specs.Cuts.{Change, pending_at}
+use Rattle.bakery.specs.Doors as doors
 use Rattle.critical.specs.Sections as sections
 use Rattle.laws.specs.Doings.{Doing, Runs, call}
 use Rattle.laws.specs.Steps.{IsCallOf, IsLive, IsReached, cut_of}
@@ -26,6 +27,11 @@ is_at_door _ = false
 abbrev pub bits_within : Kept → ℕ
 bits_within (kept.AtData section) = sections.bits_within section
 bits_within _ = 0
+
+-- the same at the door too
+abbrev pub bits_to_walk : Kept → ℕ
+bits_to_walk (kept.AtDoor door) = doors.bits_within door
+bits_to_walk current = bits_within current
 
 -- what is kept once the process gave up waiting
 abbrev pub kept_withdrawing : Setup → ℕ → Kept

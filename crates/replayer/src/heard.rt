@@ -1,5 +1,5 @@
 //! A world, and an auditor that hears the entries that it makes.
-ghost use Rattle.std.specs.Prelude.{◌≡◌, ◌≤◌, [], IfOk, IfErr, OnErr, OnOk, List, None, Ok, Some, length, map, option_map};
+ghost use Rattle.std.specs.Prelude.{true, false, ◌≡◌, ◌≤◌, [], IfOk, IfErr, OnErr, OnOk, List, None, Ok, Some, length, map, option_map};
 ghost use Rattle.plain_store.specs.Setups.{checked};
 ghost use Rattle.store_image.specs.Image.{image_of};
 ghost use Rattle.record.specs.declared.Event.{Event as Happening};
@@ -11,7 +11,7 @@ ghost use Rattle.process.specs.declared.told.Effect.TheVariants.{Steps};
 ghost use Rattle.process.specs.Telling.{act_of, marks_of, marks_told};
 ghost use Rattle.world.specs.Events.{Adds, GoesOn, IsRefused, IsTurnedAway, stage_in};
 ghost use Rattle.world.specs.Shows.{Shows, WorldState};
-ghost use Rattle.world.specs.Walks.{Walks};
+ghost use Rattle.world.specs.Walks.{StepsQuietly, Walks};
 ghost use Rattle.auditor.specs.declared.verdicts.Verdict.TheVariants.{Good};
 ghost use Rattle.replayer.specs.Hearing.{AddsEntry, Agrees, Listens};
 
@@ -137,6 +137,18 @@ impl HeardWorld {
             return 0;
         }
         self.world.walk(process, flicks, most)
+    }
+
+    /// One step of a process within a number access, as `World::step_within` makes it; none where an auditor listens.
+    #[inline]
+    pub fn step_within(&mut self, process: u8, flick: bool) -> bool
+        ensures made { result ≡ true → StepsQuietly self.old process flick self.new }
+        ensures unmade { result ≡ false → self.new ≡ self.old }
+    {
+        if self.listener.is_some() {
+            return false;
+        }
+        self.world.step_within(process, flick)
     }
 
     /// Where a process stands; none, if there is no such process.

@@ -14,7 +14,7 @@ use Rattle.process.specs.declared.told.Effect.TheVariants.{Steps}
 use Rattle.process.specs.declared.told.Told.{Told}
 use Rattle.process.specs.Telling.{act_of, marks_of, marks_told}
 use Rattle.world.specs.Changes.{pending_in, with_taken}
-use Rattle.world.specs.Cores.{CoreGoesOn, CoreMakes, CoreRefuses, CoreState, CoreSteps, CoreWalks, KeepsCore, call_in, taking, with_history}
+use Rattle.world.specs.Cores.{CoreGoesOn, CoreMakes, CoreRefuses, CoreState, CoreSteps, CoreStepsQuietly, CoreWalks, KeepsCore, call_in, taking, with_history}
 use Rattle.world.specs.Events.{Adds, GoesOn, KeepsWorld, entry_with}
 use Rattle.flicks.specs.Flicks.{FlickState}
 use Rattle.world.specs.Seats.{Seat}
@@ -87,6 +87,13 @@ pub walk_keeps : (n : ℕ) (c new : CoreState) (h : List Taken) (f g : FlickStat
 walk_keeps n c new h f g p capacity keeps walks =
     let then : (later : List Event) × Shows (with_history new h) later = walks-shown n (with_history c h) (with_history new h) f g p keeps.events (walks.walks h) keeps.shows in
     record { events = then.0; shows = then.1; room = let room = keeps.room in let fewer = walks.pending in omega (arith, room, fewer) }
+
+-- after a step without a mark, if one was made
+pub within_keeps : (made : Bool) (c new : CoreState) (h : List Taken) (p : ℕ) (flick : Bool) (capacity : ℕ) → KeepsWorld (with_history c h) capacity → (made ≡ true → CoreStepsQuietly c p flick new) → (made ≡ false → new ≡ c) → KeepsWorld (with_history new h) capacity
+within_keeps true c new h p flick capacity keeps steps same =
+    let quietly = steps refl in
+    record { events = Step p flick ∷ keeps.events; shows = (quietly.steps h).shows keeps.events keeps.shows; room = let room = keeps.room in let fewer = quietly.pending in omega (arith, room, fewer) }
+within_keeps false c new h p flick capacity keeps steps same = subst (λ core. KeepsWorld (with_history core h) capacity) (sym (same refl)) keeps
 
 -- an event that is not refused adds its entry
 pub added_by : (s : Setup) (past : Past) (what : Event) (e : Entry) → refused s past what ≡ None → added s past what ≡ Some e → entry_of s past what ≡ Some e

@@ -1,9 +1,13 @@
--- A step within a number access at the data, and the world that it leaves.
-use Rattle.std.proofs.Common.{◌≡◌, ℕ, zero, suc, ◌+◌, ◌<◌, ◌≤◌, ◌||◌, Bool, true, false, List, [], ◌∷◌, None, Some, length, map, refl, sym, ap, subst, ◌∙◌, arith}
+-- A step within a number access at the door or at the data, and the world that it leaves.
+use Rattle.std.proofs.Common.{◌≡◌, ℕ, zero, suc, ◌+◌, ◌<◌, ◌≤◌, ◌||◌, Bool, true, false, not, List, [], ◌∷◌, None, Some, length, map, refl, sym, ap, subst, ◌∙◌, arith}
+use mathlib.Core.Bool.{beq}
 use Rattle.std.specs.Prelude.{slice_index_or, slice_set}
 use Rattle.record.specs.declared.events.Event.{Event}
 use Rattle.record.specs.declared.events.Event.TheVariants as event
+use Rattle.record.specs.declared.Stage.{Stage}
+use Rattle.record.specs.declared.Stage.TheVariants as stage
 use Rattle.record.specs.Doorways.{is_waiting_stage}
+use Rattle.bakery.specs.Doors.{is_waiting}
 use Rattle.record.specs.Records.{refused_at}
 use Rattle.process.specs.declared.told.Told.TheVariants.{Nothing}
 use Rattle.world.specs.Changes.{pending_in, told}
@@ -14,7 +18,7 @@ use Rattle.world.specs.Seats.{Seat}
 use Rattle.process.specs.Processes.{Kept, kept_at, stage_kept}
 use Rattle.world.specs.Shows.{Shows, WorldState}
 use Rattle.process.specs.Registers.{MayStep, RegistersState, StepsWithin}
-use Rattle.process.specs.Steps.{bits_within, is_at_door}
+use Rattle.process.specs.Steps.{bits_to_walk, is_at_door}
 use Rattle.world.specs.Walks.{StepsQuietly, Walks, bits_within_at}
 use Rattle.world.proofs.WorldHeadline.{keeps_headline}
 use Rattle.world.proofs.WorldEnds.{IsUsed, step-adds, step-ends, step-on, stepped_world, used-steps}
@@ -22,38 +26,41 @@ use Rattle.world.proofs.WorldNew.{refused-step}
 use Rattle.world.proofs.WorldShows.{SeatSteps, world_with}
 use Rattle.world.proofs.WorldTelling.{told-none}
 
--- inside, it may step, does not wait, and is not at the door
-record IsInside (k : Kept) : Type 0 where
-  turn : (p : ℕ) (flick : Bool) → refused_at (event.Step p flick) (stage_kept k) ≡ None
-  waits : is_waiting_stage (stage_kept k) ≡ false
-  door : is_at_door k ≡ false
+-- within a number access it may step
+turn-within : (k : Kept) → 0 < bits_to_walk k → (p : ℕ) (flick : Bool) → refused_at (event.Step p flick) (stage_kept k) ≡ None
+turn-within (kept.AtData section) h p flick = refl
+turn-within (kept.AtDoor door) h p flick = by (is_waiting door)
+  where
+    by : (b : Bool) → refused_at (event.Step p flick) (elim b as (λ _. Stage) [ true ↦ stage.Waiting | false ↦ stage.Doorway ]) ≡ None
+    by true = refl
+    by false = refl
+turn-within kept.Rests h p flick = absurd (omega (arith, h))
+turn-within kept.Lies h p flick = absurd (omega (arith, h))
+turn-within (kept.Leaves answer fresh leaving) h p flick = absurd (omega (arith, h))
+turn-within (kept.Withdraws leaving) h p flick = absurd (omega (arith, h))
+turn-within (kept.Settles inside taken value unit) h p flick = absurd (omega (arith, h))
+turn-within (kept.Frees inside unit) h p flick = absurd (omega (arith, h))
 
-inside-is : (k : Kept) → 0 < bits_within k → IsInside k
-inside-is (kept.AtData section) h = record { turn = λ p flick. refl; waits = refl; door = refl }
-inside-is kept.Rests h = absurd (omega (arith, h))
-inside-is kept.Lies h = absurd (omega (arith, h))
-inside-is (kept.AtDoor door) h = absurd (omega (arith, h))
-inside-is (kept.Leaves answer fresh leaving) h = absurd (omega (arith, h))
-inside-is (kept.Withdraws leaving) h = absurd (omega (arith, h))
-inside-is (kept.Settles inside taken value unit) h = absurd (omega (arith, h))
-inside-is (kept.Frees inside unit) h = absurd (omega (arith, h))
-
-or-false : (b c : Bool) → c ≡ false → (b || c) ≡ b
-or-false true c h = refl
-or-false false c h = h
+-- two that are the same are not apart
+not-apart : (a b : Bool) → a ≡ b → not (beq a b) ≡ false
+not-apart a b same = subst (λ b. not (beq a b) ≡ false) same (itself a)
+  where
+    itself : (a : Bool) → not (beq a a) ≡ false
+    itself true = refl
+    itself false = refl
 
 -- its step is not refused
-pub within-used : (w : WorldState) (capacity p i : ℕ) (flick : Bool) (seat : Seat) → KeepsWorld w capacity → i ≡ p → i < length w.seats → seat ≡ slice_index_or w.seats i seat → 0 < bits_within seat.process.kept →
+pub within-used : (w : WorldState) (capacity p i : ℕ) (flick : Bool) (seat : Seat) → KeepsWorld w capacity → i ≡ p → i < length w.seats → seat ≡ slice_index_or w.seats i seat → 0 < bits_to_walk seat.process.kept →
     IsUsed w capacity (event.Step p flick) i seat
 within-used w capacity p i flick seat keeps index there seat_is h = record {
   keeps = keeps;
-  ok = λ events shows. refused-step w events p flick None seat seat shows (subst (λ i. i < length w.seats) index there) (seat_is ∙ ap (λ i. slice_index_or w.seats i seat) index) ((inside-is seat.process.kept h).turn p flick);
+  ok = λ events shows. refused-step w events p flick None seat seat shows (subst (λ i. i < length w.seats) index there) (seat_is ∙ ap (λ i. slice_index_or w.seats i seat) index) (turn-within seat.process.kept h p flick);
   index = index;
   seat_is = seat_is;
 }
 
 -- and may be made
-pub within-may : (w : WorldState) (capacity p i : ℕ) (flick : Bool) (seat : Seat) → KeepsWorld w capacity → i ≡ p → i < length w.seats → seat ≡ slice_index_or w.seats i seat → 0 < bits_within seat.process.kept →
+pub within-may : (w : WorldState) (capacity p i : ℕ) (flick : Bool) (seat : Seat) → KeepsWorld w capacity → i ≡ p → i < length w.seats → seat ≡ slice_index_or w.seats i seat → 0 < bits_to_walk seat.process.kept →
     MayStep seat.process w.registers flick
 within-may w capacity p i flick seat keeps index there seat_is h = used-steps w capacity p i flick seat (within-used w capacity p i flick seat keeps index there seat_is h)
 
@@ -69,27 +76,30 @@ pub keeps_of : (w : WorldState) (events : List Event) → Shows w events → Kee
 keeps_of w events shows = record { events = events; shows = shows; room = omega arith }
 
 -- what it makes of the seat, and of the world
-quiet-steps : (w : WorldState) (flick : Bool) (seat : Seat) (registers : RegistersState) (then : Seat) → 0 < bits_within seat.process.kept → then ≡ record seat { process = then.process } →
+quiet-steps : (w : WorldState) (flick : Bool) (seat : Seat) (registers : RegistersState) (then : Seat) → 0 < bits_to_walk seat.process.kept → then ≡ record seat { process = then.process; begun = seat.begun || is_at_door seat.process.kept } →
     (e : StepsWithin w.registers flick seat.process registers then.process) → SeatSteps w.registers flick seat e.access Nothing then
 quiet-steps w flick seat registers then h stays e = record {
   access = e.is_next;
-  seat_is = λ d at. stays ∙ (λ k. let x : Seat = record seat { process = e.then_is d at k; begun = sym (or-false seat.begun (is_at_door seat.process.kept) (inside-is seat.process.kept h).door) k } in x);
+  seat_is = λ d at. stays ∙ (λ k. let x : Seat = record seat { process = e.then_is d at k; begun = seat.begun || is_at_door seat.process.kept } in x);
   marks = λ d at. sym (e.marks d at);
 }
 
-quiet-world : (w : WorldState) (p i : ℕ) (flick : Bool) (seat : Seat) (registers : RegistersState) (then : Seat) → 0 < bits_within seat.process.kept →
+quiet-world : (w : WorldState) (p i : ℕ) (flick : Bool) (seat : Seat) (registers : RegistersState) (then : Seat) → 0 < bits_to_walk seat.process.kept →
     (e : StepsWithin w.registers flick seat.process registers then.process) → stepped_world w p i seat e.access Nothing then ≡ walked_world w i registers then
 quiet-world w p i flick seat registers then h e = λ k. world_with w.setup (sym e.registers k) (seats k) w.history
   where
-    is : IsInside seat.process.kept
-    is = inside-is seat.process.kept h
+    waited : Bool
+    waited = is_waiting_stage (stage_kept seat.process.kept)
 
-    seats : map (told p (is_waiting_stage (stage_kept seat.process.kept)) (is_waiting_stage (stage_kept then.process.kept))) (slice_set w.seats i then) ≡ slice_set w.seats i then
-    seats = (λ k. map (told p (is.waits k) (e.stays k)) (slice_set w.seats i then)) ∙ sym (told-none p false false (slice_set w.seats i then) refl)
+    waits : Bool
+    waits = is_waiting_stage (stage_kept then.process.kept)
+
+    seats : map (told p waited waits) (slice_set w.seats i then) ≡ slice_set w.seats i then
+    seats = sym (told-none p waited waits (slice_set w.seats i then) (not-apart waited waits (sym e.stays)))
 
 -- its step has no mark, and with any history the world goes on
-pub quiet-on : (w : WorldState) (p i : ℕ) (flick : Bool) (seat : Seat) (registers : RegistersState) (then : Seat) → i ≡ p → i < length w.seats → seat ≡ slice_index_or w.seats i seat → 0 < bits_within seat.process.kept →
-    then ≡ record seat { process = then.process } → StepsWithin w.registers flick seat.process registers then.process → StepsQuietly w p flick (walked_world w i registers then)
+pub quiet-on : (w : WorldState) (p i : ℕ) (flick : Bool) (seat : Seat) (registers : RegistersState) (then : Seat) → i ≡ p → i < length w.seats → seat ≡ slice_index_or w.seats i seat → 0 < bits_to_walk seat.process.kept →
+    then ≡ record seat { process = then.process; begun = seat.begun || is_at_door seat.process.kept } → StepsWithin w.registers flick seat.process registers then.process → StepsQuietly w p flick (walked_world w i registers then)
 quiet-on w p i flick seat registers then index there seat_is h stays e = record {
   access = e.access;
   adds = adds;
@@ -109,19 +119,19 @@ quiet-on w p i flick seat registers then index there seat_is h stays e = record 
         (step-on w (room_of w) p i flick seat e.access Nothing then (used events shown) (quiet-steps w flick seat registers then h stays e) events shown)
 
 -- and no more calls are pending
-pub quiet-ends : (w : WorldState) (capacity p i : ℕ) (flick : Bool) (seat : Seat) (registers : RegistersState) (then : Seat) → KeepsWorld w capacity → i ≡ p → i < length w.seats → seat ≡ slice_index_or w.seats i seat → 0 < bits_within seat.process.kept →
-    then ≡ record seat { process = then.process } → StepsWithin w.registers flick seat.process registers then.process → KeepsWorld (walked_world w i registers then) capacity
+pub quiet-ends : (w : WorldState) (capacity p i : ℕ) (flick : Bool) (seat : Seat) (registers : RegistersState) (then : Seat) → KeepsWorld w capacity → i ≡ p → i < length w.seats → seat ≡ slice_index_or w.seats i seat → 0 < bits_to_walk seat.process.kept →
+    then ≡ record seat { process = then.process; begun = seat.begun || is_at_door seat.process.kept } → StepsWithin w.registers flick seat.process registers then.process → KeepsWorld (walked_world w i registers then) capacity
 quiet-ends w capacity p i flick seat registers then keeps index there seat_is h stays e =
     subst (λ w. KeepsWorld w capacity) (quiet-world w p i flick seat registers then h e)
     (step-ends w capacity p i flick seat e.access Nothing then (within-used w capacity p i flick seat keeps index there seat_is h) (quiet-steps w flick seat registers then h stays e) capacity (omega arith))
 
 -- how many bits a process is before the last one, by its seat
-pub bits-at : (seats : List Seat) (i p : ℕ) (seat : Seat) → i ≡ p → i < length seats → seat ≡ slice_index_or seats i seat → bits_within_at seats p ≡ bits_within seat.process.kept
-bits-at seats i p seat index l is = subst (λ p. bits_within_at seats p ≡ bits_within seat.process.kept) index (there seats i l is)
+pub bits-at : (seats : List Seat) (i p : ℕ) (seat : Seat) → i ≡ p → i < length seats → seat ≡ slice_index_or seats i seat → bits_within_at seats p ≡ bits_to_walk seat.process.kept
+bits-at seats i p seat index l is = subst (λ p. bits_within_at seats p ≡ bits_to_walk seat.process.kept) index (there seats i l is)
   where
-    there : (seats : List Seat) (i : ℕ) → i < length seats → seat ≡ slice_index_or seats i seat → bits_within_at seats i ≡ bits_within seat.process.kept
+    there : (seats : List Seat) (i : ℕ) → i < length seats → seat ≡ slice_index_or seats i seat → bits_within_at seats i ≡ bits_to_walk seat.process.kept
     there [] i l is = absurd (omega (arith, l))
-    there (x ∷ seats) zero l is = ap (λ (x : Seat). bits_within x.process.kept) (sym is)
+    there (x ∷ seats) zero l is = ap (λ (x : Seat). bits_to_walk x.process.kept) (sym is)
     there (x ∷ seats) (suc i) l is = there seats i (omega (arith, l)) is
 
 -- where there is none, 0
@@ -140,10 +150,10 @@ bits-there seats i p index some = subst (λ p. p < length seats) (sym index) (th
     there (x ∷ seats) (suc p) some = let less = there seats p some in omega (arith, less)
 
 -- and of a seat that was put in its place
-pub bits-set : (seats : List Seat) (i p : ℕ) (then : Seat) → i ≡ p → i < length seats → bits_within_at (slice_set seats i then) p ≡ bits_within then.process.kept
-bits-set seats i p then index l = subst (λ p. bits_within_at (slice_set seats i then) p ≡ bits_within then.process.kept) index (there seats i l)
+pub bits-set : (seats : List Seat) (i p : ℕ) (then : Seat) → i ≡ p → i < length seats → bits_within_at (slice_set seats i then) p ≡ bits_to_walk then.process.kept
+bits-set seats i p then index l = subst (λ p. bits_within_at (slice_set seats i then) p ≡ bits_to_walk then.process.kept) index (there seats i l)
   where
-    there : (seats : List Seat) (i : ℕ) → i < length seats → bits_within_at (slice_set seats i then) i ≡ bits_within then.process.kept
+    there : (seats : List Seat) (i : ℕ) → i < length seats → bits_within_at (slice_set seats i then) i ≡ bits_to_walk then.process.kept
     there [] i l = absurd (omega (arith, l))
     there (x ∷ seats) zero l = refl
     there (x ∷ seats) (suc i) l = there seats i (omega (arith, l))

@@ -19,7 +19,7 @@ use Rattle.world.specs.Events.{GoesOn, IsRefused}
 use Rattle.flicks.specs.Flicks.{FlickState}
 use Rattle.world.specs.Seats.{Seat}
 use Rattle.world.specs.Shows.{Shows, WorldState}
-use Rattle.world.specs.Walks.{Walks}
+use Rattle.world.specs.Walks.{StepsQuietly, Walks}
 
 -- the registers, and what is kept of each process: of fixed size
 pub record CoreState : Type 0 where
@@ -64,6 +64,11 @@ CoreSteps old p flick told new = CoreMakes old (Step p flick) (Steps told) new
 -- 1 if an event takes a command
 abbrev pub taking : Effect → ℕ
 taking effect = elim (reply_taken (marks_of effect)) as (λ _. ℕ) [ None ↦ 0 | Some r ↦ 1 ]
+
+-- a step by this flick that has no mark, with each history; no more calls are pending
+pub record CoreStepsQuietly (old : CoreState) (p : ℕ) (flick : Bool) (new : CoreState) : Type 0 where
+  pub steps : (taken : List Taken) → StepsQuietly (with_history old taken) p flick (with_history new taken)
+  pub pending : pending_in new.seats ≤ pending_in old.seats
 
 -- so many steps without a mark, with each history; no more calls are pending
 pub record CoreWalks (old : CoreState) (flicks : FlickState) (p n : ℕ) (new : CoreState) (flicks_then : FlickState) : Type 0 where

@@ -6,7 +6,7 @@ use Rattle.world.specs.Events.{Adds, GoesOn, KeepsTheHeadline}
 use Rattle.flicks.specs.Flicks.{FlickState, after_flick, flick_of}
 use Rattle.world.specs.Seats.{Seat}
 use Rattle.world.specs.Shows.{WorldState}
-use Rattle.process.specs.Steps.{bits_within}
+use Rattle.process.specs.Steps.{bits_to_walk}
 
 -- a step by this flick that has no mark
 pub record StepsQuietly (old : WorldState) (p : ℕ) (flick : Bool) (new : WorldState) : Type 0 where
@@ -21,6 +21,6 @@ abbrev pub Walks : WorldState → FlickState → ℕ → ℕ → WorldState → 
 Walks old flicks p zero new flicks_then = (new ≡ old) × (flicks_then ≡ flicks)
 Walks old flicks p (suc n) new flicks_then = (w : WorldState) × (f : FlickState) × Walks old flicks p n w f × StepsQuietly w p (flick_of f) new × (flicks_then ≡ after_flick f)
 
--- how many bits a process at the data has before the last one of its number access; 0, if there is no such process
+-- how many bits a process at the door or at the data has before the last one of its number access; 0, if there is no such process
 abbrev pub bits_within_at : List Seat → ℕ → ℕ
-bits_within_at seats p = elim (slice_get seats p) [ None ↦ 0 | Some seat ↦ bits_within seat.process.kept ]
+bits_within_at seats p = elim (slice_get seats p) [ None ↦ 0 | Some seat ↦ bits_to_walk seat.process.kept ]

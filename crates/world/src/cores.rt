@@ -12,7 +12,7 @@ ghost use Rattle.record.specs.Records.{is_call, past_of, process_of, refused};
 ghost use Rattle.process.specs.declared.told.Effect.TheVariants.{Steps};
 ghost use Rattle.process.specs.Telling.{act_of};
 ghost use Rattle.world.specs.Changes.{pending_in};
-ghost use Rattle.world.specs.Cores.{CoreGoesOn, CoreMakes, CoreRefuses, CoreSteps, CoreWalks, call_in, taking, with_history};
+ghost use Rattle.world.specs.Cores.{CoreGoesOn, CoreMakes, CoreRefuses, CoreSteps, CoreStepsQuietly, CoreWalks, call_in, taking, with_history};
 ghost use Rattle.process.specs.Refusals.{WantsNoMemory};
 ghost use Rattle.world.specs.Events.{Adds, stage_in};
 ghost use Rattle.world.specs.Shows.{Shows};
@@ -242,16 +242,15 @@ impl Core {
     {
         let seat = &mut self.seats[usize::from(process)];
         let waited = waits(seat);
-        let (access, leads) = seat.step(&mut self.registers, flick);
+        let access = seat.step(&mut self.registers, flick, told);
         let now = waits(seat);
         tell(&mut self.seats, process, waited, now);
-        *told = leads;
         access
     }
 
-    /// Steps of a process while they are within a number access at the data, at most so many: each as `step` makes
-    /// it, by the flick that is next, and without a mark. It answers how many it has made, and stops where the next
-    /// access is of a last bit, at the door or of the memory unit, or where there is no such process.
+    /// Steps of a process while they are within a number access at the door or at the data, at most so many: each as
+    /// `step` makes it, by the flick that is next, and without a mark. It answers how many it has made, and stops where
+    /// the next access is of a last bit, clears a ticket or is of the memory unit, or where there is no such process.
     #[inline]
     pub fn walk(&mut self, process: u8, flicks: &mut Flicks, most: u32) -> u32
         ensures most { result ≤ most }
@@ -271,8 +270,8 @@ impl Core {
         made
     }
 
-    /// How many bits a process at the data has before the last one of its number access; 0, if it is elsewhere, or there
-    /// is no such process.
+    /// How many bits a process at the door or at the data has before the last one of its number access; 0, if it is
+    /// elsewhere, or there is no such process.
     #[inline]
     fn bits_within(&self, process: u8) -> u16
         ensures { result ≡ bits_within_at self.now.seats process }
@@ -281,7 +280,32 @@ impl Core {
         if self.seats.len() <= at {
             return 0;
         }
-        self.seats[at].process().bits_within()
+        self.seats[at].process().bits_to_walk()
+    }
+
+    /// One step of a process by this flick, if it is within a number access as those of `walk` are: it has no mark. It
+    /// answers whether it was made; nothing is, where the step is not within one, or there is no such process.
+    #[inline]
+    pub fn step_within(&mut self, process: u8, flick: bool) -> bool
+        ensures made { result ≡ true → CoreStepsQuietly self.old process flick self.new }
+        ensures unmade { result ≡ false → self.new ≡ self.old }
+    {
+        if self.bits_within(process) == 0 {
+            return false;
+        }
+        self.make_step_within(process, flick);
+        true
+    }
+
+    /// The step of a process that is within a number access.
+    #[inline(always)]
+    fn make_step_within(&mut self, process: u8, flick: bool)
+        requires { 0 < bits_within_at self.old.seats process }
+        ensures quietly { CoreStepsQuietly self.old process flick self.new }
+        ensures fewer { bits_within_at self.old.seats process ≤ bits_within_at self.new.seats process + 1 }
+    {
+        let at = usize::from(process);
+        self.seats[at].step_within(&mut self.registers, flick);
     }
 
     /// So many steps of a process that has as many bits at least before the last one.
@@ -290,11 +314,10 @@ impl Core {
         requires { steps ≤ bits_within_at self.old.seats process }
         ensures { CoreWalks self.old flicks.old process steps self.new flicks.new }
     {
-        let at = usize::from(process);
         let mut made = 0;
         'steps: while made < steps {
             let flick = flicks.flick();
-            self.seats[at].step_within(&mut self.registers, flick);
+            self.make_step_within(process, flick);
             made += 1;
         }
     }

@@ -1,5 +1,11 @@
-//! N processes under events, and what drives them in a replay: the flicks of its steps and the picks of its
-//! turns.
+//! N processes under events: a world takes one event and answers the act that this adds to the run, or why it is refused.
+//! Each act keeps the headline, which stands as a clause of `World::event`. Beside it are the flicks of steps, the picks of
+//! turns, and the laws.
+//!
+//! ```rust
+//! let mut world = World::new(rt.alloc(), setup)?;
+//! make(rt, &mut world, Event::Call(0, Command::Add(counter, 1)))?;
+//! ```
 #![tactic(auto)]
 
 mod cores;

@@ -10,7 +10,7 @@ ghost use Rattle.process.specs.Drops.{AreOf, dropped};
 ghost use Rattle.process.specs.Processes.{kept_at, stage_kept};
 ghost use Rattle.process.specs.Processes as kept;
 ghost use Rattle.process.specs.Registers.{MayStep, StepsWithin, answered, made};
-ghost use Rattle.process.specs.Steps.{IsAt, bits_within, is_at_door, kept_failing, kept_withdrawing, may_fail, may_step};
+ghost use Rattle.process.specs.Steps.{IsAt, bits_to_walk, is_at_door, kept_failing, kept_withdrawing, may_fail, may_step};
 ghost use Rattle.process.specs.Telling.{marks_told};
 ghost use Rattle.world.specs.Changes.{told};
 ghost use Rattle.world.specs.Seats.{seat_of, with_kept};
@@ -115,28 +115,31 @@ impl Seat {
         self.process.fail(registers);
     }
 
-    /// Makes the next access on the registers, of the process or of its memory unit.
+    /// Makes the next access on the registers, of the process or of its memory unit; in `leads` is what it leads to.
     #[inline]
-    pub fn step(&mut self, registers: &mut Registers, flick: bool) -> (Access, Told)
+    pub fn step(&mut self, registers: &mut Registers, flick: bool, leads: &mut Told) -> Access
         requires goes { may_step self.old.process.kept ≡ true }
         requires may { MayStep self.old.process registers.old flick }
-        ensures access { (d : Doing) (next : Access) → IsAt self.old.process d → next_of self.old.process.setup self.old.process.process d flick ≡ Some next → result.0 ≡ answered registers.old flick next }
-        ensures seat { (d : Doing) → IsAt self.old.process d → self.new ≡ record (with_kept (kept_at self.old.process.setup self.old.process.process (does_then self.old.process.setup self.old.process.process d flick (value_of result.0.how))) self.old) { begun = self.old.begun || is_at_door self.old.process.kept } }
-        ensures marks { (d : Doing) → IsAt self.old.process d → marks_told result.1 ≡ marks_with self.old.process.setup self.old.process.process d flick (value_of result.0.how) }
-        ensures registers { registers.new ≡ made registers.old result.0 }
+        ensures access { (d : Doing) (next : Access) → IsAt self.old.process d → next_of self.old.process.setup self.old.process.process d flick ≡ Some next → result ≡ answered registers.old flick next }
+        ensures seat { (d : Doing) → IsAt self.old.process d → self.new ≡ record (with_kept (kept_at self.old.process.setup self.old.process.process (does_then self.old.process.setup self.old.process.process d flick (value_of result.how))) self.old) { begun = self.old.begun || is_at_door self.old.process.kept } }
+        ensures marks { (d : Doing) → IsAt self.old.process d → marks_told leads.new ≡ marks_with self.old.process.setup self.old.process.process d flick (value_of result.how) }
+        ensures registers { registers.new ≡ made registers.old result }
     {
         self.begun = self.begun || self.process.is_at_door();
-        self.process.step(registers, flick)
+        self.process.step(registers, flick, leads)
     }
 
-    /// Makes the next access, within a number access at the data.
-    #[inline]
+    /// Makes the next access, within a number access at the door or at the data.
+    #[inline(always)]
     pub fn step_within(&mut self, registers: &mut Registers, flick: bool)
-        requires within { 0 < bits_within self.old.process.kept }
+        requires within { 0 < bits_to_walk self.old.process.kept }
         requires may { MayStep self.old.process registers.old flick }
-        ensures seat { self.new ≡ record self.old { process = self.new.process } }
+        ensures seat { self.new ≡ record self.old { process = self.new.process; begun = self.old.begun || is_at_door self.old.process.kept } }
         ensures within { StepsWithin registers.old flick self.old.process registers.new self.new.process }
     {
+        if self.process.is_at_door() {
+            self.begun = true;
+        }
         self.process.step_within(registers, flick);
     }
 

@@ -20,7 +20,7 @@ ghost use Rattle.record.specs.Newest.{newest};
 ghost use Rattle.world.specs.Shows.{Shows};
 ghost use Rattle.process.specs.declared.told.Effect.TheVariants.{Steps};
 ghost use Rattle.process.specs.Telling.{act_of};
-ghost use Rattle.world.specs.Walks.{Walks, bits_within_at};
+ghost use Rattle.world.specs.Walks.{StepsQuietly, Walks, bits_within_at};
 
 use crate::cores::Core;
 use flicks::Flicks;
@@ -145,9 +145,10 @@ impl World {
         }
     }
 
-    /// Steps of a process while they are within a number access at the data, at most so many: each as `step` makes
-    /// it, by the flick that is next, and without a mark; of each the headline holds. It answers how many it has made,
-    /// and stops where the next access is of a last bit, at the door or of the memory unit, or where there is no such process.
+    /// Steps of a process while they are within a number access at the door or at the data, at most so many: each as
+    /// `step` makes it, by the flick that is next, and without a mark; of each the headline holds. It answers how many it
+    /// has made, and stops where the next access is of a last bit, clears a ticket or is of the memory unit, or where
+    /// there is no such process.
     #[inline(never)]
     pub fn walk(&mut self, process: u8, flicks: &mut Flicks, most: u32) -> u32
         ensures most { result ≤ most }
@@ -155,6 +156,17 @@ impl World {
         ensures stops { result < most → bits_within_at self.new.seats process ≡ 0 }
     {
         self.core.walk(process, flicks, most)
+    }
+
+    /// One step of a process by this flick, as `step` makes it, if it is within a number access as those of `walk` are:
+    /// it has no mark, and of it the headline holds. It answers whether it was made; nothing is, where the step is not
+    /// within one, or there is no such process.
+    #[inline]
+    pub fn step_within(&mut self, process: u8, flick: bool) -> bool
+        ensures made { result ≡ true → StepsQuietly self.old process flick self.new }
+        ensures unmade { result ≡ false → self.new ≡ self.old }
+    {
+        self.core.step_within(process, flick)
     }
 
     /// There are events whose record the world shows. Nothing to do: it hands over what every other clause takes for

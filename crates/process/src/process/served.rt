@@ -1,5 +1,5 @@
 //! A process that is served by registers.
-ghost use Rattle.std.specs.Prelude.{◌≡◌, ◌<◌, true, Some};
+ghost use Rattle.std.specs.Prelude.{◌≡◌, ◌<◌, true, false, Some};
 ghost use Rattle.record.specs.Places.{value_of};
 ghost use Rattle.record.specs.declared.Stage.TheVariants.{Waiting};
 ghost use Rattle.laws.specs.Doings.{Doing};
@@ -7,7 +7,7 @@ ghost use Rattle.laws.specs.Steps.{does_then, marks_with, next_of};
 ghost use Rattle.process.specs.Drops.{AreOf, dropped};
 ghost use Rattle.process.specs.Processes.{kept_at, stage_kept};
 ghost use Rattle.process.specs.Registers.{MayStep, StepsWithin, answered, made};
-ghost use Rattle.process.specs.Steps.{IsAt, bits_within, kept_failing, kept_withdrawing, may_fail, may_step};
+ghost use Rattle.process.specs.Steps.{IsAt, bits_to_walk, bits_within, is_at_door, kept_failing, kept_withdrawing, may_fail, may_step};
 ghost use Rattle.process.specs.Telling.{marks_told};
 
 use super::{Process, Work};
@@ -17,25 +17,34 @@ use safe_number::Access;
 
 impl Process {
     /// Makes the next access, of the process or of its memory unit, and goes on by it. It answers the access, a read's
-    /// end with what it gave, and what it leads to. At the data, where a process has nearly all its accesses, it goes to
-    /// the versions with no look at what else there is.
+    /// end with what it gave; in `told` is what it leads to, which is written where it is wanted, since few steps lead to
+    /// anything. At the data, where a process has nearly all its accesses, it goes to the versions with no look at what
+    /// else there is; within a number access it leads to nothing.
     #[inline]
-    pub fn step(&mut self, registers: &mut Registers, flick: bool) -> (Access, Told)
+    pub fn step(&mut self, registers: &mut Registers, flick: bool, told: &mut Told) -> Access
         requires goes { may_step self.old.kept ≡ true }
         requires may { MayStep self.old registers.old flick }
-        ensures access { (d : Doing) (next : Access) → IsAt self.old d → next_of self.old.setup self.old.process d flick ≡ Some next → result.0 ≡ answered registers.old flick next }
-        ensures process { (d : Doing) → IsAt self.old d → self.new ≡ record self.old { kept = kept_at self.old.setup self.old.process (does_then self.old.setup self.old.process d flick (value_of result.0.how)) } }
-        ensures marks { (d : Doing) → IsAt self.old d → marks_told result.1 ≡ marks_with self.old.setup self.old.process d flick (value_of result.0.how) }
-        ensures registers { registers.new ≡ made registers.old result.0 }
+        ensures access { (d : Doing) (next : Access) → IsAt self.old d → next_of self.old.setup self.old.process d flick ≡ Some next → result ≡ answered registers.old flick next }
+        ensures process { (d : Doing) → IsAt self.old d → self.new ≡ record self.old { kept = kept_at self.old.setup self.old.process (does_then self.old.setup self.old.process d flick (value_of result.how)) } }
+        ensures marks { (d : Doing) → IsAt self.old d → marks_told told.new ≡ marks_with self.old.setup self.old.process d flick (value_of result.how) }
+        ensures registers { registers.new ≡ made registers.old result }
     {
         if self.is_at_data() {
             let access = registers.versions.answered(self.next_at_data(), flick);
             registers.versions.apply(access);
-            return (access, self.advance_at_data(given(access.how)));
+            let value = given(access.how);
+            if 0 < self.bits_within() {
+                self.advance_within(value);
+                *told = Told::Nothing;
+            } else {
+                *told = self.advance_at_data(value);
+            }
+            return access;
         }
         let asked = self.next_elsewhere(flick);
         let value = registers.make(asked, flick);
-        (ended(asked, value), self.advance_elsewhere(flick, value))
+        *told = self.advance_elsewhere(flick, value);
+        ended(asked, value)
     }
 
     /// How many bits its number access at the data has come to or has before it, without the last one: so many of its
@@ -50,10 +59,50 @@ impl Process {
         }
     }
 
-    /// Makes the next access, within a number access at the data: the quick way through the many bits of an image.
+    /// How many bits its number access has come to or has before it, without the last one, at the data or at the door:
+    /// so many of its next steps at least are within that access. 0, if it is elsewhere.
     #[inline]
+    pub fn bits_to_walk(&self) -> u16
+        ensures { result ≡ bits_to_walk self.now.kept }
+    {
+        match &self.work {
+            Work::AtDoor { .. } => self.door.bits_within(),
+            Work::AtData => self.section.bits_within(),
+            _ => 0,
+        }
+    }
+
+    /// Makes the next access, within a number access at the door or at the data: the quick way through the many bits of
+    /// a ticket or of an image.
+    #[inline(always)]
     pub fn step_within(&mut self, registers: &mut Registers, flick: bool)
-        requires within { 0 < bits_within self.old.kept }
+        requires within { 0 < bits_to_walk self.old.kept }
+        requires may { MayStep self.old registers.old flick }
+        ensures { StepsWithin registers.old flick self.old registers.new self.new }
+    {
+        if self.is_at_door() {
+            self.step_at_door(registers, flick);
+        } else {
+            self.step_at_data(registers, flick);
+        }
+    }
+
+    /// The same at the door.
+    #[inline(always)]
+    fn step_at_door(&mut self, registers: &mut Registers, flick: bool)
+        requires at_door { is_at_door self.old.kept ≡ true }
+        requires within { 0 < bits_to_walk self.old.kept }
+        requires may { MayStep self.old registers.old flick }
+        ensures { StepsWithin registers.old flick self.old registers.new self.new }
+    {
+        self.door.step_within(&mut registers.locks, flick);
+    }
+
+    /// The same at the data.
+    #[inline(always)]
+    fn step_at_data(&mut self, registers: &mut Registers, flick: bool)
+        requires elsewhere { is_at_door self.old.kept ≡ false }
+        requires within { 0 < bits_to_walk self.old.kept }
         requires may { MayStep self.old registers.old flick }
         ensures { StepsWithin registers.old flick self.old registers.new self.new }
     {

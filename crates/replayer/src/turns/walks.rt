@@ -1,8 +1,9 @@
 //! The lines that make Steps. A Step without a mark leaves every process where it is, so that only after one with
 //! marks a line has to look again who is where.
-ghost use Rattle.std.specs.Prelude.{◌≡◌, ◌+◌, ◌<◌, ◌≤◌, ℕ, true, IfSome, None};
+ghost use Rattle.std.specs.Prelude.{◌≡◌, ◌+◌, ◌<◌, ◌≤◌, ℕ, true, false, IfSome, None};
 ghost use Rattle.record.specs.Stages.{stage};
 ghost use Rattle.scenario.specs.declared.lines.Line.TheVariants.{Step as StepLine, Go as GoLine, Wander as WanderLine};
+ghost use Rattle.world.specs.Walks.{StepsQuietly};
 ghost use Rattle.replayer.specs.Courses.{Follows, MakesQuietly, MakesTurns, course};
 ghost use Rattle.replayer.specs.Runs.{Run, has_step, is_there as is_target, movers, past_in};
 ghost use Rattle.replayer.specs.Telling.{is_quiet as has_no_mark, told_step, with_told};
@@ -107,6 +108,10 @@ impl Course {
             self.left -= 1;
             let process = movers[self.flicks.pick(movers.len())];
             let flick = self.flicks.flick();
+            if stride(&mut self.world, process, flick, all) {
+                quiet += 1;
+                continue 'steps;
+            }
             let place = self.world.history().len() as u64;
             let stepped = self.world.step(process, flick, &mut leads);
             if all || !is_quiet(&stepped, &leads) {
@@ -171,6 +176,20 @@ fn stroll(
     made
 }
 
+/// A Step of a process within a number access, which has no mark; none, if it is not within one, or each Step is to be
+/// told.
+#[inline]
+fn stride(world: &mut HeardWorld, process: u8, flick: bool, all: bool) -> bool
+    ensures made { result ≡ true → StepsQuietly world.old process flick world.new }
+    ensures unmade { result ≡ false → world.new ≡ world.old }
+    ensures all { all ≡ true → result ≡ false }
+{
+    if all {
+        return false;
+    }
+    world.step_within(process, flick)
+}
+
 /// Whether a process in this stage runs, or its memory unit settles.
 fn has_step_in(stage: Stage) -> bool
     ensures { result ≡ has_step stage }
@@ -212,9 +231,10 @@ fn told_of(
 {
     let _nested: NestedTypes = None;
     match stepped {
-        Ok(_) => Told::Accepted(Accepted {
+        Ok(access) => Told::Accepted(Accepted {
             event: Event::Step(process, flick),
             place,
+            access: Some(*access),
             effect: Effect::Steps(*leads),
         }),
         Err(refusal) => Told::Refused {

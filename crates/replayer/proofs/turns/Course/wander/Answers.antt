@@ -1,7 +1,12 @@
-use Rattle.std.proofs.Common.{Some, ◌≡◌, ◌∙◌, ◌<◌, ℕ, List, ap, arith, length, refl, sym, subst, slice_index}
+use Rattle.std.proofs.Common.{Ok, Result, Some, ◌≡◌, ◌∙◌, ◌<◌, ℕ, List, ap, arith, length, refl, sym, subst, slice_index}
 use Rattle.plain_store.specs.declared.setups.Setup.{Setup}
 use Rattle.record.specs.declared.events.Event.TheVariants.{Step}
+use Rattle.record.specs.declared.refusals.Refusal.{Refusal}
 use Rattle.world.specs.Events.{Adds, GoesOn, IsRefused}
+use Rattle.world.specs.Shows.{WorldState}
+use Rattle.process.specs.declared.told.Effect.TheVariants.{Steps}
+use Rattle.process.specs.declared.told.Made.{Made}
+use Rattle.process.specs.declared.told.Told.TheVariants as step
 use Rattle.process.specs.Telling.{act_of}
 use Rattle.replayer.specs.Telling.{with_told}
 use Rattle.scenario.specs.declared.lines.Line.TheVariants.{Wander as WanderLine}
@@ -9,7 +14,7 @@ use Rattle.replayer.specs.Courses.{CourseState, Follows, MakesTurns, course}
 use Rattle.replayer.specs.Runs.{Run, movers, past_in}
 use Rattle.replayer.proofs.Movers.{none_left, some_left}
 use Rattle.replayer.proofs.Walks.{told_if_err, told_if_ok, told_on_err, told_on_ok, quiet_ends, quiet_ok}
-use Rattle.replayer.proofs.Wanders.{wander_ends, wander_on, wander_starts, wander_told}
+use Rattle.replayer.proofs.Wanders.{WandersQuietly, wander_ends, wander_on, wander_starts, wander_told}
 use Rattle.replayer.proofs.turns.Course.wander.Goals as goal
 
 pub returns-then-is_empty-clause-made : goal.returns-then-is_empty-clause-made
@@ -31,39 +36,60 @@ steps-init c =
       all = λ all. refl;
     }
 
+-- a Step within a number access
+pub steps-preserved-then-stride : goal.steps-preserved-then-stride
+steps-preserved-then-stride c =
+    let i = c.steps.self-inside in
+    let quietly = c.stride.ensures.made c.if-stride.true in
+    let result : Result Made Refusal = Ok (record { access = Some quietly.access; effect = Steps step.Nothing }) in
+    let ps = c.as_slice-movers.result.now in
+    let some : 0 < length ps = subst (λ (l : List ℕ). 0 < length l) (sym c.as_slice-movers.ensures) (some_left c.movers-movers.result.items (sym c.is_empty.ensures ∙ c.if-is_empty.false)) in
+    record {
+      made = λ steps run follows. wander_on c.args.self.now steps run c.steps.quiet ps i.world c.stride.new.world i.flicks c.pick.new.self c.flick-flick.new.self i.left _ c.flick-flick.result result
+          (λ none. omega (arith, none, c.steps-test.true)) some c.pick.ensures.after (ap (slice_index ps) c.pick.ensures.index) c.flick-flick.ensures.flick c.flick-flick.ensures.after
+          quietly.adds quietly.shows quietly.setup refl (c.steps.invariant.made steps run follows);
+      kept = record { are = c.steps.invariant.kept.are ∙ ap (λ (s : Setup). s.processes) (sym quietly.setup); few = c.steps.invariant.kept.few };
+      left = omega (arith, c.steps-test.true, c.steps.invariant.left);
+      all = λ all. let no = sym (c.stride.ensures.all all) ∙ c.if-stride.true in absurd (cc);
+    }
+
 pub returns-then-all-clause-made : goal.returns-then-all-clause-made
 returns-then-all-clause-made c = λ steps run follows.
     let i = c.steps.self-inside in
+    let w = c.stride.new.world in
+    let unmade : w ≡ i.world = c.stride.ensures.unmade c.if-stride.false in
     let leads = c.step-stepped.new.told in
     let result = with_told leads c.step-stepped.result in
-    let adds = told_if_ok leads c.step-stepped.result (λ made. Adds i.world (Step (slice_index c.as_slice-movers.result.now c.pick.result) c.flick-flick.result) (slice_index c.as_slice-movers.result.now c.pick.result) (act_of (length i.world.history) made)) c.step-stepped.ensures.accepted in
-    let shows = told_on_ok leads c.step-stepped.result (GoesOn i.world (Step (slice_index c.as_slice-movers.result.now c.pick.result) c.flick-flick.result) c.step-stepped.new.self) c.step-stepped.ensures.shows in
-    let setup_ok = told_on_ok leads c.step-stepped.result (c.step-stepped.new.self.setup ≡ i.world.setup) c.step-stepped.ensures.setup in
-    let away = told_if_err leads c.step-stepped.result (λ refusal. IsRefused i.world (Step (slice_index c.as_slice-movers.result.now c.pick.result) c.flick-flick.result) (Some refusal)) c.step-stepped.ensures.refused in
-    let same = told_on_err leads c.step-stepped.result (c.step-stepped.new.self ≡ i.world) c.step-stepped.ensures.unchanged in
+    let adds = told_if_ok leads c.step-stepped.result (λ made. Adds w (Step (slice_index c.as_slice-movers.result.now c.pick.result) c.flick-flick.result) (slice_index c.as_slice-movers.result.now c.pick.result) (act_of (length w.history) made)) c.step-stepped.ensures.accepted in
+    let shows = told_on_ok leads c.step-stepped.result (GoesOn w (Step (slice_index c.as_slice-movers.result.now c.pick.result) c.flick-flick.result) c.step-stepped.new.self) c.step-stepped.ensures.shows in
+    let setup_ok = told_on_ok leads c.step-stepped.result (c.step-stepped.new.self.setup ≡ w.setup) c.step-stepped.ensures.setup in
+    let away = told_if_err leads c.step-stepped.result (λ refusal. IsRefused w (Step (slice_index c.as_slice-movers.result.now c.pick.result) c.flick-flick.result) (Some refusal)) c.step-stepped.ensures.refused in
+    let same = told_on_err leads c.step-stepped.result (c.step-stepped.new.self ≡ w) c.step-stepped.ensures.unchanged in
     let ps = c.as_slice-movers.result.now in
     let some : 0 < length ps = subst (λ (l : List ℕ). 0 < length l) (sym c.as_slice-movers.ensures) (some_left c.movers-movers.result.items (sym c.is_empty.ensures ∙ c.if-is_empty.false)) in
-    wander_told c.args.self.now steps run c.steps.quiet ps i.world c.step-stepped.new.self i.flicks c.pick.new.self c.flick-flick.new.self i.left _ _ c.flick-flick.result c.history.result.now result c.told_of-told.result
+    wander_told c.args.self.now steps run c.steps.quiet ps w c.step-stepped.new.self i.flicks c.pick.new.self c.flick-flick.new.self i.left _ _ c.flick-flick.result c.history.result.now result c.told_of-told.result
     (λ none. omega (arith, none, c.steps-test.true)) some c.pick.ensures.after (ap (slice_index ps) c.pick.ensures.index) c.flick-flick.ensures.flick c.flick-flick.ensures.after c.history.ensures refl
-    adds shows away same setup_ok c.told_of-told.ensures (c.steps.invariant.made steps run follows)
+    adds shows away same setup_ok c.told_of-told.ensures (subst (λ w. WandersQuietly c.args.self.now (WanderLine steps) run c.steps.quiet ps (course w i.flicks i.left)) (sym unmade) (c.steps.invariant.made steps run follows))
 
 pub steps-preserved : goal.steps-preserved
 steps-preserved c =
     let i = c.steps.self-inside in
+    let w = c.stride.new.world in
+    let unmade : w ≡ i.world = c.stride.ensures.unmade c.if-stride.false in
     let leads = c.step-stepped.new.told in
     let result = with_told leads c.step-stepped.result in
-    let adds = told_if_ok leads c.step-stepped.result (λ made. Adds i.world (Step (slice_index c.as_slice-movers.result.now c.pick.result) c.flick-flick.result) (slice_index c.as_slice-movers.result.now c.pick.result) (act_of (length i.world.history) made)) c.step-stepped.ensures.accepted in
-    let shows = told_on_ok leads c.step-stepped.result (GoesOn i.world (Step (slice_index c.as_slice-movers.result.now c.pick.result) c.flick-flick.result) c.step-stepped.new.self) c.step-stepped.ensures.shows in
-    let setup_ok = told_on_ok leads c.step-stepped.result (c.step-stepped.new.self.setup ≡ i.world.setup) c.step-stepped.ensures.setup in
+    let adds = told_if_ok leads c.step-stepped.result (λ made. Adds w (Step (slice_index c.as_slice-movers.result.now c.pick.result) c.flick-flick.result) (slice_index c.as_slice-movers.result.now c.pick.result) (act_of (length w.history) made)) c.step-stepped.ensures.accepted in
+    let shows = told_on_ok leads c.step-stepped.result (GoesOn w (Step (slice_index c.as_slice-movers.result.now c.pick.result) c.flick-flick.result) c.step-stepped.new.self) c.step-stepped.ensures.shows in
+    let setup_ok = told_on_ok leads c.step-stepped.result (c.step-stepped.new.self.setup ≡ w.setup) c.step-stepped.ensures.setup in
     let ps = c.as_slice-movers.result.now in
     let some : 0 < length ps = subst (λ (l : List ℕ). 0 < length l) (sym c.as_slice-movers.ensures) (some_left c.movers-movers.result.items (sym c.is_empty.ensures ∙ c.if-is_empty.false)) in
     let quiet = sym c.if-not-is_quiet.ensures in
-    let setup : c.step-stepped.new.self.setup ≡ i.world.setup = quiet_ok result quiet setup_ok in
+    let setup : c.step-stepped.new.self.setup ≡ w.setup = quiet_ok result quiet setup_ok in
     record {
-      made = λ steps run follows. wander_on c.args.self.now steps run c.steps.quiet ps i.world c.step-stepped.new.self i.flicks c.pick.new.self c.flick-flick.new.self i.left _ c.flick-flick.result result
+      made = λ steps run follows. wander_on c.args.self.now steps run c.steps.quiet ps w c.step-stepped.new.self i.flicks c.pick.new.self c.flick-flick.new.self i.left _ c.flick-flick.result result
           (λ none. omega (arith, none, c.steps-test.true)) some c.pick.ensures.after (ap (slice_index ps) c.pick.ensures.index) c.flick-flick.ensures.flick c.flick-flick.ensures.after
-          adds shows setup_ok quiet (c.steps.invariant.made steps run follows);
-      kept = record { are = c.steps.invariant.kept.are ∙ ap (λ (s : Setup). s.processes) (sym setup); few = c.steps.invariant.kept.few };
+          adds shows setup_ok quiet (subst (λ w. WandersQuietly c.args.self.now (WanderLine steps) run c.steps.quiet ps (course w i.flicks i.left)) (sym unmade) (c.steps.invariant.made steps run follows));
+      kept = record { are = c.steps.invariant.kept.are ∙ ap (λ (s : Setup). s.processes) (sym (setup ∙ ap (λ (w : WorldState). w.setup) unmade)); few = c.steps.invariant.kept.few };
       left = omega (arith, c.steps-test.true, c.steps.invariant.left);
       all = λ all. let no = c.if-all.false in absurd (cc);
     }

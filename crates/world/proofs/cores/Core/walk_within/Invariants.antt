@@ -1,15 +1,14 @@
 use Rattle.std.proofs.Common.{◌+◌, ◌-◌, ◌≤◌}
-use Rattle.world.specs.Cores.{CoreWalks, KeepsCore}
+use Rattle.world.specs.Cores.{CoreWalks}
 use Rattle.world.specs.Walks.{bits_within_at}
 use Rattle.world.proofs.cores.Core.walk_within.Given as goal
 
--- so far each step was made without a mark, the core keeps what it shows, and enough bits are left
+-- so far each step was made without a mark, and enough bits are left
 abbrev pub invariant-steps : goal.invariant-steps
 invariant-steps l = record {
-  keeps : KeepsCore (record { setup = l.self-inside.setup; registers = l.self-inside.registers; seats = l.self-inside.seats.items });
-  walks : CoreWalks l.fn.self l.fn.flicks l.process l.made (record { setup = l.self-inside.setup; registers = l.self-inside.registers; seats = l.self-inside.seats.items }) l.flicks;
+  walks : CoreWalks l.fn.self l.fn.flicks l.process l.made l.self l.flicks;
   made : l.made ≤ l.steps;
-  left : l.steps ≤ l.made + bits_within_at l.self-inside.seats.items l.process;
+  left : l.steps ≤ l.made + bits_within_at l.self.seats l.process;
 }
 
 abbrev pub decreases-steps : goal.decreases-steps

@@ -9,5 +9,5 @@ use Rattle.world.proofs.seat.Seat.step.Goals as goal
 
 pub returns-clause-access : goal.returns-clause-access
 returns-clause-access c =
-    let gives : Seat → Type 0 = λ seat. (d : Doing) (next : Access) → IsAt seat.process d → next_of seat.process.setup seat.process.process d c.args.flick ≡ Some next → c.step.result.0 ≡ answered c.args.registers.now c.args.flick next in
+    let gives : Seat → Type 0 = λ seat. (d : Doing) (next : Access) → IsAt seat.process d → next_of seat.process.setup seat.process.process d c.args.flick ≡ Some next → c.step.result ≡ answered c.args.registers.now c.args.flick next in
     subst gives c.self.view_is c.step.ensures.access
