@@ -4,8 +4,8 @@ ghost use Rattle.plain_store.specs.Setups.{checked};
 
 use crate::changes::{COUNTED, Changed, Kind, changes_of, copy_of, events_to_try, marks_to_try};
 use crate::counts::{Counts, Sampled, Worked};
-use crate::judge::Judge;
 use crate::records::record_of_file;
+use crate::slow_judge::SlowJudge;
 use crate::worked::{ALONE, AT_THE_DOOR, LONGER, SHORT, WITH_ASK};
 use auditor::{Entry, Law, Record, Verdict, audit};
 use plain_store::Setup;
@@ -20,7 +20,7 @@ use worked_runs::scenarios::SCENARIOS;
 struct Run<'a> {
     file: &'a str,
     setup: &'a Setup,
-    judge: &'a Judge,
+    judge: &'a SlowJudge,
 }
 
 /// The verdict of the audit on a record that is a true one but for a change at an entry. The judge, who begins at that
@@ -158,7 +158,7 @@ fn judge_insertions(
 /// Events are inserted where all entries are changed: an event of an idle process is found out late or never.
 fn judge_changes(rt: &impl Abort, alloc: Global, file: &str, every: usize) -> Result<Counts, Fail> {
     let (setup, mut record) = record_of_file(alloc, file)?;
-    let judge = Judge::new(alloc, &setup)?;
+    let judge = SlowJudge::new(alloc, &setup)?;
     let marks = marks_to_try()?;
     let run = Run {
         file,
@@ -231,7 +231,7 @@ fn judge_some_changes(rt: &impl Abort, alloc: Global, runs: &[Sampled]) -> Resul
 /// it looked at.
 fn judge_true_record(rt: &impl Abort, alloc: Global, file: &str) -> Result<usize, Fail> {
     let (setup, record) = record_of_file(alloc, file)?;
-    let judge = Judge::new(alloc, &setup)?;
+    let judge = SlowJudge::new(alloc, &setup)?;
     let every = if record.entries.len() < 6_000 { 1 } else { 257 };
     let mut looked = 0usize;
     for number in (0..record.entries.len()).step_by(every) {

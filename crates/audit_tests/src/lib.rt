@@ -9,11 +9,13 @@ mod changes;
 #[cfg(test)]
 mod counts;
 #[cfg(test)]
-mod judge;
+mod hearing;
 #[cfg(test)]
 mod many_calls;
 #[cfg(test)]
 mod records;
+#[cfg(test)]
+mod slow_judge;
 #[cfg(test)]
 mod verdicts;
 #[cfg(test)]

@@ -3,7 +3,7 @@ ghost use Rattle.std.specs.Prelude.{◌≡◌, Ok};
 ghost use Rattle.plain_store.specs.Setups.{checked};
 
 use crate::changes::entry_of;
-use crate::judge::Judge;
+use crate::slow_judge::SlowJudge;
 use auditor::{Entry, Law, Record, Verdict, audit};
 use plain_store::{Command, NestedTypes, Setup};
 use record::Mark;
@@ -53,7 +53,7 @@ fn verdicts_on_calls(
     }
     let known = entries.len();
     entries.push(entry_of(alloc, 0, None, &[Mark::Called(Command::Ask)])?)?;
-    let judged = Judge::new(alloc, setup)?.verdict(&entries, known)?;
+    let judged = SlowJudge::new(alloc, setup)?.verdict(&entries, known)?;
     let said = audit(alloc, setup, &Record { entries })?;
     Ok((said, judged))
 }

@@ -1,4 +1,11 @@
-//! Verdicts on given records: which entry is the first that breaks a law, and which law it breaks.
+//! Verdicts on given records: which entry is the first that breaks a law, and which law it breaks. An auditor hears the
+//! entries one by one, in memory of a fixed size. Every record of a list of events is good, which is a law here.
+//!
+//! ```rust
+//! let mut auditor = Auditor::new(rt.alloc(), &setup)?;
+//! let start = Instant::now(rt)?;
+//! hear_all(&mut auditor, &record)?;
+//! ```
 #![tactic(auto)]
 
 mod auditing;
@@ -6,8 +13,6 @@ mod auditor;
 mod laws_of_verdicts;
 mod matching;
 mod shown;
-#[cfg(test)]
-mod tests;
 mod verdicts;
 
 pub use auditing::audit;

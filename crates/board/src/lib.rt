@@ -1,5 +1,12 @@
 //! Ports: the processes of a world on threads of the callers' choice, over shared words with no lock and no wait. Each
-//! single-reader bit is one word of a table, and each word step is a step of the record that words and views agree on.
+//! single-reader bit is one word of a table, and each word step is a step of the record that words and views agree on. A
+//! board that is closed gives its store and the lists of finished calls, which are of one record that keeps the headline.
+//!
+//! ```rust
+//! let (board, mut ports) = Board::new(rt.alloc(), &setup)?;
+//! let calls = [Command::Add(counter, 1), Command::Add(counter, 10)];
+//! call_all(&rt, &board, &mut ports, &calls);
+//! ```
 #![tactic(auto)]
 
 mod board;

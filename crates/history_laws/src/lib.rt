@@ -1,7 +1,11 @@
-//! The laws of the history of every record of a list of events, whatever the flicks: what the marks of a
-//! record tell of its calls and of the commands that were taken (Herlihy and Wing 1990; cut calls by this
-//! project's own failure rule), what the registers of the store's versions hold, and the headline. Each law
-//! is a function with nothing to do, whose contract is the law.
+//! The laws of the history of every record of a list of events, whatever the flicks: what the marks of a record tell of
+//! its calls and of the commands that were taken (Herlihy and Wing 1990; cut calls by this project's own failure rule), what
+//! the registers of the store's versions hold, and the headline. Each law is a function with nothing to do, whose contract is
+//! the law. Whoever needs one calls it where the proof needs it.
+//!
+//! ```rust
+//! world::history_laws::headline();
+//! ```
 #![tactic(auto)]
 
 mod data;

@@ -1,5 +1,13 @@
-//! The one-thread store: named counters and texts, its commands and replies, and the setup of a world.
-//! What it answers is the measure of every other engine here. The store is this project's own profile.
+//! The one-thread store: named counters and texts, its commands and replies, and the setup of a world. What it answers is
+//! the measure of every other engine here. The store is this project's own profile.
+//!
+//! ```rust
+//! let counter = Name::new(b"a")?;
+//! let mut setup = Setup::one(2, 2, 2, 1);
+//! setup.version = 2;
+//! setup.opening.add(counter, Value::Count(5))?;
+//! setup.check()?;
+//! ```
 #![tactic(auto)]
 
 mod commands;

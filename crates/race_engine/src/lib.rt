@@ -5,8 +5,6 @@
 mod faults;
 mod plans;
 mod running;
-#[cfg(test)]
-mod tests;
 mod texts;
 
 pub use faults::{RunFault, race_status, run_fault_status};

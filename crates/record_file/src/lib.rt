@@ -9,8 +9,6 @@ mod laws;
 mod marks;
 mod printing;
 mod sound;
-#[cfg(test)]
-mod tests;
 
 pub use entries::read_entry;
 pub use laws::{entries_are_spelled_in_one_way, printed_entries_are_read_again};

@@ -1,5 +1,5 @@
-//! Tests of the one-thread store, its image, the scenario files and the engines `plain` and `bits`, in a crate of
-//! their own, so that those layers are proved once; and streams that fail at a chosen call.
+//! Tests of the one-thread store, its image, weighing, the scenario files and the engines `plain` and `bits`, in a
+//! crate of their own, so that those layers are proved once; and streams that fail at a chosen call.
 #![tactic(auto)]
 
 #[cfg(test)]
@@ -15,5 +15,7 @@ mod scenarios;
 #[cfg(test)]
 mod stores;
 mod streams;
+#[cfg(test)]
+mod weighing;
 
 pub use streams::{Paper, Tape};

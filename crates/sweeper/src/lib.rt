@@ -7,8 +7,6 @@ mod runs;
 mod shown;
 mod sweeping;
 mod swept;
-#[cfg(test)]
-mod tests;
 
 pub use laws_of_sweeps::{fails_are_of_whom_stands, steps_are_of_whom_moves, swept_runs_are_good};
 pub use sweeping::sweep;

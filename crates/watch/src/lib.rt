@@ -6,8 +6,6 @@ mod looking;
 mod opening;
 mod packed;
 mod places;
-#[cfg(test)]
-mod tests;
 mod watch;
 
 pub use looking::is_unsafe;

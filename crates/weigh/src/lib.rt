@@ -1,4 +1,10 @@
 //! Weighing: whether the ports' finished calls stand in one history of the one-thread store, with the image at its end.
+//! The lists may come from anywhere, and need not be of a board. A verdict that is good says that there is such a history;
+//! a bad one names the first call that stands in none.
+//!
+//! ```rust
+//! let verdict = weigh(rt.alloc(), &history.setup, &lists, &image)?;
+//! ```
 #![tactic(auto)]
 
 mod calls;
@@ -7,8 +13,6 @@ mod judging;
 mod laws_of_weighing;
 mod notes;
 mod shown;
-#[cfg(test)]
-mod tests;
 mod verdicts;
 mod weighing;
 

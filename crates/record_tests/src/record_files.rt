@@ -1,8 +1,8 @@
 //! Entries as lines: each kind of mark and access, and lines that are no entry.
-use crate::{print_entry, print_setup, read_entry};
 use files::FaultKind::{self, BadName, BadValue, Number, Unknown, Words};
 use plain_store::{Answer, Command, Name, Reply, Setup, Text, Value};
 use record::{Act, Entry, Mark};
+use record_file::{print_entry, print_setup, read_entry};
 use safe_bit::Move;
 use safe_number::{Access, Field};
 use smallvec::SmallVec;

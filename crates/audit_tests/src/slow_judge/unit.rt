@@ -1,6 +1,6 @@
 //! The failure rule: the accesses of a memory unit, and the marks on them.
-use crate::judge::look::UnfinishedBit;
-use crate::judge::walk::{Halt, Walk};
+use crate::slow_judge::look::UnfinishedBit;
+use crate::slow_judge::walk::{Halt, Walk};
 use plain_store::{NestedTypes, Reply};
 use record::Mark;
 use safe_bit::Move;

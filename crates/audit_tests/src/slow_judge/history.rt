@@ -1,5 +1,5 @@
 //! The laws of getting inside, and of the history.
-use crate::judge::look::{calls_of, is_inside, newest_call, stage_of};
+use crate::slow_judge::look::{calls_of, is_inside, newest_call, stage_of};
 use plain_store::{Caller, Command, NestedTypes, PlainStore, Setup, Store};
 use record::{Entry, Mark, Stage};
 use std::alloc::{AllocError, Global};

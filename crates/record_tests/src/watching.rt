@@ -1,7 +1,7 @@
+//! The watch: the law of reads, move by move on one bit, and on bits that are told apart.
 ghost use Rattle.std.specs.Prelude.{◌≡◌, Ok};
 ghost use Rattle.plain_store.specs.Setups.{checked};
 
-use crate::Watch;
 use plain_store::{Name, Opening, Setup, Value};
 use record::{Act, Entry};
 use safe_bit::Move;
@@ -9,6 +9,7 @@ use safe_number::{Access, Field};
 use smallvec::SmallVec;
 use std::alloc::{AllocError, Global};
 use std::test::Fail;
+use watch::Watch;
 
 const BEGIN_READ: Move = Move::BeginRead;
 

@@ -24,16 +24,16 @@ use walk::{Halt, Walk};
 
 /// A judge of the records of worlds with one setup.
 #[derive(Drop)]
-pub struct Judge {
+pub struct SlowJudge {
     alloc: Global,
     setup: Setup,
     /// The image of the opening store.
     opening: Vec<u8>,
 }
 
-impl Judge {
-    pub fn new(alloc: Global, setup: &Setup) -> Result<Judge, AllocError> {
-        Ok(Judge {
+impl SlowJudge {
+    pub fn new(alloc: Global, setup: &Setup) -> Result<SlowJudge, AllocError> {
+        Ok(SlowJudge {
             alloc,
             setup: *setup,
             opening: Contents::opening(alloc, setup)?.image(alloc)?,

@@ -1,9 +1,10 @@
+//! Sweeps over lists of events.
 ghost use Rattle.std.specs.Prelude.{◌≡◌, Ok};
 ghost use Rattle.plain_store.specs.Setups.{checked};
 
-use crate::{Swept, sweep};
 use plain_store::{Command, Name, NestedTypes, Setup, Value};
 use record::Event;
+use replayer::{Swept, sweep};
 use std::alloc::{AllocError, Global};
 use std::process::Abort;
 use std::test::Fail;

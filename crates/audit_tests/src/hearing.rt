@@ -1,7 +1,8 @@
+//! The record of a lone call, heard entry by entry and audited as a whole; and how verdicts are printed.
 ghost use Rattle.std.specs.Prelude.{◌≡◌, Ok};
 ghost use Rattle.plain_store.specs.Setups.{checked};
 
-use crate::{Audited, Auditor, Entry, Law, Record, Verdict, audit};
+use auditor::{Audited, Auditor, Entry, Law, Record, Verdict, audit};
 use plain_store::{Command, Name, Setup, Value};
 use record::{Event, Stage};
 use std::alloc::{AllocError, Global};

@@ -1,6 +1,6 @@
 //! The local program: the accesses of a call, part by part, and the marks on them.
-use crate::judge::store::Contents;
-use crate::judge::walk::{Halt, Walk};
+use crate::slow_judge::store::Contents;
+use crate::slow_judge::walk::{Halt, Walk};
 use plain_store::{Answer, Command, NestedTypes, Reply};
 use record::Mark;
 use safe_number::Field;

@@ -1,5 +1,6 @@
-use crate::{RunFault, Weighed, race_status, run_fault_status, run_race};
+//! The engine `race`: what it writes for files, its faults and its statuses.
 use race::RaceFault;
+use race_engine::{RunFault, Weighed, race_status, run_fault_status, run_race};
 use scenario::{Fault, FaultKind, FromRead, IntoWrite, LineFault};
 use std::alloc::Global;
 use std::process::Abort;

@@ -1,12 +1,13 @@
+//! Weighing: each case of a bad call, and true lists of two ports with one thing changed.
 ghost use Rattle.std.specs.Prelude.{◌≡◌, ◌≤◌, ◌∷◌, [], IfOk};
 ghost use Rattle.weigh.specs.Weighing.{lists_of};
 
-use crate::{Placed, Weighed, weigh};
 use plain_store::{Answer, Caller, Command, Name, NestedTypes, Reply, Setup, Store, Value};
 use std::alloc::{AllocError, Global};
 use std::process::Abort;
 use std::test::Fail;
 use store_image::Image;
+use weigh::{Placed, Weighed, weigh};
 
 fn a() -> Name {
     Name::new(b"a").unwrap()
