@@ -1,0 +1,13 @@
+use Rattle.std.proofs.Common.{◌≡◌, ◌-◌, ◌^◌}
+use Rattle.judge.proofs.Ends.{Onwards}
+use Rattle.judge.proofs.judging.judge_input.Given as goal
+
+-- reading what is left goes on to what reading all gives, each entry so far was heard, and no call has failed
+abbrev pub invariant-lines : goal.invariant-lines
+invariant-lines g l = record {
+  onwards : Onwards (g.R.Source.to_come l.fn.input) (g.R.Source.to_come l.input) l.lines.taken l.trial;
+  whole : g.R.Source.failures l.input ≡ g.R.Source.failures l.fn.input;
+}
+
+abbrev pub decreases-lines : goal.decreases-lines
+decreases-lines g l = 2 ^ 64 - l.lines.taken

@@ -1,0 +1,40 @@
+-- What a judge keeps of the entries that it has heard.
+use Rattle.std.specs.Prelude.{◌≡◌, ℕ, Bool, true, false, List, length, reverse, Option, Some, None, Ok}
+use Rattle.plain_store.specs.declared.setups.Setup.{Setup}
+use Rattle.plain_store.specs.Setups.{checked}
+use Rattle.record.specs.Entries.{Entry, Past}
+use Rattle.watch.specs.Watching.{WatchState}
+use Rattle.watch.specs.Watching.{HasHeard as HasWatched}
+use Rattle.auditor.specs.Hearing.{AuditorState, HasHeard}
+use Rattle.auditor.specs.Verdicts.{IsVerdict}
+use Rattle.auditor.specs.declared.verdicts.Verdict.{Verdict}
+use Rattle.auditor.specs.declared.verdicts.Law.{Law}
+use Rattle.auditor.specs.declared.verdicts.Law.TheVariants.{Safe}
+use Rattle.auditor.specs.declared.verdicts.Verdict.TheVariants.{Good, Bad}
+
+-- a watch, an auditor, the verdict so far, and how many entries were heard
+pub record JudgeState : Type 0 where
+  pub watch : WatchState
+  pub auditor : AuditorState
+  pub verdict : Verdict
+  pub entries : ℕ
+
+-- both have heard these entries of a record with this setup
+pub record BothHeard (j : JudgeState) (s : Setup) (past : Past) : Type 0 where
+  pub watched : j.watch.setup ≡ s
+  pub watch : HasWatched j.watch past
+  pub audited : j.auditor.core.setup ≡ s
+  pub auditor : HasHeard j.auditor past
+
+-- It has heard these entries: the verdict on them is known, and as long as it is good the watch and the auditor go on.
+pub record HasJudged (j : JudgeState) (s : Setup) (entries : List Entry) : Type 0 where
+  pub good : checked s ≡ Ok tt
+  pub count : j.entries ≡ length entries
+  pub verdict : IsVerdict s entries j.verdict
+  pub goes_on : j.verdict ≡ Good → BothHeard j s (reverse entries)
+
+-- the verdict with entry k, where that on the entries before it is good: by what a watch and an auditor say of it
+abbrev pub found : ℕ → Bool → Option Law → Verdict
+found k false law = Bad k Safe
+found k true (Some law) = Bad k law
+found k true None = Good

@@ -1,0 +1,3 @@
+pub mod Judging
+pub mod Judgements
+pub mod Trials

@@ -1,0 +1,95 @@
+ghost use Rattle.std.specs.Prelude.{◌≡◌, ◌+◌, ◌^◌, ◌-◌, ◌<◌, ◌∷◌, ◌++◌, [], IfOk, List, Ok, length, reverse};
+ghost use Rattle.plain_store.specs.declared.setups.Setup.{Setup as Given};
+ghost use Rattle.plain_store.specs.Setups.{checked};
+ghost use Rattle.record.specs.Entries.{Entry as Noted};
+ghost use Rattle.auditor.specs.Verdicts.{IsVerdict};
+ghost use Rattle.auditor.specs.declared.verdicts.Verdict.TheVariants.{Good};
+ghost use Rattle.judge.specs.Judging.{BothHeard, HasJudged, found as verdict_found};
+
+use auditor::{Audited, Auditor, Law, Verdict};
+use plain_store::Setup;
+use record::Entry;
+use std::alloc::{AllocError, Global};
+use std::marker::Model;
+use watch::Watch;
+
+/// A judge of a record, whose entries it takes one at a time. It keeps what a watch and an auditor keep, and the verdict
+/// so far: so it needs the same memory however long the record is.
+#[derive(Drop)]
+pub struct Judge {
+    watch: Watch,
+    auditor: Auditor,
+    verdict: Verdict,
+    entries: u64,
+}
+
+impl Model for Judge {
+    ghost use Rattle.judge.specs.Judging.{JudgeState};
+
+    ghost Value = { JudgeState };
+
+    ghost view = { λ j. record { watch = j.watch; auditor = j.auditor; verdict = j.verdict; entries = j.entries } };
+}
+
+impl Judge {
+    /// Before the first entry. The one fault is want of memory.
+    pub fn new(alloc: Global, setup: &Setup) -> Result<Judge, AllocError>
+        requires { checked setup.now ≡ Ok tt }
+        ensures { IfOk result (λ judge. HasJudged judge setup.now []) }
+    {
+        Ok(Judge {
+            watch: Watch::new(alloc, setup)?,
+            auditor: Auditor::new(alloc, setup)?,
+            verdict: Verdict::Good,
+            entries: 0,
+        })
+    }
+
+    /// One more entry, whatever it is. It takes no memory.
+    pub fn hear(&mut self, entry: &Entry)
+        requires { self.old.entries < 2 ^ 64 - 1 }
+        ensures heard { (s : Given) (entries : List Noted) → HasJudged self.old s entries → HasJudged self.new s (entries ++ entry.now ∷ []) }
+        ensures count { self.new.entries ≡ self.old.entries + 1 }
+    {
+        if self.verdict == Verdict::Good {
+            self.verdict = self.verdict_with(entry);
+        }
+        self.entries += 1;
+    }
+
+    /// The verdict with one more entry, where that on the entries before it is good.
+    fn verdict_with(&mut self, entry: &Entry) -> Verdict
+        ensures verdict { self.new.verdict ≡ self.old.verdict }
+        ensures entries { self.new.entries ≡ self.old.entries }
+        ensures heard { (s : Given) (entries : List Noted) → self.old.verdict ≡ Good → HasJudged self.old s entries → IsVerdict s (entries ++ entry.now ∷ []) result }
+        ensures goes_on { (s : Given) (entries : List Noted) → self.old.verdict ≡ Good → HasJudged self.old s entries → result ≡ Good → BothHeard self.new s (reverse (entries ++ entry.now ∷ [])) }
+    {
+        let is_safe = self.watch.hear(entry);
+        let law = self.auditor.hear(entry);
+        found(self.entries, is_safe, law)
+    }
+
+    /// The verdict on the entries so far, and how many there are.
+    pub fn audited(&self) -> Audited
+        ensures entries { (s : Given) (entries : List Noted) → HasJudged self.now s entries → result.entries ≡ length entries }
+        ensures verdict { (s : Given) (entries : List Noted) → HasJudged self.now s entries → IsVerdict s entries result.verdict }
+    {
+        Audited {
+            verdict: self.verdict,
+            entries: self.entries,
+        }
+    }
+}
+
+/// The verdict with an entry, by what a watch and an auditor say of it.
+fn found(entry: u64, is_safe: bool, law: Option<Law>) -> Verdict
+    ensures { result ≡ verdict_found entry is_safe law }
+{
+    if !is_safe {
+        return Verdict::Bad(entry, Law::Safe);
+    }
+    match law {
+        Some(law) => Verdict::Bad(entry, law),
+        None => Verdict::Good,
+    }
+}

@@ -1,0 +1,29 @@
+//! What engines write and answer for verdicts.
+ghost use Rattle.std.specs.Prelude.{◌≡◌, IfOk};
+ghost use Rattle.std.specs.String.{string_bytes};
+ghost use Rattle.judge.specs.Judgements.{status_of_verdict, verdict_line as line_of_verdict};
+
+use auditor::{Audited, Verdict};
+use files::DONE;
+use std::alloc::{AllocError, Global};
+
+/// The exit status where an audit finds a law broken.
+const BAD: u8 = 3;
+
+/// The exit status that a verdict stands for: 0 for a good one, 3 for a bad one.
+pub fn status_of(verdict: &Verdict) -> u8
+    ensures { result ≡ status_of_verdict verdict.now }
+{
+    match verdict {
+        Verdict::Good => DONE,
+        Verdict::Bad(..) => BAD,
+    }
+}
+
+/// The line of a verdict.
+#[tactic(auto, using(crate::proofs::Lines::verdict_line_is))]
+pub fn verdict_line(alloc: Global, audited: &Audited) -> Result<String, AllocError>
+    ensures { IfOk result (λ line. string_bytes line ≡ line_of_verdict audited.now.entries audited.now.verdict) }
+{
+    format!(in alloc; "{audited}\n")
+}

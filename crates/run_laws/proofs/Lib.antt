@@ -1,0 +1,2 @@
+pub mod FewEvents
+pub mod RunsAgain
