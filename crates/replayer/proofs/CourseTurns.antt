@@ -2,7 +2,6 @@
 use Rattle.std.proofs.Common.{◌≡◌, ℕ, zero, suc, arith, ◌-◌, ◌<◌, ◌≤◌, Bool, true, false, nat_lt, cond, length, List, ◌∷◌, IfOk, Result, Ok, Err, Option, None, Some, refl, ap, sym, subst, ◌∙◌, inl, inr}
 use Rattle.std.proofs.lemmas.Bool.Decides.{nat_tests}
 use Rattle.std.specs.declared.alloc.AllocError.{AllocError}
-use Rattle.safe_number.specs.declared.Access.{Access}
 use Rattle.plain_store.specs.Store.{Contents}
 use Rattle.plain_store.specs.declared.setups.Setup.{Setup}
 use Rattle.record.specs.declared.events.Event.{Event}
@@ -39,16 +38,16 @@ pub place_is : (w : WorldState) (events : List Event) (taken : List Taken) (plac
 place_is w events taken place shows are is = ap (λ (w : WorldState). length w.history) shows.shown ∙ ap length (sym are) ∙ sym is
 
 -- an event that is accepted
-pub event_accepted : (w w' : WorldState) (flicks : FlickState) (left : ℕ) (made : Accepted) (access : Option Access) (taken : List Taken) (turns : Turns) → ((events : List Event) → Shows w events → taken ≡ history w.setup (past_of w.setup events)) → made.place ≡ length taken →
-    Adds w made.event (process_of made.event) (act_of (length w.history) (record { access = access; effect = made.effect })) → GoesOn w made.event w' → w'.setup ≡ w.setup → turns ≡ record { quiet = 0; told = Some (told.Accepted made) } →
+pub event_accepted : (w w' : WorldState) (flicks : FlickState) (left : ℕ) (made : Accepted) (taken : List Taken) (turns : Turns) → ((events : List Event) → Shows w events → taken ≡ history w.setup (past_of w.setup events)) → made.place ≡ length taken →
+    Adds w made.event (process_of made.event) (act_of (length w.history) (record { access = made.access; effect = made.effect })) → GoesOn w made.event w' → w'.setup ≡ w.setup → turns ≡ record { quiet = 0; told = Some (told.Accepted made) } →
     (run : Run) → Follows (course w flicks left) run → Makes (course w flicks left) run (happens (Tries made.event) (left - 1) run) turns.told (course w' flicks (left - 1))
-event_accepted w w' flicks left made access taken turns taken_is place_at adds on same are run follows =
+event_accepted w w' flicks left made taken turns taken_is place_at adds on same are run follows =
     let at : length w.history ≡ made.place = place_is w (tried run.happened) taken made.place follows.shows (taken_is (tried run.happened) follows.shows) place_at in
-    let family : ℕ → Type 0 = λ n. entry_of w.setup (past_in w.setup run) made.event ≡ Some (entry_with (process_of made.event) (act_of n (record { access = access; effect = made.effect }))) in
+    let family : ℕ → Type 0 = λ n. entry_of w.setup (past_in w.setup run) made.event ≡ Some (entry_with (process_of made.event) (act_of n (record { access = made.access; effect = made.effect }))) in
     let entry : family made.place = subst family at (adds (tried run.happened) follows.shows) in
     subst (λ (answer : Option Told). Makes (course w flicks left) run (happens (Tries made.event) (left - 1) run) answer (course w' flicks (left - 1))) (sym (ap (λ (turns : Turns). turns.told) are))
     (record {
-      tells = (refl, (access, entry));
+      tells = (refl, entry);
       follows = record { shows = on (tried run.happened) follows.shows; flicks = follows.flicks };
       left = refl;
       setup = same;

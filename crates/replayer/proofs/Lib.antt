@@ -14,6 +14,7 @@ pub mod Images
 -- Events and their record
 pub mod Listed
 pub mod Recorded
+pub mod Recordings
 -- What the auditor of a run hears
 pub mod Listeners
 -- What a sweep finds

@@ -1,12 +1,9 @@
 -- Lines as `format!` puts them together.
-use Rattle.std.proofs.Common.{◌≡◌, ℕ, ◌++◌, codes, refl, append_assoc}
+use Rattle.std.proofs.Common.{◌≡◌, ℕ, ◌++◌, codes, append_assoc}
 use Rattle.std.specs.Fmt.{decimal}
 use Rattle.record.specs.declared.marks.Mark.{Mark}
 use Rattle.record.specs.declared.refusals.Refusal.{Refusal}
 use Rattle.record.specs.Shown.{mark_text, refusal_text}
-use Rattle.auditor.specs.Shown.{verdict_text}
-use Rattle.auditor.specs.declared.verdicts.Verdict.{Verdict}
-use Rattle.replayer.specs.Audits.{verdict_line}
 use Rattle.replayer.specs.Texts.{mark_line, refusal_line, turns_line, end_line}
 
 pub mark_line_is : (number p : ℕ) (mark : Mark) → decimal number ++ (codes " " ++ (decimal p ++ (codes " " ++ (mark_text mark ++ codes "\n")))) ≡ mark_line number p mark
@@ -17,9 +14,6 @@ refusal_line_is p refusal = simp append_assoc
 
 pub turns_line_is : (p : ℕ) → codes "- " ++ (decimal p ++ codes " turns\n") ≡ turns_line p
 turns_line_is p = simp append_assoc
-
-pub verdict_line_is : (entries : ℕ) (verdict : Verdict) → verdict_text entries verdict ++ codes "\n" ≡ verdict_line entries verdict
-verdict_line_is entries verdict = refl
 
 pub end_line_is : (events taken refused : ℕ) → codes "end events " ++ (decimal events ++ (codes " taken " ++ (decimal taken ++ (codes " refused " ++ (decimal refused ++ codes "\n"))))) ≡ end_line (record { events = events; taken = taken; refused = refused })
 end_line_is events taken refused = simp append_assoc

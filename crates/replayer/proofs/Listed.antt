@@ -9,11 +9,11 @@ use Rattle.replayer.specs.Courses.{CourseState, Follows, MakesTurn}
 use Rattle.replayer.specs.Happenings.{Happening, Tries, Lacks, Tires, Looks, accepted, past_after, tried}
 use Rattle.replayer.specs.Listings.{Lists, ListsLine, event_told, listed}
 use Rattle.replayer.specs.Runs.{Run, past_in, run_after, run_at_start, runs}
-use Rattle.replayer.specs.Telling.{TellsOf, marks_made}
+use Rattle.replayer.specs.Telling.{TellsOf, entry_made}
 use Rattle.replayer.specs.Turns.{Turn, turn_of, turns_in}
 use Rattle.replayer.specs.declared.told.Told.{Told}
 use Rattle.replayer.specs.declared.told.Told.TheVariants as told
-use Rattle.replayer.proofs.Refusals.{entry_by, not_refused}
+use Rattle.replayer.proofs.Refusals.{not_refused}
 use Rattle.replayer.proofs.TurnLaw.{rest_of, rest_none, rest_whole, turn_on}
 use Rattle.replayer.proofs.Underways.{Said, Turned, One, Nothing, said, silent_one, told_none, told_one, turned}
 
@@ -25,7 +25,7 @@ reverse-front x xs = reverse-append (x ∷ []) xs
 pub listed_more : (s : Setup) (before : List Happening) (this : Happening) (answer : Told) → TellsOf s (past_after s before) this answer → listed s before ++ event_told answer ≡ listed s (this ∷ before)
 listed_more s before (Tries event) (told.Accepted made) tells =
     ap (λ (m : Event). listed s before ++ m ∷ []) tells.0 ∙ sym (reverse-front event (accepted s (tried before)))
-    ∙ ap reverse (sym (ap (λ (o : Option Refusal). elim o as (λ _. List Event) [ None ↦ event ∷ accepted s (tried before) | Some r ↦ accepted s (tried before) ]) (not_refused s (past_after s before) event (entry_by event tells.1.0 (marks_made made)) tells.1.1)))
+    ∙ ap reverse (sym (ap (λ (o : Option Refusal). elim o as (λ _. List Event) [ None ↦ event ∷ accepted s (tried before) | Some r ↦ accepted s (tried before) ]) (not_refused s (past_after s before) event (entry_made made) tells.1)))
 listed_more s before (Tries event) (told.Refused p r) tells =
     append-nil (listed s before) ∙ ap reverse (sym (ap (λ (o : Option Refusal). elim o as (λ _. List Event) [ None ↦ event ∷ accepted s (tried before) | Some r ↦ accepted s (tried before) ]) tells.1))
 listed_more s before (Tries event) (told.Tired p) tells = absurd tells

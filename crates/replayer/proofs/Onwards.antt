@@ -15,7 +15,7 @@ use Rattle.replayer.specs.Summaries.{summary_of}
 use Rattle.replayer.specs.Texts.{text_of}
 use Rattle.replayer.specs.Writing.{Counts, WritesPart}
 use Rattle.replayer.specs.declared.summaries.Summary.{Summary}
-use Rattle.replayer.proofs.Grows.{Grows, lines_grow}
+use Rattle.replayer.proofs.Grows.{TextGrows, lines_grow, text_grows}
 use Rattle.replayer.proofs.Written.{appends_both, appends_none, front_after, front_longer, front_whole}
 
 -- from the start of a replay on
@@ -63,7 +63,7 @@ onward_on s lines rest line course course' summary summary' old mid new u makes 
 whole_text : (s : Setup) (lines rest : List Line) (now : Run) (text : List ℕ) (ending : List ℕ) → text_of s now.happened ≡ text → runs s rest now ≡ runs s lines run_at_start →
     (more : List ℕ) × (text_of s (runs s lines run_at_start).happened ++ ending ≡ text ++ more)
 whole_text s lines rest now text ending is whole =
-    let grows : Grows s now.happened (runs s rest now).happened = lines_grow s rest now in (
+    let grows : TextGrows s now.happened (runs s rest now).happened = text_grows s now.happened (runs s rest now).happened (lines_grow s rest now) in (
       grows.text ++ ending,
       ap (λ (r : Run). text_of s r.happened ++ ending) (sym whole) ∙ ap (λ l. l ++ ending) (grows.is ∙ ap (λ l. l ++ grows.text) is) ∙ append_assoc text grows.text ending,
     )

@@ -1,5 +1,5 @@
 -- The text of what is told is the text of what happens.
-use Rattle.std.proofs.Common.{◌≡◌, ℕ, ◌+◌, List, [], ◌∷◌, flat_map, length, Option, None, Some, ap, sym, ◌∙◌, arith, add-zero}
+use Rattle.std.proofs.Common.{◌≡◌, ℕ, ◌+◌, List, [], ◌∷◌, length, Option, None, Some, ap, sym, ◌∙◌, arith, add-zero}
 use Rattle.plain_store.specs.declared.setups.Setup.{Setup}
 use Rattle.record.specs.declared.events.Event.{Event}
 use Rattle.record.specs.declared.refusals.Refusal.{Refusal}
@@ -8,8 +8,8 @@ use Rattle.record.specs.Records.{added, entry_of, past_of, process_of, refused}
 use Rattle.replayer.specs.Courses.{IsQuiet}
 use Rattle.replayer.specs.Happenings.{Happening, Tries, Lacks, Tires, Looks, past_after, refusals, refusals_at, tried}
 use Rattle.replayer.specs.Summaries.{counted}
-use Rattle.replayer.specs.Telling.{TellsOf, marks_made, told_text}
-use Rattle.replayer.specs.Texts.{entry_text, mark_line, refusal_line, text_at}
+use Rattle.replayer.specs.Telling.{TellsOf, entry_made, told_text}
+use Rattle.replayer.specs.Texts.{entry_text, refusal_line, text_at}
 use Rattle.replayer.specs.declared.summaries.Summary.{Summary}
 use Rattle.replayer.specs.declared.told.Told.{Told}
 use Rattle.replayer.specs.declared.told.Told.TheVariants as told
@@ -30,8 +30,7 @@ refused_text s past event p r whose is =
 -- what is told
 pub told_is : (s : Setup) (past : Past) (this : Happening) (answer : Told) → TellsOf s past this answer → told_text (length past) answer ≡ text_at s past this
 told_is s past (Tries event) (told.Accepted made) tells =
-    ap (λ (event : Event). flat_map (mark_line (length past) (process_of event)) (marks_made made)) tells.0
-    ∙ accepted_text s past event (entry_by event tells.1.0 (marks_made made)) tells.1.1
+    accepted_text s past event (entry_made made) tells.1
 told_is s past (Tries event) (told.Refused p r) tells = refused_text s past event p r tells.0 tells.1
 told_is s past (Tries event) (told.Tired p) tells = absurd tells
 told_is s past (Tries event) (told.Shown line) tells = absurd tells
@@ -70,8 +69,8 @@ pub counts_more : (s : Setup) (before : List Happening) (this : Happening) (answ
     summary.events ≡ length (past_after s before) → summary.refused ≡ refusals s before →
     ((counted answer summary).events ≡ length (past_after s (this ∷ before))) × ((counted answer summary).refused ≡ refusals s (this ∷ before))
 counts_more s before (Tries event) (told.Accepted made) summary tells events refused =
-    let e : Entry = entry_by event tells.1.0 (marks_made made) in
-    (ap (λ n. n + 1) events ∙ sym (longer s (tried before) event e tells.1.1), omega (arith, refused, made_counts s (past_after s before) event e tells.1.1))
+    let e : Entry = entry_made made in
+    (ap (λ n. n + 1) events ∙ sym (longer s (tried before) event e tells.1), omega (arith, refused, made_counts s (past_after s before) event e tells.1))
 counts_more s before (Tries event) (told.Refused p r) summary tells events refused =
     (events ∙ sym (as_long s (tried before) event r tells.1), omega (arith, refused, refused_counts s (past_after s before) event r tells.1))
 counts_more s before (Tries event) (told.Tired p) summary tells events refused = absurd tells

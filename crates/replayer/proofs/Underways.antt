@@ -21,7 +21,7 @@ use Rattle.replayer.specs.declared.summaries.Summary.{Summary}
 use Rattle.replayer.specs.declared.told.Told.{Told}
 use Rattle.replayer.specs.declared.told.Told.TheVariants as told
 use Rattle.replayer.specs.declared.told.Turns.{Turns}
-use Rattle.replayer.proofs.Grows.{Grows, rest_grows}
+use Rattle.replayer.proofs.Grows.{TextGrows, rest_grows, text_grows}
 use Rattle.replayer.proofs.Tellings.{Quietly, counts_more, quiet_counts, told_is}
 use Rattle.replayer.proofs.TurnLaw.{rest_of, rest_none, rest_whole, turn_less, turn_on}
 use Rattle.replayer.proofs.Written.{appends_both, appends_none, front_after, front_longer, front_whole}
@@ -223,7 +223,7 @@ reached_torn s line start left now course' summary answer old mid new u is wrote
         let tells : TellsOf s (past_in s now) this answer = told_one s (past_in s now) t.this this answer some is.tells in
         let text : told_text summary.events answer ≡ text_at s (past_in s now) this = told_bytes s now this answer summary u.counts tells in
         let here : List ℕ = text_at s (past_in s now) this in
-        let more : Grows s t.run.happened (rest_of s line t.left t.run).happened = rest_grows s line t.left t.run in
+        let more : TextGrows s t.run.happened (rest_of s line t.left t.run).happened = text_grows s t.run.happened (rest_of s line t.left t.run).happened (rest_grows s line t.left t.run) in
         let all : rest_of s line t.left t.run ≡ run_after s line start = sym (turn_on s line left now u.few) ∙ u.rest in
         record {
           text = u.writes.text ++ (here ++ more.text);
@@ -267,7 +267,7 @@ underway_ended s line start course course' summary turns old new few u makes non
 pub underway_cut : (s : Setup) (line : Line) (start : Run) (course : CourseState) (summary : Summary) (old new : Option (List ℕ)) →
     Underway s line start course summary old new → WritesPart s start.happened (run_after s line start).happened old new
 underway_cut s line start course summary old new u =
-    let more : Grows s u.now.happened (rest_of s line course.left u.now).happened = rest_grows s line course.left u.now in
+    let more : TextGrows s u.now.happened (rest_of s line course.left u.now).happened = text_grows s u.now.happened (rest_of s line course.left u.now).happened (rest_grows s line course.left u.now) in
     record {
       text = u.writes.text ++ more.text;
       is = ap (λ (r : Run). text_of s r.happened) (sym u.rest) ∙ more.is ∙ ap (λ l. l ++ more.text) u.writes.is ∙ append_assoc (text_of s start.happened) u.writes.text more.text;

@@ -88,14 +88,18 @@ step_follows w w' flicks left left' p flick run is on follows = record {
   flicks = ap after_flick follows.flicks;
 }
 
--- it adds its marks
+-- it adds its entry
+step_entry : (w : WorldState) (flicks : FlickState) (left p place : ℕ) (flick : Bool) (made : Made) (marks : List Mark) (run : Run) → flick ≡ flick_of flicks → Adds w (event.Step p flick) p (act_of place made) → map (placed place) (marks_of made.effect) ≡ marks → Follows (course w flicks left) run →
+    entry_of w.setup (past_in w.setup run) (next_step p run) ≡ Some (record { process = p; access = made.access; marks = marks })
+step_entry w flicks left p place flick made marks run is adds are follows =
+    let entry : entry_of w.setup (past_in w.setup run) (event.Step p flick) ≡ Some (entry_with p (act_of place made)) = adds (tried run.happened) follows.shows in
+    let family : Bool → List Mark → Type 0 = λ b marks. entry_of w.setup (past_in w.setup run) (event.Step p b) ≡ Some (record { process = p; access = made.access; marks = marks }) in
+    subst (λ b. family b marks) (is ∙ ap flick_of follows.flicks) (subst (λ marks. family flick marks) are entry)
+
+-- with its marks
 step_adds : (w : WorldState) (flicks : FlickState) (left p place : ℕ) (flick : Bool) (made : Made) (marks : List Mark) (run : Run) → flick ≡ flick_of flicks → Adds w (event.Step p flick) p (act_of place made) → map (placed place) (marks_of made.effect) ≡ marks → Follows (course w flicks left) run →
     AddsMarks w.setup (past_in w.setup run) (next_step p run) marks
-step_adds w flicks left p place flick made marks run is adds are follows =
-    let entry : entry_of w.setup (past_in w.setup run) (event.Step p flick) ≡ Some (entry_with p (act_of place made)) = adds (tried run.happened) follows.shows in
-    let family : Bool → List Mark → Type 0 = λ b marks. AddsMarks w.setup (past_in w.setup run) (event.Step p b) marks in
-    let first : family flick (map (placed place) (marks_of made.effect)) = (made.access, entry) in
-    subst (λ b. family b marks) (is ∙ ap flick_of follows.flicks) (subst (λ marks. family flick marks) are first)
+step_adds w flicks left p place flick made marks run is adds are follows = (made.access, step_entry w flicks left p place flick made marks run is adds are follows)
 
 -- a Step without a mark
 pub record QuietStep (w w' : WorldState) (flicks : FlickState) (left' p : ℕ) (run : Run) : Type 0 where
@@ -148,7 +152,7 @@ step_told w w' flicks left p place flick taken (Ok made) is taken_is place_at ad
     let f = step_follows w w' flicks left left p flick run is on follows in
     let at : length w.history ≡ place = place_is w (tried run.happened) taken place follows.shows (taken_is (tried run.happened) follows.shows) place_at in
     record {
-      tells = (ap (event.Step p) (is ∙ ap flick_of follows.flicks), step_adds w flicks left p (length w.history) flick made (map (placed place) (marks_of made.effect)) run is adds (ap (λ n. map (placed n) (marks_of made.effect)) at) follows);
+      tells = (ap (event.Step p) (is ∙ ap flick_of follows.flicks), step_entry w flicks left p (length w.history) flick made (map (placed place) (marks_of made.effect)) run is adds (ap (λ n. map (placed n) (marks_of made.effect)) at) follows);
       shows = f.shows;
       flicks_are = f.flicks;
       setup = setup;
@@ -222,7 +226,7 @@ left_err (Ok made) left is = absurd (cc)
 left_err (Err r) left is = refl
 
 step_turn_left : (s : Setup) (p left place : ℕ) (flick : Bool) (run : Run) (result : Result Made Refusal) → TellsOf s (past_in s run) (Tries (next_step p run)) (told_step p flick place result) → step_turn s p left run ≡ made_turn p (left_after result left) run
-step_turn_left s p left place flick run (Ok made) tells = step_turn_made s p left run (map (placed place) (marks_of made.effect)) tells.1
+step_turn_left s p left place flick run (Ok made) tells = step_turn_made s p left run (map (placed place) (marks_of made.effect)) (made.access, tells.1)
 step_turn_left s p left place flick run (Err r) tells = step_turn_refused s p left run r tells.1
 
 -- turns without a mark after turns without a mark

@@ -1,12 +1,12 @@
 -- What an audit of a scenario's run answers and writes.
-use Rattle.std.specs.Prelude.{◌≡◌, ℕ, List, ◌++◌, codes, length, Option, IfSome, Result, Ok}
+use Rattle.std.specs.Prelude.{◌≡◌, ℕ, List, length, Option, IfSome, Result, Ok}
 use Rattle.std.specs.Io.KnownBytes.{Appends}
 use Rattle.record.specs.Entries.{Entry}
 use Rattle.record.specs.Records.{record_of}
-use Rattle.auditor.specs.Shown.{verdict_text}
 use Rattle.auditor.specs.Verdicts.{IsVerdict}
 use Rattle.auditor.specs.declared.verdicts.Verdict.{Verdict}
-use Rattle.auditor.specs.declared.verdicts.Verdict.TheVariants.{Good, Bad}
+use Rattle.auditor.specs.declared.verdicts.Verdict.TheVariants.{Good}
+use Rattle.judge.specs.Judgements.{status_of_verdict, verdict_line}
 use Rattle.files.specs.Engines.{text_by}
 use Rattle.files.specs.declared.faults.LineFault.{LineFault}
 use Rattle.scenario.specs.Reading.{Script, scenario_of}
@@ -16,10 +16,6 @@ use Rattle.replayer.specs.Listings.{accepted_events}
 abbrev pub run_record : Script → List Entry
 run_record said = record_of said.setup (accepted_events said)
 
--- the line of a verdict on so many entries
-abbrev pub verdict_line : ℕ → Verdict → List ℕ
-verdict_line entries verdict = verdict_text entries verdict ++ codes "\n"
-
 -- the text of the audit of a scenario's run: each entry of its record keeps each law
 abbrev pub audited : Script → List ℕ
 audited said = verdict_line (length (run_record said)) Good
@@ -27,11 +23,6 @@ audited said = verdict_line (length (run_record said)) Good
 -- the text of a file, or its fault
 abbrev pub audit_text : List ℕ → Result (List ℕ) LineFault
 audit_text = text_by scenario_of audited
-
--- the exit status of a verdict
-abbrev pub status_of_verdict : Verdict → ℕ
-status_of_verdict Good = 0
-status_of_verdict (Bad entry law) = 3
 
 -- the verdict on the record of a scenario's run: its status is answered, and its line is written
 pub record TellsVerdict (said : Script) (status : ℕ) (old new : Option (List ℕ)) : Type 0 where

@@ -3,6 +3,7 @@ pub mod Courses
 pub mod Happenings
 pub mod Hearing
 pub mod Listings
+pub mod Recordings
 pub mod Replays
 pub mod Runs
 pub mod Summaries

@@ -13,7 +13,7 @@ use Rattle.sweeper.specs.Sweeps.{IsSwept, all_good, cuts}
 use Rattle.files.specs.Engines.{text_by}
 use Rattle.files.specs.declared.faults.LineFault.{LineFault}
 use Rattle.scenario.specs.Reading.{Script, scenario_of}
-use Rattle.replayer.specs.Audits.{status_of_verdict}
+use Rattle.judge.specs.Judgements.{status_of_verdict}
 use Rattle.replayer.specs.Listings.{accepted_events}
 
 -- the call that an event is, if it is one

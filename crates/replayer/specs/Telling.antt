@@ -8,7 +8,7 @@ use Rattle.record.specs.declared.events.Event.TheVariants as event
 use Rattle.record.specs.declared.marks.Mark.{Mark}
 use Rattle.record.specs.declared.refusals.Refusal.{Refusal}
 use Rattle.record.specs.declared.refusals.Refusal.TheVariants.{NoProcess}
-use Rattle.record.specs.Entries.{Past}
+use Rattle.record.specs.Entries.{Entry, Past}
 use Rattle.record.specs.Records.{entry_of, placed, process_of, refused}
 use Rattle.process.specs.Telling.{marks_of}
 use Rattle.process.specs.declared.told.Effect.{Effect}
@@ -26,13 +26,17 @@ use Rattle.replayer.specs.declared.told.Told.TheVariants as told
 abbrev pub marks_made : Accepted → List Mark
 marks_made made = map (placed made.place) (marks_of made.effect)
 
+-- the entry of an accepted event
+abbrev pub entry_made : Accepted → Entry
+entry_made made = record { process = process_of made.event; access = made.access; marks = marks_made made }
+
 -- an event adds an entry with these marks
 abbrev pub AddsMarks : Setup → Past → Event → List Mark → Type 0
 AddsMarks s past event marks = (access : Option Access) × (entry_of s past event ≡ Some (record { process = process_of event; access = access; marks = marks }))
 
 -- what is told is what happens after this past
 abbrev pub TellsOf : Setup → Past → Happening → Told → Type 0
-TellsOf s past (Tries event) (told.Accepted made) = (made.event ≡ event) × AddsMarks s past event (marks_made made)
+TellsOf s past (Tries event) (told.Accepted made) = (made.event ≡ event) × (entry_of s past event ≡ Some (entry_made made))
 TellsOf s past (Tries event) (told.Refused p refusal) = (p ≡ process_of event) × (refused s past event ≡ Some refusal)
 TellsOf s past (Lacks p) (told.Refused q refusal) = (q ≡ p) × (refusal ≡ NoProcess)
 TellsOf s past (Tires p) (told.Tired q) = q ≡ p
@@ -59,7 +63,7 @@ with_told leads (Err refusal) = Err refusal
 
 -- what a Step of a process tells, with its flick and the place of a command that it takes
 abbrev pub told_step : ℕ → Bool → ℕ → Result Made Refusal → Told
-told_step p flick place (Ok made) = told.Accepted (record { event = event.Step p flick; place = place; effect = made.effect })
+told_step p flick place (Ok made) = told.Accepted (record { event = event.Step p flick; place = place; access = made.access; effect = made.effect })
 told_step p flick place (Err refusal) = told.Refused p refusal
 
 -- a Step leads to nothing

@@ -1,26 +1,23 @@
 //! The engine `audit`: the verdict on the record of a scenario's run, of which an auditor hears each entry as the
 //! run makes it. No record is held.
 ghost use Rattle.std.specs.Prelude.{◌≡◌, ◌+◌, ◌-◌, ◌^◌, ◌<◌, IfErr, IfOk, OnOk, None, length};
-ghost use Rattle.std.specs.String.{string_bytes};
 ghost use Rattle.std.specs.Io.KnownBytes.{Appends};
 ghost use Rattle.auditor.specs.declared.verdicts.Verdict.TheVariants.{Good};
 ghost use Rattle.auditor.specs.Verdicts.{IsVerdict};
 ghost use Rattle.files.specs.Engines.{Ran};
 ghost use Rattle.files.specs.Streams.{ReadsFront, WritesFront};
 ghost use Rattle.scenario.specs.Reads.{script};
-ghost use Rattle.replayer.specs.Audits.{InputTellsVerdict, TellsVerdict, audit_text, audited, run_record, status_of_verdict, verdict_line as line_of_verdict};
+ghost use Rattle.replayer.specs.Audits.{InputTellsVerdict, TellsVerdict, audit_text, audited, run_record};
 ghost use Rattle.replayer.specs.Replays.{MakesLine, ended};
 ghost use Rattle.replayer.specs.Writing.{IsWriteFault, failed_write};
 
 use crate::summaries::Summary;
 use crate::turns::Course;
 use crate::writing::write_line;
-use auditor::{Audited, Verdict};
-use scenario::{DONE, Fault, Line, Scenario, Sink, Source, read_input, read_scenario};
+use auditor::Audited;
+use judge::{status_of, verdict_line};
+use scenario::{Fault, Line, Scenario, Sink, Source, read_input, read_scenario};
 use std::alloc::{AllocError, Global};
-
-/// The exit status where an audit finds a law broken.
-const BAD: u8 = 3;
 
 /// Reads a whole file, makes its run, of which an auditor hears each entry, and then writes the verdict on its
 /// record, on one line; answers the exit status. However it ends, at most `INPUT_LIMIT` bytes are taken from the
@@ -41,16 +38,6 @@ pub fn run_audit<R: Source, W: Sink>(
     let file = read_input(alloc, input)?;
     let scenario = read_scenario(alloc, file.as_slice())?;
     audit_scenario(alloc, &scenario, output)
-}
-
-/// The exit status that a verdict stands for: 0 for a good one, 3 for a bad one.
-pub fn status_of(verdict: &Verdict) -> u8
-    ensures { result ≡ status_of_verdict verdict.now }
-{
-    match verdict {
-        Verdict::Good => DONE,
-        Verdict::Bad(..) => BAD,
-    }
 }
 
 /// Makes a scenario's run, writes the verdict on its record, and answers the exit status.
@@ -101,12 +88,4 @@ fn count_line(course: &mut Course, line: &Line, summary: &mut Summary) -> Result
         };
         summary.count(&told);
     }
-}
-
-/// The line of a verdict.
-#[tactic(auto, using(crate::proofs::Lines::verdict_line_is))]
-fn verdict_line(alloc: Global, audited: &Audited) -> Result<String, AllocError>
-    ensures { IfOk result (λ line. string_bytes line ≡ line_of_verdict audited.now.entries audited.now.verdict) }
-{
-    format!(in alloc; "{audited}\n")
 }

@@ -5,6 +5,7 @@
 mod auditing;
 mod heard;
 mod listing;
+mod recording;
 mod replaying;
 mod store_line;
 mod summaries;
@@ -13,16 +14,20 @@ mod told;
 mod turns;
 mod writing;
 
-pub use auditing::{run_audit, status_of};
+pub use auditing::run_audit;
 pub use auditor::{
     Audited, Auditor, Law, Verdict, audit, good_records_are_of_events, records_have_one_verdict,
     records_of_events_are_good,
 };
+pub use judge::{Judge, run_judge, status_of};
 pub use listing::{events_of, record_of};
 pub use record::{Entry, Record};
+pub use recording::run_record;
 pub use replaying::replay;
 pub use summaries::Summary;
 pub use sweeper::{
     BadRun, Swept, fails_are_of_whom_stands, steps_are_of_whom_moves, sweep, swept_runs_are_good,
 };
 pub use sweeping::{run_sweep, status_of_sweep};
+pub use told::{Accepted, Told, Turns};
+pub use turns::Course;

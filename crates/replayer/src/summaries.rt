@@ -17,7 +17,7 @@ pub struct Summary {
 
 impl Summary {
     /// Nothing has happened yet.
-    pub(crate) fn new() -> Summary
+    pub fn new() -> Summary
         ensures { result ≡ record { events = 0; taken = 0; refused = 0 } }
     {
         Summary {
@@ -28,7 +28,7 @@ impl Summary {
     }
 
     /// Counts what is told. The commands taken are counted at the end.
-    pub(crate) fn count(&mut self, told: &Told)
+    pub fn count(&mut self, told: &Told)
         requires events { self.old.events < 2 ^ 64 - 1 }
         requires refused { self.old.refused < 2 ^ 64 - 1 }
         ensures { self.new ≡ counted told.now self.old }

@@ -9,10 +9,10 @@ ghost use Rattle.replayer.specs.Replays.{ended};
 ghost use Rattle.replayer.specs.Sweepings.{InputTellsSweep, IsRunSwept, TellsSweep, call_of, calls_in as calls_among, run_swept, status_of_swept, sweep_text, swept, swept_lines as lines_of_swept};
 ghost use Rattle.replayer.specs.Writing.{IsWriteFault, failed_write};
 
-use crate::auditing::status_of;
 use crate::listing::events_of;
 use crate::writing::write_line;
 use auditor::Verdict;
+use judge::status_of;
 use plain_store::{Command, NestedTypes};
 use record::Event;
 use scenario::{Fault, Scenario, Sink, Source, read_input, read_scenario};

@@ -1,18 +1,21 @@
 //! What the turns of a run tell.
 ghost use Rattle.std.specs.Prelude.{◌≡◌};
-ghost use Rattle.replayer.specs.Telling.{marks_made};
+ghost use Rattle.replayer.specs.Telling.{entry_made, marks_made};
 
 use plain_store::NestedTypes;
-use record::{Event, Mark, Refusal};
+use record::{Act, Entry, Event, Mark, Refusal};
+use safe_number::Access;
 use smallvec::SmallVec;
 use std::alloc::Global;
 use world::Effect;
 
-/// An event that was accepted, and what it leads to. A command that it takes gets this place in the history.
+/// An event that was accepted, the access that it makes, if it makes one, and what it leads to. A command that it takes
+/// gets this place in the history.
 #[derive(Clone, Copy)]
-pub(crate) struct Accepted {
+pub struct Accepted {
     pub event: Event,
     pub place: u64,
+    pub access: Option<Access>,
     pub effect: Effect,
 }
 
@@ -24,11 +27,25 @@ impl Accepted {
         let _nested: NestedTypes = None;
         self.effect.marks(alloc, self.place)
     }
+
+    /// Its entry. It takes no memory.
+    pub fn entry(&self, alloc: Global) -> Entry
+        ensures { result ≡ entry_made self.now }
+    {
+        let _nested: NestedTypes = None;
+        Entry {
+            process: self.event.process(),
+            act: Act {
+                access: self.access,
+                marks: self.marks(alloc),
+            },
+        }
+    }
 }
 
 /// What a turn of a run tells.
 #[derive(Drop)]
-pub(crate) enum Told {
+pub enum Told {
     Accepted(Accepted),
     /// An event of this process was refused, or `go` found no such process.
     Refused { process: u8, refusal: Refusal },
@@ -40,7 +57,7 @@ pub(crate) enum Told {
 
 /// Turns of a line.
 #[derive(Drop)]
-pub(crate) struct Turns {
+pub struct Turns {
     /// How many Steps without a mark came first.
     pub quiet: u32,
     /// What the turn after them tells; nothing once the line has ended.
@@ -49,7 +66,7 @@ pub(crate) struct Turns {
 
 impl Turns {
     /// The line has ended.
-    pub fn ended() -> Turns
+    pub(crate) fn ended() -> Turns
         ensures { result ≡ record { quiet = 0; told = None } }
     {
         Turns {
@@ -59,7 +76,7 @@ impl Turns {
     }
 
     /// One turn.
-    pub fn one(told: Told) -> Turns
+    pub(crate) fn one(told: Told) -> Turns
         ensures { result ≡ record { quiet = 0; told = Some told } }
     {
         Turns {

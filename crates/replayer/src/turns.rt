@@ -23,7 +23,7 @@ use crate::store_line::newest_line;
 use crate::told::{Accepted, Told, Turns};
 use auditor::Verdict;
 use plain_store::{NestedTypes, Setup};
-use record::{Event, Refusal};
+use record::{Event, Refusal, Taken};
 use scenario::{Flick, Line};
 use std::alloc::{AllocError, Global};
 use std::marker::Model;
@@ -36,7 +36,7 @@ const GO_LIMIT: u32 = 65_536;
 /// A run of a scenario: the world, where flicks and picks come from, and how many turns the present line may
 /// still make. Contracts see these three, and speak of every run that they show.
 #[derive(Drop)]
-pub(crate) struct Course {
+pub struct Course {
     alloc: Global,
     processes: u8,
     world: HeardWorld,
@@ -82,6 +82,13 @@ impl Course {
         ensures { (run : Run) → Follows self.now run → result ≡ length (history self.now.world.setup (past_in self.now.world.setup run)) }
     {
         self.world.history().len() as u64
+    }
+
+    /// The commands taken, in their order.
+    pub fn history(&self) -> &[Taken]
+        ensures { (run : Run) → Follows self.now run → result.now ≡ history self.now.world.setup (past_in self.now.world.setup run) }
+    {
+        self.world.history()
     }
 
     /// A line begins.
@@ -159,10 +166,11 @@ impl Course {
         let place = self.world.history().len() as u64;
         let mut effect = Effect::Steps(world::Told::Nothing);
         match self.world.make(&event, &mut effect) {
-            Ok(_) => {
+            Ok(access) => {
                 let made = Accepted {
                     event,
                     place,
+                    access,
                     effect,
                 };
                 Ok(Turns::one(Told::Accepted(made)))

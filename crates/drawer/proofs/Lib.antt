@@ -1,0 +1,4 @@
+pub mod Drawn
+pub mod Shown
+pub mod Drawings
+pub mod Ends

@@ -1,0 +1,69 @@
+use Rattle.std.proofs.Common.{◌≡◌, ℕ, ◌+◌, ◌<◌, ◌∙◌, Option, ap, arith, refl, sym, subst}
+use Rattle.picture.specs.Pages.{held}
+use Rattle.replayer.specs.Courses.{CourseState, Follows, MakesTurns}
+use Rattle.replayer.specs.Runs.{Run, run_after}
+use Rattle.replayer.specs.Summaries.{counted}
+use Rattle.replayer.specs.Telling.{told_text}
+use Rattle.replayer.specs.declared.summaries.Summary.{Summary}
+use Rattle.replayer.proofs.Underways.{events_counted, refused_counted, with_events}
+use Rattle.drawer.specs.Drawings.{Advances, DrawsOn, IsToldLine}
+use Rattle.drawer.proofs.Drawings.{Going, going_ended, going_on, going_start}
+use Rattle.drawer.proofs.drawing.Drawing.draw_line.Goals as goal
+
+pub turns-init : goal.turns-init
+turns-init g c =
+    let begun : CourseState = c.begin.new.self in
+    let left = ap (λ (course : CourseState). course.left) c.begin.ensures.course in
+    record {
+      going = λ run follows counts. going_start c.args.self.now.course.world.setup c.args.line.now run begun c.args.self.now.summary (held c.args.self.now.page) (g.W.Sink.taken c.args.output.now)
+          (ap (λ (course : CourseState). course.world.setup) c.begin.ensures.course) left
+          (subst (λ course. Follows course run) (sym c.begin.ensures.course) (record { shows = follows.shows; flicks = follows.flicks })) counts;
+      whole = refl;
+      left = omega (arith, left);
+      events = omega (arith, left);
+      refused = omega (arith, left);
+    }
+
+pub returns-in_default-clause-ok : goal.returns-in_default-clause-ok
+returns-in_default-clause-ok g c = λ run follows counts.
+    let s = c.args.self.now.course.world.setup in
+    subst (λ n. Advances s run (run_after s c.args.line.now run) c.turns-in-turns.new.self (with_events n c.turns.self.summary) (held c.args.self.now.page) (held c.turns.self.page) (g.W.Sink.taken c.args.output.now) (g.W.Sink.taken c.turns.output)) (sym c.from.ensures)
+    (going_ended s c.args.line.now run c.turns.self.course c.turns-in-turns.new.self c.turns.self.summary c.in_ok-turns.turns (held c.args.self.now.page) (held c.turns.self.page) _ _ c.turns.invariant.left (c.turns.invariant.going run follows counts) c.in_ok-turns.ensures.made c.in_default.is)
+
+pub turns-preserved : goal.turns-preserved
+turns-preserved g c =
+    let less : c.in_ok-turns.turns.quiet + c.turns-in-turns.new.self.left < c.turns.self.course.left = rw c.in-Some.is at c.in_ok-turns.ensures.less in
+    let mid : Summary = with_events c.in_ok-turns.turns.quiet c.turns.self.summary in
+    let now : c.tell.new.self.summary ≡ counted c.in-Some.told mid = (rw c.in-Some.told-is at c.in_ok-tell.ensures.count) ∙ ap (λ n. counted c.in-Some.told (with_events n c.turns.self.summary)) c.from.ensures in
+    let course : c.tell.new.self.course ≡ c.turns-in-turns.new.self = c.in_ok-tell.ensures.course in
+    record {
+      going = λ run follows counts.
+          let s = c.args.self.now.course.world.setup in
+          let drew = subst (λ n. IsToldLine c.in-Some.told → DrawsOn (held c.turns.self.page) (held c.tell.new.self.page) (g.W.Sink.taken c.turns.output) (g.W.Sink.taken c.tell.new.output) (told_text (c.turns.self.summary.events + n) c.in-Some.told)) c.from.ensures (rw c.in-Some.told-is at c.in_ok-tell.ensures.ok) in
+          subst (λ (summary : Summary). Going s c.args.line.now run c.tell.new.self.course summary (held c.args.self.now.page) (held c.tell.new.self.page) (g.W.Sink.taken c.args.output.now) (g.W.Sink.taken c.tell.new.output)) (sym now)
+          (subst (λ (course : CourseState). Going s c.args.line.now run course (counted c.in-Some.told mid) (held c.args.self.now.page) (held c.tell.new.self.page) (g.W.Sink.taken c.args.output.now) (g.W.Sink.taken c.tell.new.output)) (sym course)
+          (going_on s c.args.line.now run c.turns.self.course c.turns-in-turns.new.self c.turns.self.summary c.in_ok-turns.turns c.in-Some.told (held c.args.self.now.page) (held c.turns.self.page) (held c.tell.new.self.page) _ _ _ c.turns.invariant.left (c.turns.invariant.going run follows counts) c.in_ok-turns.ensures.made c.in-Some.is drew));
+      whole = omega (arith, c.in_ok-tell.ensures.failures, c.turns.invariant.whole);
+      left = omega (arith, less, c.turns.invariant.left, ap (λ (course : CourseState). course.left) course);
+      events = omega (arith, less, c.turns.invariant.events, ap (λ (s : Summary). s.events) now, events_counted c.in-Some.told mid, ap (λ (course : CourseState). course.left) course);
+      refused = omega (arith, less, c.turns.invariant.refused, ap (λ (s : Summary). s.refused) now, refused_counted c.in-Some.told mid, ap (λ (course : CourseState). course.left) course);
+    }
+
+pub turns-preserved-in_ok-tell : goal.turns-preserved-in_ok-tell
+turns-preserved-in_ok-tell g c =
+    let less : c.in_ok-turns.turns.quiet + c.turns-in-turns.new.self.left < c.turns.self.course.left = rw c.in-Some.is at c.in_ok-turns.ensures.less in
+    let mid : Summary = with_events c.in_ok-turns.turns.quiet c.turns.self.summary in
+    let now : c.tell.new.self.summary ≡ counted c.in-Some.told mid = (rw c.in-Some.told-is at c.in_ok-tell.ensures.count) ∙ ap (λ n. counted c.in-Some.told (with_events n c.turns.self.summary)) c.from.ensures in
+    let course : c.tell.new.self.course ≡ c.turns-in-turns.new.self = c.in_ok-tell.ensures.course in
+    record {
+      going = λ run follows counts.
+          let s = c.args.self.now.course.world.setup in
+          let drew = subst (λ n. IsToldLine c.in-Some.told → DrawsOn (held c.turns.self.page) (held c.tell.new.self.page) (g.W.Sink.taken c.turns.output) (g.W.Sink.taken c.tell.new.output) (told_text (c.turns.self.summary.events + n) c.in-Some.told)) c.from.ensures (rw c.in-Some.told-is at c.in_ok-tell.ensures.ok) in
+          subst (λ (summary : Summary). Going s c.args.line.now run c.tell.new.self.course summary (held c.args.self.now.page) (held c.tell.new.self.page) (g.W.Sink.taken c.args.output.now) (g.W.Sink.taken c.tell.new.output)) (sym now)
+          (subst (λ (course : CourseState). Going s c.args.line.now run course (counted c.in-Some.told mid) (held c.args.self.now.page) (held c.tell.new.self.page) (g.W.Sink.taken c.args.output.now) (g.W.Sink.taken c.tell.new.output)) (sym course)
+          (going_on s c.args.line.now run c.turns.self.course c.turns-in-turns.new.self c.turns.self.summary c.in_ok-turns.turns c.in-Some.told (held c.args.self.now.page) (held c.turns.self.page) (held c.tell.new.self.page) _ _ _ c.turns.invariant.left (c.turns.invariant.going run follows counts) c.in_ok-turns.ensures.made c.in-Some.is drew));
+      whole = omega (arith, c.in_ok-tell.ensures.failures, c.turns.invariant.whole);
+      left = omega (arith, less, c.turns.invariant.left, ap (λ (course : CourseState). course.left) course);
+      events = omega (arith, less, c.turns.invariant.events, ap (λ (s : Summary). s.events) now, events_counted c.in-Some.told mid, ap (λ (course : CourseState). course.left) course);
+      refused = omega (arith, less, c.turns.invariant.refused, ap (λ (s : Summary). s.refused) now, refused_counted c.in-Some.told mid, ap (λ (course : CourseState). course.left) course);
+    }

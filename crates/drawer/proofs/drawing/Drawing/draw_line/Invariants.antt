@@ -1,0 +1,22 @@
+use Rattle.std.proofs.Common.{◌≡◌, ◌+◌, ◌≤◌}
+use Rattle.picture.specs.Pages.{held}
+use Rattle.replayer.specs.Courses.{Follows}
+use Rattle.replayer.specs.Runs.{Run}
+use Rattle.replayer.specs.Turns.{turns_in}
+use Rattle.replayer.specs.Writing.{Counts}
+use Rattle.drawer.proofs.Drawings.{Going}
+use Rattle.drawer.proofs.drawing.Drawing.draw_line.Given as goal
+
+-- what has happened of the line is drawn but for what is held back, and what is left of it follows
+abbrev pub invariant-turns : goal.invariant-turns
+invariant-turns g l = record {
+  going : (run : Run) → Follows l.fn.self.course run → Counts l.fn.self.course.world.setup run l.fn.self.summary →
+      Going l.fn.self.course.world.setup l.line run l.self.course l.self.summary (held l.fn.self.page) (held l.self.page) (g.W.Sink.taken l.fn.output) (g.W.Sink.taken l.output);
+  whole : g.W.Sink.failures l.output ≡ g.W.Sink.failures l.fn.output;
+  left : l.self.course.left ≤ turns_in l.line;
+  events : l.self.summary.events + l.self.course.left ≤ l.fn.self.summary.events + turns_in l.line;
+  refused : l.self.summary.refused + l.self.course.left ≤ l.fn.self.summary.refused + turns_in l.line;
+}
+
+abbrev pub decreases-turns : goal.decreases-turns
+decreases-turns g l = l.self.course.left

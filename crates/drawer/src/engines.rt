@@ -1,0 +1,99 @@
+//! The two engines.
+ghost use Rattle.std.specs.Prelude.{◌≡◌, ◌+◌, ◌-◌, ◌^◌, ◌<◌, IfErr, IfOk, Ok, OnOk};
+ghost use Rattle.files.specs.Streams.{ReadsFront};
+ghost use Rattle.scenario.specs.Reads.{script};
+ghost use Rattle.replayer.specs.Replays.{IsSummaryOf, ended};
+ghost use Rattle.replayer.specs.Runs.{happenings};
+ghost use Rattle.replayer.specs.Summaries.{summary_of};
+ghost use Rattle.replayer.specs.Texts.{replayed};
+ghost use Rattle.replayer.specs.Writing.{IsWriteFault, failed_write};
+ghost use Rattle.drawer.specs.Drawings.{Draws, Drew};
+
+use crate::changes::Changes;
+use crate::drawing::draw_bands;
+use crate::nowhere::Nowhere;
+use crate::writing::write_markup;
+use picture::{FIRST_BAND, Form, page_end, page_head, picture_end, picture_head};
+use replayer::Summary;
+use scenario::{Fault, Scenario, Sink, Source, print_scenario, read_input, read_scenario};
+use std::alloc::Global;
+
+/// Reads a whole file, and writes the page of its run: a picture in bands, each written when it is full. Where it ends
+/// well, the titles of the marks, read back, are the lines that `replay` writes for the file.
+pub fn draw<R: Source, W: Sink>(
+    alloc: Global,
+    input: &mut R,
+    output: &mut W,
+) -> Result<Summary, Fault>
+    requires reads { R.failures input.old < 2 ^ 64 - 1 }
+    requires writes { W.failures output.old < 2 ^ 64 - 1 }
+    ensures drew { Drew (ended result)
+        (record { to_come = R.to_come input.old; taken = W.taken output.old; read_failures = R.failures input.old; write_failures = W.failures output.old })
+        (record { to_come = R.to_come input.new; taken = W.taken output.new; read_failures = R.failures input.new; write_failures = W.failures output.new }) }
+    ensures input { ReadsFront (R.to_come input.old) (R.to_come input.new) }
+    ensures summary { IfOk result (λ summary. IsSummaryOf (R.to_come input.old) summary) }
+{
+    let file = read_input(alloc, input)?;
+    let scenario = read_scenario(alloc, file.as_slice())?;
+    draw_page(alloc, &scenario, output)
+}
+
+/// Writes the page of a scenario's run.
+fn draw_page<W: Sink>(alloc: Global, scenario: &Scenario, output: &mut W) -> Result<Summary, Fault>
+    requires { W.failures output.old < 2 ^ 64 - 1 }
+    ensures ok { OnOk result (Draws (W.taken output.old) (W.taken output.new) (replayed (script scenario.now))) }
+    ensures summary { IfOk result (λ summary. summary ≡ summary_of scenario.now.setup (happenings (script scenario.now))) }
+    ensures fault { IfErr result IsWriteFault }
+    ensures failures { W.failures output.new ≡ W.failures output.old + failed_write result }
+{
+    let opening = Changes::new(alloc, &scenario.setup)?.store_words()?;
+    let printed = print_scenario(alloc, scenario)?;
+    let head = page_head(alloc, &scenario.setup, printed.as_slice())?;
+    let end = page_end(alloc, opening.as_slice())?;
+    write_markup(&head, output)?;
+    let (summary, _) = draw_bands(alloc, scenario, Form::Page, output)?;
+    write_markup(&end, output)?;
+    Ok(summary)
+}
+
+/// Reads a whole file, and writes one picture of its run, which tells the same. The run is made twice, since a picture
+/// begins with its height.
+pub fn draw_svg<R: Source, W: Sink>(
+    alloc: Global,
+    input: &mut R,
+    output: &mut W,
+) -> Result<Summary, Fault>
+    requires reads { R.failures input.old < 2 ^ 64 - 1 }
+    requires writes { W.failures output.old < 2 ^ 64 - 1 }
+    ensures drew { Drew (ended result)
+        (record { to_come = R.to_come input.old; taken = W.taken output.old; read_failures = R.failures input.old; write_failures = W.failures output.old })
+        (record { to_come = R.to_come input.new; taken = W.taken output.new; read_failures = R.failures input.new; write_failures = W.failures output.new }) }
+    ensures input { ReadsFront (R.to_come input.old) (R.to_come input.new) }
+    ensures summary { IfOk result (λ summary. IsSummaryOf (R.to_come input.old) summary) }
+{
+    let file = read_input(alloc, input)?;
+    let scenario = read_scenario(alloc, file.as_slice())?;
+    draw_picture(alloc, &scenario, output)
+}
+
+/// Writes one picture of a scenario's run.
+fn draw_picture<W: Sink>(
+    alloc: Global,
+    scenario: &Scenario,
+    output: &mut W,
+) -> Result<Summary, Fault>
+    requires { W.failures output.old < 2 ^ 64 - 1 }
+    ensures ok { OnOk result (Draws (W.taken output.old) (W.taken output.new) (replayed (script scenario.now))) }
+    ensures summary { IfOk result (λ summary. summary ≡ summary_of scenario.now.setup (happenings (script scenario.now))) }
+    ensures fault { IfErr result IsWriteFault }
+    ensures failures { W.failures output.new ≡ W.failures output.old + failed_write result }
+{
+    let form = Form::Picture(FIRST_BAND);
+    let (_, height) = draw_bands(alloc, scenario, form, &mut Nowhere)?;
+    let head = picture_head(alloc, &scenario.setup, height)?;
+    let end = picture_end(alloc, height)?;
+    write_markup(&head, output)?;
+    let (summary, _) = draw_bands(alloc, scenario, form, output)?;
+    write_markup(&end, output)?;
+    Ok(summary)
+}

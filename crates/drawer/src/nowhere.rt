@@ -1,0 +1,17 @@
+ghost use Rattle.std.specs.Prelude.{None};
+
+use scenario::{Failed, Sink};
+
+/// Where bytes go that nobody wants: a picture is drawn once to learn its height.
+#[derive(Drop)]
+pub(crate) struct Nowhere;
+
+impl Sink for Nowhere {
+    ghost taken = { λ _. None };
+
+    ghost failures = { λ _. 0 };
+
+    fn put(&mut self, bytes: &[u8]) -> Result<usize, Failed> {
+        Ok(bytes.len())
+    }
+}

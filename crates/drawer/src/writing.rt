@@ -1,0 +1,34 @@
+//! How markup is written.
+ghost use Rattle.std.specs.Prelude.{◌≡◌, ◌+◌, ◌-◌, ◌^◌, ◌<◌, IfErr, OnOk};
+ghost use Rattle.shapes.specs.Titles.{lines_in};
+ghost use Rattle.picture.specs.Pages.{lines_of_band};
+ghost use Rattle.replayer.specs.Writing.{IsWriteFault, failed_write};
+ghost use Rattle.drawer.specs.Drawings.{Draws, ended_lines};
+
+use scenario::{Fault, Sink, write_all};
+use shapes::Markup;
+
+/// Writes markup.
+#[tactic(auto, using(crate::proofs::Drawn::draws_bytes))]
+pub(crate) fn write_markup<W: Sink>(markup: &Markup, output: &mut W) -> Result<(), Fault>
+    requires { W.failures output.old < 2 ^ 64 - 1 }
+    ensures ok { OnOk result (Draws (W.taken output.old) (W.taken output.new) (ended_lines (lines_in markup.now))) }
+    ensures fault { IfErr result IsWriteFault }
+    ensures failures { W.failures output.new ≡ W.failures output.old + failed_write result }
+{
+    write_all(output, markup.as_slice())
+}
+
+/// Writes a band, if there is one.
+#[tactic(auto, using(crate::proofs::Drawn::draws_none))]
+pub(crate) fn write_band<W: Sink>(band: &Option<Markup>, output: &mut W) -> Result<(), Fault>
+    requires { W.failures output.old < 2 ^ 64 - 1 }
+    ensures ok { OnOk result (Draws (W.taken output.old) (W.taken output.new) (ended_lines (lines_of_band band.now))) }
+    ensures fault { IfErr result IsWriteFault }
+    ensures failures { W.failures output.new ≡ W.failures output.old + failed_write result }
+{
+    match band {
+        Some(band) => write_markup(band, output),
+        None => Ok(()),
+    }
+}

@@ -1,0 +1,20 @@
+-- What a page holds back: the lines that were told and are not drawn yet.
+use Rattle.std.specs.Prelude.{ℕ, List, [], ◌++◌, flat_map, Option, None, Some}
+use Rattle.std.specs.Option.{option_to_list}
+use Rattle.shapes.specs.Titles.{lines_in}
+use Rattle.picture.specs.Told.{told_in}
+use Rattle.picture.specs.declared.columns.Column.{Column}
+use Rattle.picture.specs.declared.page.Page.{Page}
+
+-- the lines of these columns, and of one that is not placed yet
+abbrev pub lines_of : List Column → Option Column → List (List ℕ)
+lines_of columns pending = flat_map told_in columns ++ flat_map told_in (option_to_list pending)
+
+-- the lines of the band that is begun, and of the column that is not placed yet
+abbrev pub held : Page → List (List ℕ)
+held page = lines_of page.columns.items page.pending
+
+-- the lines of a band that is full, if one is
+abbrev pub lines_of_band : Option (List ℕ) → List (List ℕ)
+lines_of_band None = []
+lines_of_band (Some band) = lines_in band

@@ -1,0 +1,79 @@
+//! A band: its columns, and what stood before them.
+ghost use Rattle.std.specs.Prelude.{◌≡◌, ◌++◌, flat_map, OnOk};
+ghost use Rattle.shapes.specs.Titles.{lines_in};
+ghost use Rattle.picture.specs.Told.{told_in};
+
+use crate::columns::Column;
+use crate::layout::Layout;
+use crate::state::State;
+use shapes::Markup;
+use std::alloc::{AllocError, Global};
+
+/// A band that is full, or the last one.
+#[derive(Drop)]
+pub(crate) struct Band {
+    pub columns: Vec<Column>,
+    /// What stood before its first column.
+    pub before: State,
+    pub layout: Layout,
+    pub is_last: bool,
+    /// What the store opens with, in the first band.
+    pub opens: Vec<u8>,
+}
+
+impl Band {
+    /// Draws it. The titles of its marks are the lines of its columns.
+    pub fn draw(&self, alloc: Global, markup: &mut Markup) -> Result<(), AllocError>
+        ensures { OnOk result (lines_in markup.new ≡ lines_in markup.old ++ flat_map told_in self.now.columns.items) }
+    {
+        self.draw_shades(markup)?;
+        self.draw_axis(alloc, markup)?;
+        self.draw_lanes(alloc, markup)?;
+        self.draw_chain(markup)?;
+        self.draw_all_links(alloc, markup)?;
+        self.draw_all_words(alloc, markup)?;
+        self.draw_columns(alloc, markup)
+    }
+
+    /// Draws all lanes.
+    fn draw_lanes(&self, alloc: Global, markup: &mut Markup) -> Result<(), AllocError>
+        ensures { OnOk result (lines_in markup.new ≡ lines_in markup.old) }
+    {
+        for process in 0..self.before.processes {
+            self.draw_lane(alloc, process, markup)?;
+        }
+        Ok(())
+    }
+
+    /// Draws what leads from lane to lane.
+    fn draw_all_links(&self, alloc: Global, markup: &mut Markup) -> Result<(), AllocError>
+        ensures { OnOk result (lines_in markup.new ≡ lines_in markup.old) }
+    {
+        for column in &self.columns {
+            self.draw_links(alloc, column, markup)?;
+        }
+        Ok(())
+    }
+
+    /// Draws the words in the bars of the lanes with columns.
+    fn draw_all_words(&self, alloc: Global, markup: &mut Markup) -> Result<(), AllocError>
+        ensures { OnOk result (lines_in markup.new ≡ lines_in markup.old) }
+    {
+        for process in 0..self.before.processes {
+            if self.layout.lane(process).is_full {
+                self.draw_words(alloc, process, markup)?;
+            }
+        }
+        Ok(())
+    }
+
+    /// Draws all columns.
+    fn draw_columns(&self, alloc: Global, markup: &mut Markup) -> Result<(), AllocError>
+        ensures { OnOk result (lines_in markup.new ≡ lines_in markup.old ++ flat_map told_in self.now.columns.items) }
+    {
+        for column in &self.columns {
+            self.draw_column(alloc, column, markup)?;
+        }
+        Ok(())
+    }
+}

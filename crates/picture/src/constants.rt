@@ -1,0 +1,130 @@
+//! The constant parts of a picture, as the files of picture/ have them: tests/picture_parts.py writes this.
+
+/// The style of all pictures.
+pub(crate) const STYLE: &str =
+    "text{font-family:\"DejaVu Sans Mono\",Menlo,Consolas,\"Liberation Mono\",monospace;font-size:11px;fill:#111}\n\
+.verb{font-weight:bold}.rest,.store{fill:#111}.store{font-weight:bold}\n\
+.verb,.rest,.event,.store,.saw,.of-what,.stage{paint-order:stroke;stroke:#fff;stroke-width:3px;stroke-linejoin:round}\n\
+.event,.gap,.name,.key,.stage,.white,.in,.in-w,.thin{font-size:9px}\n\
+.event{fill:#444}.gap{fill:#555;text-anchor:middle}.name{fill:#444}.key{fill:#111;font-size:10px}\n\
+.strong{font-weight:bold}.lane{font-size:14px;font-weight:bold}.thin{fill:#444}\n\
+.in,.in-w{text-anchor:middle}.white,.in-w{fill:#fff;font-weight:bold}.in{font-weight:bold}\n\
+.no{font-style:italic}.saw{fill:#8a2b00;font-weight:bold}.of-what{fill:#8a2b00;font-style:italic}\n\
+path{fill:none;stroke:#111;stroke-width:1}\n\
+.axis,.far{stroke:#555}.far{stroke-dasharray:2 3}.rule{stroke:#ddd}.ground{stroke:#999}.idle{stroke:#888}\n\
+.pole{stroke:#777}.chain{stroke:#111;stroke-width:3}.drop{stroke:#111;stroke-width:1.5}\n\
+.frees{stroke:#111;stroke-width:1.5;stroke-dasharray:4 2}.tip,.sign,.back{fill:#111;stroke:none}\n\
+.cross{stroke:#a51d00;stroke-width:4}.diamond,.ring,.pill-o{fill:#fff;stroke:#111;stroke-width:1.5}\n\
+.pill{fill:#111;stroke:#111;stroke-width:1.5}.no-sign{stroke:#a51d00;stroke-width:2;fill:#fff}\n\
+.glass{fill:#fff;stroke:#111;stroke-width:1.5}\n\
+.open{stroke:#8a2b00;stroke-width:2}.of{stroke:#8a2b00;stroke-dasharray:1 3}\n\
+.shade{fill:#efefe6}\n\
+.doorway{fill:url(#doorway);stroke:#1f6fa8}.waiting{fill:url(#waiting);stroke:#9a6400}\n\
+.inside{fill:#0b5c43;stroke:#0b5c43}.leaving{fill:#8fc7b2;stroke:#0b5c43}\n\
+.settling{fill:url(#settling);stroke:#a51d00}.down{fill:#fff;stroke:#555;stroke-dasharray:4 3}";
+
+/// The style of a page beside it.
+pub(crate) const PAGE_STYLE: &str = "html{background:#fff;color:#111}\n\
+body{font:15px/1.4 \"DejaVu Sans\",Verdana,sans-serif;margin:0 auto;max-width:1216px;padding:8px 8px 9.5em}\n\
+h1{font-size:18px;margin:.3em 0}svg{display:block;width:100%;height:auto}.band{margin:0 0 10px}\n\
+details{margin:.3em 0}summary{cursor:pointer}\n\
+ol{font:12px/1.35 \"DejaVu Sans Mono\",Menlo,Consolas,monospace;margin:.2em 0;columns:4 15em;column-gap:3.5em;padding-left:3em;max-height:11em;overflow:auto}\n\
+li.on{background:#111;color:#fff}li::marker{color:#555}\n\
+#now{position:fixed;left:0;right:0;bottom:0;background:#fff;border-top:2px solid #111;padding:6px 12px}\n\
+#now div{max-width:1200px;margin:auto}#now input{width:100%;margin:0}\n\
+#now output{display:block;font:13px/1.45 \"DejaVu Sans Mono\",Menlo,Consolas,monospace;white-space:pre-wrap}\n\
+#now b{display:inline-block;width:6.2em;font-weight:normal;color:#555}\n\
+g.m{cursor:pointer}g.m.on text{text-decoration:underline}g.m:focus-visible{outline:2px solid #111}\n\
+.cur{stroke:#c00;stroke-width:2;opacity:.5;pointer-events:none}\n\
+@media print{#now,.cur{display:none}g.m.on text{text-decoration:none}li.on{background:none;color:inherit}ol{max-height:none;font-size:10px}h1{font-size:15px}body{padding:0;max-width:none}.band{break-inside:avoid}*{print-color-adjust:exact;-webkit-print-color-adjust:exact}}";
+
+/// The script of a page.
+pub(crate) const SCRIPT: &str = "(function(){\n\
+var marks=[].slice.call(document.querySelectorAll('g.m')),at=document.getElementById('at'),\n\
+said=document.getElementById('said'),items=document.querySelectorAll('ol li'),stores=[],queues=[],\n\
+store=at.getAttribute('data-s'),queue='',cur=document.createElementNS('http://www.w3.org/2000/svg','path'),k=-1;\n\
+marks.forEach(function(m){var s=m.getAttribute('data-s'),q=m.getAttribute('data-q');\n\
+if(s!==null)store=s;if(q!==null)queue=q;stores.push(store);queues.push(queue);});\n\
+cur.setAttribute('class','cur');\n\
+function text(m){return m.querySelector('title').textContent;}\n\
+function line(name,value){var b=document.createElement('b');b.textContent=name;said.appendChild(b);\n\
+said.appendChild(document.createTextNode(value+'\\n'));}\n\
+function go(n,look){if(n<0||n>=marks.length)return;if(k>=0){marks[k].classList.remove('on');\n\
+items[marks[k].getAttribute('data-l')-1].classList.remove('on');}\n\
+k=n;at.value=n;var m=marks[n],svg=m.ownerSVGElement,item=items[m.getAttribute('data-l')-1],x=m.getAttribute('data-x');\n\
+m.classList.add('on');item.classList.add('on');\n\
+cur.setAttribute('d','M'+x+' 0V'+svg.viewBox.baseVal.height);svg.appendChild(cur);\n\
+said.textContent='';line('told',text(m));line('by line',item.textContent);line('store',stores[n]);\n\
+line('in line',queues[n]||'nobody');at.setAttribute('aria-valuetext',text(m));\n\
+if(look){var r=svg.getBoundingClientRect();if(r.top<0||r.bottom>innerHeight-150)svg.scrollIntoView({block:'center'});}}\n\
+at.max=marks.length-1;at.addEventListener('input',function(){go(+at.value,true);});\n\
+marks.forEach(function(m,n){m.addEventListener('mouseenter',function(){go(n);});\n\
+m.addEventListener('click',function(){go(n);at.focus();});});\n\
+function named(){var n=parseInt(location.hash.slice(1),10),j=0;if(!(n>=0))return 0;\n\
+while(j<marks.length-1&&!(parseInt(text(marks[j]),10)>=n))j++;return j;}\n\
+window.addEventListener('hashchange',function(){go(named(),true);});\n\
+go(named(),location.hash.length>1);\n\
+})();";
+
+/// The patterns of the bars.
+pub(crate) const PATTERNS: &str =
+    "<defs><pattern id=\"doorway\" width=\"6\" height=\"6\" patternUnits=\"userSpaceOnUse\"><rect width=\"6\" height=\"6\" fill=\"#dceefb\"/><path d=\"M-1 1l2 -2M0 6l6 -6M5 7l2 -2\" style=\"stroke:#5aa5d6\"/></pattern><pattern id=\"waiting\" width=\"6\" height=\"6\" patternUnits=\"userSpaceOnUse\"><rect width=\"6\" height=\"6\" fill=\"#fff1cf\"/><circle cx=\"3\" cy=\"3\" r=\"1.1\" fill=\"#b57a10\"/></pattern><pattern id=\"settling\" width=\"6\" height=\"6\" patternUnits=\"userSpaceOnUse\"><rect width=\"6\" height=\"6\" fill=\"#fde0d4\"/><path d=\"M0 0l6 6M6 0l-6 6\" style=\"stroke:#d0592f\"/></pattern></defs>";
+
+/// What the signs, bars and words mean.
+pub(crate) const LEGEND: &str = "<text class=\"name\" x=\"8\" y=\"19\">stages</text>\n\
+<path class=\"idle\" d=\"M52 16L78 16\"/>\n\
+<text class=\"key\" x=\"84\" y=\"19\">idle</text>\n\
+<rect class=\"doorway\" x=\"126\" y=\"9\" width=\"26\" height=\"14\"/>\n\
+<text class=\"key\" x=\"158\" y=\"19\">doorway: takes a ticket</text>\n\
+<rect class=\"waiting\" x=\"314\" y=\"9\" width=\"26\" height=\"14\"/>\n\
+<text class=\"key\" x=\"346\" y=\"19\">waits (behind whom)</text>\n\
+<rect class=\"inside\" x=\"478\" y=\"4\" width=\"26\" height=\"24\"/>\n\
+<text class=\"key\" x=\"510\" y=\"19\">inside: reads, writes the store</text>\n\
+<rect class=\"leaving\" x=\"714\" y=\"12\" width=\"26\" height=\"8\"/>\n\
+<text class=\"key\" x=\"746\" y=\"19\">leaving</text>\n\
+<rect class=\"settling\" x=\"806\" y=\"9\" width=\"26\" height=\"14\"/>\n\
+<text class=\"key\" x=\"838\" y=\"19\">failed: its unit settles</text>\n\
+<rect class=\"down\" x=\"1000\" y=\"9\" width=\"26\" height=\"14\"/>\n\
+<text class=\"key\" x=\"1032\" y=\"19\">down</text>\n\
+<text class=\"name\" x=\"8\" y=\"45\">signs</text>\n\
+<path class=\"sign\" d=\"M54 37l8 5l-8 5z\"/>\n\
+<text class=\"key\" x=\"68\" y=\"45\">call</text>\n\
+<rect class=\"sign\" x=\"111\" y=\"38\" width=\"7\" height=\"8\"/>\n\
+<text class=\"key\" x=\"124\" y=\"45\">answer</text>\n\
+<rect class=\"pill\" x=\"177\" y=\"34\" width=\"16\" height=\"16\" rx=\"8\"/>\n\
+<text class=\"in-w\" x=\"185\" y=\"45\">0</text>\n\
+<text class=\"key\" x=\"198\" y=\"45\">taken at place 0, and it changed the store</text>\n\
+<rect class=\"pill-o\" x=\"467\" y=\"34\" width=\"16\" height=\"16\" rx=\"8\"/>\n\
+<text class=\"in\" x=\"475\" y=\"45\">1</text>\n\
+<text class=\"key\" x=\"488\" y=\"45\">taken, and it changed nothing</text>\n\
+<path class=\"frees\" d=\"M684 33v8\"/>\n\
+<path class=\"tip\" d=\"M684 49l-4 -7h8z\"/>\n\
+<text class=\"key\" x=\"694\" y=\"45\">no longer waits for it</text>\n\
+<path class=\"cross\" d=\"M843 36l12 12m0 -12l-12 12\"/>\n\
+<text class=\"key\" x=\"860\" y=\"45\">fails</text>\n\
+<path class=\"diamond\" d=\"M916 33l9 9l-9 9l-9 -9z\"/>\n\
+<text class=\"in\" x=\"916\" y=\"45\">1</text>\n\
+<text class=\"key\" x=\"930\" y=\"45\">torn bit settled at 1</text>\n\
+<circle class=\"ring\" cx=\"1078\" cy=\"42\" r=\"5\"/>\n\
+<text class=\"key\" x=\"1088\" y=\"45\">restarts</text>\n\
+<path class=\"back\" d=\"M53 64l9 -6v12z\"/>\n\
+<text class=\"key\" x=\"68\" y=\"67\">withdraws</text>\n\
+<path class=\"no-sign\" d=\"M139 64a6 6 0 1 0 12 0a6 6 0 1 0 -12 0m2 4l8 -8\"/>\n\
+<text class=\"key\" x=\"156\" y=\"67\">refused</text>\n\
+<path class=\"glass\" d=\"M215 57h12l-12 14h12z\"/>\n\
+<text class=\"key\" x=\"232\" y=\"67\">go gave up after 65536 steps</text>\n\
+<rect class=\"shade\" x=\"417\" y=\"56\" width=\"24\" height=\"16\"/>\n\
+<text class=\"key\" x=\"446\" y=\"67\">somebody is inside</text>\n\
+<path class=\"far\" d=\"M571 64L595 64\"/>\n\
+<text class=\"key\" x=\"600\" y=\"67\">more events than pixels</text>\n\
+<text class=\"name\" x=\"8\" y=\"91\">words</text>\n\
+<text class=\"key strong\" x=\"52\" y=\"91\">wait 2</text>\n\
+<text class=\"key\" x=\"98\" y=\"91\">its ticket is 2</text>\n\
+<text class=\"key strong\" x=\"210\" y=\"91\">behind 0,1</text>\n\
+<text class=\"key\" x=\"280\" y=\"91\">these are served before it</text>\n\
+<text class=\"key strong\" x=\"458\" y=\"91\">2 choosing</text>\n\
+<text class=\"key\" x=\"528\" y=\"91\">2 may come before it</text>\n\
+<text class=\"key strong\" x=\"670\" y=\"91\">taken 0 done</text>\n\
+<text class=\"key\" x=\"752\" y=\"91\">number 0 of the history, reply done</text>\n\
+<text class=\"key strong\" x=\"984\" y=\"91\">380</text>\n\
+<text class=\"key\" x=\"1012\" y=\"91\">events between two columns</text>";

@@ -1,0 +1,215 @@
+//! The bands of a page, from the lines of a run.
+ghost use Rattle.std.specs.Prelude.{◌≡◌, ◌++◌, [], ◌∷◌, flat_map, IfOk, None, OnOk};
+ghost use Rattle.shapes.specs.Titles.{lines_in};
+ghost use Rattle.picture.specs.Pages.{held, lines_of_band};
+ghost use Rattle.picture.specs.Told.{text_of, told_in};
+
+use crate::bands::Band;
+use crate::columns::{Column, cut};
+use crate::layout::Layout;
+use crate::placing::{Placing, stretch};
+use crate::state::State;
+use crate::told::Line;
+use shapes::{Key, Markup, Tag, class, words};
+use std::alloc::{AllocError, Global};
+
+/// What the bands stand in.
+#[derive(Clone, Copy, Debug, PartialEq, Eq)]
+pub enum Form {
+    /// A page: each band is a picture of its own.
+    Page,
+    /// One picture: each band is a group of it, from this height on.
+    Picture(u64),
+}
+
+/// The picture of a run so far: the columns of the band that is begun, and what stands before it.
+#[derive(Drop)]
+pub struct Page {
+    alloc: Global,
+    form: Form,
+    opens: Vec<u8>,
+    state: State,
+    before: State,
+    placing: Placing,
+    columns: Vec<Column>,
+    pending: Option<Column>,
+    last_at: u64,
+    bands: u64,
+    height: u64,
+}
+
+impl Page {
+    /// No line was told; `opening` is the opening store, if it is not empty.
+    pub fn new(alloc: Global, form: Form, processes: u8, opening: &[u8]) -> Result<Page, AllocError>
+        ensures { IfOk result (λ page. held page ≡ []) }
+    {
+        let opens = opening_words(alloc, opening)?;
+        let state = State::new(processes);
+        Ok(Page {
+            alloc,
+            form,
+            state,
+            before: state,
+            placing: Placing::new(characters(opening)),
+            opens,
+            columns: Vec::new(alloc),
+            pending: None,
+            last_at: 0,
+            bands: 0,
+            height: 0,
+        })
+    }
+
+    /// The heights of all bands so far, with 16 more for each.
+    pub fn height(&self) -> u64 {
+        self.height
+    }
+
+    /// Takes in the next line; answers the band that is full with what came before it, if one is. Its lines, and then
+    /// those that are held back, are those that were held back before, and this one.
+    pub fn take(&mut self, line: Line) -> Result<Option<Markup>, AllocError>
+        ensures { IfOk result (λ full. lines_of_band full ++ held self.new ≡ held self.old ++ text_of line ∷ []) }
+    {
+        let frees = self.state.take(self.alloc, &line)?;
+        if let Some(column) = &mut self.pending {
+            if column.has_room_for(&line) {
+                column.join(self.alloc, line, frees, self.state)?;
+                return Ok(None);
+            }
+        }
+        let full = self.place_pending()?;
+        let gap = line.at.saturating_sub(self.last_at);
+        self.last_at = line.at;
+        self.pending = Some(Column::new(self.alloc, line, gap, frees, self.state)?);
+        Ok(full)
+    }
+
+    /// The last bands, once all lines were told: they tell the lines that were held back.
+    pub fn end(&mut self) -> Result<(Option<Markup>, Markup), AllocError>
+        ensures { IfOk result (λ bands. lines_of_band bands.0 ++ lines_in bands.1 ≡ held self.old) }
+    {
+        let full = self.place_pending()?;
+        let last = self.draw_band(true)?;
+        Ok((full, last))
+    }
+
+    /// Places the column that no more line joins; answers the band before it, if it is full.
+    fn place_pending(&mut self) -> Result<Option<Markup>, AllocError>
+        ensures placed { OnOk result (self.new.pending ≡ None) }
+        ensures lines { IfOk result (λ full. lines_of_band full ++ flat_map told_in self.new.columns.items ≡ held self.old) }
+    {
+        let Some(column) = self.pending.take() else {
+            return Ok(None);
+        };
+        let full = self.make_room(&column)?;
+        self.put(column)?;
+        Ok(full)
+    }
+
+    /// Draws the band, and begins another, where a column has no room in it.
+    fn make_room(&mut self, column: &Column) -> Result<Option<Markup>, AllocError>
+        ensures pending { OnOk result (self.new.pending ≡ self.old.pending) }
+        ensures lines { IfOk result (λ full. lines_of_band full ++ flat_map told_in self.new.columns.items ≡ flat_map told_in self.old.columns.items) }
+    {
+        let place = self.placing.place(self.alloc, column)?;
+        if self.placing.has_room(place) {
+            return Ok(None);
+        }
+        let full = self.draw_band(false)?;
+        self.placing = Placing::new(0);
+        Ok(Some(full))
+    }
+
+    /// Puts a column behind the others of the band.
+    #[tactic(auto, using(crate::proofs::Held::put_last))]
+    fn put(&mut self, column: Column) -> Result<(), AllocError>
+        ensures pending { OnOk result (self.new.pending ≡ self.old.pending) }
+        ensures lines { OnOk result (flat_map told_in self.new.columns.items ≡ flat_map told_in self.old.columns.items ++ told_in column) }
+    {
+        let mut column = column;
+        let place = self.placing.place(self.alloc, &column)?;
+        self.placing.put(self.alloc, &mut column, place)?;
+        Ok(self.columns.push(column)?)
+    }
+
+    /// Draws the columns of the band, and begins another.
+    fn draw_band(&mut self, is_last: bool) -> Result<Markup, AllocError>
+        ensures pending { OnOk result (self.new.pending ≡ self.old.pending) }
+        ensures begun { OnOk result (self.new.columns.items ≡ []) }
+        ensures lines { IfOk result (λ band. lines_in band ≡ flat_map told_in self.old.columns.items) }
+    {
+        let mut columns = std::mem::replace(&mut self.columns, Vec::new(self.alloc));
+        stretch(self.alloc, columns.as_mut_slice())?;
+        let layout = Layout::new(self.state.processes, columns.as_slice(), is_last);
+        let before = self.before;
+        if let Some(column) = columns.last() {
+            self.before = column.after;
+        }
+        let band = Band {
+            columns,
+            before,
+            layout,
+            is_last,
+            opens: std::mem::replace(&mut self.opens, Vec::new(self.alloc)),
+        };
+        self.bands = self.bands.saturating_add(1);
+        let mut markup = Markup::new(self.alloc);
+        self.begin_band(layout.height, &mut markup)?;
+        band.draw(self.alloc, &mut markup)?;
+        self.end_band(layout.height, &mut markup)?;
+        Ok(markup)
+    }
+
+    /// Begins the picture or the group of a band of this height.
+    fn begin_band(&self, height: u16, markup: &mut Markup) -> Result<(), AllocError>
+        ensures { OnOk result (lines_in markup.new ≡ lines_in markup.old) }
+    {
+        match self.form {
+            Form::Page => {
+                let view = format!(in self.alloc; "0 0 1200 {height}")?;
+                let bands = self.bands;
+                let label = format!(in self.alloc; "Part {bands} of the run")?;
+                let attributes = [
+                    class("band"),
+                    words(Key::ViewBox, view.as_bytes()),
+                    words(Key::Role, b"group"),
+                    words(Key::Label, label.as_bytes()),
+                ];
+                markup.enter(Tag::Svg, &attributes)?;
+                markup.constant("\n")
+            }
+            Form::Picture(top) => markup.lower(top.saturating_add(self.height)),
+        }
+    }
+
+    fn end_band(&mut self, height: u16, markup: &mut Markup) -> Result<(), AllocError>
+        ensures lines { OnOk result (lines_in markup.new ≡ lines_in markup.old) }
+        ensures columns { self.new.columns.items ≡ self.old.columns.items }
+        ensures pending { self.new.pending ≡ self.old.pending }
+    {
+        self.height = self.height.saturating_add(u64::from(height) + 16);
+        match self.form {
+            Form::Page => markup.constant("</svg>\n"),
+            Form::Picture(_) => markup.end_group(),
+        }
+    }
+}
+
+/// What stands at the beginning of the history.
+fn opening_words(alloc: Global, opening: &[u8]) -> Result<Vec<u8>, AllocError> {
+    if opening.is_empty() {
+        return Ok(Vec::new(alloc));
+    }
+    let mut words = Vec::new(alloc);
+    words.extend_from_slice(b"opens with ")?;
+    words.extend_from_slice(opening)?;
+    cut(alloc, words.as_slice())
+}
+
+/// How many characters stand there.
+fn characters(opening: &[u8]) -> usize {
+    if opening.is_empty() {
+        return 0;
+    }
+    opening.len().min(33) + 11
+}

@@ -1,0 +1,93 @@
+//! The signs at the foot of a column.
+ghost use Rattle.std.specs.Prelude.{◌≤◌, ◌≡◌, OnOk};
+ghost use Rattle.shapes.specs.Titles.{lines_in};
+
+use crate::measures::{DIGIT, room};
+use crate::told::{Line, Saying};
+use record::Mark;
+use shapes::{Markup, Point};
+use std::alloc::{AllocError, Global};
+
+/// Draws the sign of a line at a place.
+pub(crate) fn draw_sign(
+    alloc: Global,
+    line: &Line,
+    at: Point,
+    markup: &mut Markup,
+) -> Result<(), AllocError>
+    ensures { OnOk result (lines_in markup.new ≡ lines_in markup.old) }
+{
+    match &line.saying {
+        Saying::Marked { mark, change, .. } => {
+            draw_mark(alloc, mark, change.is_some(), at, markup)
+        }
+        Saying::Refused { .. } => {
+            let rest = "a6 6 0 1 0 12 0a6 6 0 1 0 -12 0m2 4l8 -8";
+            markup.path("no-sign", moved(at, 6, 0), rest)
+        }
+        Saying::Tired(_) => markup.path("glass", moved(at, 6, 7), "h12l-12 14h12z"),
+        Saying::Shown(_) | Saying::Ended { .. } => { markup.block("sign", moved(at, 2, 5), 4, 10) }
+    }
+}
+
+/// Draws the sign of a mark; `changed`: its command changed the store.
+fn draw_mark(
+    alloc: Global,
+    mark: &Mark,
+    changed: bool,
+    at: Point,
+    markup: &mut Markup,
+) -> Result<(), AllocError>
+    ensures { OnOk result (lines_in markup.new ≡ lines_in markup.old) }
+{
+    match mark {
+        Mark::Called(_) => markup.path("sign", moved(at, 0, 5), "l8 5l-8 5z"),
+        Mark::Answered(_) => markup.block("sign", moved(at, 3, 4), 7, 8),
+        Mark::Failed => markup.path("cross", moved(at, 6, 6), "l12 12m0 -12l-12 12"),
+        Mark::Settled(value) => draw_settled(*value, at, markup),
+        Mark::Taken(place, _) => draw_taken(alloc, *place, changed, at, markup),
+        Mark::Down => markup.block("sign", moved(at, 2, 9), 4, 18),
+        Mark::Restarted => markup.ring("ring", at),
+        Mark::Withdrew => markup.path("back", moved(at, 5, 0), "l9 -6v12z"),
+        Mark::Waiting(_) | Mark::Entered | Mark::Left => Ok(()),
+    }
+}
+
+fn draw_settled(value: bool, at: Point, markup: &mut Markup) -> Result<(), AllocError>
+    ensures { OnOk result (lines_in markup.new ≡ lines_in markup.old) }
+{
+    markup.path("diamond", moved(at, 0, 9), "l9 9l-9 9l-9 -9z")?;
+    let digit: &[u8] = if value { b"1" } else { b"0" };
+    markup.label("in", below(at, 3), digit)
+}
+
+/// Draws a place of the history.
+fn draw_taken(
+    alloc: Global,
+    place: u64,
+    changed: bool,
+    at: Point,
+    markup: &mut Markup,
+) -> Result<(), AllocError>
+    ensures { OnOk result (lines_in markup.new ≡ lines_in markup.old) }
+{
+    let digits = place.to_string(alloc)?;
+    let width = u32::from(room(digits.len(), DIGIT).saturating_add(10));
+    let corner = moved(at, width / 2, 8);
+    markup.pill(if changed { "pill" } else { "pill-o" }, corner, width)?;
+    let style = if changed { "in-w" } else { "in" };
+    markup.label(style, below(at, 3), digits.as_bytes())
+}
+
+/// A place so far to the left of another and above it.
+pub(crate) fn moved(at: Point, left: u32, up: u32) -> Point
+    ensures x { result.x ≤ at.x }
+    ensures y { result.y ≤ at.y }
+{
+    Point::at(at.x.saturating_sub(left), at.y.saturating_sub(up))
+}
+
+/// A place so far below another.
+pub(crate) fn below(at: Point, down: u32) -> Point {
+    Point::at(at.x, at.y.saturating_add(down))
+}

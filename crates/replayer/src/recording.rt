@@ -1,0 +1,102 @@
+//! The engine `record`: the record of a scenario's run as text, each entry written before the next event is made. No
+//! record is held.
+ghost use Rattle.std.specs.Prelude.{◌≡◌, ◌+◌, ◌-◌, ◌^◌, ◌<◌, IfErr, IfOk, IsOk, OnErr, OnOk};
+ghost use Rattle.std.specs.Io.KnownBytes.{Appends};
+ghost use Rattle.files.specs.Engines.{Ran};
+ghost use Rattle.files.specs.Streams.{ReadsFront, WritesFront};
+ghost use Rattle.scenario.specs.Reads.{script};
+ghost use Rattle.replayer.specs.Recordings.{CopiesLine, CutsCopy, entry_told, recorded, recording_text};
+ghost use Rattle.replayer.specs.Replays.{ended};
+ghost use Rattle.replayer.specs.Writing.{IsWriteFault, failed_write};
+
+use crate::told::Told;
+use crate::turns::Course;
+use record_file::{print_entry, print_setup};
+use scenario::{Fault, Line, Scenario, Sink, Source, read_input, read_scenario, write_all};
+use std::alloc::{AllocError, Global};
+
+/// Reads a whole scenario file, and then writes the record of its run, as it is made: the setup, and a line for each
+/// entry. However it ends, at most `INPUT_LIMIT` bytes are taken from the front of the input.
+pub fn run_record<R: Source, W: Sink>(
+    alloc: Global,
+    input: &mut R,
+    output: &mut W,
+) -> Result<(), Fault>
+    requires reads { R.failures input.old < 2 ^ 64 - 1 }
+    requires writes { W.failures output.old < 2 ^ 64 - 1 }
+    ensures ran { Ran recording_text (ended result)
+        (record { to_come = R.to_come input.old; taken = W.taken output.old; read_failures = R.failures input.old; write_failures = W.failures output.old })
+        (record { to_come = R.to_come input.new; taken = W.taken output.new; read_failures = R.failures input.new; write_failures = W.failures output.new }) }
+    ensures input { ReadsFront (R.to_come input.old) (R.to_come input.new) }
+{
+    let file = read_input(alloc, input)?;
+    let scenario = read_scenario(alloc, file.as_slice())?;
+    record_scenario(alloc, &scenario, output)
+}
+
+/// Writes the record of a scenario's run.
+fn record_scenario<W: Sink>(alloc: Global, scenario: &Scenario, output: &mut W) -> Result<(), Fault>
+    requires { W.failures output.old < 2 ^ 64 - 1 }
+    ensures ok { OnOk result (Appends (W.taken output.old) (W.taken output.new) (recorded (script scenario.now))) }
+    ensures front { WritesFront (W.taken output.old) (W.taken output.new) (recorded (script scenario.now)) }
+    ensures fault { IfErr result IsWriteFault }
+    ensures failures { W.failures output.new ≡ W.failures output.old + failed_write result }
+{
+    let mut course = Course::new(alloc, &scenario.setup, false)?;
+    write_bytes(output, print_setup(alloc, &scenario.setup))?;
+    for line in &scenario.lines {
+        record_line(alloc, &mut course, line, output)?;
+    }
+    Ok(())
+}
+
+/// Makes the turns of a line, and writes the entry of each before the next is made.
+fn record_line<W: Sink>(
+    alloc: Global,
+    course: &mut Course,
+    line: &Line,
+    output: &mut W,
+) -> Result<(), Fault>
+    requires { W.failures output.old < 2 ^ 64 - 1 }
+    ensures ok { OnOk result (CopiesLine line.now course.old course.new (W.taken output.old) (W.taken output.new)) }
+    ensures cut { OnErr result (CutsCopy line.now course.old (W.taken output.old) (W.taken output.new)) }
+    ensures fault { IfErr result IsWriteFault }
+    ensures failures { W.failures output.new ≡ W.failures output.old + failed_write result }
+{
+    course.begin(line);
+    'turns: while let Some(told) = course.turn(line)? {
+        write_entry(alloc, &told, output)?;
+    }
+    Ok(())
+}
+
+/// Writes the line of the entry that is told, if one is.
+fn write_entry<W: Sink>(alloc: Global, told: &Told, output: &mut W) -> Result<(), Fault>
+    requires { W.failures output.old < 2 ^ 64 - 1 }
+    ensures ok { OnOk result (Appends (W.taken output.old) (W.taken output.new) (entry_told told.now)) }
+    ensures front { WritesFront (W.taken output.old) (W.taken output.new) (entry_told told.now) }
+    ensures fault { IfErr result IsWriteFault }
+    ensures failures { W.failures output.new ≡ W.failures output.old + failed_write result }
+{
+    match told {
+        Told::Accepted(made) => {
+            let entry = made.entry(alloc);
+            write_bytes(output, print_entry(alloc, &entry))
+        }
+        Told::Refused { .. } | Told::Tired(_) | Told::Shown(_) => Ok(()),
+    }
+}
+
+/// Writes bytes, unless there was no memory for them.
+fn write_bytes<W: Sink>(output: &mut W, bytes: Result<Vec<u8>, AllocError>) -> Result<(), Fault>
+    requires { W.failures output.old < 2 ^ 64 - 1 }
+    ensures ok { OnOk result (IfOk bytes (λ made. Appends (W.taken output.old) (W.taken output.new) made.items)) }
+    ensures made { OnOk result (IsOk bytes) }
+    ensures front { IfOk bytes (λ made. WritesFront (W.taken output.old) (W.taken output.new) made.items) }
+    ensures none { OnErr bytes (W.taken output.new ≡ W.taken output.old) }
+    ensures fault { IfErr result IsWriteFault }
+    ensures failures { W.failures output.new ≡ W.failures output.old + failed_write result }
+{
+    let bytes = bytes?;
+    write_all(output, bytes.as_slice())
+}

@@ -1,0 +1,232 @@
+#!/usr/bin/env python3
+"""Draws runs by the proved program, and reads them back: the worked examples, the lessons, and files that are made up.
+
+tests/pictures.py [--made-up N] [--first K]: so many files that tests/made_up.py makes up, 10 if not said, from the one of
+number K on, 1 if not said. The picture that README.md shows is the one that the program draws.
+
+A parser of HTML reads the pages, and one of XML the pictures; both know nothing of this repository. The titles of the marks
+are the lines of the run, in their order. Each word of a picture stands within it, and on no other one. Right of each mark the
+bar of each process is the stage that the marks so far give it, and all lanes are shaded from each `enter` to its `leave`; no
+two bars stand side by side as `inside`. The places in the history are numbered from 0 on, and each is filled where a command
+changed the store.
+"""
+
+import argparse
+import html.parser
+import itertools
+import pathlib
+import re
+import subprocess
+import sys
+import xml.etree.ElementTree as tree
+from typing import NamedTuple
+
+from made_up import scenario
+
+TOP = pathlib.Path(__file__).resolve().parent.parent
+PROGRAM = TOP / "crates" / "bakerystore" / "out" / "bakerystore"
+# the picture that README.md shows, and its run
+SHOWN = TOP / "docs" / "run.svg"
+SHOWN_RUN = TOP / "examples" / "worked" / "failure-commit-settled-new" / "scenario"
+SVG = "{http://www.w3.org/2000/svg}"
+# the size of a word by its class, in pixels
+SIZES = {
+    **dict.fromkeys(["verb", "rest", "store"], 11),
+    **dict.fromkeys(["event", "gap", "name", "stage", "white", "in", "in-w", "thin"], 9),
+    "key": 10,
+    "lane": 14,
+}
+# the stage that a mark gives its process
+STAGES = {
+    **{"call": "doorway", "wait": "waiting", "enter": "inside", "leave": "leaving", "withdraw": "leaving"},
+    **{"answer": "idle", "fail": "settling", "down": "down", "restart": "idle"},
+}
+LEFT = 52
+
+
+class Titles(html.parser.HTMLParser):
+    """The titles of the marks of a page."""
+
+    def __init__(self):
+        super().__init__()
+        self.lines, self.in_mark, self.in_title = [], False, False
+
+    def handle_starttag(self, tag, attributes):
+        if tag == "g":
+            self.in_mark = ("class", "m") in attributes
+        if tag == "title" and self.in_mark:
+            self.in_title = True
+            self.lines.append("")
+
+    def handle_endtag(self, tag):
+        if tag == "title":
+            self.in_title = False
+        if tag == "g":
+            self.in_mark = False
+
+    def handle_data(self, data):
+        if self.in_title:
+            self.lines[-1] += data
+
+
+def printed(command, file):
+    ran = subprocess.run([PROGRAM, command, "-"], input=file, capture_output=True, check=True)
+    return ran.stdout.decode()
+
+
+def page_faults(page, lines):
+    """What is wrong with the page of a run of these lines."""
+    titles = Titles()
+    titles.feed(page)
+    if titles.lines != lines:
+        yield "other lines than replay's"
+    if "<script src" in page or "http" in page.replace("http://www.w3.org/2000/svg", ""):
+        yield "something that is not in the file"
+
+
+def words_of(element, down):
+    """The words of a picture: the box of each, and what it says."""
+    moved = re.fullmatch(r"translate\(0,(\d+)\)", element.get("transform", ""))
+    down += int(moved.group(1)) if moved else 0
+    if element.tag == SVG + "text":
+        style = element.get("class").split()[0]
+        size = SIZES[style]
+        width = len(element.text) * size * 0.603
+        left = int(element.get("x")) - (width / 2 if style in ("gap", "in", "in-w") else 0)
+        base = int(element.get("y")) + down
+        yield left, base - size * 0.75, left + width, base + size * 0.2, element.text
+    for child in element:
+        yield from words_of(child, down)
+
+
+def word_faults(root):
+    """Words that stand outside of a picture, or on another one."""
+    words = sorted(words_of(root, 0))
+    for place, (left, top, right, bottom, text) in enumerate(words):
+        if left < 0 or right > int(root.get("width")) or bottom > int(root.get("height")):
+            yield f"{text} stands outside"
+        for other in itertools.takewhile(lambda word: word[0] < right, words[place + 1 :]):
+            if other[1] < bottom - 0.5 and top < other[3] - 0.5:
+                yield f"{text} stands on {other[4]}"
+
+
+def title(mark):
+    """The line of a mark."""
+    return mark.find(SVG + "title").text
+
+
+def width_of(box):
+    """Where a box begins, and where it ends."""
+    return int(box.get("x")), int(box.get("x")) + int(box.get("width"))
+
+
+def bars_of(band):
+    """The bars of each lane of a band: where each begins, where it ends, and its stage."""
+    lanes = []
+    for shape in band:
+        style = shape.get("class", "")
+        if shape.tag == SVG + "text" and style in ("lane", "thin"):
+            lanes.append([])
+        elif style == "idle":
+            ends = re.fullmatch(r"M(\d+) \d+L(\d+) \d+", shape.get("d")).groups()
+            lanes[-1].append((*map(int, ends), style))
+        elif style in STAGES.values():
+            lanes[-1].append((*width_of(shape), style))
+    return lanes
+
+
+class State(NamedTuple):
+    """The stages of all processes, and whether the critical section is taken."""
+
+    stages: list
+    is_taken: bool
+
+    def after(self, line):
+        """The state after a line of the run."""
+        process, verb = (line.split() + [""])[1:3]
+        if line.startswith("-") or verb not in STAGES:
+            return self
+        is_taken = verb == "enter" or (self.is_taken and verb != "leave")
+        stages = list(self.stages)
+        if verb != "leave" or stages[int(process)] != "settling":
+            stages[int(process)] = STAGES[verb]
+        return State(stages, is_taken)
+
+
+def band_faults(band, state, marks):
+    """What is wrong with the bars and shades of a band, where this was the state before it."""
+    shades = [width_of(box) for box in band.iter(SVG + "rect") if box.get("class") == "shade"]
+    lanes, states = bars_of(band), {LEFT: state}
+    for mark in marks:
+        states[int(mark.get("data-x"))] = state = state.after(title(mark))
+    for x, wanted in states.items():
+        drawn = [[stage for start, end, stage in lane if start <= x < end] for lane in lanes]
+        if drawn != [[stage] for stage in wanted.stages] or drawn.count(["inside"]) > 1:
+            yield f"bars {drawn} at {x}, not {wanted.stages}"
+        if sum(start <= x < end for start, end in shades) != wanted.is_taken:
+            yield f"shades {shades}, though at {x} somebody is inside: {wanted.is_taken}"
+
+
+def place_faults(marks):
+    """What is wrong with the places in the history that the marks tell."""
+    taken = [mark for mark in marks if re.match(r"\d+ \d+ taken ", title(mark))]
+    for place, mark in enumerate(taken):
+        style = "pill" if mark.get("data-s") is not None else "pill-o"
+        knots = [word.text for word in mark.iter(SVG + "text") if word.get("class") in ("in", "in-w")]
+        pills = [box.get("class") for box in mark.iter(SVG + "rect")]
+        if (knots, pills) != ([str(place)] * 2, [style] * 2):
+            yield f"place {place} is drawn as {knots}, {pills}"
+
+
+def picture_faults(picture, lines):
+    """What is wrong with the picture of a run of these lines."""
+    root = tree.fromstring(picture.encode())
+    # the last group is the legend
+    bands = [group for group in root if group.get("transform")][:-1]
+    marks_of = [[group for group in band if group.get("class") == "m"] for band in bands]
+    marks = list(itertools.chain(*marks_of))
+    if [title(mark) for mark in marks] != lines:
+        yield "other lines than replay's"
+        return
+    yield from word_faults(root)
+    yield from place_faults(marks)
+    state = State(["idle"] * len(bars_of(bands[0])), False)
+    for band, marks in zip(bands, marks_of):
+        yield from band_faults(band, state, marks)
+        for mark in marks:
+            state = state.after(title(mark))
+
+
+def files(made_up, first):
+    """The worked examples that are drawn, the lessons, and the files that are made up, by name."""
+    for folder in sorted((TOP / "examples" / "worked").iterdir()):
+        if (folder / "draw").exists():
+            yield folder.name, (folder / "scenario").read_bytes()
+    for lesson in sorted((TOP / "lessons").glob("*.bakery")):
+        yield lesson.name, lesson.read_bytes()
+    for number in range(first, first + made_up):
+        yield f"file {number}", scenario(number).encode()
+
+
+def main():
+    parser = argparse.ArgumentParser(description=__doc__, formatter_class=argparse.RawDescriptionHelpFormatter)
+    parser.add_argument("--made-up", type=int, default=10)
+    parser.add_argument("--first", type=int, default=1)
+    words = parser.parse_args()
+    is_shown = printed("draw-svg", SHOWN_RUN.read_bytes()) == SHOWN.read_text()
+    passed, failed = int(is_shown), int(not is_shown)
+    if not is_shown:
+        print(f"{SHOWN.relative_to(TOP)} is not what draw-svg draws")
+    for name, file in files(words.made_up, words.first):
+        lines = printed("replay", file).splitlines()
+        for command, faults_of in [("draw", page_faults), ("draw-svg", picture_faults)]:
+            faults = list(faults_of(printed(command, file), lines))
+            passed, failed = passed + (not faults), failed + bool(faults)
+            for fault in faults[:5]:
+                print(f"{command} {name}: {fault}")
+    print(f"{passed} passed, {failed} failed")
+    sys.exit(failed != 0)
+
+
+if __name__ == "__main__":
+    main()
