@@ -1,87 +1,132 @@
 //! Runs the files of a world of processes. Without words it is `plain -`.
 #![tactic(auto)]
 
+ghost use Rattle.std.specs.Prelude.{◌-◌, ◌<◌, ◌^◌};
+
+mod help;
+mod progress;
+mod terminal;
+mod usage;
 mod words;
 
+use drawer::{draw, draw_svg};
 use engines::{run_bits, run_plain};
+use help::text_of;
+use progress::{WatchedInput, WatchedOutput};
 use race_engine::{RunFault, run_fault_status, run_race};
-use replayer::{replay, run_audit, run_sweep};
-use scenario::{Fault, FromRead, IntoWrite, ended};
-use std::alloc::AllocError;
+use replayer::{replay, run_audit, run_judge, run_record, run_sweep};
+use scenario::{DONE, Fault, FromRead, IntoWrite, Sink, Source, ended};
 use std::env::{self, Env};
 use std::fs::{File, Files};
 use std::io;
-use std::io::{BufReader, BufWriter, ErrorKind, Input, Read, Write};
+use std::io::{BufReader, ErrorKind, Input, IsTerminal, Read, Write};
 use std::process::ExitCode;
 use std::sync::Wait;
 use std::thread::Threads;
-use words::{Engine, Request, read_words};
-
-/// What is printed where the words ask for nothing that there is.
-const USAGE: &str =
-    "usage: bakerystore [plain|bits|replay|audit|sweep|race FILE]  (FILE - is standard input; without words: plain -)";
-
-/// The exit status where the words ask for nothing that there is.
-const USAGE_STATUS: u8 = 2;
+use std::time::Clock;
+use terminal::{Output, Terminals};
+use usage::{USAGE, USAGE_STATUS, WordsFault};
+use words::{Asked, Engine, Page, Request, read_words};
 
 fn main(rt: HostRuntime) -> ExitCode {
-    let status = match request(&rt) {
-        Ok(Some(request)) => told(&rt, run(&rt, &request)),
-        Ok(None) => {
-            let _ = eprintln!(rt; "{USAGE}");
-            USAGE_STATUS
-        }
-        Err(AllocError) => told(&rt, Err(Fault::Memory.into())),
+    let terminals = Terminals {
+        output: rt.stdout().is_terminal(),
+        error: rt.stderr().is_terminal(),
     };
-    ExitCode::from(status)
+    ExitCode::from(match all_words(&rt) {
+        Ok(words) => do_asked(&rt, words.as_slice(), terminals),
+        Err(fault) => misused(&rt, &fault),
+    })
 }
 
-/// What the program's words ask for; `None` where they ask for nothing that there is.
-fn request<T: Env + AllocGlobal>(rt: &T) -> Result<Option<Request>, AllocError> {
+/// The program's words, of which the first is its own name.
+fn all_words<T: Env + AllocGlobal>(rt: &T) -> Result<Vec<String>, WordsFault<'static>> {
     let arguments = match env::args(rt) {
         Ok(arguments) => arguments,
-        Err(error) if error.kind() == ErrorKind::OutOfMemory => return Err(AllocError),
-        Err(_) => return Ok(None),
+        Err(error) if error.kind() == ErrorKind::OutOfMemory => return Err(WordsFault::Memory),
+        Err(_) => return Err(WordsFault::NotText),
     };
-    let mut owned = Vec::new(rt.alloc());
-    for word in arguments {
-        owned.push(word)?;
-    }
     let mut words = Vec::new(rt.alloc());
-    for word in &owned {
-        words.push(word.as_str())?;
+    for word in arguments {
+        if words.push(word).is_err() {
+            return Err(WordsFault::Memory);
+        }
     }
-    read_words(rt.alloc(), words.as_slice())
+    Ok(words)
+}
+
+/// Does what the words ask for, and answers the exit status.
+fn do_asked<T: Files + Input + Print + Eprint + Clock + AllocGlobal + Threads + Wait + Sync>(
+    rt: &T,
+    words: &[String],
+    terminals: Terminals,
+) -> u8 {
+    match read_words(rt.alloc(), words) {
+        Ok(Asked::Run(request)) => told(rt, run(rt, &request, terminals)),
+        Ok(Asked::Tell(page)) => told(rt, tell(rt, page)),
+        Err(fault) => misused(rt, &fault),
+    }
+}
+
+/// Tells why the words ask for nothing that there is, or that they could not be read; answers the exit status.
+fn misused<T: Eprint>(rt: &T, fault: &WordsFault<'_>) -> u8 {
+    if let WordsFault::Memory = fault {
+        return told(rt, Err(Fault::Memory.into()));
+    }
+    let _ = eprintln!(rt; "{fault}\n{USAGE}");
+    USAGE_STATUS
+}
+
+/// Prints a page to standard output.
+fn tell<T: Print>(rt: &T, page: Page) -> Result<u8, RunFault> {
+    match rt.write_all(text_of(page).as_bytes()) {
+        Ok(()) => Ok(DONE),
+        Err(_) => Err(Fault::Write.into()),
+    }
 }
 
 /// Opens the file and runs the engine on it; answers the exit status that its end stands for.
-fn run<T: Files + Input + Print + AllocGlobal + Threads + Wait + Sync>(
+fn run<T: Files + Input + Print + Eprint + Clock + AllocGlobal + Threads + Wait + Sync>(
     rt: &T,
-    request: &Request,
+    request: &Request<'_>,
+    terminals: Terminals,
 ) -> Result<u8, RunFault> {
-    if request.file.as_str() == "-" {
-        return run_on(rt, request.engine, rt.reader());
+    if request.file == "-" {
+        return run_on(rt, request, terminals, rt.reader());
     }
-    match File::open(rt, request.file.as_str()) {
-        Ok(file) => run_on(rt, request.engine, file),
+    match File::open(rt, request.file) {
+        Ok(file) => run_on(rt, request, terminals, file),
         Err(error) if error.kind() == ErrorKind::OutOfMemory => Err(Fault::Memory.into()),
         Err(_) => Err(Fault::Read.into()),
     }
 }
 
 /// Runs the engine from a reader to standard output, each through a buffer.
-fn run_on<T: Print + AllocGlobal + Threads + Wait + Sync, R: Read + Drop>(
+fn run_on<T: Print + Eprint + Clock + AllocGlobal + Threads + Wait + Sync, R: Read + Drop>(
     rt: &T,
-    engine: Engine,
+    request: &Request<'_>,
+    terminals: Terminals,
     reader: R,
 ) -> Result<u8, RunFault> {
     let Ok(reader) = BufReader::new(rt.alloc(), reader) else {
         return Err(Fault::Memory.into());
     };
-    let Ok(mut writer) = BufWriter::new(rt.alloc(), io::writer(rt)) else {
+    let Ok(mut writer) = Output::new(rt.alloc(), io::writer(rt), terminals.output) else {
         return Err(Fault::Memory.into());
     };
-    let ran = run_engine(rt, engine, reader, &mut writer);
+    let shows = terminals.error && !terminals.output && !request.quiet;
+    // Of `judge` the input tells how far it is, since it writes nothing before its end.
+    let reads = request.engine == Engine::Judge;
+    let mut input = WatchedInput::new(FromRead::new(reader), rt, shows && reads);
+    let mut output = WatchedOutput::new(
+        IntoWrite::new(&mut writer),
+        rt,
+        request.engine,
+        shows && !reads,
+    );
+    let ran = run_engine(rt, request.engine, &mut input, &mut output);
+    input.end();
+    output.end();
     // After a fault too: what the engine has written is a front of its text.
     let flushed = writer.flush();
     let status = ran?;
@@ -91,23 +136,28 @@ fn run_on<T: Print + AllocGlobal + Threads + Wait + Sync, R: Read + Drop>(
     }
 }
 
-/// Runs the engine from a reader to a writer; answers the exit status that its end stands for.
-fn run_engine<T: AllocGlobal + Threads + Wait + Sync, R: Read + Drop, W: Write>(
+/// Runs the engine from a source to a sink; answers the exit status that its end stands for.
+fn run_engine<T: AllocGlobal + Threads + Wait + Sync, R: Source, W: Sink>(
     rt: &T,
     engine: Engine,
-    reader: R,
-    writer: &mut W,
-) -> Result<u8, RunFault> {
+    input: &mut R,
+    output: &mut W,
+) -> Result<u8, RunFault>
+    requires reads { R.failures input.old < 2 ^ 64 - 1 }
+    requires writes { W.failures output.old < 2 ^ 64 - 1 }
+{
     let alloc = rt.alloc();
-    let mut input = FromRead::new(reader);
-    let mut output = IntoWrite::new(writer);
     let ran = match engine {
-        Engine::Plain => ended(run_plain(alloc, &mut input, &mut output)),
-        Engine::Bits => ended(run_bits(alloc, &mut input, &mut output)),
-        Engine::Replay => ended(replay(alloc, &mut input, &mut output)),
-        Engine::Audit => run_audit(alloc, &mut input, &mut output),
-        Engine::Sweep => run_sweep(alloc, &mut input, &mut output),
-        Engine::Race => return run_race(rt, alloc, &mut input, &mut output),
+        Engine::Plain => ended(run_plain(alloc, input, output)),
+        Engine::Bits => ended(run_bits(alloc, input, output)),
+        Engine::Replay => ended(replay(alloc, input, output)),
+        Engine::Audit => run_audit(alloc, input, output),
+        Engine::Sweep => run_sweep(alloc, input, output),
+        Engine::Record => ended(run_record(alloc, input, output)),
+        Engine::Judge => run_judge(alloc, input, output),
+        Engine::Race => return run_race(rt, alloc, input, output),
+        Engine::Draw => ended(draw(alloc, input, output)),
+        Engine::DrawSvg => ended(draw_svg(alloc, input, output)),
     };
     Ok(ran?)
 }

@@ -1,7 +1,6 @@
 //! The program's words.
-use clap::error::ErrorKind;
-use clap::{Arg, Command};
-use std::alloc::{AllocError, Global};
+use crate::usage::{WordsFault, unknown_command};
+use std::alloc::Global;
 
 /// What runs a file.
 #[derive(Clone, Copy, Debug, PartialEq, Eq)]
@@ -18,6 +17,14 @@ pub enum Engine {
     Sweep,
     /// The calls of a scenario, those of each process on a thread of its own, weighed.
     Race,
+    /// The record of a scenario's run, entry by entry.
+    Record,
+    /// The verdict on the record that a record file says.
+    Judge,
+    /// The page of a scenario's run: a picture from which its lines are read back.
+    Draw,
+    /// The same as one picture.
+    DrawSvg,
 }
 
 impl Engine {
@@ -30,43 +37,165 @@ impl Engine {
             "audit" => Some(Engine::Audit),
             "sweep" => Some(Engine::Sweep),
             "race" => Some(Engine::Race),
+            "record" => Some(Engine::Record),
+            "judge" => Some(Engine::Judge),
+            "draw" => Some(Engine::Draw),
+            "draw-svg" => Some(Engine::DrawSvg),
             _ => None,
         }
     }
 }
 
 /// An engine, and the file that it is to run.
-#[derive(Drop)]
-pub struct Request {
+#[derive(Clone, Copy, Debug, PartialEq, Eq)]
+pub struct Request<'a> {
     pub engine: Engine,
     /// The path of the file; `-` is standard input.
-    pub file: String,
+    pub file: &'a str,
+    /// Whether nothing is to be shown of how far the run is.
+    pub quiet: bool,
 }
 
-/// What the words ask for, of which the first is the program's own name: `ENGINE FILE`, and without words
-/// `plain -`. `None` where they ask for nothing that there is.
-pub fn read_words(alloc: Global, words: &[&str]) -> Result<Option<Request>, AllocError> {
-    if words.len() <= 1 {
-        let file = String::from_str(alloc, "-")?;
-        return Ok(Some(Request {
-            engine: Engine::Plain,
-            file,
-        }));
+/// A page that tells the program's words.
+#[derive(Clone, Copy, Debug, PartialEq, Eq)]
+pub enum Page {
+    /// All words, the statuses, and where to read on.
+    Words,
+    /// One command.
+    Command(Engine),
+    /// The faults that are told, with their causes.
+    Faults,
+    /// The version.
+    Version,
+}
+
+/// What the words ask for.
+#[derive(Clone, Copy, Debug, PartialEq, Eq)]
+pub enum Asked<'a> {
+    /// That an engine runs a file.
+    Run(Request<'a>),
+    /// That a page is printed.
+    Tell(Page),
+}
+
+/// The words, sorted: at most two that are no options, the first one too many, and the options.
+#[derive(Clone, Copy, Debug)]
+struct Sorted<'a> {
+    first: Option<&'a str>,
+    second: Option<&'a str>,
+    third: Option<&'a str>,
+    unknown: Option<&'a str>,
+    help: bool,
+    version: bool,
+    quiet: bool,
+    /// Whether a word `--` came, behind which no word is an option.
+    ended: bool,
+}
+
+impl<'a> Sorted<'a> {
+    /// No words.
+    fn new() -> Sorted<'a> {
+        Sorted {
+            first: None,
+            second: None,
+            third: None,
+            unknown: None,
+            help: false,
+            version: false,
+            quiet: false,
+            ended: false,
+        }
     }
-    let command = Command::new(alloc, "bakerystore")
-        .arg(Arg::new(alloc, "ENGINE").required(true))?
-        .arg(Arg::new(alloc, "FILE").required(true))?;
-    let matches = match command.try_get_matches_from(words) {
-        Ok(matches) => matches,
-        Err(error) if error.kind() == ErrorKind::OutOfMemory => return Err(AllocError),
-        Err(_) => return Ok(None),
+
+    /// One word more.
+    fn take(&mut self, word: &'a str) {
+        if self.ended || word == "-" || !word.starts_with("-") {
+            self.take_plain(word);
+            return;
+        }
+        match word {
+            "--" => self.ended = true,
+            "--help" | "-h" => self.help = true,
+            "--version" => self.version = true,
+            "--quiet" => self.quiet = true,
+            _ => self.unknown = self.unknown.or(Some(word)),
+        }
+    }
+
+    /// One word more that is no option.
+    fn take_plain(&mut self, word: &'a str) {
+        if self.first.is_none() {
+            self.first = Some(word);
+        } else if self.second.is_none() {
+            self.second = Some(word);
+        } else if self.third.is_none() {
+            self.third = Some(word);
+        }
+    }
+}
+
+/// What the words ask for, of which the first is the program's own name: `COMMAND FILE`, and without words `plain -`;
+/// a page; or why they ask for nothing that there is.
+pub fn read_words<'a>(alloc: Global, words: &'a [String]) -> Result<Asked<'a>, WordsFault<'a>> {
+    let mut sorted = Sorted::new();
+    for at in 1..words.len() {
+        sorted.take(words[at].as_str());
+    }
+    if let Some(word) = sorted.unknown {
+        return Err(WordsFault::UnknownOption(word));
+    }
+    if let Some(word) = sorted.third {
+        return Err(WordsFault::TooManyWords(word));
+    }
+    if sorted.version {
+        return match sorted.first {
+            None => Ok(Asked::Tell(Page::Version)),
+            Some(word) => Err(WordsFault::TooManyWords(word)),
+        };
+    }
+    read_command(alloc, &sorted)
+}
+
+/// What words without a fault of their own ask for.
+fn read_command<'a>(alloc: Global, sorted: &Sorted<'a>) -> Result<Asked<'a>, WordsFault<'a>> {
+    let Some(word) = sorted.first else {
+        return Ok(if sorted.help {
+            Asked::Tell(Page::Words)
+        } else {
+            Asked::Run(Request {
+                engine: Engine::Plain,
+                file: "-",
+                quiet: sorted.quiet,
+            })
+        });
     };
-    let Some(engine) = matches.get_str("ENGINE").and_then(Engine::of) else {
-        return Ok(None);
+    if word == "help" {
+        return Ok(Asked::Tell(read_page(alloc, sorted.second)?));
+    }
+    let Some(engine) = Engine::of(word) else {
+        return Err(unknown_command(alloc, word));
     };
-    let Some(file) = matches.get_str("FILE") else {
-        return Ok(None);
+    if sorted.help {
+        return Ok(Asked::Tell(Page::Command(engine)));
+    }
+    let Some(file) = sorted.second else {
+        return Err(WordsFault::NoFile(word));
     };
-    let file = String::from_str(alloc, file)?;
-    Ok(Some(Request { engine, file }))
+    Ok(Asked::Run(Request {
+        engine,
+        file,
+        quiet: sorted.quiet,
+    }))
+}
+
+/// The page that `help` and a word, if there is one, ask for.
+fn read_page<'a>(alloc: Global, topic: Option<&'a str>) -> Result<Page, WordsFault<'a>> {
+    match topic {
+        None | Some("help") => Ok(Page::Words),
+        Some("faults") => Ok(Page::Faults),
+        Some(word) => match Engine::of(word) {
+            Some(engine) => Ok(Page::Command(engine)),
+            None => Err(unknown_command(alloc, word)),
+        },
+    }
 }

@@ -1,0 +1,333 @@
+//! The pages that tell the program's words and faults. Each line behind `$ ` is a command, with what it prints below.
+use crate::words::{Engine, Page};
+
+/// The text of a page.
+pub fn text_of(page: Page) -> &'static str {
+    match page {
+        Page::Words => WORDS,
+        Page::Command(engine) => text_of_command(engine),
+        Page::Faults => FAULTS,
+        Page::Version => VERSION,
+    }
+}
+
+/// The text of the page of a command.
+fn text_of_command(engine: Engine) -> &'static str {
+    match engine {
+        Engine::Plain => PLAIN,
+        Engine::Bits => BITS,
+        Engine::Replay => REPLAY,
+        Engine::Audit => AUDIT,
+        Engine::Sweep => SWEEP,
+        Engine::Race => RACE,
+        Engine::Record => RECORD,
+        Engine::Judge => JUDGE,
+        Engine::Draw => DRAW,
+        Engine::DrawSvg => DRAW_SVG,
+    }
+}
+
+/// The program's version, and the line by which the toolchain names itself.
+const VERSION: &str = "bakerystore 0.1.0, proved with rattle-kit-13f logic dac8208d650f15bf\n";
+
+/// All words.
+const WORDS: &str = r"usage: bakerystore COMMAND FILE   (FILE - is standard input)
+       bakerystore                does what `bakerystore plain -` does
+
+Commands, each with an example:
+
+  plain    the calls of a scenario, on the one-thread store
+           $ bakerystore plain examples/counters.bakery
+  bits     the accesses of a bits file, to one safe bit
+           $ bakerystore bits examples/overlap.bits
+  replay   the run of a scenario: calls, single steps, failures, restarts
+           $ bakerystore replay examples/torn-commit.bakery
+  audit    the same run, each entry of its record judged
+           $ bakerystore audit examples/torn-commit.bakery
+  sweep    runs in which a process fails after one event of that run, counted
+           $ bakerystore sweep examples/torn-commit.bakery
+  race     the calls of a scenario, each process on a thread of its own
+           $ bakerystore race examples/refusals.bakery
+  record   the record of a scenario's run, entry by entry
+           $ bakerystore record examples/failed-read.bakery
+  judge    a record, whoever made it: good, or the first law that is broken
+           $ bakerystore judge examples/failed-read.record
+  draw     the picture of a scenario's run, as a page for a browser
+           $ bakerystore draw examples/torn-commit.bakery
+  draw-svg the same as one picture
+           $ bakerystore draw-svg examples/torn-commit.bakery
+
+  help COMMAND, COMMAND --help   what a command reads and prints
+  help faults                    the kinds of fault, with their causes
+  help, --help, -h               this page
+  --version                      the version, and what it was proved with
+
+Options:
+
+  --quiet   shows no progress. Else, where standard error is a terminal and standard
+            output is none, a run of more than two seconds shows there how far it is
+            (but audit, sweep and race, which print when all is done, show nothing)
+  --        ends the options: what is behind it is a command or a file
+
+Exit status:
+
+  0   all is well
+  1   a fault of the file (`line <n>: <kind>`), `read fault` or `write fault`
+  2   other words than these
+  3   a record or a race is `bad`
+  4   want of memory (`out of memory`, `line <n>: memory`), or `no thread`
+
+Where to read on: README.md, examples/README.md and docs/MODEL.md.
+";
+
+/// The page of `plain`.
+const PLAIN: &str = r"usage: bakerystore plain FILE
+
+Makes the calls of a scenario on the one-thread store, in the order of the file.
+Each call prints its place, its process and its reply, and each `show` the store.
+Other lines are passed over. The lines of a scenario: bakerystore help replay
+
+  $ printf 'bakery 2\nopen a c:5\ncall 0 add a 1\ncall 1 read a\nshow\n' | bakerystore plain -
+  0 0 sum 6
+  1 1 value c:6
+  show a=c:6
+";
+
+/// The page of `bits`.
+const BITS: &str = r"usage: bakerystore bits FILE
+
+Makes single accesses to one safe bit, which opens at 0. Each read that ends prints
+what it gave, and each line whose access is not in its turn prints `refused`.
+
+The first line is `bits 1`. The other lines:
+
+  write 0, write 1   a write begins
+  end                it ends
+  settle 0, settle 1 it is settled at this value, in place of its end
+  read               a read begins
+  value 0, value 1   it ends, with this value if a write overlapped it
+  drop               it is given up
+
+  $ printf 'bits 1\nwrite 1\nread\nend\nvalue 0\nread\nvalue 0\nend\n' | bakerystore bits -
+  0
+  1
+  refused
+";
+
+/// The page of `replay`.
+const REPLAY: &str = r"usage: bakerystore replay FILE
+
+Makes the run of a scenario. Each line: the number of the event, the process, and
+what has happened; the last line counts events, commands taken and refusals.
+
+The first line of a scenario is `bakery 1` or `bakery 2`. The other lines:
+
+  processes N, tickets N, stamps N, slots N   headings: 2, 4, 4, 1 if left out
+  open NAME VALUE                             what the store opens with (bakery 2)
+  call P read NAME                            a process calls
+  call P write NAME VALUE                     (VALUE: c: and a count, or t: and a text)
+  call P add NAME COUNT
+  call P cas NAME VALUE VALUE                 (writes the second if it finds the first)
+  call P ask                                  which change was its last (bakery 2)
+  step P N                                    N steps of a process
+  go P wait, inside, idle or down             its steps until it is there
+  wander N                                    N steps of processes picked at random
+  flick 0, flick 1, flick pcg SEED            what overlapped reads give
+  fail P, withdraw P, restart P               it fails, gives up or comes back
+  show                                        prints the store
+
+  $ printf 'bakery 2\ncall 0 read a\ncall 0 read a\nshow\n' | bakerystore replay -
+  0 0 call read a
+  - 0 refused busy
+  show empty
+  end events 1 taken 0 refused 1
+
+README.md tells a longer run in words.
+";
+
+/// The page of `audit`.
+const AUDIT: &str = r"usage: bakerystore audit FILE
+
+Makes the run of a scenario, as replay does, and judges each entry of its record.
+Prints `good` and the number of entries; or `bad`, the lowest entry that breaks a
+law, and the law, and then ends with status 3. The lines of a scenario:
+bakerystore help replay
+
+  $ printf 'bakery 2\ncall 0 read a\nstep 0 3\n' | bakerystore audit -
+  good 4
+";
+
+/// The page of `sweep`.
+const SWEEP: &str = r"usage: bakerystore sweep FILE
+
+Makes the run of a scenario, as replay does, and after each of its events two more
+runs, in which the process of the event fails and is restarted, everybody goes on,
+and the calls of the file are made again. Prints how many such runs there are, how
+many are good, and how many were stuck. The lines of a scenario:
+bakerystore help replay
+
+  $ printf 'bakery 2\ncall 0 add a 1\n' | bakerystore sweep -
+  sweep runs 2 good 2 stuck 0
+";
+
+/// The page of `race`.
+const RACE: &str = r"usage: bakerystore race FILE
+
+Makes the `call` lines of each process of a scenario on a thread of its own. Prints
+the refused calls; each answer, behind its process and its place; the store that is
+left; and `good` if all that is one history, else `bad`, with status 3. The threads
+decide who comes first. The lines of a scenario: bakerystore help replay
+
+  $ printf 'bakery 2\nprocesses 1\nopen a c:5\ncall 0 add a 1\ncall 1 ask\n' | bakerystore race -
+  - 1 refused no-process
+  0 0 sum 6
+  show a=c:6
+  good
+";
+
+/// The page of `record`.
+const RECORD: &str = r"usage: bakerystore record FILE
+
+Makes the run of a scenario, as replay does, and prints its record: the setup, and
+each entry on a line of its own. The lines of a scenario: bakerystore help replay
+The lines of a record: docs/RECORDS.md
+
+  $ printf 'bakery 1\ntickets 1\nslots 1\ncall 0 read a\nstep 0 1\n' | bakerystore record -
+  record 1
+  processes 2
+  tickets 1
+  stamps 4
+  slots 1
+  0 : call read a
+  0 0.choosing.0.0 write 1
+";
+
+/// The page of `judge`.
+const JUDGE: &str = r"usage: bakerystore judge FILE
+
+Reads a record to its end, whoever made it. Prints `good` and the number of entries
+where it is the record of a run; else `bad`, the lowest entry that breaks a law, and
+the law, and then ends with status 3. The lines of a record: docs/RECORDS.md
+
+  $ printf 'record 1\n0 : call read a\n0 0.choosing.0.0 write 1\n' | bakerystore judge -
+  good 2
+";
+
+/// The page of `draw`.
+const DRAW: &str = r"usage: bakerystore draw FILE
+
+Makes the run of a scenario, as replay does, and writes its picture as one page for
+a browser, which needs nothing else: a lane for each process, its marks and what it
+is doing, above the one history; the lines that replay prints can be read off it.
+What a picture shows: docs/PICTURE.md
+The lines of a scenario: bakerystore help replay
+
+  $ printf 'bakery 2\ncall 0 read a\n' | bakerystore draw - | grep -o '<title>[^<]*'
+  <title>Run of 2 processes (bakery 2, tickets 4, stamps 4, slots 1)
+  <title>0 0 call read a
+  <title>end events 1 taken 0 refused 0
+";
+
+/// The page of `draw-svg`.
+const DRAW_SVG: &str = r"usage: bakerystore draw-svg FILE
+
+Writes the picture of the run of a scenario as one picture, without a page round it.
+What a picture shows: docs/PICTURE.md
+The lines of a scenario: bakerystore help replay
+
+  $ printf 'bakery 2\ncall 0 read a\n' | bakerystore draw-svg - | grep -o '<title>[^<]*'
+  <title>0 0 call read a
+  <title>end events 1 taken 0 refused 0
+";
+
+/// The kinds of fault.
+const FAULTS: &str =
+    r"Of a file with faults one is told, on standard error: the first of the first faulty
+line, as `line <n>: <kind>`. Then nothing was run, no verdict is told, and the status
+is 1. Every line counts, from 1 on. The kinds, about in the order in which they are
+looked for:
+
+too-long    The line has more than 128 bytes.
+              $ printf 'bakery 1\n# %0128d\n' 0 | bakerystore plain -
+              line 2: too-long
+            Or it is line 4,097 of a scenario or a bits file, whatever it says. (Records
+            have any number of lines.)
+              $ yes '#' | head -n 4097 | bakerystore plain -
+              line 4097: too-long
+            Or it is their 4,001st line behind the headings and `open` lines, where
+            empty lines and comments do not count.
+              $ (echo bakery 1; yes show | head -n 4001) | bakerystore plain -
+              line 4002: too-long
+
+not-first   The first line is not `bakery 1` or `bakery 2`; of a bits file `bits 1`;
+            of a record `record 1` or `record 2`. The file is of another version, or of
+            another kind than the command reads; or it begins with a byte order mark,
+            or is UTF-16; or it is empty.
+              $ printf 'bits 1\nread\n' | bakerystore plain -
+              line 1: not-first
+              $ printf '\357\273\277bakery 1\n' | bakerystore plain -
+              line 1: not-first
+              $ bakerystore judge examples/failed-read.bakery
+              line 1: not-first
+            Or a line stands too late: the first line or a heading once more, a
+            heading behind other lines, `open` behind other lines than these.
+              $ printf 'bakery 1\nshow\nslots 2\n' | bakerystore plain -
+              line 3: not-first
+
+unknown     A key word is none: the first word of the line, the third of `call` and
+            of `go`, the second of `flick`. `open` and `ask` are none in a file that
+            begins with `bakery 1`.
+              $ printf 'bakery 2\ncall 0 rad a\n' | bakerystore plain -
+              line 2: unknown
+            In a record: the first word is none, and begins with no digit (`open` is
+            none in `record 1`); a bit is not spelled as `0.ticket.3.1` is; or a word
+            is no move, mark, command, reply or answer.
+              $ printf 'record 1\n0 0.tickets.3.1 read\n' | bakerystore judge -
+              line 2: unknown
+
+words       There are too few words, or too many.
+              $ printf 'bakery 1\nstep 0\n' | bakerystore plain -
+              line 2: words
+            An entry of a record has more than three marks.
+              $ printf 'record 1\n0 : fail : down : fail : down\n' | bakerystore judge -
+              line 2: words
+
+number      An operand is no number, begins with a needless 0, or is too large: 255
+            for processes and headings, 100,000 for `step` and `wander`, 64 bits
+            for a seed, and signed for what `add` adds; 1 in a bits file. In a record:
+            255 for processes, 65,535 for a bit and behind `last`, 32 bits for a
+            ticket, 64 bits for a place, 1 for what is read, written or settled.
+              $ printf 'bakery 1\nstep 0 100001\n' | bakerystore plain -
+              line 2: number
+
+bad-name    A name is not 1 to 8 of the characters a to z, 0 to 9 and _.
+              $ printf 'bakery 1\ncall 0 read A\n' | bakerystore plain -
+              line 2: bad-name
+
+bad-value   A value is neither c: and a count of 64 bits, signed, nor t: and a text
+            of at most 12 visible ASCII characters.
+              $ printf 'bakery 1\ncall 0 write a 5\n' | bakerystore plain -
+              line 2: bad-value
+
+bad-setup   A heading is out of range: `processes` 1 to 8, `tickets` and `stamps` 1
+            to 16 (twice that in a file that begins with `bakery 2`), `slots` 1 to 8.
+              $ printf 'bakery 1\nprocesses 9\n' | bakerystore plain -
+              line 2: bad-setup
+            Or a name is opened twice, or there are more `open` lines than slots.
+              $ printf 'bakery 2\nopen a c:1\nopen b c:2\n' | bakerystore plain -
+              line 3: bad-setup
+
+memory      The system gave no memory for the line. The status is 4.
+
+Other faults:
+
+read fault      The file is not there or may not be read; or reading has failed.
+                  $ bakerystore plain .
+                  read fault
+write fault     Writing has failed: the disk is full, or the reader went away, as
+                `| head -n 1` does once it has its line. The status is 1.
+                  $ bakerystore plain examples/counters.bakery > /dev/full
+                  write fault
+out of memory   The system gave no memory. The status is 4.
+no thread       A thread of a race could not be started. The status is 4.
+";
