@@ -1,0 +1,145 @@
+//! A tour of the library. First a world made by hand: two processes call, one fails in the middle of its change, and looks
+//! up afterwards what became of it. Then a board, whose ports call on threads. docs/LIBRARY.md leads through it.
+#![tactic(auto)]
+
+ghost use Rattle.std.specs.Prelude.{◌≡◌, ℕ, IfOk, IsTrue, List, Ok, OnOk, Some};
+ghost use Rattle.board.specs.Boards.{IsOf};
+ghost use Rattle.board.specs.Closings.{AreFirstPortsOf};
+ghost use Rattle.board.specs.Ports.{SamePort};
+ghost use Rattle.plain_store.specs.Setups.{checked};
+ghost use Rattle.record.specs.declared.Event.{Event as Happening};
+ghost use Rattle.record.specs.declared.Stage.TheVariants.{Inside};
+ghost use Rattle.record.specs.Records.{past_of, process_of};
+ghost use Rattle.record.specs.Stages.{inside};
+ghost use Rattle.world.specs.Events.{KeepsTheHeadline, stage_in};
+ghost use Rattle.world.specs.Shows.{Shows};
+
+use anyhow::{Result, bail};
+use board::{Board, Driven, Port};
+use plain_store::{Command, Name, Setup, Value, show_line};
+use safe_bit::Move;
+use safe_number::Field;
+use std::sync::Wait;
+use std::thread::{self, Threads};
+use world::{Act, Event, Flicks, Stage, World};
+
+/// Both parts begin with two processes and the counter `a` at 5.
+fn main(rt: HostRuntime) -> Result<()> {
+    let counter = Name::new(b"a")?;
+    let mut setup = Setup::one(2, 2, 2, 1);
+    setup.version = 2;
+    setup.opening.add(counter, Value::Count(5))?;
+    setup.check()?;
+    by_hand(&rt, &setup, counter)?;
+    let (board, mut ports) = Board::new(rt.alloc(), &setup)?;
+    let calls = [Command::Add(counter, 1), Command::Add(counter, 10)];
+    call_all(&rt, &board, &mut ports, &calls);
+    let Ok(closing) = board.close(ports) else {
+        bail!("a call is not answered");
+    };
+    print!(rt; "{}", show_line(rt.alloc(), &closing.image)?)?;
+    Ok(())
+}
+
+/// Process 0 fails within the write of its commit bit. Its memory unit settles that at 1, so the change is taken, as `ask` tells.
+fn by_hand(rt: &HostRuntime, setup: &Setup, counter: Name) -> Result<()>
+    requires { checked setup.now ≡ Ok tt }
+{
+    let mut world = World::new(rt.alloc(), setup)?;
+    make(rt, &mut world, Event::Call(0, Command::Add(counter, 1)))?;
+    make(rt, &mut world, Event::Call(1, Command::Add(counter, 10)))?;
+    go(rt, &mut world, 0, false, Stage::Inside)?;
+    begin_commit(rt, &mut world, 0)?;
+    make(rt, &mut world, Event::Fail(0))?;
+    go(rt, &mut world, 0, true, Stage::Down)?;
+    go(rt, &mut world, 1, false, Stage::Idle)?;
+    make(rt, &mut world, Event::Restart(0))?;
+    make(rt, &mut world, Event::Call(0, Command::Ask))?;
+    go(rt, &mut world, 0, false, Stage::Idle)?;
+    if let Some(store) = world.newest() {
+        print!(rt; "{}", show_line(rt.alloc(), &store)?)?;
+    }
+    Ok(())
+}
+
+/// Makes an event, and prints its marks. The headline holds of its entry.
+fn make<T: Print>(rt: &T, world: &mut World, event: Event) -> Result<Act>
+    ensures headline { IfOk result (λ act. KeepsTheHeadline world.old (process_of event) act) }
+{
+    let Ok(act) = world.event(event) else {
+        bail!("an event is refused");
+    };
+    for mark in &act.marks {
+        println!(rt; "{} {mark}", event.process())?;
+    }
+    Ok(act)
+}
+
+/// Makes steps of a process up to this stage. If it then stands inside, nobody else does: the headline's first sentence.
+fn go<T: Print>(rt: &T, world: &mut World, process: u8, flick: bool, stage: Stage) -> Result<()>
+    ensures alone { OnOk result ((events : List Happening) → Shows world.new events → stage_in world.new.setup (past_of world.new.setup events) process ≡ Some Inside → (other : ℕ) → IsTrue (inside other (past_of world.new.setup events)) → other ≡ process) }
+{
+    for _ in 0..u16::MAX {
+        if matches!(world.stage(process), Some(now) if now == stage) {
+            world::history_laws::headline();
+            return Ok(());
+        }
+        make(rt, world, Event::Step(process, flick))?;
+    }
+    bail!("process {process} does not come there")
+}
+
+/// Makes steps of a process until it has begun to write its commit bit.
+fn begin_commit<T: Print>(rt: &T, world: &mut World, process: u8) -> Result<()> {
+    for _ in 0..u16::MAX {
+        let act = make(rt, world, Event::Step(process, false))?;
+        if let Some(access) = act.access {
+            if access.field == Field::Commit && matches!(access.how, Move::BeginWrite(_)) {
+                return Ok(());
+            }
+        }
+    }
+    bail!("process {process} does not come to its commit bit")
+}
+
+/// Each port makes its call, on a thread of its own.
+#[tactic(auto, using(board_runs::proofs::PortsThen::is_of, board_runs::proofs::PortsThen::are_then))]
+fn call_all<R: Threads + Wait + Sync>(
+    rt: &R,
+    board: &Board,
+    ports: &mut Vec<Port>,
+    calls: &[Command],
+)
+    requires { AreFirstPortsOf board.now ports.old.items }
+    ensures { AreFirstPortsOf board.now ports.new.items }
+{
+    thread::for_each_mut(
+        rt,
+        ports.as_mut_slice(),
+        2,
+        &|place: usize, port: &mut Port|
+            requires { IsOf board.now port.old }
+            ensures { SamePort port.old port.new }
+        {
+            if let Some(command) = calls.get(place) {
+                call(rt, board, port, *command);
+            }
+        },
+    );
+}
+
+/// A call of a port, which is driven until it is answered.
+fn call<R: Wait>(rt: &R, board: &Board, port: &mut Port, command: Command)
+    requires { IsOf board.now port.old }
+    ensures { SamePort port.old port.new }
+{
+    let mut flicks = Flicks::constant(false);
+    if port.begin(board, command).is_ok() {
+        for _ in rt.forever() {
+            match port.drive(board, 256, &mut flicks) {
+                Driven::Turns => thread::yield_now(),
+                _ => return,
+            }
+        }
+    }
+}
