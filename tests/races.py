@@ -21,17 +21,23 @@ PAGE = TOP / "docs" / "RACES.md"
 RACES = 200
 
 
+def texts_beside(block):
+    """The texts that stand beside one another in a block."""
+    columns = zip(*(re.split(r" {2,}", line) for line in block.splitlines()), strict=True)
+    return {"".join(f"{line}\n" for line in column) for column in columns}
+
+
 def files_of(page):
     """Each file of a page, with the texts of the block below it."""
     blocks = re.findall(r"^```text\n(.*?)^```$", page.read_text(), re.M | re.S)
-    for file, texts in zip(blocks[::2], blocks[1::2], strict=True):
-        columns = zip(*(re.split(r" {2,}", line) for line in texts.splitlines()), strict=True)
-        yield file, {"".join(f"{line}\n" for line in column) for column in columns}
+    for file, block in zip(blocks[::2], blocks[1::2], strict=True):
+        yield file, texts_beside(block)
 
 
 def text_of(slots, opening, order):
     """What a race prints that takes these calls, each a process and a command, in this order, and none gives up."""
-    store, changes, lines = Store(slots, opening, [0, 0]), 0, []
+    numbers = [0] * (1 + max(process for process, _ in order))
+    store, changes, lines = Store(slots, opening, numbers), 0, []
     for process, command in order:
         call = Call(process, 1 + sum(owner == process for owner, _ in lines), changes, command.split(), None)
         after, reply = store.after(call)
@@ -47,7 +53,7 @@ def texts_of_orders(file):
     slots = int((re.search(r"^slots (\d+)$", file, re.M) or [0, 1])[1])
     opening = re.findall(r"^open (\S+) (\S+)$", file, re.M)
     calls = [(int(process), command) for process, command in re.findall(r"^call (\d+) (.+)$", file, re.M)]
-    plans = [[call for call in calls if call[0] == process] for process in (0, 1)]
+    plans = [[call for call in calls if call[0] == process] for process in range(1 + max(process for process, _ in calls))]
     texts = set()
     for owners in set(itertools.permutations([process for process, _ in calls])):
         turns = [iter(plan) for plan in plans]
@@ -76,4 +82,5 @@ def main():
     sys.exit(failed != 0 or passed == 0)
 
 
-main()
+if __name__ == "__main__":
+    main()

@@ -1,5 +1,5 @@
 #!/usr/bin/env python3
-"""Follows the README and examples/README.md: runs each command that they show, and compares what it prints byte for byte.
+"""Follows the README, that of examples/, the pages of lessons/, docs/RECORDS.md and docs/FAULTS.md: runs each command that they show, and compares what it prints byte for byte.
 
 A command stands behind `$ ` in a block of `console`, and what it prints, on both streams, on the lines below it. `bakerystore` is the proved program that `rt ci` or `rt run` leaves. A command by which rt runs it,
 `rt try -- WORDS` or `rt run -- WORDS`, is followed by that program too, with these words: what it prints is the same.
@@ -13,7 +13,7 @@ import sys
 
 TOP = pathlib.Path(__file__).resolve().parent.parent
 CRATE = TOP / "crates" / "bakerystore"
-PAGES = [TOP / "README.md", TOP / "examples" / "README.md"]
+PAGES = [TOP / "README.md", TOP / "examples" / "README.md", TOP / "lessons" / "README.md", TOP / "lessons" / "HOUR.md", TOP / "docs" / "RECORDS.md", TOP / "docs" / "FAULTS.md"]
 BY_RT = re.compile(r"\brt (try|run)( --jobs \d+)? -- ")
 
 

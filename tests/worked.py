@@ -13,7 +13,16 @@ import sys
 TOP = pathlib.Path(__file__).resolve().parent.parent
 PROGRAM = TOP / "crates" / "bakerystore" / "out" / "bakerystore"
 # each command with the file that it runs
-COMMANDS = {"plain": "scenario", "bits": "bits-file", "replay": "scenario", "audit": "scenario", "sweep": "scenario", "race": "scenario"}
+COMMANDS = {
+    "plain": "scenario",
+    "bits": "bits-file",
+    "replay": "scenario",
+    "audit": "scenario",
+    "sweep": "scenario",
+    "race": "scenario",
+    "draw": "scenario",
+    "draw-svg": "scenario",
+}
 
 
 def content(path, default):
