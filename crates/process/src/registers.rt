@@ -67,6 +67,18 @@ impl Registers {
         }
     }
 
+    /// The access as `make` makes it: a read's end with what the reader's copy answers. Nothing is made.
+    #[inline]
+    pub fn answered(&self, asked: Access, flick: bool) -> Access
+        requires { CanMake self.now (answered self.now flick asked) }
+        ensures { result ≡ answered self.now flick asked }
+    {
+        match asked.field {
+            Field::Choosing | Field::Ticket => self.locks.answered(asked, flick),
+            _ => self.versions.answered(asked, flick),
+        }
+    }
+
     /// Drops the open read that a reader has of a register, if it reads one.
     pub fn drop_read(&mut self, register: Option<(u8, Field)>, reader: u8)
         requires { CanDrop self.old register reader }

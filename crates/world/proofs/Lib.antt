@@ -27,6 +27,7 @@ pub mod WorldGoesMarked
 pub mod WorldEnds
 -- A world without its history
 pub mod CoreKeeps
+pub mod CoreWithin
 pub mod CoreCopies
 pub mod WorldKeeps
 -- What a world is asked

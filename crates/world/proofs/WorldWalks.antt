@@ -15,7 +15,7 @@ use Rattle.world.specs.Events.{Adds, GoesOn, KeepsWorld}
 use Rattle.flicks.specs.Flicks.{FlickState}
 use Rattle.process.specs.Processes as kept
 use Rattle.world.specs.Seats.{Seat}
-use Rattle.process.specs.Processes.{Kept, kept_at, stage_kept}
+use Rattle.process.specs.Processes.{Kept, stage_kept}
 use Rattle.world.specs.Shows.{Shows, WorldState}
 use Rattle.process.specs.Registers.{MayStep, RegistersState, StepsWithin}
 use Rattle.process.specs.Steps.{bits_to_walk, is_at_door}
@@ -97,7 +97,13 @@ quiet-world w p i flick seat registers then h e = λ k. world_with w.setup (sym 
     seats : map (told p waited waits) (slice_set w.seats i then) ≡ slice_set w.seats i then
     seats = sym (told-none p waited waits (slice_set w.seats i then) (not-apart waited waits (sym e.stays)))
 
--- its step has no mark, and with any history the world goes on
+-- its step adds its access, without a mark
+pub quiet-adds : (w : WorldState) (p i : ℕ) (flick : Bool) (seat : Seat) (registers : RegistersState) (then : Seat) → i ≡ p → i < length w.seats → seat ≡ slice_index_or w.seats i seat → 0 < bits_to_walk seat.process.kept →
+    then ≡ record seat { process = then.process; begun = seat.begun || is_at_door seat.process.kept } → (e : StepsWithin w.registers flick seat.process registers then.process) → Adds w (event.Step p flick) p (record { access = Some e.access; marks = [] })
+quiet-adds w p i flick seat registers then index there seat_is h stays e events shows =
+    step-adds w (room_of w) p i flick seat e.access Nothing then (within-used w (room_of w) p i flick seat (keeps_of w events shows) index there seat_is h) (quiet-steps w flick seat registers then h stays e) events shows
+
+-- and with any history the world goes on
 pub quiet-on : (w : WorldState) (p i : ℕ) (flick : Bool) (seat : Seat) (registers : RegistersState) (then : Seat) → i ≡ p → i < length w.seats → seat ≡ slice_index_or w.seats i seat → 0 < bits_to_walk seat.process.kept →
     then ≡ record seat { process = then.process; begun = seat.begun || is_at_door seat.process.kept } → StepsWithin w.registers flick seat.process registers then.process → StepsQuietly w p flick (walked_world w i registers then)
 quiet-on w p i flick seat registers then index there seat_is h stays e = record {
@@ -108,15 +114,12 @@ quiet-on w p i flick seat registers then index there seat_is h stays e = record 
   setup = refl;
 }
   where
-    used : (events : List Event) → Shows w events → IsUsed w (room_of w) (event.Step p flick) i seat
-    used events shows = within-used w (room_of w) p i flick seat (keeps_of w events shows) index there seat_is h
-
     adds : Adds w (event.Step p flick) p (record { access = Some e.access; marks = [] })
-    adds events shows = step-adds w (room_of w) p i flick seat e.access Nothing then (used events shows) (quiet-steps w flick seat registers then h stays e) events shows
+    adds = quiet-adds w p i flick seat registers then index there seat_is h stays e
 
     shows : GoesOn w (event.Step p flick) (walked_world w i registers then)
     shows events shown = subst (λ new. Shows new (event.Step p flick ∷ events)) (quiet-world w p i flick seat registers then h e)
-        (step-on w (room_of w) p i flick seat e.access Nothing then (used events shown) (quiet-steps w flick seat registers then h stays e) events shown)
+        (step-on w (room_of w) p i flick seat e.access Nothing then (within-used w (room_of w) p i flick seat (keeps_of w events shown) index there seat_is h) (quiet-steps w flick seat registers then h stays e) events shown)
 
 -- and no more calls are pending
 pub quiet-ends : (w : WorldState) (capacity p i : ℕ) (flick : Bool) (seat : Seat) (registers : RegistersState) (then : Seat) → KeepsWorld w capacity → i ≡ p → i < length w.seats → seat ≡ slice_index_or w.seats i seat → 0 < bits_to_walk seat.process.kept →

@@ -1,5 +1,5 @@
 //! N processes over one set of registers, without a history.
-ghost use Rattle.std.specs.Prelude.{◌≡◌, ◌+◌, ◌<◌, ◌≤◌, Bool, false, true, List, length, None, Some, IfOk, IfErr, IfSome, IsOk, OnErr, OnOk, Ok, [], option_map};
+ghost use Rattle.std.specs.Prelude.{◌≡◌, ◌↔◌, ◌+◌, ◌<◌, ◌≤◌, Bool, false, true, List, length, None, Some, IfOk, IfErr, IfSome, IsOk, IsTrue, OnErr, OnOk, Ok, [], option_map};
 ghost use Rattle.plain_store.specs.Setups.{checked};
 ghost use Rattle.plain_store.specs.Commands.{is_command};
 ghost use Rattle.store_image.specs.Image.{image_of};
@@ -208,6 +208,10 @@ impl Core {
         ensures setup { OnOk result (self.new.setup ≡ self.old.setup) }
         ensures through { (taken : List Seen) (events : List Happening) → Shows (with_history self.old taken) events → refused self.old.setup (past_of self.old.setup events) (Step process flick) ≡ None → IsOk result }
     {
+        if 0 < self.bits_within(process) {
+            *told = Told::Nothing;
+            return Ok(self.make_step_told(process, flick));
+        }
         if let Some(refusal) = self.step_refusal(process) {
             return Err(refusal);
         }
@@ -287,6 +291,7 @@ impl Core {
     /// answers whether it was made; nothing is, where the step is not within one, or there is no such process.
     #[inline]
     pub fn step_within(&mut self, process: u8, flick: bool) -> bool
+        ensures whether { IsTrue result ↔ (0 < bits_within_at self.old.seats process) }
         ensures made { result ≡ true → CoreStepsQuietly self.old process flick self.new }
         ensures unmade { result ≡ false → self.new ≡ self.old }
     {
@@ -306,6 +311,22 @@ impl Core {
     {
         let at = usize::from(process);
         self.seats[at].step_within(&mut self.registers, flick);
+    }
+
+    /// The same, with its access. So few words are looked at that it is quicker than a step which may lead to something.
+    #[inline]
+    fn make_step_told(&mut self, process: u8, flick: bool) -> Access
+        requires { 0 < bits_within_at self.old.seats process }
+        ensures quietly { CoreStepsQuietly self.old process flick self.new }
+        ensures accepted { (taken : List Seen) → Adds (with_history self.old taken) (Step process flick) process (record { access = Some result; marks = [] }) }
+        ensures there { process < length self.new.seats }
+    {
+        let at = usize::from(process);
+        let seat = &mut self.seats[at];
+        let asked = seat.process().next(flick);
+        let access = self.registers.answered(asked, flick);
+        seat.step_within(&mut self.registers, flick);
+        access
     }
 
     /// So many steps of a process that has as many bits at least before the last one.

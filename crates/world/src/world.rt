@@ -1,4 +1,4 @@
-ghost use Rattle.std.specs.Prelude.{◌≡◌, Bool, ◌==◌, ◌&&◌, nat_le, ◌<◌, ◌≤◌, ◌∷◌, ◌++◌, ◌+◌, [], true, false, map, option_map, None, Some, IfOk, IfErr, OnOk, OnErr, IsOk, Ok, length, List};
+ghost use Rattle.std.specs.Prelude.{◌≡◌, ◌↔◌, Bool, ◌==◌, ◌&&◌, nat_le, ◌<◌, ◌≤◌, ◌∷◌, ◌++◌, ◌+◌, [], true, false, map, option_map, None, Some, IfOk, IfErr, OnOk, OnErr, IsOk, IsTrue, Ok, length, List};
 ghost use Rattle.std.specs.Vec.{vec_capacity, vec_len};
 ghost use Rattle.plain_store.specs.Setups.{checked};
 ghost use Rattle.store_image.specs.Image.{image_of};
@@ -163,6 +163,7 @@ impl World {
     /// within one, or there is no such process.
     #[inline]
     pub fn step_within(&mut self, process: u8, flick: bool) -> bool
+        ensures whether { IsTrue result ↔ (0 < bits_within_at self.old.seats process) }
         ensures made { result ≡ true → StepsQuietly self.old process flick self.new }
         ensures unmade { result ≡ false → self.new ≡ self.old }
     {

@@ -1,0 +1,93 @@
+use Rattle.std.proofs.Common.{◌≡◌, ◌<◌, ◌∷◌, [], List, Some, true, sym, subst, ◌∙◌, arith}
+use Rattle.std.proofs.lemmas.List.{length-set}
+use Rattle.record.specs.declared.events.Event.TheVariants.{Step}
+use Rattle.record.specs.declared.history.Taken.{Taken}
+use Rattle.laws.specs.Doings.{Doing}
+use Rattle.laws.specs.Steps.{next_of}
+use Rattle.process.specs.Processes.{ProcessState}
+use Rattle.process.specs.Steps.{IsAt, may_step}
+use Rattle.world.specs.Cores.{CoreState, CoreStepsQuietly, with_history}
+use Rattle.world.specs.Events.{Adds}
+use Rattle.world.specs.Walks.{bits_within_at}
+use Rattle.world.proofs.CoreKeeps.{keeps_core}
+use Rattle.world.proofs.CoreWithin.{SeatGoes, asked-can, asked-made, core_within, within-at, within-core-adds, within-core-goes, within-core-may, within-core-steps}
+use Rattle.world.proofs.WorldWalks.{bits-there}
+use Rattle.world.proofs.cores.Core.make_step_told.Goals as goal
+
+pub index_mut-seat-requires : goal.index_mut-seat-requires
+index_mut-seat-requires c =
+    let i = c.self.inside in
+    let some : 0 < bits_within_at i.seats.items c.args.process = subst (λ (core : CoreState). 0 < bits_within_at core.seats c.args.process) (sym c.self.view_is) c.requires in
+    let there = bits-there i.seats.items c.from-at.result c.args.process c.from-at.ensures some in
+    omega (arith, there, i.seats.ok.0)
+
+pub next-asked-requires : goal.next-asked-requires
+next-asked-requires c =
+    let i = c.self.inside in
+    let core : CoreState = record { setup = i.setup; registers = i.registers; seats = i.seats.items } in
+    let h = within-at core c.args.self.now c.args.process c.from-at.result c.index_mut-seat.result.now c.self.invariant c.self.view_is c.requires c.from-at.ensures c.index_mut-seat.ensures.value in
+    record { goes = subst (λ (now : ProcessState). may_step now.kept ≡ true) (sym c.process.ensures) (within-core-goes core c.args.process c.from-at.result c.args.flick c.index_mut-seat.result.now h) }
+
+pub answered-access-requires : goal.answered-access-requires
+answered-access-requires c =
+    let i = c.self.inside in
+    let core : CoreState = record { setup = i.setup; registers = i.registers; seats = i.seats.items } in
+    let seat = c.index_mut-seat.result.now in
+    let h = within-at core c.args.self.now c.args.process c.from-at.result seat c.self.invariant c.self.view_is c.requires c.from-at.ensures c.index_mut-seat.ensures.value in
+    let asked = subst (λ (now : ProcessState). (d : Doing) → IsAt now d → next_of now.setup now.process d c.args.flick ≡ Some c.next-asked.result) c.process.ensures c.next-asked.ensures.access in
+    asked-can seat.process i.registers c.args.flick c.next-asked.result (within-core-may core c.args.process c.from-at.result c.args.flick seat h) asked
+
+pub step_within-requires-clause-within : goal.step_within-requires-clause-within
+step_within-requires-clause-within c =
+    let i = c.self.inside in
+    let core : CoreState = record { setup = i.setup; registers = i.registers; seats = i.seats.items } in
+    (within-at core c.args.self.now c.args.process c.from-at.result c.index_mut-seat.result.now c.self.invariant c.self.view_is c.requires c.from-at.ensures c.index_mut-seat.ensures.value).some
+
+pub step_within-requires-clause-may : goal.step_within-requires-clause-may
+step_within-requires-clause-may c =
+    let i = c.self.inside in
+    let core : CoreState = record { setup = i.setup; registers = i.registers; seats = i.seats.items } in
+    let seat = c.index_mut-seat.result.now in
+    within-core-may core c.args.process c.from-at.result c.args.flick seat (within-at core c.args.self.now c.args.process c.from-at.result seat c.self.invariant c.self.view_is c.requires c.from-at.ensures c.index_mut-seat.ensures.value)
+
+pub invariant_of-self : goal.invariant_of-self
+invariant_of-self c =
+    let i = c.self.inside in
+    let core : CoreState = record { setup = i.setup; registers = i.registers; seats = i.seats.items } in
+    let seat = c.index_mut-seat.result.now in
+    let h = within-at core c.args.self.now c.args.process c.from-at.result seat c.self.invariant c.self.view_is c.requires c.from-at.ensures c.index_mut-seat.ensures.value in
+    let g : SeatGoes core c.args.flick seat c.step_within.new.registers c.step_within.new.self = record { stays = c.step_within.ensures.seat; within = c.step_within.ensures.within } in
+    let quietly = within-core-steps core c.args.process c.from-at.result c.args.flick seat c.step_within.new.registers c.step_within.new.self h g in
+    keeps_core (core_within core c.from-at.result c.step_within.new.registers c.step_within.new.self) h.kept.taken (Step c.args.process c.args.flick ∷ h.kept.events) ((quietly.steps h.kept.taken).shows h.kept.events h.kept.shows)
+
+pub returns-clause-quietly : goal.returns-clause-quietly
+returns-clause-quietly c =
+    let i = c.self.inside in
+    let core : CoreState = record { setup = i.setup; registers = i.registers; seats = i.seats.items } in
+    let seat = c.index_mut-seat.result.now in
+    let h = within-at core c.args.self.now c.args.process c.from-at.result seat c.self.invariant c.self.view_is c.requires c.from-at.ensures c.index_mut-seat.ensures.value in
+    let g : SeatGoes core c.args.flick seat c.step_within.new.registers c.step_within.new.self = record { stays = c.step_within.ensures.seat; within = c.step_within.ensures.within } in
+    subst (λ (old : CoreState). CoreStepsQuietly old c.args.process c.args.flick (core_within core c.from-at.result c.step_within.new.registers c.step_within.new.self)) c.self.view_is
+    (within-core-steps core c.args.process c.from-at.result c.args.flick seat c.step_within.new.registers c.step_within.new.self h g)
+
+pub returns-clause-accepted : goal.returns-clause-accepted
+returns-clause-accepted c =
+    let i = c.self.inside in
+    let core : CoreState = record { setup = i.setup; registers = i.registers; seats = i.seats.items } in
+    let seat = c.index_mut-seat.result.now in
+    let h = within-at core c.args.self.now c.args.process c.from-at.result seat c.self.invariant c.self.view_is c.requires c.from-at.ensures c.index_mut-seat.ensures.value in
+    let g : SeatGoes core c.args.flick seat c.step_within.new.registers c.step_within.new.self = record { stays = c.step_within.ensures.seat; within = c.step_within.ensures.within } in
+    let asked = subst (λ (now : ProcessState). (d : Doing) → IsAt now d → next_of now.setup now.process d c.args.flick ≡ Some c.next-asked.result) c.process.ensures c.next-asked.ensures.access in
+    let may = within-core-may core c.args.process c.from-at.result c.args.flick seat h in
+    let same = asked-made seat.process c.step_within.new.self.process i.registers c.step_within.new.registers c.args.flick c.next-asked.result may g.within asked ∙ sym c.answered-access.ensures in
+    subst (λ (old : CoreState). (taken : List Taken) → Adds (with_history old taken) (Step c.args.process c.args.flick) c.args.process (record { access = Some c.answered-access.result; marks = [] })) c.self.view_is
+    (within-core-adds core c.args.process c.from-at.result c.args.flick seat c.step_within.new.registers c.step_within.new.self c.answered-access.result h g same)
+
+pub returns-clause-there : goal.returns-clause-there
+returns-clause-there c =
+    let i = c.self.inside in
+    let core : CoreState = record { setup = i.setup; registers = i.registers; seats = i.seats.items } in
+    let h = within-at core c.args.self.now c.args.process c.from-at.result c.index_mut-seat.result.now c.self.invariant c.self.view_is c.requires c.from-at.ensures c.index_mut-seat.ensures.value in
+    let long = length-set i.seats.items c.from-at.result c.step_within.new.self in
+    let here = h.there in
+    omega (arith, long, here, c.from-at.ensures)
