@@ -1,9 +1,11 @@
 -- Bytes that are written or read in pieces.
-use Rattle.std.proofs.Common.{ℕ, ◌+◌, ◌≤◌, ◌<◌, List, [], ◌∷◌, ◌++◌, arith, Option, Some, None, length, take, drop, ap, sym, ◌∙◌, append_assoc, take-add}
+use Rattle.std.proofs.Common.{ℕ, ◌+◌, ◌≤◌, ◌<◌, List, [], ◌∷◌, ◌++◌, arith, Option, Some, None, Ok, length, take, drop, slice_set, refl, ap, sym, ◌∙◌, append_assoc, take-add}
 use Rattle.std.proofs.lemmas.List.{take_all, length-append}
+use Rattle.std.specs.Io.{ReadsAtMost}
 use Rattle.std.specs.Io.KnownBytes.{Appends, Consumes, Keeps}
 use Rattle.files.specs.Cuts.{input_limit}
 use Rattle.files.specs.Streams.{ReadsFront, WritesFront}
+use Rattle.files.specs.declared.streams.Failed.{Failed}
 
 -- one piece and then the next
 pub appends_more : (a b c : Option (List ℕ)) (bytes : List ℕ) (at n : ℕ) → Appends a b (take at bytes) → Appends b c (take n (drop at bytes)) → Appends a c (take (at + n) bytes)
@@ -36,3 +38,12 @@ front_read a b c bytes byte early so_far next = record { bytes = bytes ++ byte �
     by (Some xs) (Some ys) (Some zs) so_far next = so_far ∙ ap (λ rest. bytes ++ rest) next ∙ sym (append_assoc bytes (byte ∷ []) zs)
     by (Some xs) (Some ys) None so_far next = next
     by (Some xs) None c so_far next = elim so_far [ ]
+
+-- One byte that came, where it stands at the front of a buffer.
+pub byte_set : (a c : Option (List ℕ)) (buffer : List ℕ) (byte : ℕ) → 0 < length buffer → Consumes a c (byte ∷ []) → Consumes a c (take 1 (slice_set buffer 0 byte))
+byte_set a c [] byte some came = absurd (omega (arith, some))
+byte_set a c (b ∷ bs) byte some came = came
+
+pub prefix_set : (buffer : List ℕ) (byte : ℕ) → 0 < length buffer → ReadsAtMost {E = Failed} (Ok 1) (slice_set buffer 0 byte)
+prefix_set [] byte some = absurd (omega (arith, some))
+prefix_set (b ∷ bs) byte some = (omega arith, refl)

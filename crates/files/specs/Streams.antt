@@ -12,7 +12,7 @@ abbrev pub GivesByte : Option (List ℕ) → Option (List ℕ) → Result (Optio
 GivesByte old new r = MatchResult r (λ byte. Consumes old new (option_to_list byte) × (byte ≡ None → IsAtEnd new)) (λ _. Keeps old new)
 
 -- 1 if the call failed
-abbrev pub failed_read : Result (Option ℕ) Failed → ℕ
+abbrev pub failed_read : {A : Type 0} → Result A Failed → ℕ
 failed_read (Ok byte) = 0
 failed_read (Err e) = 1
 

@@ -1,7 +1,7 @@
-//! Bytes that come one by one, and bytes that go.
+//! Bytes that come, one by one or in blocks, and bytes that go.
 ghost use Rattle.std.specs.Prelude.{◌≡◌, ℕ, ◌+◌, ◌-◌, ◌^◌, ◌<◌, List, Option, Result, Err, IfErr, IfOk, OnOk, OnErr};
-ghost use Rattle.std.specs.Io.{WritesAtMost};
-ghost use Rattle.std.specs.Io.KnownBytes.{Appends, WriteAppends};
+ghost use Rattle.std.specs.Io.{ReadsAtMost, WritesAtMost};
+ghost use Rattle.std.specs.Io.KnownBytes.{Appends, ReadConsumes, WriteAppends};
 ghost use Rattle.files.specs.Streams.{GivesByte, failed_read, failed_put, failed_reading, failed_writing, IsReadFault, ReadsInput, ReadsFront, WritesFront};
 
 use crate::faults::Fault;
@@ -26,6 +26,27 @@ pub trait Source {
         requires { failures self.old < 2 ^ 64 - 1 }
         ensures byte { GivesByte (to_come self.old) (to_come self.new) result }
         ensures failures { failures self.new ≡ failures self.old + failed_read result };
+
+    /// Takes bytes from the front into a buffer, and says how many: none only at the end, or where the buffer has no
+    /// room. An `Err` takes none.
+    #[tactic(auto, using(crate::proofs::Appending::byte_set, crate::proofs::Appending::prefix_set))]
+    fn next_bytes(&mut self, buffer: &mut [u8]) -> Result<usize, Failed>
+        requires { failures self.old < 2 ^ 64 - 1 }
+        ensures count { ReadsAtMost result buffer.new }
+        ensures bytes { ReadConsumes (to_come self.old) (to_come self.new) result buffer.new }
+        ensures failures { failures self.new ≡ failures self.old + failed_read result }
+    {
+        if buffer.is_empty() {
+            return Ok(0);
+        }
+        match self.next_byte()? {
+            None => Ok(0),
+            Some(byte) => {
+                buffer[0] = byte;
+                Ok(1)
+            }
+        }
+    }
 }
 
 /// Where an engine's bytes go.
@@ -45,7 +66,7 @@ pub trait Sink {
 }
 
 /// A reader of std as a source: a read that a signal interrupts is made again, and any other error is a `Failed`.
-/// Each byte is a call of `read`, so put a buffer before a file.
+/// Each byte and each block is a call of `read`, so put a buffer before a file that is read byte by byte.
 #[derive(Drop)]
 pub struct FromRead<R: Read> {
     reader: R,
@@ -75,6 +96,16 @@ impl<R: Read> Source for FromRead<R> {
         match read_again(&mut self.reader, &mut buffer) {
             Ok(0) => Ok(None),
             Ok(_) => Ok(Some(buffer[0])),
+            Err(_) => {
+                self.failures += 1;
+                Err(Failed)
+            }
+        }
+    }
+
+    fn next_bytes(&mut self, buffer: &mut [u8]) -> Result<usize, Failed> {
+        match read_again(&mut self.reader, buffer) {
+            Ok(count) => Ok(count),
             Err(_) => {
                 self.failures += 1;
                 Err(Failed)

@@ -1,7 +1,7 @@
 -- What is read of a whole file, line by line.
-use Rattle.std.proofs.Common.{◌≡◌, ℕ, ◌+◌, ◌≤◌, List, [], ◌∷◌, ◌++◌, length, Option, Some, None, Ok, Err, IfSome, IsSome, refl, ap, sym, subst, ◌∙◌, arith}
+use Rattle.std.proofs.Common.{◌≡◌, ℕ, ◌+◌, ◌≤◌, Bool, true, false, List, [], ◌∷◌, ◌++◌, length, Option, Some, None, Ok, Err, IfSome, IsSome, refl, ap, sym, subst, ◌∙◌, arith}
 use Rattle.std.proofs.lemmas.List.{length-append}
-use Rattle.std.specs.Io.KnownBytes.{IsAtEnd}
+use Rattle.std.specs.Io.KnownBytes.{IsAtEnd, prepend_known}
 use Rattle.auditor.specs.Verdicts.{IsVerdict}
 use Rattle.auditor.specs.declared.verdicts.Audited.{Audited}
 use Rattle.plain_store.specs.declared.setups.Setup.{Setup}
@@ -14,7 +14,7 @@ use Rattle.files.specs.declared.faults.FaultKind.TheVariants.{NotFirst, TooLong}
 use Rattle.record.specs.Entries.{Entry}
 use Rattle.record_reader.specs.RecordFiles.{Progress, cleared, entry_in, line_read, lines_read, record_of, rest_read, said_by}
 use Rattle.source_lines.specs.Lines.{IsTooLong, TakesLine}
-use Rattle.source_lines.specs.Streams.{LineState, TakesNext, Told}
+use Rattle.source_lines.specs.Streams.{EndHolds, Given, LineState, TakesNext, Told, coming, unless_ended}
 use Rattle.judge.specs.Judgements.{IsJudged}
 use Rattle.judge.specs.Judging.{JudgeState}
 use Rattle.judge.specs.Trials.{GoesOn, Hears, HearsAt, Stands, TrialState, count_of}
@@ -58,13 +58,20 @@ heard_count (Some j) (Some p) entries heard = heard.1.count
 pub onwards_few : (to_come rest : Option (List ℕ)) (taken : ℕ) (t : TrialState) → Onwards to_come rest taken t → count_of t.judge ≤ taken
 onwards_few to_come rest taken t u = let few : length u.entries ≤ taken = u.few in let count = heard_count t.judge u.before u.entries u.stands.judge in omega (arith, few, count)
 
--- before the first line
-pub onwards_start : (to_come : Option (List ℕ)) (taken : ℕ) (t : TrialState) → taken ≡ 0 → Stands t None [] → Onwards to_come to_come taken t
-onwards_start to_come taken t none stands = record { before = None; entries = []; stands = stands; few = omega arith; goes_on = by to_come }
+-- before the first line, where no bytes have come yet
+pub onwards_start : (to_come : Option (List ℕ)) (ahead : Given) (taken : ℕ) (t : TrialState) → ahead.bytes ≡ [] → ahead.ended ≡ false → taken ≡ 0 → Stands t None [] → Onwards to_come (coming ahead to_come) taken t
+onwards_start to_come ahead taken t fresh open_yet none stands =
+    subst (λ (l : List ℕ). Onwards to_come (prepend_known l (unless_ended ahead.ended to_come)) taken t) (sym fresh)
+    (subst (λ (b : Bool). Onwards to_come (prepend_known [] (unless_ended b to_come)) taken t) (sym open_yet)
+    (record { before = None; entries = []; stands = stands; few = omega arith; goes_on = by to_come }))
   where
-    by : (to_come : Option (List ℕ)) → Told to_come to_come (GoesOnTo None [] taken)
+    by : (to_come : Option (List ℕ)) → Told to_come (prepend_known [] to_come) (GoesOnTo None [] taken)
     by None = tt
     by (Some text) = ap (λ n. rest_read (n + 1) text None []) none
+
+-- and no end was told
+pub none_told : (ahead : Given) (to_come : Option (List ℕ)) → ahead.ended ≡ false → EndHolds ahead to_come
+none_told ahead to_come open_yet told = let both : false ≡ true = sym open_yet ∙ told in absurd (cc)
 
 -- what is told of three moments
 told_on : (a b c : Option (List ℕ)) (P Q R : List ℕ → List ℕ → Type 0) → ((x y z : List ℕ) → P x y → Q y z → R x z) → Told a b P → Told b c Q → Told a c R

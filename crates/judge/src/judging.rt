@@ -12,8 +12,8 @@ use source_lines::Lines;
 use std::alloc::Global;
 
 /// Reads a whole record file, line by line, and then writes the verdict on the record that it says, on one line; answers
-/// the exit status. It holds one line, however long the file is. A file of 2^64 - 1 lines or more, whose numbers want
-/// more than 64 bits, ends with `Memory`.
+/// the exit status. It holds a line and a block, however long the file is. A file of 2^64 - 1 lines or more, whose
+/// numbers want more than 64 bits, ends with `Memory`.
 pub fn run_judge<R: Source, W: Sink>(
     alloc: Global,
     input: &mut R,

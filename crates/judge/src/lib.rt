@@ -1,5 +1,9 @@
-//! Judging records: a judge that hears entries one by one and tells the verdict on them, and the engine that judges a
-//! record file. No record is held.
+//! Judging records: a judge hears the entries of a record one by one, and tells the verdict on them. The engine here judges a
+//! record file, whoever wrote it, line by line. No record is held.
+//!
+//! ```rust
+//! Engine::Judge => run_judge(alloc, input, output),
+//! ```
 #![tactic(auto)]
 
 mod judge;

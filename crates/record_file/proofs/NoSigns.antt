@@ -1,5 +1,5 @@
 -- No word of a printed access or mark is the sign before a mark.
-use Rattle.std.proofs.Common.{◌≡◌, ℕ, ℤ, pos, negsuc, suc, ◌+◌, ◌<◌, ◌^◌, ◌&&◌, not, nat_lt, Bool, true, false, List, [], ◌∷◌, ◌++◌, length, codes, Option, Some, None, refl, ap, sym, ◌∙◌, arith}
+use Rattle.std.proofs.Common.{◌≡◌, ℕ, ℤ, pos, negsuc, ◌+◌, ◌<◌, ◌^◌, ◌&&◌, not, nat_lt, Bool, true, false, List, [], ◌∷◌, ◌++◌, length, codes, Option, Some, None, refl, ap, sym, ◌∙◌, arith}
 use Rattle.std.proofs.lemmas.Bool.{and_from, and_parts}
 use Rattle.std.proofs.lemmas.Bool.Decides.{nat_tests}
 use Rattle.std.proofs.lemmas.Fmt.{digits_decimal, decimal_nonempty}
@@ -7,7 +7,6 @@ use Rattle.std.proofs.lemmas.List.{length-append}
 use Rattle.std.proofs.lemmas.Slice.Eq.{bytes_eq-Decides}
 use Rattle.std.specs.Fmt.{decimal, signed_decimal}
 use Rattle.std.specs.List.{list_all}
-use Rattle.std.specs.Str.{bytes_eq}
 use Rattle.safe_bit.specs.declared.Move.{Move}
 use Rattle.safe_bit.specs.declared.Move.TheVariants as move
 use Rattle.safe_number.specs.declared.Access.{Access}
@@ -29,7 +28,7 @@ use Rattle.scenario.specs.Numbers.{are_digits}
 use Rattle.scenario.specs.Printing.{command_words}
 use Rattle.scenario.proofs.Numerals.{own}
 use Rattle.record_file.specs.Given.{is_access, is_reply, is_answer, is_mark}
-use Rattle.record_file.specs.Printing.{field_word, copy_word, move_words, access_words, reply_words, answer_words, mark_words}
+use Rattle.record_file.specs.Printing.{move_words, access_words, reply_words, answer_words, mark_words}
 use Rattle.record_file.specs.Reading.{is_sign}
 use Rattle.record_file.proofs.Parts.{has_no_sign}
 

@@ -1,11 +1,9 @@
 -- The parts of a line between its signs.
-use Rattle.std.proofs.Common.{◌≡◌, ℕ, zero, suc, ◌<◌, ◌==◌, not, Bool, true, false, cond, List, [], ◌∷◌, ◌++◌, length, map, flat_map, codes, refl, ap, sym, ◌∙◌, arith, append-nil, append_assoc}
+use Rattle.std.proofs.Common.{◌≡◌, ℕ, zero, suc, ◌<◌, not, Bool, true, false, cond, List, [], ◌∷◌, ◌++◌, length, map, flat_map, codes, refl, ap, sym, ◌∙◌, arith, append-nil}
 use Rattle.std.proofs.lemmas.Bool.{and_parts}
-use Rattle.std.proofs.lemmas.Bool.Decides.{nat_tests}
 use Rattle.std.proofs.lemmas.List.Splits.{slice_split_none, slice_split_at}
 use Rattle.std.proofs.lemmas.Slice.Eq.{bytes_eq-Decides}
-use Rattle.std.specs.List.{All, list_all, slice_split, onto_first}
-use Rattle.std.specs.Str.{bytes_eq}
+use Rattle.std.specs.List.{All, list_all, onto_first}
 use Rattle.record.specs.declared.marks.Mark.{Mark}
 use Rattle.record_file.specs.Printing.{mark_words, signed_words}
 use Rattle.record_file.specs.Reading.{is_sign, parts_of}

@@ -1,8 +1,6 @@
 -- What `format!` puts together is what is printed.
-use Rattle.std.proofs.Common.{◌≡◌, ℕ, ◌+◌, ◌<◌, true, false, List, [], ◌∷◌, ◌++◌, length, drop, get_or, flat_map, map, codes, Some, None, refl, ap, sym, ◌∙◌, append_assoc, append-nil}
+use Rattle.std.proofs.Common.{◌≡◌, ℕ, ◌+◌, ◌<◌, true, false, List, [], ◌∷◌, ◌++◌, length, drop, get_or, flat_map, codes, Some, None, refl, ap, sym, ◌∙◌, append_assoc, append-nil}
 use Rattle.std.specs.Fmt.{decimal}
-use Rattle.safe_bit.specs.declared.Move.{Move}
-use Rattle.safe_bit.specs.declared.Move.TheVariants.{BeginWrite, EndWrite, BeginRead, EndRead, Settle}
 use Rattle.safe_number.specs.declared.Access.{Access}
 use Rattle.plain_store.specs.Shown.{command_text, reply_text, answer_text}
 use Rattle.plain_store.specs.declared.commands.Answer.{Answer}
@@ -15,9 +13,9 @@ use Rattle.record.specs.Entries.{Entry}
 use Rattle.record.specs.Shown.{mark_text}
 use Rattle.record.specs.declared.marks.Mark.{Mark}
 use Rattle.record.specs.declared.marks.Mark.TheVariants as mark
-use Rattle.scenario.specs.Printing.{command_words, spaced, printed_line}
+use Rattle.scenario.specs.Printing.{command_words, spaced}
 use Rattle.scenario.proofs.Places.{drop_in}
-use Rattle.record_file.specs.Printing.{access_words, answer_words, behind_spaces, copy_word, entry_line, entry_words, field_word, mark_words, move_words, reply_words, signed_words}
+use Rattle.record_file.specs.Printing.{access_words, answer_words, behind_spaces, entry_line, field_word, mark_words, move_words, reply_words, signed_words}
 
 -- words with a single space between them, the first and the others
 spaced_first : (w : List ℕ) (ws : List (List ℕ)) → spaced (w ∷ ws) ≡ w ++ behind_spaces ws
@@ -73,20 +71,9 @@ mark_is mark.Restarted = refl
 pub signed_is : (m : Mark) → codes " : " ++ mark_text m ≡ behind_spaces (signed_words m)
 signed_is m = ap (λ t. codes " :" ++ t) (mark_is m)
 
--- a move's words
-pub move_is : (m : Move) → codes " " ++ spaced (move_words m) ≡ behind_spaces (move_words m)
-move_is (BeginWrite false) = refl
-move_is (BeginWrite true) = refl
-move_is EndWrite = refl
-move_is BeginRead = refl
-move_is (EndRead false) = refl
-move_is (EndRead true) = refl
-move_is (Settle false) = refl
-move_is (Settle true) = refl
-
--- the words of an access
-pub access_is : (a : Access) → codes " " ++ (decimal a.owner ++ (codes "." ++ (field_word a.field ++ (codes "." ++ (decimal a.bit ++ (codes "." ++ (decimal a.reader ++ (codes " " ++ spaced (move_words a.how))))))))) ≡ behind_spaces (access_words (Some a))
-access_is a = ap (λ t. codes " " ++ (decimal a.owner ++ (codes "." ++ (field_word a.field ++ (codes "." ++ (decimal a.bit ++ (codes "." ++ (decimal a.reader ++ t)))))))) (move_is a.how) ∙ simp append_assoc
+-- the words of an access, behind a text
+pub access_is : (told : List ℕ) (a : Access) → ((((((told ++ codes " ") ++ decimal a.owner) ++ (codes "." ++ (field_word a.field ++ codes "."))) ++ decimal a.bit) ++ codes ".") ++ decimal a.reader) ++ behind_spaces (move_words a.how) ≡ told ++ behind_spaces (access_words (Some a))
+access_is told a = simp append_assoc
 
 -- a line and the marks from a place on, one mark later
 pub marks_more : (told : List ℕ) (marks : List Mark) (k : ℕ) (here : Mark) → k < length marks → here ≡ get_or marks k here → (told ++ behind_spaces (signed_words here)) ++ behind_spaces (flat_map signed_words (drop (k + 1) marks)) ≡ told ++ behind_spaces (flat_map signed_words (drop k marks))
@@ -99,8 +86,15 @@ marks_more told marks k here within is =
 pub no_access_is : (line : List ℕ) → line ≡ line ++ behind_spaces (access_words None)
 no_access_is line = sym (append-nil line)
 
--- The line of an entry, by its parts.
-pub entry_is : (e : Entry) → ((decimal e.process ++ behind_spaces (access_words e.access)) ++ behind_spaces (flat_map signed_words e.marks)) ++ codes "\n" ≡ entry_line e
-entry_is e =
+-- four parts, put together behind a text
+behind_text : (told a b c d : List ℕ) → (((told ++ a) ++ b) ++ c) ++ d ≡ told ++ (((a ++ b) ++ c) ++ d)
+behind_text told a b c d = simp append_assoc
+
+line_is : (e : Entry) → ((decimal e.process ++ behind_spaces (access_words e.access)) ++ behind_spaces (flat_map signed_words e.marks)) ++ codes "\n" ≡ entry_line e
+line_is e =
     ap (λ t. t ++ codes "\n") (append_assoc (decimal e.process) (behind_spaces (access_words e.access)) (behind_spaces (flat_map signed_words e.marks)) ∙ ap (λ t. decimal e.process ++ t) (sym (spaces_append (access_words e.access) (flat_map signed_words e.marks))))
     ∙ ap (λ t. t ++ codes "\n") (sym (spaced_first (decimal e.process) (access_words e.access ++ flat_map signed_words e.marks)))
+
+-- The line of an entry, by its parts, behind a text.
+pub entry_is : (told : List ℕ) (e : Entry) → (((told ++ decimal e.process) ++ behind_spaces (access_words e.access)) ++ behind_spaces (flat_map signed_words e.marks)) ++ codes "\n" ≡ told ++ entry_line e
+entry_is told e = behind_text told (decimal e.process) (behind_spaces (access_words e.access)) (behind_spaces (flat_map signed_words e.marks)) (codes "\n") ∙ ap (λ t. told ++ t) (line_is e)

@@ -1,5 +1,5 @@
 -- The words of an entry, read as what they are printed for.
-use Rattle.std.proofs.Common.{◌≡◌, ℕ, zero, suc, ◌+◌, ◌-◌, ◌<◌, ◌≤◌, ◌^◌, ◌==◌, ◌&&◌, not, nat_le, nat_lt, Bool, true, false, List, [], ◌∷◌, ◌++◌, length, map, flat_map, codes, Option, Some, None, Result, Ok, Err, refl, ap, sym, subst, ◌∙◌, arith, append-nil, append_assoc}
+use Rattle.std.proofs.Common.{◌≡◌, ℕ, zero, suc, ◌+◌, ◌-◌, ◌<◌, ◌≤◌, ◌^◌, ◌==◌, ◌&&◌, not, nat_lt, Bool, true, false, List, [], ◌∷◌, ◌++◌, length, map, flat_map, codes, Option, Some, None, Result, Ok, refl, ap, sym, ◌∙◌, arith, append-nil, append_assoc}
 use Rattle.std.proofs.lemmas.Bool.{and_parts}
 use Rattle.std.proofs.lemmas.Bool.Decides.{nat_tests}
 use Rattle.std.proofs.lemmas.Fmt.{digits_decimal}
@@ -23,9 +23,9 @@ use Rattle.plain_store.specs.declared.commands.Command.{Command}
 use Rattle.plain_store.specs.declared.commands.Command.TheVariants as command
 use Rattle.plain_store.specs.declared.commands.Reply.{Reply}
 use Rattle.plain_store.specs.declared.commands.Reply.TheVariants as reply
-use Rattle.files.specs.Checks.{◌>>=◌, known, fault_if, counted, word}
+use Rattle.files.specs.Checks.{◌>>=◌, known, fault_if, counted}
 use Rattle.files.specs.declared.faults.FaultKind.{FaultKind}
-use Rattle.files.specs.declared.faults.FaultKind.TheVariants.{Unknown, Words, Number}
+use Rattle.files.specs.declared.faults.FaultKind.TheVariants.{Words, Number}
 use Rattle.record.specs.Entries.{Entry}
 use Rattle.record.specs.declared.marks.Mark.{Mark}
 use Rattle.record.specs.declared.marks.Mark.TheVariants as mark
@@ -46,7 +46,7 @@ use Rattle.record_file.specs.Faults.{both}
 use Rattle.record_file.specs.Given.{is_access, is_reply, is_answer, is_mark, IsEntry}
 use Rattle.record_file.specs.Keywords.{field_of, reply_word_of, answer_word_of}
 use Rattle.record_file.specs.Printing.{field_word, copy_word, move_words, access_words, reply_words, answer_words, mark_words, signed_words, entry_words}
-use Rattle.record_file.specs.Reading.{dotted, field_at, move_of, copy_of, access_of, sum_first, called_of, reply_count, reply_of, taken_of, answer_count, answer_of, answered_of, waiting_of, mark_of, parts_of, with_mark, marks_read, entry_with, entry_by, entry_of}
+use Rattle.record_file.specs.Reading.{dotted, field_at, move_of, copy_of, access_of, sum_first, called_of, reply_count, reply_of, taken_of, answer_count, answer_of, answered_of, mark_of, with_mark, marks_read, entry_with, entry_by, entry_of}
 use Rattle.record_file.specs.declared.keywords.AnswerWord.{AnswerWord}
 use Rattle.record_file.specs.declared.keywords.AnswerWord.TheVariants as answer_word
 use Rattle.record_file.specs.declared.keywords.ReplyWord.{ReplyWord}

@@ -1,10 +1,8 @@
 -- What was read has the words that are printed for it, and parts as their types allow.
-use Rattle.std.proofs.Common.{◌≡◌, ℕ, zero, suc, ◌+◌, ◌-◌, ◌<◌, ◌≤◌, ◌^◌, ◌==◌, ◌&&◌, not, nat_le, nat_lt, Bool, true, false, cond, if◌then◌else◌, List, [], ◌∷◌, ◌++◌, length, map, flat_map, codes, Option, Some, None, Result, Ok, Err, refl, ap, sym, subst, ◌∙◌, arith, append-nil, append_assoc}
+use Rattle.std.proofs.Common.{◌≡◌, ℕ, ◌+◌, ◌-◌, ◌<◌, ◌≤◌, ◌^◌, ◌==◌, not, nat_le, nat_lt, true, false, List, [], ◌∷◌, ◌++◌, length, map, flat_map, codes, Option, Some, None, Result, Ok, Err, refl, ap, sym, subst, ◌∙◌, arith, append-nil, append_assoc}
 use Rattle.std.proofs.lemmas.Bool.{and_from}
 use Rattle.std.proofs.lemmas.Bool.Decides.{nat_tests}
-use Rattle.std.proofs.lemmas.List.{length-append}
-use Rattle.std.proofs.lemmas.List.Folds.{list_all-append}
-use Rattle.std.specs.Fmt.{decimal, signed_decimal}
+use Rattle.std.specs.Fmt.{decimal}
 use Rattle.std.specs.List.{list_all}
 use Rattle.safe_bit.specs.declared.Move.{Move}
 use Rattle.safe_bit.specs.declared.Move.TheVariants as move
@@ -27,15 +25,14 @@ use Rattle.scenario.specs.Operands.{number_at, integer_at, value_at}
 use Rattle.scenario.specs.Statements.{operand_count, command_of}
 use Rattle.scenario.specs.declared.bit_files.BitWord.{BitWord}
 use Rattle.scenario.specs.declared.bit_files.BitWord.TheVariants as bits
-use Rattle.scenario.specs.declared.keywords.Verb.{Verb}
 use Rattle.scenario.proofs.BitsSaid.{bit_key, key_spelled, one_bit_spelled}
 use Rattle.scenario.proofs.LineSpelled.{none_of, one_of, command_said, process_spelled}
 use Rattle.scenario.proofs.OneSpelling.{number_spelled, integer_at_spelled, value_spelled, verb_word, found_spelled}
 use Rattle.record_file.specs.Faults.{both}
-use Rattle.record_file.specs.Given.{is_access, is_reply, is_answer, is_mark, is_entry, IsEntry}
+use Rattle.record_file.specs.Given.{is_access, is_reply, is_answer, is_mark, IsEntry}
 use Rattle.record_file.specs.Keywords.{fields, field_of, mark_names, mark_word_of, reply_names, reply_word_of, own_answers, own_answer_of, or_reply, answer_word_of}
 use Rattle.record_file.specs.Printing.{field_word, copy_word, move_words, access_words, reply_words, answer_words, mark_words, signed_words, entry_words}
-use Rattle.record_file.specs.Reading.{dotted, field_at, move_of, copy_of, access_of, sum_first, called_of, reply_count, reply_of, taken_of, answer_count, answer_of, answered_of, waiting_of, lone_mark_of, named_mark_of, mark_of, parts_of, with_mark, marks_read, entry_with, entry_by, entry_of}
+use Rattle.record_file.specs.Reading.{dotted, field_at, move_of, copy_of, access_of, sum_first, called_of, reply_count, reply_of, taken_of, answer_count, answer_of, answered_of, waiting_of, lone_mark_of, named_mark_of, mark_of, parts_of, with_mark, marks_read, entry_by, entry_of}
 use Rattle.record_file.specs.declared.keywords.AnswerWord.{AnswerWord}
 use Rattle.record_file.specs.declared.keywords.AnswerWord.TheVariants as answer_word
 use Rattle.record_file.specs.declared.keywords.MarkWord.{MarkWord}

@@ -9,7 +9,6 @@ use Rattle.safe_number.specs.declared.Access.{Access}
 use Rattle.safe_number.specs.declared.Field.{Field}
 use Rattle.plain_store.specs.declared.commands.Answer.{Answer}
 use Rattle.plain_store.specs.declared.commands.Answer.TheVariants as answer
-use Rattle.plain_store.specs.declared.commands.Command.{Command}
 use Rattle.plain_store.specs.declared.commands.Reply.{Reply}
 use Rattle.plain_store.specs.declared.commands.Reply.TheVariants as reply
 use Rattle.files.specs.Checks.{◌>>=◌, known, fault_if, counted, word}

@@ -2,7 +2,7 @@
 ghost use Rattle.std.specs.Prelude.{◌≡◌, ◌∷◌, [], ◌+◌, ◌<◌, ◌≤◌, Ok, IfOk, IfSome, length};
 ghost use Rattle.std.specs.List.{position};
 ghost use Rattle.files.specs.Words.{texts};
-ghost use Rattle.record_file.specs.Reading.{entry_of, is_sign as sign, marks_read, parts_behind, parts_of, with_mark as one_more};
+ghost use Rattle.record_file.specs.Reading.{entry_of, entry_with, is_sign as sign, marks_read, parts_behind, parts_of, with_mark as one_more};
 
 use crate::accesses::access;
 use crate::faults::both;
@@ -10,6 +10,7 @@ use crate::marks::mark;
 use files::FaultKind;
 use plain_store::NestedTypes;
 use record::{Act, Entry, Mark};
+use safe_number::Access;
 use scenario::operands::process;
 use smallvec::SmallVec;
 use std::alloc::Global;
@@ -42,8 +43,32 @@ pub fn read_entry(alloc: Global, first: &[u8], words: &[&[u8]]) -> Result<Entry,
 {
     let _nested: NestedTypes = None;
     let (place, signed) = up_to_sign(words);
-    let marks = marks(alloc, signed);
-    let ((process, access), marks) = both(both(process(first), access(place)), marks)?;
+    let (process, access) = (process(first), access(place));
+    if signed.is_some() {
+        return marked_entry(alloc, process, access, signed);
+    }
+    let (process, access) = both(process, access)?;
+    Ok(Entry {
+        process,
+        act: Act {
+            access,
+            marks: SmallVec::new(alloc),
+        },
+    })
+}
+
+/// An entry with the marks behind the first sign. Most entries have none, and their room for marks is not moved through
+/// here.
+fn marked_entry(
+    alloc: Global,
+    process: Result<u8, FaultKind>,
+    access: Result<Option<Access>, FaultKind>,
+    signed: Option<&[&[u8]]>,
+) -> Result<Entry, FaultKind>
+    ensures { result ≡ entry_with process access (marks_read 0 (parts_behind signed.entry) (Ok [])) }
+{
+    let _nested: NestedTypes = None;
+    let ((process, access), marks) = both(both(process, access), marks(alloc, signed))?;
     Ok(Entry {
         process,
         act: Act {

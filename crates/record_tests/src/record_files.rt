@@ -37,11 +37,10 @@ fn says(
             marks: SmallVec::from_slice(rt.alloc(), marks)?,
         },
     };
-    let printed = format!(in rt.alloc(); "{line}\n")?;
-    assert_eq!(rt;
-        print_entry(rt.alloc(), &made)?.as_slice(),
-        printed.as_bytes()
-    );
+    let mut printed = format!(in rt.alloc(); "{line}\n")?;
+    print_entry(rt.alloc(), &made, &mut printed)?;
+    let twice = format!(in rt.alloc(); "{line}\n{line}\n")?;
+    assert_eq!(rt; printed.as_str(), twice.as_str());
     Ok(())
 }
 

@@ -115,6 +115,78 @@ fn a_settled_bit_has_the_value_that_it_was_settled_at(rt: HostRuntime) -> Result
     Ok(())
 }
 
+/// The number of the first move on one bit that the watch does not say so of: whether it ends an overlapped read.
+fn first_other_overlap(alloc: Global, heard: &[(Move, bool)]) -> Result<Option<usize>, AllocError> {
+    let mut watch = Watch::new(alloc, &Setup::one(2, 2, 2, 1))?;
+    for (number, (how, overlaps)) in heard.iter().enumerate() {
+        let access = on_ticket(*how);
+        if watch.overlaps(&access) != *overlaps {
+            return Ok(Some(number));
+        }
+        let act = Act {
+            access: Some(access),
+            marks: SmallVec::new(alloc),
+        };
+        watch.hear(&Entry { process: 0, act });
+    }
+    Ok(None)
+}
+
+// A write overlaps a read if it was open as the read began, or began before the read ended.
+#[test]
+fn the_end_of_an_overlapped_read_is_told(rt: HostRuntime) -> Result<(), Fail> {
+    let heard = [
+        (BEGIN_READ, false),
+        (ZERO, false),
+        (Move::BeginWrite(true), false),
+        (BEGIN_READ, false),
+        (ZERO, true),
+        (BEGIN_READ, false),
+        (Move::EndWrite, false),
+        (ONE, true),
+        (BEGIN_READ, false),
+        (ONE, false),
+        (BEGIN_READ, false),
+        (Move::BeginWrite(false), false),
+        (Move::Settle(true), false),
+        (ONE, true),
+        (BEGIN_READ, false),
+        (ONE, false),
+    ];
+    assert_eq!(rt; first_other_overlap(rt.alloc(), &heard)?, None);
+    Ok(())
+}
+
+// A write overlaps no read of another bit, or of another reader's copy; and no read ends of a bit that is not there.
+#[test]
+fn a_write_overlaps_reads_of_its_bit_alone(rt: HostRuntime) -> Result<(), Fail> {
+    let alloc = rt.alloc();
+    let mut watch = Watch::new(alloc, &Setup::one(2, 2, 2, 1))?;
+    let written = on_ticket(Move::BeginWrite(true));
+    let begins = on_ticket(BEGIN_READ);
+    let ends = on_ticket(ONE);
+    for access in [
+        begins,
+        Access { bit: 0, ..begins },
+        Access {
+            reader: 0,
+            ..begins
+        },
+        written,
+    ] {
+        let act = Act {
+            access: Some(access),
+            marks: SmallVec::new(alloc),
+        };
+        watch.hear(&Entry { process: 0, act });
+    }
+    assert!(&rt; watch.overlaps(&ends));
+    assert!(&rt; !watch.overlaps(&Access { bit: 0, ..ends }));
+    assert!(&rt; !watch.overlaps(&Access { reader: 0, ..ends }));
+    assert!(&rt; !watch.overlaps(&Access { bit: 2, ..ends }));
+    Ok(())
+}
+
 // No read began that this could be the end of, so the law says nothing.
 #[test]
 fn an_end_without_a_begin_keeps_the_law(rt: HostRuntime) -> Result<(), Fail> {

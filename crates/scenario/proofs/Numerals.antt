@@ -2,12 +2,17 @@
 use Rattle.std.specs.Int.RustNames.{FitsSigned}
 use Rattle.std.proofs.lemmas.Str.Ascii.{IsAscii-cons}
 use Rattle.plain_store.specs.Values.{fits_i64}
-use Rattle.std.proofs.Common.{◌==◌, drop, negsuc, slice_index, ◌≡◌, ℕ, ℤ, pos, ◌<◌, ◌^◌, Bool, true, false, not, cond, nat_le, List, [], ◌∷◌, ◌&&◌, length, Some, None, Result, Ok, Err, refl, ap, sym, ◌∙◌, arith, rules, if◌then◌else◌, w64}
-use Rattle.std.specs.Char.{is_ascii_digit}
-use Rattle.std.specs.Result.{MatchResult, result_ok}
+use Rattle.std.proofs.Common.{◌==◌, drop, take, get_or, negsuc, slice_index, ◌≡◌, ℕ, ℤ, pos, ◌+◌, ◌-◌, ◌*◌, ◌<◌, ◌≤◌, ◌^◌, Bool, true, false, not, cond, nat_le, List, [], ◌∷◌, ◌&&◌, length, Some, None, Result, Ok, Err, refl, ap, sym, ◌∙◌, arith, rules, if◌then◌else◌, w64}
+use Rattle.std.specs.Char.{is_ascii_digit, digit_value}
+use Rattle.std.specs.Int.{IsInRange}
+use Rattle.std.proofs.lemmas.Grind.{get_or_default_zero}
+use Rattle.std.proofs.lemmas.Int.Digits.{digits_value_more}
+use Rattle.std.proofs.lemmas.List.Folds.{list_all_at}
+use Rattle.std.proofs.lemmas.Str.{digit_value_digit}
+use Rattle.std.specs.Result.{result_ok}
 use Rattle.std.specs.Str.{IsAscii}
-use Rattle.std.specs.Str.Parse.{IsNumeral, without_leading_sign, ParsesUnsigned, ParsesSigned, digits_value, signed_digits_value}
-use Rattle.std.proofs.lemmas.Str.Parse.{IsNumeralModel, numerals_by_value, parse_digits}
+use Rattle.std.specs.Str.Parse.{IsNumeral, without_leading_sign, ParsesSigned, digits_value, signed_digits_value}
+use Rattle.std.proofs.lemmas.Str.Parse.{IsNumeralModel, numerals_by_value, digits_value-take-le}
 use Rattle.std.proofs.lemmas.Bool.Decides.{nat_tests}
 use Rattle.std.proofs.lemmas.Fmt.{IsAscii-from_digits}
 use Rattle.scenario.specs.Numbers.{are_digits, is_numeral, number_up_to, is_signed_numeral, in_i64, integer_of}
@@ -21,20 +26,40 @@ pub numeral_is : (word : List ℕ) → is_numeral word ≡ true → (are_digits 
 numeral_is [] h = absurd (cc)
 numeral_is (b ∷ bs) h = (grind (arith, nat_tests), omega arith)
 
--- the number is what `parse` gives, up to the bound
-pub number_parsed : {E : Type 0} (word : List ℕ) (most : ℕ) (r : Result ℕ E) → most < 2 ^ 64 → is_numeral word ≡ true → ParsesUnsigned 64 10 word r → MatchResult r (λ n. number_up_to most word ≡ (if nat_le n most then Some n else None)) (λ _. number_up_to most word ≡ None)
-number_parsed {E} word most (Ok n) small numeral parsed =
-    let is = parse_digits own {E = E} 64 word (Ok n) parsed (numeral_is word numeral).0 in
-    let chosen : is_numeral word && nat_le (digits_value 10 word) most ≡ nat_le n most = ap (λ b. b && nat_le (digits_value 10 word) most) numeral ∙ ap (λ m. nat_le m most) (sym is.1) in
-    ap (λ b. if b then Some (digits_value 10 word) else None) chosen ∙ ap (λ m. if nat_le n most then Some m else None) (sym is.1)
-number_parsed {E} word most (Err e) small numeral parsed =
-    let is = parse_digits own {E = E} 64 word (Err e) parsed (numeral_is word numeral).0 in
-    let above : most < digits_value 10 word = above_from (digits_value 10 word) most (λ fits. is ((numeral_is word numeral).1, fits)) small in
-    let chosen : nat_le (digits_value 10 word) most ≡ false = grind (arith, nat_tests) in
-    ap (λ b. if (is_numeral word && b) then Some (digits_value 10 word) else None) chosen ∙ ap (λ b. if (b && false) then Some (digits_value 10 word) else None) numeral
+-- a digit among digits
+pub digit_in : (word : List ℕ) (k b : ℕ) → are_digits word ≡ true → k < length word → b ≡ get_or word k b → is_ascii_digit b ≡ true
+digit_in word k b all within is = by (is_ascii_digit (get_or word k b)) refl
   where
-    above_from : (v m : ℕ) → (v < 2 ^ 64 → ⊥) → m < 2 ^ 64 → m < v
-    above_from v m never small = omega arith
+    by : (t : Bool) → is_ascii_digit (get_or word k b) ≡ t → is_ascii_digit b ≡ true
+    by true digit = ap is_ascii_digit is ∙ digit
+    by false digit = let none : are_digits word ≡ false = list_all_at is_ascii_digit word k b within digit in absurd (cc)
+
+-- the digits up to a place, and the next
+pub value_more : (word : List ℕ) (k b v w : ℕ) → w ≡ v * 10 + (b - 48) → v ≡ digits_value 10 (take k word) → are_digits word ≡ true → k < length word → b ≡ get_or word k b → w ≡ digits_value 10 (take (k + 1) word)
+value_more word k b v w more so_far all within is =
+    let digit : is_ascii_digit b ≡ true = digit_in word k b all within is in
+    let range : IsInRange 48 57 b = grind (arith, nat_tests) in
+    let value : digit_value b + 48 ≡ b = digit_value_digit b range in
+    let here : get_or word k 0 ≡ b = sym (get_or_default_zero word k b within) ∙ sym is in
+    more ∙ ap (λ u. u * 10 + (b - 48)) so_far ∙ sym (digits_value_more 10 word k within ∙ ap (λ c. digits_value 10 (take k word) * 10 + digit_value c) here ∙ ap (λ u. digits_value 10 (take k word) * 10 + u) (omega (arith, value)))
+
+-- all digits write no less than those up to a place
+pub value_beyond : (word : List ℕ) (k b v n : ℕ) → n ≤ v * 10 + (b - 48) → v ≡ digits_value 10 (take k word) → are_digits word ≡ true → k < length word → b ≡ get_or word k b → n ≤ digits_value 10 word
+value_beyond word k b v n least so_far all within is =
+    let here = value_more word k b v (v * 10 + (b - 48)) refl so_far all within is in
+    let all : digits_value 10 (take (k + 1) word) ≤ digits_value 10 word = digits_value-take-le 10 word (k + 1) (omega arith) in
+    omega (arith, least, here, all)
+
+-- the number is that of the digits, up to the bound
+pub number_is : (word : List ℕ) (most n : ℕ) → is_numeral word ≡ true → n ≡ digits_value 10 word → (if nat_le n most then Some n else None) ≡ number_up_to most word
+number_is word most n numeral is =
+    ap (λ m. if nat_le m most then Some m else None) is ∙ sym (ap (λ b. if b && nat_le (digits_value 10 word) most then Some (digits_value 10 word) else None) numeral)
+
+-- and there is none where it has more than 64 bits
+pub number_is_none : (word : List ℕ) (most : ℕ) → is_numeral word ≡ true → most < 2 ^ 64 → 2 ^ 64 ≤ digits_value 10 word → None ≡ number_up_to most word
+number_is_none word most numeral small large =
+    let above : nat_le (digits_value 10 word) most ≡ false = grind (arith, nat_tests) in
+    sym (ap (λ b. if b && nat_le (digits_value 10 word) most then Some (digits_value 10 word) else None) numeral ∙ ap (λ b. if b then Some (digits_value 10 word) else None) above)
 
 -- and it is ASCII
 pub numeral_is_ascii : (word : List ℕ) → is_numeral word ≡ true → IsAscii word

@@ -1,20 +1,42 @@
 //! Numbers as words.
-ghost use Rattle.std.specs.Prelude.{◌≡◌};
+ghost use Rattle.std.specs.Prelude.{◌≡◌, ◌+◌, ◌-◌, ◌*◌, ◌^◌, ◌≤◌, MatchOption, true};
+ghost use Rattle.std.specs.Char.{is_ascii_digit};
+ghost use Rattle.std.specs.Str.Parse.{digits_value};
 ghost use Rattle.std.specs.Str.{IsAscii};
-ghost use Rattle.scenario.specs.Numbers.{are_digits as digits, is_numeral as numeral, is_signed_numeral as signed_numeral, number_up_to, integer_of};
+ghost use Rattle.scenario.specs.Numbers.{are_digits as all_digits, is_numeral as numeral, is_signed_numeral as signed_numeral, number_up_to, integer_of};
 
 /// The number that the word writes, where it is at most `most`.
-#[tactic(auto, using(crate::proofs::Numerals::number_parsed, crate::proofs::Numerals::numeral_is_ascii))]
+#[tactic(auto, using(crate::proofs::Numerals::numeral_is, crate::proofs::Numerals::number_is, crate::proofs::Numerals::number_is_none))]
 pub fn number(word: &[u8], most: u64) -> Option<u64>
     ensures { result ≡ number_up_to most word.now }
 {
     if !is_numeral(word) {
         return None;
     }
-    match text(word).parse::<u64>() {
-        Ok(number) => (number <= most).then_some(number),
-        Err(_) => None,
+    let number = value_of(word)?;
+    (number <= most).then_some(number)
+}
+
+/// The number that the digits write, where it has no more than 64 bits.
+#[tactic(auto, using(crate::proofs::Numerals::digit_in, crate::proofs::Numerals::value_more, crate::proofs::Numerals::value_beyond))]
+fn value_of(digits: &[u8]) -> Option<u64>
+    requires { all_digits digits.now ≡ true }
+    ensures { MatchOption result (2 ^ 64 ≤ digits_value 10 digits.now) (λ value. value ≡ digits_value 10 digits.now) }
+{
+    let mut value = 0;
+    for digit in digits {
+        value = with_digit(value, *digit)?;
     }
+    Some(value)
+}
+
+/// The number that a digit makes behind those of `value`, where it has no more than 64 bits.
+#[inline]
+fn with_digit(value: u64, digit: u8) -> Option<u64>
+    requires { is_ascii_digit digit ≡ true }
+    ensures { MatchOption result (2 ^ 64 ≤ value * 10 + (digit - 48)) (λ more. more ≡ value * 10 + (digit - 48)) }
+{
+    value.checked_mul(10)?.checked_add(u64::from(digit - b'0'))
 }
 
 /// The number with a sign that the word writes.
@@ -50,7 +72,7 @@ fn is_signed_numeral(word: &[u8]) -> bool
 }
 
 fn are_digits(word: &[u8]) -> bool
-    ensures { result ≡ digits word.now }
+    ensures { result ≡ all_digits word.now }
 {
     word.iter().all(|b| b.is_ascii_digit())
 }

@@ -1,4 +1,6 @@
--- The end of a line
-pub mod Returns
+-- Bytes that come in blocks
+pub mod Blocks
 -- The first line of a text
 pub mod FirstLines
+-- The end of a line
+pub mod Returns

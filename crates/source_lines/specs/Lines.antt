@@ -1,6 +1,28 @@
 -- The first line of a text, taken from it byte by byte.
-use Rattle.std.specs.Prelude.{◌≡◌, ◌<◌, ℕ, ◌==◌, if◌then◌else◌, List, [], ◌∷◌, length}
+use Rattle.std.specs.Prelude.{◌≡◌, ◌<◌, ℕ, ◌==◌, not, Bool, true, if◌then◌else◌, List, [], ◌∷◌, ◌++◌, length}
+use Rattle.std.specs.List.{list_all}
 use Rattle.files.specs.Words.{lines}
+
+-- whether a byte ends a line: 0x0A
+abbrev pub ends_line : ℕ → Bool
+ends_line b = b == 10
+
+-- whether a byte is no 0x0A
+abbrev pub is_inner : ℕ → Bool
+is_inner b = not (b == 10)
+
+-- the bytes before the first 0x0A, of those that wait, were moved behind a line, and those behind it wait on
+pub record MovesEnded (old new : List ℕ) (line longer : List ℕ) : Type 0 where
+  pub part : List ℕ
+  pub inner : list_all is_inner part ≡ true
+  pub split : old ≡ part ++ 10 ∷ new
+  pub moved : longer ≡ line ++ part
+
+-- there is no 0x0A among those that wait, and all were moved
+pub record MovesAll (old new : List ℕ) (line longer : List ℕ) : Type 0 where
+  pub inner : list_all is_inner old ≡ true
+  pub none : new ≡ []
+  pub moved : longer ≡ line ++ old
 
 -- the bytes of a line without the 0x0D at their end, if there is one
 abbrev pub without_return : List ℕ → List ℕ

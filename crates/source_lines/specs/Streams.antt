@@ -1,15 +1,42 @@
 -- What a call that takes the next line of a source does.
-use Rattle.std.specs.Prelude.{◌≡◌, ℕ, ◌+◌, ◌≤◌, Bool, true, false, List, length, Option, Some, None, IfSome, Result, Ok, Err}
-use Rattle.std.specs.Io.KnownBytes.{IsAtEnd}
+use Rattle.std.specs.Prelude.{◌≡◌, ℕ, ◌+◌, ◌≤◌, Bool, true, false, List, [], length, Option, Some, None, IfSome, Result, Ok, Err}
+use Rattle.std.specs.Io.KnownBytes.{IsAtEnd, Keeps, prepend_known}
 use Rattle.files.specs.declared.faults.Fault.{Fault}
 use Rattle.files.specs.declared.faults.Fault.TheVariants as fault
 use Rattle.files.specs.declared.faults.FaultKind.TheVariants.{TooLong}
 use Rattle.source_lines.specs.Lines.{IsTooLong, TakesLine}
 
--- how many lines were taken, and the bytes of the last one
+-- the bytes that a source has given and that no line has taken, and whether the source has told its end
+pub record Given : Type 0 where
+  pub bytes : List ℕ
+  pub ended : Bool
+
+-- how many lines were taken, the bytes of the last one, and what the source has given beyond it
 pub record LineState : Type 0 where
   pub taken : ℕ
   pub line : List ℕ
+  pub ahead : Given
+
+-- the bytes that a source still has: none once it has told its end
+abbrev pub unless_ended : Bool → Option (List ℕ) → Option (List ℕ)
+unless_ended false to_come = to_come
+unless_ended true to_come = Some []
+
+-- the bytes to come: those that a source has given already, and behind them those that it still has
+abbrev pub coming : Given → Option (List ℕ) → Option (List ℕ)
+coming ahead to_come = prepend_known ahead.bytes (unless_ended ahead.ended to_come)
+
+-- a source that has told its end has no bytes to come
+abbrev pub EndHolds : Given → Option (List ℕ) → Type 0
+EndHolds ahead to_come = ahead.ended ≡ true → IsAtEnd to_come
+
+-- the bytes to come are the same
+abbrev pub Stays : Option (List ℕ) → Option (List ℕ) → Type 0
+Stays old new = Keeps old new
+
+-- there were none to come, and now it is told that there are none
+abbrev pub ComesToEnd : Option (List ℕ) → Option (List ℕ) → Type 0
+ComesToEnd old new = IsAtEnd old × (new ≡ Some [])
 
 -- a fact on the bytes to come before a call and after it, where they are told
 abbrev pub Told : Option (List ℕ) → Option (List ℕ) → (List ℕ → List ℕ → Type 0) → Type 0

@@ -1,11 +1,12 @@
 //! The lines of a source, one at a time.
-ghost use Rattle.std.specs.Prelude.{◌≡◌, ◌+◌, ◌^◌, ◌-◌, ◌<◌, ◌≤◌, true, false, length, IfErr, IfOk, IfSome};
+ghost use Rattle.std.specs.Prelude.{◌≡◌, ◌+◌, ◌^◌, ◌-◌, ◌<◌, ◌≤◌, [], true, false, length, IfErr, IfOk, IfSome};
 ghost use Rattle.std.specs.Io.KnownBytes.{IsAtEnd};
 ghost use Rattle.files.specs.Streams.{IsReadFault, failed_reading};
 ghost use Rattle.source_lines.specs.Lines.{IsTooLong, TakesLine, without_return};
-ghost use Rattle.source_lines.specs.Streams.{GoesToNext, Told};
+ghost use Rattle.source_lines.specs.Streams.{EndHolds, GoesToNext, Told, coming};
 
-use files::{Failed, Fault, FaultKind, LineFault, Source};
+use crate::ahead::Ahead;
+use files::{Fault, FaultKind, LineFault, Source};
 use std::alloc::Global;
 use std::marker::Model;
 
@@ -18,12 +19,13 @@ const MOST_WITH_END: usize = 130;
 /// As many lines as 64 bits can number, and the line behind them too.
 const MOST_LINES: u64 = u64::MAX - 1;
 
-/// The lines of a source: how many were taken, and the bytes of the last one. However long a line is, no more than 130
-/// of its bytes are held.
+/// The lines of a source: how many were taken, and the bytes of the last one. The source is asked for blocks, so bytes
+/// behind that line may have left it. However long a line is, no more of it is held than two blocks of a kilobyte.
 #[derive(Drop)]
 pub struct Lines {
     taken: u64,
     bytes: Vec<u8>,
+    ahead: Ahead,
 }
 
 impl Model for Lines {
@@ -32,7 +34,7 @@ impl Model for Lines {
 
     ghost Value = { LineState };
 
-    ghost view = { λ l. record { taken = l.taken; line = l.bytes.items } };
+    ghost view = { λ l. record { taken = l.taken; line = l.bytes.items; ahead = l.ahead } };
 
     ghost invariant = { λ l. l.taken < 2 ^ 64 - 1 };
 }
@@ -40,11 +42,14 @@ impl Model for Lines {
 impl Lines {
     /// No line yet.
     pub fn new(alloc: Global) -> Lines
-        ensures { result.taken ≡ 0 }
+        ensures taken { result.taken ≡ 0 }
+        ensures ahead { result.ahead.bytes ≡ [] }
+        ensures ended { result.ahead.ended ≡ false }
     {
         Lines {
             taken: 0,
             bytes: Vec::new(alloc),
+            ahead: Ahead::new(alloc),
         }
     }
 
@@ -64,13 +69,17 @@ impl Lines {
     }
 
     /// Takes the next line; `false` if there is none. A line of more than 128 bytes is a fault. A file of 2^64 - 1 lines
-    /// or more, whose numbers want more than 64 bits, ends with `Memory`. After an `Err` no more is to be taken.
+    /// or more, whose numbers want more than 64 bits, ends with `Memory`. After an `Err` no more is to be taken. Once the
+    /// source has told its end it is not asked again, so a last line without an end asks a terminal no more than once.
     pub fn next<R: Source>(&mut self, input: &mut R) -> Result<bool, Fault>
         requires { R.failures input.old < 2 ^ 64 - 1 }
-        ensures next { GoesToNext result self.old self.new (R.to_come input.old) (R.to_come input.new) }
+        ensures next { GoesToNext result self.old self.new (coming self.old.ahead (R.to_come input.old)) (coming self.new.ahead (R.to_come input.new)) }
+        ensures ended { IfOk result (λ some. some ≡ false → self.new.ahead.ended ≡ true) }
+        ensures holds { EndHolds self.old.ahead (R.to_come input.old) → EndHolds self.new.ahead (R.to_come input.new) }
+        ensures left_alone { self.old.ahead.ended ≡ true → (self.new.ahead.ended ≡ true) × (input.new ≡ input.old) }
         ensures failures { R.failures input.new ≡ R.failures input.old + failed_reading result }
     {
-        if !take_line(input, &mut self.bytes)? {
+        if !take_line(input, &mut self.ahead, &mut self.bytes)? {
             return Ok(false);
         }
         if self.bytes.len() > MOST_BYTES {
@@ -105,28 +114,25 @@ impl Lines {
 }
 
 /// Takes the bytes of the first line without its end, or more than 128 of them; `false` if there is no line.
-fn take_line<R: Source>(input: &mut R, line: &mut Vec<u8>) -> Result<bool, Fault>
+fn take_line<R: Source>(input: &mut R, ahead: &mut Ahead, line: &mut Vec<u8>) -> Result<bool, Fault>
     requires { R.failures input.old < 2 ^ 64 - 1 }
-    ensures line { IfOk result (λ some. some ≡ true → length line.new.items ≤ 128 → Told (R.to_come input.old) (R.to_come input.new) (λ text rest. TakesLine text line.new.items rest)) }
-    ensures long { IfOk result (λ some. some ≡ true → 128 < length line.new.items → IfSome (R.to_come input.old) IsTooLong) }
-    ensures end { IfOk result (λ some. some ≡ false → IsAtEnd (R.to_come input.old) × IsAtEnd (R.to_come input.new)) }
+    ensures line { IfOk result (λ some. some ≡ true → length line.new.items ≤ 128 → Told (coming ahead.old (R.to_come input.old)) (coming ahead.new (R.to_come input.new)) (λ text rest. TakesLine text line.new.items rest)) }
+    ensures long { IfOk result (λ some. some ≡ true → 128 < length line.new.items → IfSome (coming ahead.old (R.to_come input.old)) IsTooLong) }
+    ensures end { IfOk result (λ some. some ≡ false → IsAtEnd (coming ahead.old (R.to_come input.old)) × IsAtEnd (coming ahead.new (R.to_come input.new))) }
+    ensures ended { IfOk result (λ some. some ≡ false → ahead.new.ended ≡ true) }
+    ensures holds { EndHolds ahead.old (R.to_come input.old) → EndHolds ahead.new (R.to_come input.new) }
+    ensures left_alone { ahead.old.ended ≡ true → (ahead.new.ended ≡ true) × (input.new ≡ input.old) }
     ensures fault { IfErr result IsReadFault }
     ensures failures { R.failures input.new ≡ R.failures input.old + failed_reading result }
 {
     line.clear();
-    'bytes: while line.len() < MOST_WITH_END {
-        match input.next_byte() {
-            Ok(Some(b'\n')) => {
-                drop_return(line);
-                return Ok(true);
-            }
-            Ok(Some(byte)) => {
-                if line.push(byte).is_err() {
-                    return Err(Fault::Memory);
-                }
-            }
-            Ok(None) => return Ok(!line.is_empty()),
-            Err(Failed) => return Err(Fault::Read),
+    'parts: while line.len() < MOST_WITH_END {
+        if !ahead.fill(input)? {
+            return Ok(!line.is_empty());
+        }
+        if ahead.move_to(line)? {
+            drop_return(line);
+            return Ok(true);
         }
     }
     Ok(true)
