@@ -1,53 +1,50 @@
 #!/usr/bin/env python3
 """The constant parts of a picture: the files of picture/, as the crate `picture` has them in src/constants.rt.
 
-    picture_parts.py            whether the crate has them as they are
-    picture_parts.py --write    writes them into the crate
+tests/picture_parts.py compares the two; with the word `write` it writes the files into the crate.
 """
-import os
+
 import sys
 
-TOP = os.path.dirname(os.path.dirname(os.path.abspath(__file__)))
-SOURCE = os.path.join(TOP, 'crates', 'picture', 'src', 'constants.rt')
+from running import TOP
+
+SOURCE = TOP / "crates" / "picture" / "src" / "constants.rt"
 PARTS = [
-    ('style.css', 'STYLE', 'The style of all pictures.'),
-    ('page.css', 'PAGE_STYLE', 'The style of a page beside it.'),
-    ('script.js', 'SCRIPT', 'The script of a page.'),
-    ('defs.svg', 'PATTERNS', 'The patterns of the bars.'),
-    ('legend.svg', 'LEGEND', 'What the signs, bars and words mean.'),
+    ("style.css", "STYLE", "The style of all pictures."),
+    ("page.css", "PAGE_STYLE", "The style of a page beside it."),
+    ("script.js", "SCRIPT", "The script of a page."),
+    ("defs.svg", "PATTERNS", "The patterns of the bars."),
+    ("legend.svg", "LEGEND", "What the signs, bars and words mean."),
+    ("legend-reads.svg", "READS_LEGEND", "The same, with what shows a read that a write overlapped."),
 ]
+HEAD = "//! The constant parts of a picture, as the files of picture/ have them: tests/picture_parts.py writes this.\n"
+# a line of the source that would be longer goes on below
+WIDTH = 100
 
 
 def literal(text):
     """The text as a string of the language, in which a line ends where the text's does."""
-    text = text.replace('\\', '\\\\').replace('"', '\\"')
-    return '"' + text.replace('\n', '\\n\\\n') + '"'
+    text = text.replace("\\", "\\\\").replace('"', '\\"').replace("\n", "\\n\\\n")
+    return f'"{text}"'
 
 
 def constant(file, name, meaning):
-    with open(os.path.join(TOP, 'picture', file)) as part:
-        text = part.read().rstrip('\n')
-    before, value = 'pub(crate) const %s: &str =' % name, literal(text)
-    # in the layout that the language's own tool gives
-    is_long = len(before) + 1 + len(value.split('\n')[0]) > 100
-    return '/// %s\n%s%s%s;\n' % (meaning, before, '\n    ' if is_long else ' ', value)
+    """The constant of a file, laid out as the language's own tool does."""
+    value = literal((TOP / "picture" / file).read_text().rstrip("\n"))
+    before, first = f"pub(crate) const {name}: &str =", value.split("\n")[0]
+    space = " " if len(before) + 1 + len(first) <= WIDTH else "\n    "
+    return f"/// {meaning}\n{before}{space}{value};\n"
 
 
-def source():
-    head = '//! The constant parts of a picture, as the files of picture/ have them: tests/picture_parts.py writes this.\n'
-    return '\n'.join([head] + [constant(*part) for part in PARTS])
+def main():
+    made = "\n".join([HEAD, *(constant(*part) for part in PARTS)])
+    if sys.argv[1:] == ["write"]:
+        SOURCE.write_text(made)
+    is_same = SOURCE.read_text() == made
+    if not is_same:
+        print(f"{SOURCE.relative_to(TOP)} is not what picture/ has: python3 tests/picture_parts.py write")
+    print(f"{int(is_same)} passed, {int(not is_same)} failed")
+    sys.exit(not is_same)
 
 
-def main(words):
-    if words == ['--write']:
-        with open(SOURCE, 'w') as file:
-            file.write(source())
-        return 0
-    with open(SOURCE) as file:
-        same = file.read() == source()
-    print('%d passed, %d failed' % (same, not same))
-    return 0 if same else 1
-
-
-if __name__ == '__main__':
-    sys.exit(main(sys.argv[1:]))
+main()

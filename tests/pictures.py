@@ -9,12 +9,15 @@ are the lines of the run, in their order. Each word of a picture stands within i
 bar of each process is the stage that the marks so far give it, and all lanes are shaded from each `enter` to its `leave`; no
 two bars stand side by side as `inside`. The places in the history are numbered from 0 on, and each is filled where a command
 changed the store.
+
+With `--reads` both show beside all this the reads that a write overlapped, which are looked up in what `record` prints: of those
+that end between two lines of the run the first three, each with a bracket that ends at its column.
 """
 
 import argparse
+import collections
 import html.parser
 import itertools
-import pathlib
 import re
 import subprocess
 import sys
@@ -22,16 +25,15 @@ import xml.etree.ElementTree as tree
 from typing import NamedTuple
 
 from made_up import scenario
+from running import PROGRAM, TOP
 
-TOP = pathlib.Path(__file__).resolve().parent.parent
-PROGRAM = TOP / "crates" / "bakerystore" / "out" / "bakerystore"
 # the picture that README.md shows, and its run
 SHOWN = TOP / "docs" / "run.svg"
 SHOWN_RUN = TOP / "examples" / "worked" / "failure-commit-settled-new" / "scenario"
 SVG = "{http://www.w3.org/2000/svg}"
 # the size of a word by its class, in pixels
 SIZES = {
-    **dict.fromkeys(["verb", "rest", "store"], 11),
+    **dict.fromkeys(["verb", "rest", "store", "saw", "of-what"], 11),
     **dict.fromkeys(["event", "gap", "name", "stage", "white", "in", "in-w", "thin"], 9),
     "key": 10,
     "lane": 14,
@@ -42,44 +44,136 @@ STAGES = {
     **{"answer": "idle", "fail": "settling", "down": "down", "restart": "idle"},
 }
 LEFT = 52
+# of the reads that end between two lines of the run, so many are shown
+MOST_SHOWN = 3
+# an entry of a record with an access: process, owner, field, bit, reader, move, value
+ENTRY = re.compile(r"(\d+) (\d+)\.(\w+)\.(\d+)\.(\d+) (write|end|settle|read|value)(?: ([01]))?( :.*)?")
+# how many bits the registers have, by the heading of a record, or always
+WIDTHS = {"choosing": 1, "commit": 1, "ticket": "tickets", "stamp0": "stamps", "stamp1": "stamps"}
 
 
-class Titles(html.parser.HTMLParser):
-    """The titles of the marks of a page."""
+class Group(NamedTuple):
+    """A group of a picture: `m` of a mark, `r` of a read; its title, and its words."""
+
+    style: str
+    title: list
+    words: list
+
+
+class Groups(html.parser.HTMLParser):
+    """The groups of a page."""
 
     def __init__(self):
         super().__init__()
-        self.lines, self.in_mark, self.in_title = [], False, False
+        self.groups, self.is_open, self.part = [], False, None
 
     def handle_starttag(self, tag, attributes):
         if tag == "g":
-            self.in_mark = ("class", "m") in attributes
-        if tag == "title" and self.in_mark:
-            self.in_title = True
-            self.lines.append("")
+            self.groups.append(Group(dict(attributes).get("class"), [], []))
+            self.is_open = True
+        if tag in ("title", "text") and self.is_open:
+            self.part = self.groups[-1].title if tag == "title" else self.groups[-1].words
+            self.part.append("")
 
     def handle_endtag(self, tag):
-        if tag == "title":
-            self.in_title = False
+        if tag in ("title", "text"):
+            self.part = None
         if tag == "g":
-            self.in_mark = False
+            self.is_open = False
 
     def handle_data(self, data):
-        if self.in_title:
-            self.lines[-1] += data
+        if self.part is not None:
+            self.part[-1] += data
 
 
-def printed(command, file):
-    ran = subprocess.run([PROGRAM, command, "-"], input=file, capture_output=True, check=True)
+class Read(NamedTuple):
+    """A read that a write overlapped: who read whose bit, from when to when, what it gave, and whether there are other bits."""
+
+    reader: str
+    owner: str
+    field: str
+    bit: str
+    begin: int
+    end: int
+    value: str
+    is_wide: bool
+
+    def title(self):
+        bit = f"bit {self.bit} of {self.field}[{self.owner}]"
+        return f"process {self.reader} read {bit} from event {self.begin} to {self.end} while it was written: {self.value}"
+
+    def words(self, left_out):
+        bit = f".{self.bit}" if self.is_wide else ""
+        return [f"saw {self.value}", f"{self.field}[{self.owner}]{bit}" + (f" +{left_out}" if left_out else "")]
+
+
+class Run(NamedTuple):
+    """A run: its lines, and the reads that a picture of it shows."""
+
+    lines: list
+    reads: list
+
+
+def printed(file, command, *options):
+    ran = subprocess.run([PROGRAM, command, *options, "-"], input=file, capture_output=True, check=True)
     return ran.stdout.decode()
 
 
-def page_faults(page, lines):
-    """What is wrong with the page of a run of these lines."""
-    titles = Titles()
-    titles.feed(page)
-    if titles.lines != lines:
+def overlapped_in(record):
+    """The reads of a record that a write of their bit overlapped: one was open as they began, or has begun since."""
+    entries = [line for line in record if line[0].isdigit()]
+    widths = dict(line.split(maxsplit=1) for line in record if not line[0].isdigit())
+    writing, begun, touched = set(), {}, set()
+    for number, entry in enumerate(entries):
+        parts = ENTRY.fullmatch(entry)
+        if not parts:
+            continue
+        process, *place, move, value, _ = parts.groups()
+        place = tuple(place)
+        if move == "write":
+            writing.add(place)
+            touched.add(place)
+        elif move in ("end", "settle"):
+            writing.discard(place)
+        elif move == "read":
+            begun[place] = number
+            (touched.add if place in writing else touched.discard)(place)
+        elif place in touched:
+            owner, field, bit, _ = place
+            width = WIDTHS.get(field)
+            is_wide = int(widths.get(width, width or 8)) > 1
+            yield Read(process, owner, field, bit, begun[place], number, value, is_wide)
+
+
+def read_faults(groups, reads):
+    """What is wrong with the reads that stand between the marks."""
+    to_come, shown = collections.deque(reads), 0
+    for style, title, words in groups:
+        if style == "m":
+            shown, event = 0, re.match(r"\d+", title[0])
+            if event and to_come and to_come[0].end <= int(event.group()):
+                yield f"{to_come[0].title()} is not shown before {title[0]}"
+        elif style == "r":
+            shown += 1
+            left_out = int((re.findall(r" \+(\d+)$", words[-1]) or [0])[0])
+            wanted = to_come.popleft() if to_come else None
+            if not wanted or (title, words) != ([wanted.title()], wanted.words(left_out)):
+                yield f"{title} {words} is shown, not {wanted}"
+            if shown > MOST_SHOWN or left_out and shown < MOST_SHOWN:
+                yield f"read {shown} between two lines is {title} {words}"
+            for _ in range(min(left_out, len(to_come))):
+                to_come.popleft()
+    if to_come:
+        yield f"{len(to_come)} reads are not shown"
+
+
+def page_faults(page, run):
+    """What is wrong with the page of a run."""
+    parser = Groups()
+    parser.feed(page)
+    if [group.title[0] for group in parser.groups if group.style == "m"] != run.lines:
         yield "other lines than replay's"
+    yield from read_faults(parser.groups, run.reads)
     if "<script src" in page or "http" in page.replace("http://www.w3.org/2000/svg", ""):
         yield "something that is not in the file"
 
@@ -178,16 +272,30 @@ def place_faults(marks):
             yield f"place {place} is drawn as {knots}, {pills}"
 
 
-def picture_faults(picture, lines):
-    """What is wrong with the picture of a run of these lines."""
+def bracket_faults(bands):
+    """What is wrong with the brackets of reads: each ends at the column of its read, and begins before it."""
+    for band in bands:
+        brackets = [shape.get("d") for shape in band if shape.get("class") == "open"]
+        ends = [re.fullmatch(r"M(\d+) \d+V\d+H(\d+)V\d+", bracket).groups() for bracket in brackets]
+        columns = [int(word.get("x")) - 3 for word in band.iter(SVG + "text") if word.get("class") == "saw"]
+        if [int(end) for _, end in ends] != columns or any(int(begin) > int(end) for begin, end in ends):
+            yield f"brackets {brackets} of reads at {columns}"
+
+
+def picture_faults(picture, run):
+    """What is wrong with the picture of a run."""
     root = tree.fromstring(picture.encode())
     # the last group is the legend
     bands = [group for group in root if group.get("transform")][:-1]
     marks_of = [[group for group in band if group.get("class") == "m"] for band in bands]
     marks = list(itertools.chain(*marks_of))
-    if [title(mark) for mark in marks] != lines:
+    if [title(mark) for mark in marks] != run.lines:
         yield "other lines than replay's"
         return
+    groups = [group for band in bands for group in band if group.get("class") in ("m", "r")]
+    words = [[word.text for word in group.iter(SVG + "text")] for group in groups]
+    yield from read_faults([Group(each.get("class"), [title(each)], said) for each, said in zip(groups, words)], run.reads)
+    yield from bracket_faults(bands)
     yield from word_faults(root)
     yield from place_faults(marks)
     state = State(["idle"] * len(bars_of(bands[0])), False)
@@ -213,17 +321,19 @@ def main():
     parser.add_argument("--made-up", type=int, default=10)
     parser.add_argument("--first", type=int, default=1)
     words = parser.parse_args()
-    is_shown = printed("draw-svg", SHOWN_RUN.read_bytes()) == SHOWN.read_text()
+    is_shown = printed(SHOWN_RUN.read_bytes(), "draw-svg") == SHOWN.read_text()
     passed, failed = int(is_shown), int(not is_shown)
     if not is_shown:
         print(f"{SHOWN.relative_to(TOP)} is not what draw-svg draws")
     for name, file in files(words.made_up, words.first):
-        lines = printed("replay", file).splitlines()
-        for command, faults_of in [("draw", page_faults), ("draw-svg", picture_faults)]:
-            faults = list(faults_of(printed(command, file), lines))
-            passed, failed = passed + (not faults), failed + bool(faults)
-            for fault in faults[:5]:
-                print(f"{command} {name}: {fault}")
+        lines = printed(file, "replay").splitlines()
+        overlapped = list(overlapped_in(printed(file, "record").splitlines()))
+        for options, reads in [([], []), (["--reads"], overlapped)]:
+            for command, faults_of in [("draw", page_faults), ("draw-svg", picture_faults)]:
+                faults = list(faults_of(printed(file, command, *options), Run(lines, reads)))
+                passed, failed = passed + (not faults), failed + bool(faults)
+                for fault in faults[:5]:
+                    print(f"{command} {options} {name}: {fault}")
     print(f"{passed} passed, {failed} failed")
     sys.exit(failed != 0)
 

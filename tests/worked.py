@@ -3,16 +3,16 @@
 
 Each folder of examples/worked/ has a `scenario` or a `bits-file`, and for each command that can run it, as `plain`, what
 the command writes to standard output; beside it `plain.err` (no such file: nothing) and `plain.status` (no such file: 0).
+What a command writes with `--reads` is in `draw-reads` and `draw-svg-reads`.
 The program is the one that `rt run` leaves in crates/bakerystore.
 """
 
-import pathlib
 import subprocess
 import sys
 
-TOP = pathlib.Path(__file__).resolve().parent.parent
-PROGRAM = TOP / "crates" / "bakerystore" / "out" / "bakerystore"
-# each command with the file that it runs
+from running import PROGRAM, TOP
+
+# each command, with the option behind it, and the file that it runs
 COMMANDS = {
     "plain": "scenario",
     "bits": "bits-file",
@@ -22,6 +22,8 @@ COMMANDS = {
     "race": "scenario",
     "draw": "scenario",
     "draw-svg": "scenario",
+    "draw-reads": "scenario",
+    "draw-svg-reads": "scenario",
 }
 
 
@@ -38,14 +40,24 @@ def wanted(folder, command):
     return output, told, int(status)
 
 
+def strays(folder):
+    """The files of a folder that nothing here looks at."""
+    known = {f"{command}{end}" for command in COMMANDS for end in ("", ".err", ".status")}
+    return sorted({path.name for path in folder.iterdir()} - known - set(COMMANDS.values()))
+
+
 def main():
     passed = failed = 0
     for folder in sorted((TOP / "examples" / "worked").iterdir()):
+        if strays(folder) or not any(wanted(folder, command) for command in COMMANDS):
+            print(f"{folder.name} has no output of a command, or files of none: {strays(folder)}")
+            failed += 1
         for command, file in COMMANDS.items():
             want = wanted(folder, command)
             if want is None:
                 continue
-            ran = subprocess.run([PROGRAM, command, folder / file], capture_output=True)
+            word, options = command.removesuffix("-reads"), ["--reads"] * command.endswith("-reads")
+            ran = subprocess.run([PROGRAM, word, *options, folder / file], capture_output=True)
             good = (ran.stdout, ran.stderr, ran.returncode) == want
             passed += good
             failed += not good

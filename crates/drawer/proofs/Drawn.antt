@@ -1,5 +1,5 @@
 -- Markup that is written piece by piece, and the lines that are held back.
-use Rattle.std.proofs.Common.{◌≡◌, ℕ, true, List, [], ◌∷◌, ◌++◌, codes, flat_map, Option, refl, ap, sym, subst, ◌∙◌, append-nil, append_assoc}
+use Rattle.std.proofs.Common.{◌≡◌, ℕ, true, List, [], ◌∷◌, ◌++◌, codes, Option, refl, ap, sym, subst, ◌∙◌, append-nil, append_assoc}
 use Rattle.std.proofs.lemmas.Grind.{flat_map-append}
 use Rattle.std.specs.Io.KnownBytes.{Appends}
 use Rattle.shapes.specs.Titles.{is_at_rest, lines_in, tags_of}
@@ -47,6 +47,14 @@ draws_on_line had band held line a b are draws = record {
   drawn = ended_lines band;
   draws = draws;
   goes_on = sym (ended-append band held) ∙ ap ended_lines are ∙ ended-append had (line ∷ []) ∙ ap (λ l. ended_lines had ++ l) (append-nil (line ++ codes "\n"));
+}
+
+-- no line, where the lines of a band are drawn and the others are held back
+pub draws_on_held : (had band held : List (List ℕ)) (a b : Option (List ℕ)) → band ++ held ≡ had → Draws a b (ended_lines band) → DrawsOn had held a b []
+draws_on_held had band held a b are draws = record {
+  drawn = ended_lines band;
+  draws = draws;
+  goes_on = sym (ended-append band held) ∙ ap ended_lines are ∙ sym (append-nil (ended_lines had));
 }
 
 -- what was held back is drawn

@@ -1,5 +1,5 @@
 -- How `draw` ends that has read its input.
-use Rattle.std.proofs.Common.{◌≡◌, ℕ, ◌+◌, List, Option, Some, None, Result, Ok, Err, IfErr, IsErrAnd, OnOk, arith, subst, sym, ◌∙◌}
+use Rattle.std.proofs.Common.{◌≡◌, ℕ, ◌+◌, List, Result, Ok, Err, IfErr, IsErrAnd, OnOk, arith}
 use Rattle.files.proofs.EngineEnds.{read_to_end, text_told}
 use Rattle.files.specs.Engines.{Ran, Streams}
 use Rattle.files.specs.Streams.{ReadsInput}

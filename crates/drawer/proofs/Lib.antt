@@ -2,3 +2,5 @@ pub mod Drawn
 pub mod Shown
 pub mod Drawings
 pub mod Ends
+pub mod Chains
+pub mod Insides

@@ -1,25 +1,28 @@
 //! A run told line by line to a picture, whose bands are written as they are full.
-ghost use Rattle.std.specs.Prelude.{◌≡◌, ◌+◌, ◌-◌, ◌^◌, ◌<◌, [], ◌++◌, codes, flat_map, IfErr, IfOk, Ok, OnOk};
+ghost use Rattle.std.specs.Prelude.{◌≡◌, ◌+◌, ◌-◌, ◌^◌, ◌<◌, ◌≤◌, [], ◌++◌, codes, flat_map, IfErr, IfOk, IfSome, Ok, OnOk};
 ghost use Rattle.plain_store.specs.Setups.{checked};
 ghost use Rattle.picture.specs.Pages.{held};
 ghost use Rattle.picture.specs.Told.{saying_text};
 ghost use Rattle.scenario.specs.Reads.{script};
-ghost use Rattle.replayer.specs.Courses.{Follows};
-ghost use Rattle.replayer.specs.Runs.{happenings, run_at_start};
+ghost use Rattle.replayer.specs.Courses.{Follows, MakesTurns};
+ghost use Rattle.replayer.specs.Runs.{Run, happenings, run_at_start};
 ghost use Rattle.replayer.specs.Summaries.{counted, summary_of};
 ghost use Rattle.replayer.specs.Telling.{told_text};
 ghost use Rattle.replayer.specs.Texts.{end_line, mark_line, replayed};
+ghost use Rattle.replayer.specs.Turns.{turns_in};
 ghost use Rattle.replayer.specs.Writing.{IsWriteFault, failed_write};
 ghost use Rattle.drawer.specs.Drawings.{Draws, DrawsLine, DrawsOn, IsToldLine};
 
 use crate::changes::{Changes, words_shown};
+use crate::overlaps::{Overlaps, hear, take_ended};
 use crate::writing::{write_band, write_markup};
-use picture::{Form, Line, Page, Saying};
+use onlooker::{Onlooker, Place};
+use picture::{Form, Line, OverlappedRead, Page, Reads, Saying};
 use plain_store::{NestedTypes, Setup};
 use record::Mark;
-use replayer::{Course, Summary, Told};
+use replayer::{Course, Summary, Told, Turns};
 use scenario::{Fault, Scenario, Sink};
-use std::alloc::Global;
+use std::alloc::{AllocError, Global};
 
 /// A run and its picture, on their way.
 #[derive(Drop)]
@@ -27,6 +30,8 @@ struct Drawing {
     alloc: Global,
     course: Course,
     changes: Changes,
+    /// What tells the reads that are overlapped, if they are shown.
+    overlaps: Option<Overlaps>,
     summary: Summary,
     page: Page,
     /// The number of the line of the printed scenario.
@@ -36,12 +41,15 @@ struct Drawing {
 /// The lines that a printed scenario has before its opening pairs.
 const HEADINGS: u64 = 5;
 
-/// Draws the bands of a scenario's run; answers its numbers, and the heights of the bands.
-pub(crate) fn draw_bands<W: Sink>(
+/// Draws the bands of the run of a file's scenario; answers its numbers, and the heights of the bands.
+pub(crate) fn draw_bands<W: Sink, L: Onlooker>(
     alloc: Global,
+    file: &[u8],
     scenario: &Scenario,
     form: Form,
+    reads: Reads,
     output: &mut W,
+    onlooker: &mut L,
 ) -> Result<(Summary, u64), Fault>
     requires { W.failures output.old < 2 ^ 64 - 1 }
     ensures ok { OnOk result (Draws (W.taken output.old) (W.taken output.new) (replayed (script scenario.now))) }
@@ -49,8 +57,10 @@ pub(crate) fn draw_bands<W: Sink>(
     ensures fault { IfErr result IsWriteFault }
     ensures failures { W.failures output.new ≡ W.failures output.old + failed_write result }
 {
-    let mut drawing = Drawing::new(alloc, &scenario.setup, form)?;
+    let mut drawing = Drawing::new(alloc, &scenario.setup, form, reads)?;
+    let mut place = Place::before(file, scenario.lines.len());
     for line in &scenario.lines {
+        onlooker.reached(place.begin_line(drawing.summary.events));
         drawing.source = drawing.source.saturating_add(1);
         drawing.draw_line(line, output)?;
     }
@@ -61,7 +71,7 @@ pub(crate) fn draw_bands<W: Sink>(
 }
 
 impl Drawing {
-    fn new(alloc: Global, setup: &Setup, form: Form) -> Result<Drawing, Fault>
+    fn new(alloc: Global, setup: &Setup, form: Form, reads: Reads) -> Result<Drawing, Fault>
         requires { checked setup.now ≡ Ok tt }
         ensures setup { IfOk result (λ drawing. drawing.course.world.setup ≡ setup.now) }
         ensures follows { IfOk result (λ drawing. Follows drawing.course run_at_start) }
@@ -77,10 +87,12 @@ impl Drawing {
         }
         let page = Page::new(alloc, form, setup.processes, opening.as_slice())?;
         let course = Course::new(alloc, setup, false)?;
+        let overlaps = Overlaps::new(alloc, setup, reads)?;
         Ok(Drawing {
             alloc,
             course,
             changes,
+            overlaps,
             summary: Summary::new(),
             page,
             source: (setup.opening.len() as u64).saturating_add(HEADINGS),
@@ -100,7 +112,7 @@ impl Drawing {
     {
         self.course.begin(line);
         'turns: loop {
-            let turns = self.course.turns(line)?;
+            let turns = next_turns(&mut self.course, line, self.overlaps.is_some())?;
             self.summary.events += u64::from(turns.quiet);
             let Some(told) = turns.told else {
                 return Ok(());
@@ -137,6 +149,7 @@ impl Drawing {
         let _nested: NestedTypes = None;
         match told {
             Told::Accepted(made) => {
+                hear(&mut self.overlaps, self.summary.events, made)?;
                 let process = made.event.process();
                 self.draw_marks(process, made.marks(self.alloc).as_slice(), output)
             }
@@ -194,7 +207,7 @@ impl Drawing {
         self.draw(saying, output)
     }
 
-    /// Draws a line, and writes the band that it does not fit into, if it does not.
+    /// Draws a line, and before it the reads that were overlapped since the line before; writes each band that is full.
     fn draw<W: Sink>(&mut self, saying: Saying, output: &mut W) -> Result<(), Fault>
         requires { W.failures output.old < 2 ^ 64 - 1 }
         ensures ok { OnOk result (DrawsOn (held self.old.page) (held self.new.page) (W.taken output.old) (W.taken output.new) (saying_text self.old.summary.events saying ++ codes "\n")) }
@@ -203,12 +216,42 @@ impl Drawing {
         ensures fault { IfErr result IsWriteFault }
         ensures failures { W.failures output.new ≡ W.failures output.old + failed_write result }
     {
+        self.draw_reads(output)?;
         let line = Line {
             source: self.source,
             at: self.summary.events,
             saying,
         };
         let full = self.page.take(line)?;
+        write_band(&full, output)
+    }
+
+    /// Draws the reads that were overlapped since the last line, which are no lines of the run.
+    fn draw_reads<W: Sink>(&mut self, output: &mut W) -> Result<(), Fault>
+        requires { W.failures output.old < 2 ^ 64 - 1 }
+        ensures ok { OnOk result (DrawsOn (held self.old.page) (held self.new.page) (W.taken output.old) (W.taken output.new) []) }
+        ensures summary { self.new.summary ≡ self.old.summary }
+        ensures course { self.new.course ≡ self.old.course }
+        ensures fault { IfErr result IsWriteFault }
+        ensures failures { W.failures output.new ≡ W.failures output.old + failed_write result }
+    {
+        let ended = take_ended(self.alloc, &mut self.overlaps);
+        for read in &ended {
+            self.draw_read(read, output)?;
+        }
+        Ok(())
+    }
+
+    /// Draws a read, and writes the band that it does not fit into, if it does not.
+    fn draw_read<W: Sink>(&mut self, read: &OverlappedRead, output: &mut W) -> Result<(), Fault>
+        requires { W.failures output.old < 2 ^ 64 - 1 }
+        ensures ok { OnOk result (DrawsOn (held self.old.page) (held self.new.page) (W.taken output.old) (W.taken output.new) []) }
+        ensures summary { self.new.summary ≡ self.old.summary }
+        ensures course { self.new.course ≡ self.old.course }
+        ensures fault { IfErr result IsWriteFault }
+        ensures failures { W.failures output.new ≡ W.failures output.old + failed_write result }
+    {
+        let full = self.page.take_read(*read)?;
         write_band(&full, output)
     }
 
@@ -235,4 +278,20 @@ impl Drawing {
         write_band(&full, output)?;
         write_markup(&last, output)
     }
+}
+
+/// The next turn of a line, if each is to be heard; else its turns up to the first that tells more than a Step without
+/// a mark.
+fn next_turns(course: &mut Course, line: &scenario::Line, each: bool) -> Result<Turns, AllocError>
+    requires { course.old.left ≤ turns_in line.now }
+    ensures few { IfOk result (λ turns. turns.quiet ≤ course.old.left) }
+    ensures less { IfOk result (λ turns. IfSome turns.told (λ _. turns.quiet + course.new.left < course.old.left)) }
+    ensures made { IfOk result (λ turns. (run : Run) → Follows course.old run → MakesTurns course.old line.now run turns course.new) }
+{
+    if each {
+        let told = course.turn(line)?;
+        return Ok(Turns { quiet: 0, told });
+    }
+    let turns = course.turns(line)?;
+    Ok(turns)
 }

@@ -13,17 +13,21 @@ use crate::changes::Changes;
 use crate::drawing::draw_bands;
 use crate::nowhere::Nowhere;
 use crate::writing::write_markup;
-use picture::{FIRST_BAND, Form, page_end, page_head, picture_end, picture_head};
+use onlooker::Onlooker;
+use picture::{FIRST_BAND, Form, Reads, page_end, page_head, picture_end, picture_head};
 use replayer::Summary;
 use scenario::{Fault, Scenario, Sink, Source, print_scenario, read_input, read_scenario};
 use std::alloc::Global;
 
 /// Reads a whole file, and writes the page of its run: a picture in bands, each written when it is full. Where it ends
-/// well, the titles of the marks, read back, are the lines that `replay` writes for the file.
-pub fn draw<R: Source, W: Sink>(
+/// well, the titles of the marks, read back, are the lines that `replay` writes for the file, whether or not the page
+/// shows the reads that writes overlapped too.
+pub fn draw<R: Source, W: Sink, L: Onlooker>(
     alloc: Global,
+    reads: Reads,
     input: &mut R,
     output: &mut W,
+    onlooker: &mut L,
 ) -> Result<Summary, Fault>
     requires reads { R.failures input.old < 2 ^ 64 - 1 }
     requires writes { W.failures output.old < 2 ^ 64 - 1 }
@@ -35,11 +39,18 @@ pub fn draw<R: Source, W: Sink>(
 {
     let file = read_input(alloc, input)?;
     let scenario = read_scenario(alloc, file.as_slice())?;
-    draw_page(alloc, &scenario, output)
+    draw_page(alloc, file.as_slice(), &scenario, reads, output, onlooker)
 }
 
-/// Writes the page of a scenario's run.
-fn draw_page<W: Sink>(alloc: Global, scenario: &Scenario, output: &mut W) -> Result<Summary, Fault>
+/// Writes the page of the run of a file's scenario.
+fn draw_page<W: Sink, L: Onlooker>(
+    alloc: Global,
+    file: &[u8],
+    scenario: &Scenario,
+    reads: Reads,
+    output: &mut W,
+    onlooker: &mut L,
+) -> Result<Summary, Fault>
     requires { W.failures output.old < 2 ^ 64 - 1 }
     ensures ok { OnOk result (Draws (W.taken output.old) (W.taken output.new) (replayed (script scenario.now))) }
     ensures summary { IfOk result (λ summary. summary ≡ summary_of scenario.now.setup (happenings (script scenario.now))) }
@@ -48,20 +59,22 @@ fn draw_page<W: Sink>(alloc: Global, scenario: &Scenario, output: &mut W) -> Res
 {
     let opening = Changes::new(alloc, &scenario.setup)?.store_words()?;
     let printed = print_scenario(alloc, scenario)?;
-    let head = page_head(alloc, &scenario.setup, printed.as_slice())?;
+    let head = page_head(alloc, &scenario.setup, printed.as_slice(), reads)?;
     let end = page_end(alloc, opening.as_slice())?;
     write_markup(&head, output)?;
-    let (summary, _) = draw_bands(alloc, scenario, Form::Page, output)?;
+    let (summary, _) = draw_bands(alloc, file, scenario, Form::Page, reads, output, onlooker)?;
     write_markup(&end, output)?;
     Ok(summary)
 }
 
 /// Reads a whole file, and writes one picture of its run, which tells the same. The run is made twice, since a picture
 /// begins with its height.
-pub fn draw_svg<R: Source, W: Sink>(
+pub fn draw_svg<R: Source, W: Sink, L: Onlooker>(
     alloc: Global,
+    reads: Reads,
     input: &mut R,
     output: &mut W,
+    onlooker: &mut L,
 ) -> Result<Summary, Fault>
     requires reads { R.failures input.old < 2 ^ 64 - 1 }
     requires writes { W.failures output.old < 2 ^ 64 - 1 }
@@ -73,14 +86,17 @@ pub fn draw_svg<R: Source, W: Sink>(
 {
     let file = read_input(alloc, input)?;
     let scenario = read_scenario(alloc, file.as_slice())?;
-    draw_picture(alloc, &scenario, output)
+    draw_picture(alloc, file.as_slice(), &scenario, reads, output, onlooker)
 }
 
-/// Writes one picture of a scenario's run.
-fn draw_picture<W: Sink>(
+/// Writes one picture of the run of a file's scenario.
+fn draw_picture<W: Sink, L: Onlooker>(
     alloc: Global,
+    file: &[u8],
     scenario: &Scenario,
+    reads: Reads,
     output: &mut W,
+    onlooker: &mut L,
 ) -> Result<Summary, Fault>
     requires { W.failures output.old < 2 ^ 64 - 1 }
     ensures ok { OnOk result (Draws (W.taken output.old) (W.taken output.new) (replayed (script scenario.now))) }
@@ -89,11 +105,11 @@ fn draw_picture<W: Sink>(
     ensures failures { W.failures output.new ≡ W.failures output.old + failed_write result }
 {
     let form = Form::Picture(FIRST_BAND);
-    let (_, height) = draw_bands(alloc, scenario, form, &mut Nowhere)?;
-    let head = picture_head(alloc, &scenario.setup, height)?;
-    let end = picture_end(alloc, height)?;
+    let (_, height) = draw_bands(alloc, file, scenario, form, reads, &mut Nowhere, onlooker)?;
+    let head = picture_head(alloc, &scenario.setup, height, reads)?;
+    let end = picture_end(alloc, height, reads)?;
     write_markup(&head, output)?;
-    let (summary, _) = draw_bands(alloc, scenario, form, output)?;
+    let (summary, _) = draw_bands(alloc, file, scenario, form, reads, output, onlooker)?;
     write_markup(&end, output)?;
     Ok(summary)
 }

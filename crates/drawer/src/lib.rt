@@ -1,10 +1,21 @@
-//! The engines `draw` and `draw-svg`: the picture of a scenario's run, from which the run's lines are read back.
+//! The engines `draw` and `draw-svg`: the picture of a scenario's run, as a page for a browser and as one picture. A run is made
+//! anew, and each band of its picture is written as soon as it is full. From what is written the run's lines are read back, each
+//! once and in order. Where it is asked, a picture shows the reads that writes overlapped too.
+//!
+//! ```rust
+//! Engine::Draw => ended(draw(alloc, request.reads, input, output, onlooker)),
+//! Engine::DrawSvg => ended(draw_svg(alloc, request.reads, input, output, onlooker)),
+//! ```
 #![tactic(auto)]
 
 mod changes;
 mod drawing;
 mod engines;
+mod laws_of_pictures;
 mod nowhere;
+mod overlaps;
 mod writing;
 
 pub use engines::{draw, draw_svg};
+pub use laws_of_pictures::{chain_is_the_history, one_is_inside};
+pub use picture::Reads;

@@ -35,3 +35,9 @@ pub begins_pending : (band : List (List ℕ)) (placed : List Column) (pending : 
     band ++ lines_of placed pending ≡ before ++ line ∷ []
 begins_pending band placed pending column before line one only are =
     ap (λ l. band ++ l) (one_pending placed pending column one ∙ ap (λ l. flat_map told_in placed ++ l) only) ∙ sym (append_assoc band (flat_map told_in placed) (line ∷ [])) ∙ ap (λ l. l ++ line ∷ []) are
+
+-- nothing more is told, where a column is to be placed that tells no line
+pub begins_untold : (band : List (List ℕ)) (placed : List Column) (pending : Option Column) (column : Column) (before : List (List ℕ)) → pending ≡ Some column → told_in column ≡ [] → band ++ flat_map told_in placed ≡ before →
+    band ++ lines_of placed pending ≡ before
+begins_untold band placed pending column before one none are =
+    ap (λ l. band ++ l) (one_pending placed pending column one ∙ ap (λ l. flat_map told_in placed ++ l) none ∙ append-nil (flat_map told_in placed)) ∙ are

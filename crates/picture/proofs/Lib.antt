@@ -1,3 +1,4 @@
 mod Texts
 mod Tellings
 mod Held
+mod Stages

@@ -1,6 +1,7 @@
--- What a page holds back: the lines that were told and are not drawn yet.
+-- What a page holds back: the lines that were told and are not drawn yet; and what it keeps of all lines.
 use Rattle.std.specs.Prelude.{ℕ, List, [], ◌++◌, flat_map, Option, None, Some}
 use Rattle.std.specs.Option.{option_to_list}
+use Rattle.record.specs.declared.stages.Stage.{Stage}
 use Rattle.shapes.specs.Titles.{lines_in}
 use Rattle.picture.specs.Told.{told_in}
 use Rattle.picture.specs.declared.columns.Column.{Column}
@@ -18,3 +19,7 @@ held page = lines_of page.columns.items page.pending
 abbrev pub lines_of_band : Option (List ℕ) → List (List ℕ)
 lines_of_band None = []
 lines_of_band (Some band) = lines_in band
+
+-- the stages that the lines have told so far, those that are held back too
+abbrev pub stages_kept : Page → List Stage
+stages_kept page = page.state.stages

@@ -15,6 +15,8 @@ pub(crate) struct Band {
     pub columns: Vec<Column>,
     /// What stood before its first column.
     pub before: State,
+    /// How many events were accepted before that column.
+    pub before_at: u64,
     pub layout: Layout,
     pub is_last: bool,
     /// What the store opens with, in the first band.

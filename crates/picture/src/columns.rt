@@ -1,8 +1,9 @@
-//! Columns: an event with its marks, or a line without an event.
+//! Columns: an event with its marks, a line without an event, or a read that a write overlapped.
 ghost use Rattle.std.specs.Prelude.{◌≡◌, ◌++◌, [], ◌∷◌, IfOk, OnOk};
 ghost use Rattle.picture.specs.Told.{text_of, told_in};
 
 use crate::measures::{CHARACTER, DIGIT, LONGEST, PAD, room};
+use crate::reads::OverlappedRead;
 use crate::state::State;
 use crate::told::{Line, Saying};
 use record::Mark;
@@ -29,8 +30,9 @@ pub(crate) struct Column {
     pub lane: Option<u8>,
     /// Events since the column before.
     pub gap: u64,
-    /// One line, or the two marks of an event.
+    /// One line, or the two marks of an event; none of a read.
     pub lines: Vec<Line>,
+    pub read: Option<OverlappedRead>,
     /// One row or two.
     pub rows: Vec<Row>,
     /// Whom its process frees.
@@ -40,7 +42,7 @@ pub(crate) struct Column {
 }
 
 impl Row {
-    fn new(is_verb: bool, text: String) -> Row {
+    pub fn new(is_verb: bool, text: String) -> Row {
         Row {
             is_verb,
             characters: text.len(),
@@ -72,6 +74,7 @@ impl Column {
             lane,
             gap,
             lines,
+            read: None,
             rows,
             frees,
             after,
@@ -79,9 +82,32 @@ impl Column {
         })
     }
 
+    /// The column of a read, before it is placed.
+    pub fn of_read(
+        alloc: Global,
+        read: OverlappedRead,
+        gap: u64,
+        after: State,
+    ) -> Result<Column, AllocError>
+        ensures { IfOk result (λ column. told_in column ≡ []) }
+    {
+        Ok(Column {
+            at: read.end,
+            event: Some(read.end),
+            lane: Some(read.reader).filter(|process| *process < after.processes),
+            gap,
+            lines: Vec::new(alloc),
+            read: Some(read),
+            rows: read.rows(alloc)?,
+            frees: None,
+            after,
+            x: 0,
+        })
+    }
+
     /// Whether a line is a mark of this column's event.
     pub fn has_room_for(&self, line: &Line) -> bool {
-        self.event.is_some() && self.event == line.event()
+        self.read.is_none() && self.event.is_some() && self.event == line.event()
     }
 
     /// Adds the second mark of the event: now each mark has a row.

@@ -128,3 +128,66 @@ pub(crate) const LEGEND: &str = "<text class=\"name\" x=\"8\" y=\"19\">stages</t
 <text class=\"key\" x=\"752\" y=\"91\">number 0 of the history, reply done</text>\n\
 <text class=\"key strong\" x=\"984\" y=\"91\">380</text>\n\
 <text class=\"key\" x=\"1012\" y=\"91\">events between two columns</text>";
+
+/// The same, with what shows a read that a write overlapped.
+pub(crate) const READS_LEGEND: &str = "<text class=\"name\" x=\"8\" y=\"19\">stages</text>\n\
+<path class=\"idle\" d=\"M52 16L78 16\"/>\n\
+<text class=\"key\" x=\"84\" y=\"19\">idle</text>\n\
+<rect class=\"doorway\" x=\"126\" y=\"9\" width=\"26\" height=\"14\"/>\n\
+<text class=\"key\" x=\"158\" y=\"19\">doorway: takes a ticket</text>\n\
+<rect class=\"waiting\" x=\"314\" y=\"9\" width=\"26\" height=\"14\"/>\n\
+<text class=\"key\" x=\"346\" y=\"19\">waits (behind whom)</text>\n\
+<rect class=\"inside\" x=\"478\" y=\"4\" width=\"26\" height=\"24\"/>\n\
+<text class=\"key\" x=\"510\" y=\"19\">inside: reads, writes the store</text>\n\
+<rect class=\"leaving\" x=\"714\" y=\"12\" width=\"26\" height=\"8\"/>\n\
+<text class=\"key\" x=\"746\" y=\"19\">leaving</text>\n\
+<rect class=\"settling\" x=\"806\" y=\"9\" width=\"26\" height=\"14\"/>\n\
+<text class=\"key\" x=\"838\" y=\"19\">failed: its unit settles</text>\n\
+<rect class=\"down\" x=\"1000\" y=\"9\" width=\"26\" height=\"14\"/>\n\
+<text class=\"key\" x=\"1032\" y=\"19\">down</text>\n\
+<text class=\"name\" x=\"8\" y=\"45\">signs</text>\n\
+<path class=\"sign\" d=\"M54 37l8 5l-8 5z\"/>\n\
+<text class=\"key\" x=\"68\" y=\"45\">call</text>\n\
+<rect class=\"sign\" x=\"111\" y=\"38\" width=\"7\" height=\"8\"/>\n\
+<text class=\"key\" x=\"124\" y=\"45\">answer</text>\n\
+<rect class=\"pill\" x=\"177\" y=\"34\" width=\"16\" height=\"16\" rx=\"8\"/>\n\
+<text class=\"in-w\" x=\"185\" y=\"45\">0</text>\n\
+<text class=\"key\" x=\"198\" y=\"45\">taken at place 0, and it changed the store</text>\n\
+<rect class=\"pill-o\" x=\"467\" y=\"34\" width=\"16\" height=\"16\" rx=\"8\"/>\n\
+<text class=\"in\" x=\"475\" y=\"45\">1</text>\n\
+<text class=\"key\" x=\"488\" y=\"45\">taken, and it changed nothing</text>\n\
+<path class=\"frees\" d=\"M684 33v8\"/>\n\
+<path class=\"tip\" d=\"M684 49l-4 -7h8z\"/>\n\
+<text class=\"key\" x=\"694\" y=\"45\">no longer waits for it</text>\n\
+<path class=\"cross\" d=\"M843 36l12 12m0 -12l-12 12\"/>\n\
+<text class=\"key\" x=\"860\" y=\"45\">fails</text>\n\
+<path class=\"diamond\" d=\"M916 33l9 9l-9 9l-9 -9z\"/>\n\
+<text class=\"in\" x=\"916\" y=\"45\">1</text>\n\
+<text class=\"key\" x=\"930\" y=\"45\">torn bit settled at 1</text>\n\
+<circle class=\"ring\" cx=\"1078\" cy=\"42\" r=\"5\"/>\n\
+<text class=\"key\" x=\"1088\" y=\"45\">restarts</text>\n\
+<path class=\"back\" d=\"M53 64l9 -6v12z\"/>\n\
+<text class=\"key\" x=\"68\" y=\"67\">withdraws</text>\n\
+<path class=\"no-sign\" d=\"M139 64a6 6 0 1 0 12 0a6 6 0 1 0 -12 0m2 4l8 -8\"/>\n\
+<text class=\"key\" x=\"156\" y=\"67\">refused</text>\n\
+<path class=\"glass\" d=\"M215 57h12l-12 14h12z\"/>\n\
+<text class=\"key\" x=\"232\" y=\"67\">go gave up after 65536 steps</text>\n\
+<path class=\"open\" d=\"M418 60v6h22v-6\"/>\n\
+<text class=\"key\" x=\"446\" y=\"67\">a read that a write of its bit overlapped</text>\n\
+<rect class=\"shade\" x=\"709\" y=\"56\" width=\"24\" height=\"16\"/>\n\
+<text class=\"key\" x=\"738\" y=\"67\">somebody is inside</text>\n\
+<path class=\"far\" d=\"M863 64L887 64\"/>\n\
+<text class=\"key\" x=\"892\" y=\"67\">more events than pixels</text>\n\
+<text class=\"name\" x=\"8\" y=\"91\">words</text>\n\
+<text class=\"key strong\" x=\"52\" y=\"91\">wait 2</text>\n\
+<text class=\"key\" x=\"98\" y=\"91\">its ticket is 2</text>\n\
+<text class=\"key strong\" x=\"210\" y=\"91\">behind 0,1</text>\n\
+<text class=\"key\" x=\"280\" y=\"91\">these are served before it</text>\n\
+<text class=\"key strong\" x=\"458\" y=\"91\">2 choosing</text>\n\
+<text class=\"key\" x=\"528\" y=\"91\">2 may come before it</text>\n\
+<text class=\"key strong\" x=\"670\" y=\"91\">taken 0 done</text>\n\
+<text class=\"key\" x=\"752\" y=\"91\">number 0 of the history, reply done</text>\n\
+<text class=\"key strong\" x=\"984\" y=\"91\">380</text>\n\
+<text class=\"key\" x=\"1012\" y=\"91\">events between two columns</text>\n\
+<text class=\"key strong\" x=\"52\" y=\"109\">saw 0 ticket[1].2</text>\n\
+<text class=\"key\" x=\"164\" y=\"109\">such a read of bit 2 of process 1's ticket gave 0</text>";

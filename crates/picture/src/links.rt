@@ -8,7 +8,7 @@ use shapes::{Markup, Point};
 use std::alloc::{AllocError, Global};
 
 impl Band {
-    /// Draws whom a column's process frees, and the line that leads to its knot.
+    /// Draws whom a column's process frees, the line that leads to its knot, and how long its read was open.
     pub(crate) fn draw_links(
         &self,
         alloc: Global,
@@ -29,7 +29,10 @@ impl Band {
             let knot = Point::at(x, self.layout.knot());
             markup.line("drop", Point::at(x, bar), knot)?;
         }
-        Ok(())
+        match &column.read {
+            Some(read) => self.draw_open(alloc, read, x, markup),
+            None => Ok(()),
+        }
     }
 
     /// Draws an arrow to the lane of a process, from above or from below.

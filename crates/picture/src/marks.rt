@@ -11,7 +11,7 @@ use shapes::{Key, Markup, Point, number, words};
 use std::alloc::{AllocError, Global};
 
 impl Band {
-    /// Draws a column: its pole, its number, and its lines.
+    /// Draws a column: its pole, its number, its read, and its lines.
     pub(crate) fn draw_column(
         &self,
         alloc: Global,
@@ -30,11 +30,14 @@ impl Band {
         if let Some(event) = column.event {
             markup.numeral("event", Point::at(foot.x + 3, head.y + 12), event)?;
         }
+        let rows = Point::at(foot.x + 3, head.y + 23);
+        if let Some(read) = &column.read {
+            read.draw(alloc, rows, markup)?;
+        }
         let last = column.lines.len().saturating_sub(1);
         for (place, line) in column.lines.iter().enumerate() {
             begin_mark(alloc, column, line, place == last, markup)?;
-            let at = Point::at(foot.x + 3, head.y + 23);
-            draw_rows(column, place, line.is_refusal(), at, markup)?;
+            draw_rows(column, place, line.is_refusal(), rows, markup)?;
             self.draw_foot(alloc, column, line, foot, markup)?;
             markup.end_group()?;
         }

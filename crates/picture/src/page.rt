@@ -1,13 +1,15 @@
 //! The bands of a page, from the lines of a run.
 ghost use Rattle.std.specs.Prelude.{◌≡◌, ◌++◌, [], ◌∷◌, flat_map, IfOk, None, OnOk};
 ghost use Rattle.shapes.specs.Titles.{lines_in};
-ghost use Rattle.picture.specs.Pages.{held, lines_of_band};
+ghost use Rattle.picture.specs.Pages.{held, lines_of_band, stages_kept};
+ghost use Rattle.picture.specs.Stages.{nothing_told, stages_told};
 ghost use Rattle.picture.specs.Told.{text_of, told_in};
 
 use crate::bands::Band;
 use crate::columns::{Column, cut};
 use crate::layout::Layout;
 use crate::placing::{Placing, stretch};
+use crate::reads::OverlappedRead;
 use crate::state::State;
 use crate::told::Line;
 use shapes::{Key, Markup, Tag, class, words};
@@ -30,6 +32,7 @@ pub struct Page {
     opens: Vec<u8>,
     state: State,
     before: State,
+    before_at: u64,
     placing: Placing,
     columns: Vec<Column>,
     pending: Option<Column>,
@@ -41,7 +44,9 @@ pub struct Page {
 impl Page {
     /// No line was told; `opening` is the opening store, if it is not empty.
     pub fn new(alloc: Global, form: Form, processes: u8, opening: &[u8]) -> Result<Page, AllocError>
-        ensures { IfOk result (λ page. held page ≡ []) }
+        ensures lines { IfOk result (λ page. held page ≡ []) }
+        ensures stages { IfOk result (λ page. stages_kept page ≡ nothing_told) }
+        ensures processes { IfOk result (λ page. page.state.processes ≡ processes) }
     {
         let opens = opening_words(alloc, opening)?;
         let state = State::new(processes);
@@ -50,6 +55,7 @@ impl Page {
             form,
             state,
             before: state,
+            before_at: 0,
             placing: Placing::new(characters(opening)),
             opens,
             columns: Vec::new(alloc),
@@ -66,9 +72,11 @@ impl Page {
     }
 
     /// Takes in the next line; answers the band that is full with what came before it, if one is. Its lines, and then
-    /// those that are held back, are those that were held back before, and this one.
+    /// those that are held back, are those that were held back before, and this one. The stages go on as it tells.
     pub fn take(&mut self, line: Line) -> Result<Option<Markup>, AllocError>
-        ensures { IfOk result (λ full. lines_of_band full ++ held self.new ≡ held self.old ++ text_of line ∷ []) }
+        ensures lines { IfOk result (λ full. lines_of_band full ++ held self.new ≡ held self.old ++ text_of line ∷ []) }
+        ensures stages { OnOk result (stages_kept self.new ≡ stages_told self.old.state.processes (stages_kept self.old) line.saying) }
+        ensures processes { self.new.state.processes ≡ self.old.state.processes }
     {
         let frees = self.state.take(self.alloc, &line)?;
         if let Some(column) = &mut self.pending {
@@ -84,6 +92,20 @@ impl Page {
         Ok(full)
     }
 
+    /// Takes in a read that a write overlapped; answers the band that is full with what came before it, if one is. It
+    /// tells no line.
+    pub fn take_read(&mut self, read: OverlappedRead) -> Result<Option<Markup>, AllocError>
+        ensures lines { IfOk result (λ full. lines_of_band full ++ held self.new ≡ held self.old) }
+        ensures stages { OnOk result (stages_kept self.new ≡ stages_kept self.old) }
+        ensures processes { self.new.state.processes ≡ self.old.state.processes }
+    {
+        let full = self.place_pending()?;
+        let gap = read.end.saturating_sub(self.last_at);
+        self.last_at = read.end;
+        self.pending = Some(Column::of_read(self.alloc, read, gap, self.state)?);
+        Ok(full)
+    }
+
     /// The last bands, once all lines were told: they tell the lines that were held back.
     pub fn end(&mut self) -> Result<(Option<Markup>, Markup), AllocError>
         ensures { IfOk result (λ bands. lines_of_band bands.0 ++ lines_in bands.1 ≡ held self.old) }
@@ -96,6 +118,7 @@ impl Page {
     /// Places the column that no more line joins; answers the band before it, if it is full.
     fn place_pending(&mut self) -> Result<Option<Markup>, AllocError>
         ensures placed { OnOk result (self.new.pending ≡ None) }
+        ensures state { self.new.state ≡ self.old.state }
         ensures lines { IfOk result (λ full. lines_of_band full ++ flat_map told_in self.new.columns.items ≡ held self.old) }
     {
         let Some(column) = self.pending.take() else {
@@ -109,6 +132,7 @@ impl Page {
     /// Draws the band, and begins another, where a column has no room in it.
     fn make_room(&mut self, column: &Column) -> Result<Option<Markup>, AllocError>
         ensures pending { OnOk result (self.new.pending ≡ self.old.pending) }
+        ensures state { self.new.state ≡ self.old.state }
         ensures lines { IfOk result (λ full. lines_of_band full ++ flat_map told_in self.new.columns.items ≡ flat_map told_in self.old.columns.items) }
     {
         let place = self.placing.place(self.alloc, column)?;
@@ -124,6 +148,7 @@ impl Page {
     #[tactic(auto, using(crate::proofs::Held::put_last))]
     fn put(&mut self, column: Column) -> Result<(), AllocError>
         ensures pending { OnOk result (self.new.pending ≡ self.old.pending) }
+        ensures state { self.new.state ≡ self.old.state }
         ensures lines { OnOk result (flat_map told_in self.new.columns.items ≡ flat_map told_in self.old.columns.items ++ told_in column) }
     {
         let mut column = column;
@@ -135,6 +160,7 @@ impl Page {
     /// Draws the columns of the band, and begins another.
     fn draw_band(&mut self, is_last: bool) -> Result<Markup, AllocError>
         ensures pending { OnOk result (self.new.pending ≡ self.old.pending) }
+        ensures state { self.new.state ≡ self.old.state }
         ensures begun { OnOk result (self.new.columns.items ≡ []) }
         ensures lines { IfOk result (λ band. lines_in band ≡ flat_map told_in self.old.columns.items) }
     {
@@ -142,12 +168,15 @@ impl Page {
         stretch(self.alloc, columns.as_mut_slice())?;
         let layout = Layout::new(self.state.processes, columns.as_slice(), is_last);
         let before = self.before;
+        let before_at = self.before_at;
         if let Some(column) = columns.last() {
             self.before = column.after;
+            self.before_at = column.at;
         }
         let band = Band {
             columns,
             before,
+            before_at,
             layout,
             is_last,
             opens: std::mem::replace(&mut self.opens, Vec::new(self.alloc)),
@@ -186,6 +215,7 @@ impl Page {
         ensures lines { OnOk result (lines_in markup.new ≡ lines_in markup.old) }
         ensures columns { self.new.columns.items ≡ self.old.columns.items }
         ensures pending { self.new.pending ≡ self.old.pending }
+        ensures state { self.new.state ≡ self.old.state }
     {
         self.height = self.height.saturating_add(u64::from(height) + 16);
         match self.form {

@@ -2,20 +2,23 @@
 ghost use Rattle.std.specs.Prelude.{◌≡◌, [], IfOk, OnOk};
 ghost use Rattle.shapes.specs.Titles.{lines_in};
 
-use crate::constants::{LEGEND, PAGE_STYLE, PATTERNS, SCRIPT, STYLE};
+use crate::constants::{LEGEND, PAGE_STYLE, PATTERNS, READS_LEGEND, SCRIPT, STYLE};
+use crate::reads::Reads;
 use bstr::ByteSlice;
 use plain_store::Setup;
 use shapes::{Key, Markup, Tag, class, number, words};
 use std::alloc::{AllocError, Global};
 
-/// The height of the legend.
-const LEGEND_HEIGHT: u64 = 104;
-
 /// Where the first band of one picture begins.
 pub const FIRST_BAND: u64 = 34;
 
 /// What a page has before its bands; `printed`: the lines of the scenario.
-pub fn page_head(alloc: Global, setup: &Setup, printed: &[u8]) -> Result<Markup, AllocError>
+pub fn page_head(
+    alloc: Global,
+    setup: &Setup,
+    printed: &[u8],
+    reads: Reads,
+) -> Result<Markup, AllocError>
     ensures { IfOk result (λ markup. lines_in markup ≡ []) }
 {
     let heading = heading(alloc, setup)?;
@@ -30,8 +33,10 @@ pub fn page_head(alloc: Global, setup: &Setup, printed: &[u8]) -> Result<Markup,
     markup.constant(PAGE_STYLE)?;
     add_paper(setup.processes, &mut markup)?;
     markup.tell(Tag::Heading, &[], heading)?;
-    markup.constant("\n<svg viewBox=\"0 0 1200 104\" role=\"img\" aria-label=\"Legend\">\n")?;
-    add_legend(&mut markup)?;
+    begin_legend(reads, &mut markup)?;
+    markup.constant(PATTERNS)?;
+    markup.constant("\n")?;
+    add_legend(reads, &mut markup)?;
     markup.constant("</svg>\n<details open><summary>The scenario</summary><ol>\n")?;
     list_lines(printed, &mut markup)?;
     markup.constant("</ol></details>\n")?;
@@ -49,13 +54,41 @@ fn add_paper(processes: u8, markup: &mut Markup) -> Result<(), AllocError>
     }
 }
 
-fn add_legend(markup: &mut Markup) -> Result<(), AllocError>
+/// Begins the picture of the legend in a page.
+fn begin_legend(reads: Reads, markup: &mut Markup) -> Result<(), AllocError>
     ensures { OnOk result (lines_in markup.new ≡ lines_in markup.old) }
 {
-    markup.constant(PATTERNS)?;
+    let height = legend_height(reads);
+    let view = format!(in markup.alloc(); "0 0 1200 {height}")?;
     markup.constant("\n")?;
-    markup.constant(LEGEND)?;
+    markup.enter(
+        Tag::Svg,
+        &[
+            words(Key::ViewBox, view.as_bytes()),
+            words(Key::Role, b"img"),
+            words(Key::Label, b"Legend"),
+        ],
+    )?;
     markup.constant("\n")
+}
+
+/// What signs, bars and words mean.
+fn add_legend(reads: Reads, markup: &mut Markup) -> Result<(), AllocError>
+    ensures { OnOk result (lines_in markup.new ≡ lines_in markup.old) }
+{
+    match reads {
+        Reads::Hidden => markup.constant(LEGEND)?,
+        Reads::Shown => markup.constant(READS_LEGEND)?,
+    }
+    markup.constant("\n")
+}
+
+/// The height of the legend.
+fn legend_height(reads: Reads) -> u64 {
+    match reads {
+        Reads::Hidden => 104,
+        Reads::Shown => 122,
+    }
 }
 
 /// Lists the lines of the printed scenario, and its end.
@@ -94,12 +127,19 @@ pub fn page_end(alloc: Global, opening: &[u8]) -> Result<Markup, AllocError>
 }
 
 /// What one picture has before its bands, whose heights come to so much.
-pub fn picture_head(alloc: Global, setup: &Setup, bands: u64) -> Result<Markup, AllocError>
+pub fn picture_head(
+    alloc: Global,
+    setup: &Setup,
+    bands: u64,
+    reads: Reads,
+) -> Result<Markup, AllocError>
     ensures { IfOk result (λ markup. lines_in markup ≡ []) }
 {
     let heading = heading(alloc, setup)?;
     let heading = heading.as_bytes();
-    let height = bands.saturating_add(FIRST_BAND + LEGEND_HEIGHT + 8);
+    let height = bands
+        .saturating_add(legend_height(reads))
+        .saturating_add(FIRST_BAND + 8);
     let view = format!(in alloc; "0 0 1200 {height}")?;
     let mut markup = Markup::new(alloc);
     markup.constant("<?xml version=\"1.0\" encoding=\"UTF-8\"?>\n")?;
@@ -145,14 +185,14 @@ const DESCRIPTION: &[u8] =
     b"A lane for each process, time to the right in events. A bar is the stage of the process. Each mark has its event number. The lowest lane is the one history of the commands taken.";
 
 /// What one picture has behind its bands, whose heights come to so much.
-pub fn picture_end(alloc: Global, bands: u64) -> Result<Markup, AllocError>
+pub fn picture_end(alloc: Global, bands: u64, reads: Reads) -> Result<Markup, AllocError>
     ensures { IfOk result (λ markup. lines_in markup ≡ []) }
 {
     let y = bands.saturating_add(FIRST_BAND);
     let mut markup = Markup::new(alloc);
     markup.lower(y)?;
-    markup.constant(LEGEND)?;
-    markup.constant("\n</g></svg>\n")?;
+    add_legend(reads, &mut markup)?;
+    markup.constant("</g></svg>\n")?;
     Ok(markup)
 }
 

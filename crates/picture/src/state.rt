@@ -1,4 +1,8 @@
 //! What the lines have told so far: a fold over them.
+ghost use Rattle.std.specs.Prelude.{◌≡◌, set, OnOk};
+ghost use Rattle.record.specs.Stages as record_stages;
+ghost use Rattle.picture.specs.Stages.{stage_among, stages_marked, stages_told, nothing_told};
+
 use crate::told::{Line, Saying};
 use record::{Mark, Stage};
 use std::alloc::{AllocError, Global};
@@ -6,10 +10,9 @@ use std::alloc::{AllocError, Global};
 /// The most processes that there are.
 pub(crate) const MOST: usize = 16;
 
-/// What is known of a process.
+/// What is known of a process beside its stage.
 #[derive(Clone, Copy)]
 struct Seat {
-    stage: Stage,
     /// Its ticket, or 0.
     ticket: u32,
     /// Whose doorways were open when its wait began, and are open still.
@@ -20,6 +23,7 @@ struct Seat {
 #[derive(Clone, Copy)]
 pub(crate) struct State {
     pub processes: u8,
+    stages: [Stage; 16],
     seats: [Seat; 16],
     pub inside: Option<u8>,
     pub places: u64,
@@ -63,14 +67,17 @@ impl Group {
 
 impl State {
     /// Nothing was told yet.
-    pub fn new(processes: u8) -> State {
+    pub fn new(processes: u8) -> State
+        ensures stages { result.stages ≡ nothing_told }
+        ensures processes { result.processes ≡ processes }
+    {
         let seat = Seat {
-            stage: Stage::Idle,
             ticket: 0,
             awaits: [false; 16],
         };
         State {
             processes,
+            stages: [Stage::Idle; 16],
             seats: [seat; 16],
             inside: None,
             places: 0,
@@ -78,9 +85,11 @@ impl State {
     }
 
     /// The stage of a process.
-    pub fn stage(&self, process: u8) -> Stage {
-        match self.seats.get(usize::from(process)) {
-            Some(seat) => seat.stage,
+    pub fn stage(&self, process: u8) -> Stage
+        ensures { result ≡ stage_among self.now.stages process }
+    {
+        match self.stages.get(usize::from(process)) {
+            Some(stage) => *stage,
             None => Stage::Idle,
         }
     }
@@ -161,8 +170,11 @@ impl State {
         group
     }
 
-    /// Takes in a line; answers whom its process frees.
-    pub fn take(&mut self, alloc: Global, line: &Line) -> Result<Option<u8>, AllocError> {
+    /// Takes in a line; answers whom its process frees. The stages go on as the line tells.
+    pub fn take(&mut self, alloc: Global, line: &Line) -> Result<Option<u8>, AllocError>
+        ensures stages { OnOk result (self.new.stages ≡ stages_told self.old.processes self.old.stages line.now.saying) }
+        ensures processes { self.new.processes ≡ self.old.processes }
+    {
         let Saying::Marked { process, mark, .. } = &line.saying else {
             return Ok(None);
         };
@@ -193,67 +205,98 @@ impl State {
     }
 
     /// The state after a mark of a process.
-    fn mark(&mut self, process: u8, mark: &Mark) {
+    fn mark(&mut self, process: u8, mark: &Mark)
+        ensures stages { self.new.stages ≡ stages_marked self.old.stages process mark.now }
+        ensures processes { self.new.processes ≡ self.old.processes }
+    {
         match mark {
-            Mark::Called(_) => self.move_to(process, Stage::Doorway),
-            Mark::Waiting(ticket) => {
-                self.move_to(process, Stage::Waiting);
-                self.set_ticket(process, *ticket);
-                self.begin_wait(process);
-            }
-            Mark::Entered => {
-                self.move_to(process, Stage::Inside);
-                self.inside = Some(process);
-            }
             Mark::Taken(_, _) => self.places = self.places.saturating_add(1),
-            Mark::Left => {
-                self.inside = None;
-                self.set_ticket(process, 0);
-                if self.stage(process) != Stage::Settling {
-                    self.move_to(process, Stage::Leaving);
-                }
-            }
-            Mark::Withdrew => self.move_to(process, Stage::Leaving),
-            Mark::Answered(_) => {
-                self.set_ticket(process, 0);
-                self.move_to(process, Stage::Idle);
-            }
-            Mark::Failed => self.move_to(process, Stage::Settling),
             Mark::Settled(_) => {}
-            Mark::Down => {
-                self.set_ticket(process, 0);
-                self.move_to(process, Stage::Down);
-            }
-            Mark::Restarted => self.move_to(process, Stage::Idle),
+            _ => self.go_on(process, mark),
         }
     }
 
-    fn set_ticket(&mut self, process: u8, ticket: u32) {
+    /// A process goes on to another stage, and nobody awaits it any more.
+    fn go_on(&mut self, process: u8, mark: &Mark)
+        ensures stages { self.new.stages ≡ stages_marked self.old.stages process mark.now }
+        ensures processes { self.new.processes ≡ self.old.processes }
+    {
+        self.set_stage(process, stage_after(self.stage(process), mark));
+        forget(&mut self.seats, process);
+        match mark {
+            Mark::Waiting(ticket) => self.begin_wait(process, *ticket),
+            Mark::Entered => self.inside = Some(process),
+            Mark::Left => {
+                self.inside = None;
+                self.set_ticket(process, 0);
+            }
+            Mark::Answered(_) | Mark::Down => self.set_ticket(process, 0),
+            _ => {}
+        }
+    }
+
+    fn set_stage(&mut self, process: u8, stage: Stage)
+        ensures stages { self.new.stages ≡ set self.old.stages process stage }
+        ensures processes { self.new.processes ≡ self.old.processes }
+    {
+        let place = usize::from(process);
+        if place < self.stages.len() {
+            self.stages[place] = stage;
+        }
+    }
+
+    fn set_ticket(&mut self, process: u8, ticket: u32)
+        ensures stages { self.new.stages ≡ self.old.stages }
+        ensures processes { self.new.processes ≡ self.old.processes }
+    {
         if let Some(seat) = self.seats.get_mut(usize::from(process)) {
             seat.ticket = ticket;
         }
     }
 
-    /// A process goes on to a stage, and nobody awaits it any more.
-    fn move_to(&mut self, process: u8, stage: Stage) {
+    /// A process has a ticket, and awaits those that are in their doorways now.
+    fn begin_wait(&mut self, process: u8, ticket: u32)
+        ensures stages { self.new.stages ≡ self.old.stages }
+        ensures processes { self.new.processes ≡ self.old.processes }
+    {
+        let awaits = self.in_doorways();
         if let Some(seat) = self.seats.get_mut(usize::from(process)) {
-            seat.stage = stage;
-        }
-        for seat in &mut self.seats {
-            if let Some(awaited) = seat.awaits.get_mut(usize::from(process)) {
-                *awaited = false;
-            }
+            *seat = Seat { ticket, awaits };
         }
     }
 
-    /// A process awaits those that are in their doorways now.
-    fn begin_wait(&mut self, process: u8) {
-        let mut awaits = [false; 16];
-        for (awaited, seat) in awaits.iter_mut().zip(self.seats.iter()) {
-            *awaited = seat.stage == Stage::Doorway;
+    /// Which processes are in their doorways.
+    fn in_doorways(&self) -> [bool; 16] {
+        let mut are = [false; 16];
+        for (is, stage) in are.iter_mut().zip(self.stages.iter()) {
+            *is = *stage == Stage::Doorway;
         }
-        if let Some(seat) = self.seats.get_mut(usize::from(process)) {
-            seat.awaits = awaits;
+        are
+    }
+}
+
+/// The stage after a mark. Where its memory unit makes the mark `Left`, a process stays settling.
+fn stage_after(stage: Stage, mark: &Mark) -> Stage
+    ensures { result ≡ record_stages.stage_after stage mark.now }
+{
+    match mark {
+        Mark::Called(_) => Stage::Doorway,
+        Mark::Waiting(_) => Stage::Waiting,
+        Mark::Entered => Stage::Inside,
+        Mark::Left if stage != Stage::Settling => Stage::Leaving,
+        Mark::Taken(_, _) | Mark::Settled(_) | Mark::Left => stage,
+        Mark::Answered(_) | Mark::Restarted => Stage::Idle,
+        Mark::Failed => Stage::Settling,
+        Mark::Down => Stage::Down,
+        Mark::Withdrew => Stage::Leaving,
+    }
+}
+
+/// Nobody awaits a process any more.
+fn forget(seats: &mut [Seat], process: u8) {
+    for seat in seats.iter_mut() {
+        if let Some(awaited) = seat.awaits.get_mut(usize::from(process)) {
+            *awaited = false;
         }
     }
 }

@@ -5,3 +5,5 @@
 mod bands;
 #[cfg(test)]
 mod marks;
+#[cfg(test)]
+mod reads;

@@ -4,7 +4,7 @@ use Rattle.std.proofs.lemmas.Bool.{and_parts}
 use Rattle.std.proofs.lemmas.List.Folds.{list_all-append}
 use Rattle.std.specs.List.{list_all}
 use Rattle.shapes.specs.Escaping.{escaped, is_plain, unescaped}
-use Rattle.shapes.specs.Markup.{attribute_text, entering, key_name, mark_front, marking, meant, standing, tag_end, tag_name, telling}
+use Rattle.shapes.specs.Markup.{attribute_text, entering, key_name, mark_front, marking, meant, noting, standing, tag_end, tag_name, telling}
 use Rattle.shapes.specs.Titles.{cut, is_at_rest, is_mark, is_settled, lines_in, tags_of, titles}
 use Rattle.shapes.specs.declared.attributes.Attribute.{Attribute}
 use Rattle.shapes.specs.declared.names.Key.{Key}
@@ -209,6 +209,19 @@ marking_rests attributes title = ap is_at_rest (marked_tags attributes title)
 pub marking_lines : (attributes : List Attribute) (title : List ℕ) → lines_in (marking attributes title) ≡ title ∷ []
 marking_lines attributes title = ap titles (marked_tags attributes title) ∙ ap (λ t. t ∷ []) (ap unescaped (append-nil (escaped title)) ∙ text_back title)
 
+-- a group that is no mark, and its title
+noted_tags : (title : List ℕ) → tags_of (noting title) ≡ codes "g class=\"r\">" ∷ (codes "title>" ++ (escaped title ++ [])) ∷ codes "/title>\n" ∷ []
+noted_tags title =
+    ap tags_of (append_assoc (codes "<g class=\"r\">") (telling tag.Title [] title) (codes "\n"))
+    ∙ tags_on (codes "<g class=\"r\">") (telling tag.Title [] title ++ codes "\n")
+    ∙ ap (λ tags. codes "g class=\"r\">" ∷ tags) (titled_tags title)
+
+pub noting_rests : (title : List ℕ) → is_at_rest (tags_of (noting title)) ≡ true
+noting_rests title = ap is_at_rest (noted_tags title)
+
+pub noting_lines : (title : List ℕ) → lines_in (noting title) ≡ []
+noting_lines title = ap titles (noted_tags title)
+
 -- the same of bytes that are known to be these
 pub standing_at_rest : (bytes : List ℕ) (t : Tag) (attributes : List Attribute) → bytes ≡ standing t attributes → is_settled (tag_name t) ≡ true → is_at_rest (tags_of bytes) ≡ true
 standing_at_rest bytes t attributes is h = ap (λ b. is_at_rest (tags_of b)) is ∙ standing_rests t attributes h
@@ -239,3 +252,9 @@ text_at_rest bytes text is = ap (λ b. is_at_rest (tags_of b)) is ∙ text_rests
 
 pub text_untold : (bytes text : List ℕ) → bytes ≡ escaped text → lines_in bytes ≡ []
 text_untold bytes text is = ap lines_in is ∙ text_lines text
+
+pub noting_at_rest : (bytes title : List ℕ) → bytes ≡ noting title → is_at_rest (tags_of bytes) ≡ true
+noting_at_rest bytes title is = ap (λ b. is_at_rest (tags_of b)) is ∙ noting_rests title
+
+pub noting_untold : (bytes title : List ℕ) → bytes ≡ noting title → lines_in bytes ≡ []
+noting_untold bytes title is = ap lines_in is ∙ noting_lines title

@@ -86,3 +86,7 @@ mark_front attributes = codes "<g class=\"m\" role=\"img\"" ++ flat_map attribut
 -- a mark and its title, and the end of their line: the mark is still to be ended
 abbrev pub marking : List Attribute → List ℕ → List ℕ
 marking attributes title = mark_front attributes ++ telling tag.Title [] title ++ codes "\n"
+
+-- a group that is no mark and its title, and the end of their line: the group is still to be ended
+abbrev pub noting : List ℕ → List ℕ
+noting title = codes "<g class=\"r\">" ++ telling tag.Title [] title ++ codes "\n"

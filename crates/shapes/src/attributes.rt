@@ -1,7 +1,7 @@
 //! Attributes, and tags with them, as bytes.
 ghost use Rattle.std.specs.Prelude.{◌≡◌, ◌++◌, [], flat_map, IfOk, OnOk};
 ghost use Rattle.shapes.specs.Escaping.{escaped};
-ghost use Rattle.shapes.specs.Markup.{attribute_text, entering, marking, meant, standing, tag_front, telling};
+ghost use Rattle.shapes.specs.Markup.{attribute_text, entering, marking, meant, noting, standing, tag_front, telling};
 
 use crate::escaping::push_escaped;
 use crate::names::{Key, Tag};
@@ -150,6 +150,18 @@ pub(crate) fn marking_tags(
     bytes.extend_from_slice(b"<g class=\"m\" role=\"img\"")?;
     push_attributes(alloc, &mut bytes, attributes)?;
     bytes.extend_from_slice(b">")?;
+    bytes.extend_from_slice(titled.as_slice())?;
+    bytes.extend_from_slice(b"\n")?;
+    Ok(bytes)
+}
+
+/// The tag of a group that is no mark with its title, and the end of their line.
+pub(crate) fn noting_tags(alloc: Global, title: &[u8]) -> Result<Vec<u8>, AllocError>
+    ensures { IfOk result (λ bytes. bytes.items ≡ noting title.now) }
+{
+    let titled = telling_tag(alloc, Tag::Title, &[], title)?;
+    let mut bytes = Vec::new(alloc);
+    bytes.extend_from_slice(b"<g class=\"r\">")?;
     bytes.extend_from_slice(titled.as_slice())?;
     bytes.extend_from_slice(b"\n")?;
     Ok(bytes)

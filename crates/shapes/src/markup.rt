@@ -3,7 +3,9 @@ ghost use Rattle.std.specs.Prelude.{◌≡◌, ◌++◌, [], ◌∷◌, true, On
 ghost use Rattle.shapes.specs.Markup.{tag_name};
 ghost use Rattle.shapes.specs.Titles.{is_at_rest, is_settled, lines_in, tags_of};
 
-use crate::attributes::{Attribute, entering_tag, marking_tags, standing_tag, telling_tag};
+use crate::attributes::{
+    Attribute, entering_tag, marking_tags, noting_tags, standing_tag, telling_tag,
+};
 use crate::escaping::escaped_bytes;
 use crate::names::Tag;
 use std::alloc::{AllocError, Global};
@@ -88,6 +90,14 @@ impl Markup {
         ensures { OnOk result (lines_in self.new ≡ lines_in self.old ++ line.now ∷ []) }
     {
         let bytes = marking_tags(self.alloc, attributes, line)?;
+        self.add(bytes.as_slice())
+    }
+
+    /// Begins a group that is no mark, with a title that is no line of the run.
+    pub fn note(&mut self, title: &[u8]) -> Result<(), AllocError>
+        ensures { OnOk result (lines_in self.new ≡ lines_in self.old) }
+    {
+        let bytes = noting_tags(self.alloc, title)?;
         self.add(bytes.as_slice())
     }
 

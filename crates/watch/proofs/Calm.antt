@@ -86,6 +86,26 @@ free_allows e v opening moves h free begins calm = absurd (by (is_write_open mov
     by false is = free (last_written opening (before_read moves))
         (h ∙ (λ i. cond (is i) Writing (cond (begins i && not (calm i)) (Bound (last_written opening (before_read moves))) Free)))
 
+-- a read that is bound was overlapped by no write
+pub bound_calm : (only opening : Bool) (moves : List Move) → Bound only ≡ ending_of opening moves → false ≡ is_overlapped moves
+bound_calm only opening moves h = by (is_write_open moves) (begins_read moves) (is_overlapped moves) (last_written opening (before_read moves)) h
+  where
+    by : (w b o x : Bool) → Bound only ≡ cond w Writing (cond (b && not o) (Bound x) Free) → false ≡ o
+    by true b o x h = cc
+    by false true true x h = cc
+    by false true false x h = refl
+    by false false o x h = cc
+
+-- and one that is not bound was overlapped, if it has begun
+pub free_overlapped : (e : Ending) (opening : Bool) (moves : List Move) → e ≡ ending_of opening moves → ((only : Bool) → e ≡ Bound only → ⊥) → begins_read moves ≡ true → true ≡ is_overlapped moves
+free_overlapped e opening moves h free begins = by (is_overlapped moves) refl
+  where
+    by : (o : Bool) → is_overlapped moves ≡ o → true ≡ o
+    by true is = refl
+    by false is =
+        let one : true ≡ last_written opening (before_read moves) = free_allows e true opening moves h free begins is in
+        let zero : false ≡ last_written opening (before_read moves) = free_allows e false opening moves h free begins is in cc
+
 -- What an entry's move may be.
 
 -- the move keeps the safe rule

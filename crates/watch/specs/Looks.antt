@@ -1,6 +1,7 @@
 -- What the moves of one bit leave, as far as the safe rule looks back at them.
 use Rattle.std.specs.Prelude.{◌≡◌, Bool, true, false, not, ◌&&◌, List, ◌∷◌, cond}
 use Rattle.safe_bit.specs.declared.Move.{Move}
+use Rattle.safe_bit.specs.declared.Move.TheVariants.{EndRead}
 use Rattle.safe_bit.specs.SafeRule.{before_read, is_overlapped, is_write_open, last_begun, last_written}
 use Rattle.record.specs.Moves.{begins_read}
 use Rattle.watch.specs.declared.look.Ending.{Ending}
@@ -16,6 +17,11 @@ ending_of opening moves =
 -- the look of a bit that opened so and on which these moves were made, the newest first
 abbrev pub look_of : Bool → List Move → Look
 look_of opening moves = record { begun = last_begun opening moves; written = last_written opening moves; ending = ending_of opening moves }
+
+-- the move ends a read that a write overlapped: one was open as the read that began last began, or has begun since
+abbrev pub ends_overlapped : List Move → Move → Bool
+ends_overlapped moves (EndRead v) = is_overlapped moves
+ends_overlapped moves _ = false
 
 -- so it is after one more move, whatever the moves were
 abbrev pub LooksOn : Look → Move → Look → Type 0

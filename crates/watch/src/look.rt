@@ -2,13 +2,13 @@
 ghost use Rattle.std.specs.Prelude.{◌≡◌, [], ◌∷◌, Bool, true, List, Some};
 ghost use Rattle.safe_bit.specs.declared.Move.{Move as Moved};
 ghost use Rattle.safe_bit.specs.declared.Move.TheVariants.{BeginRead, EndWrite, Settle};
-ghost use Rattle.safe_bit.specs.SafeRule.{MayEndWith, last_written};
+ghost use Rattle.safe_bit.specs.SafeRule.{MayEndWith, is_overlapped, last_written};
 ghost use Rattle.safe_number.specs.declared.Access.{Access as Made};
 ghost use Rattle.plain_store.specs.declared.Setup.{Setup as Given};
 ghost use Rattle.record.specs.Entries.{Entry as Noted, Past};
 ghost use Rattle.record.specs.Moves.{begins_read, moves_of};
 ghost use Rattle.record.specs.Registers.{opening_bit};
-ghost use Rattle.watch.specs.Looks.{LooksOn, ending_of, look_of};
+ghost use Rattle.watch.specs.Looks.{LooksOn, ending_of, ends_overlapped, look_of};
 ghost use Rattle.watch.specs.Safe.{KeepsSafe, MatchBool};
 
 use safe_bit::Move;
@@ -55,6 +55,17 @@ impl Ending {
     {
         match self {
             Ending::Bound(only) => value == only,
+            _ => true,
+        }
+    }
+
+    /// Whether a write overlapped the read that began last, if one has begun.
+    #[inline]
+    fn is_overlapped(self) -> bool
+        ensures { (opening : Bool) (moves : List Moved) → self ≡ ending_of opening moves → begins_read moves ≡ true → result ≡ is_overlapped moves }
+    {
+        match self {
+            Ending::Bound(_) => false,
             _ => true,
         }
     }
@@ -120,6 +131,17 @@ impl Look {
         match how {
             Move::EndRead(value) => self.ending.allows(value),
             _ => true,
+        }
+    }
+
+    /// Whether the next move ends a read that a write overlapped, if one has begun.
+    #[inline]
+    pub fn overlaps(self, how: Move) -> bool
+        ensures { (opening : Bool) (moves : List Moved) → self ≡ look_of opening moves → begins_read moves ≡ true → result ≡ ends_overlapped moves how }
+    {
+        match how {
+            Move::EndRead(_) => self.ending.is_overlapped(),
+            _ => false,
         }
     }
 }

@@ -2,13 +2,13 @@ ghost use Rattle.std.specs.Prelude.{◌≡◌, ◌<◌, ◌*◌, ◌%◌, ℕ, I
 ghost use Rattle.plain_store.specs.Setups.{checked, opening_store};
 ghost use Rattle.store_image.specs.Image.{image_of};
 ghost use Rattle.record.specs.Entries.{Entry as Noted, Past};
-ghost use Rattle.record.specs.Moves.{field_number};
+ghost use Rattle.record.specs.Moves.{begins_read, field_number, moves_of};
 ghost use Rattle.record.specs.Registers.{opening_bit, width};
 ghost use Rattle.safe_number.specs.Bytes.{bit_in};
 ghost use Rattle.safe_number.specs.declared.Access.{Access as Made};
 ghost use Rattle.safe_number.specs.declared.Field.{Field as Register};
 ghost use Rattle.laws.specs.Held.{IsThere};
-ghost use Rattle.watch.specs.Looks.{look_of};
+ghost use Rattle.watch.specs.Looks.{ends_overlapped, look_of};
 ghost use Rattle.watch.specs.Safe.{KeepsSafe, MatchBool};
 ghost use Rattle.watch.specs.Watching.{AllAreOfThere, HasHeard, IsOfThere, copy_of, register_of};
 
@@ -79,6 +79,26 @@ impl Watch {
             return true;
         }
         self.hear_access(access)
+    }
+
+    /// Whether an access that is made now ends a read that a write overlapped. An access of a bit that is not there
+    /// is said to end none.
+    pub fn overlaps(&self, access: &Access) -> bool
+        ensures there { (past : Past) → HasHeard self.now past → IsThere self.now.setup access.now → begins_read (moves_of access.now past) ≡ true → result ≡ ends_overlapped (moves_of access.now past) access.now.how }
+        ensures stray { (IsThere self.now.setup access.now → ⊥) → result ≡ false }
+    {
+        is_there(&self.setup, access) && self.overlaps_there(access)
+    }
+
+    /// The same of a bit that there is.
+    #[inline]
+    fn overlaps_there(&self, access: &Access) -> bool
+        requires { IsThere self.now.setup access.now }
+        ensures { (past : Past) → HasHeard self.now past → begins_read (moves_of access.now past) ≡ true → result ≡ ends_overlapped (moves_of access.now past) access.now.how }
+    {
+        let place = copy_of(&self.setup, access);
+        let look = self.registers[register_of(access)].get(place);
+        look.overlaps(access.how)
     }
 
     /// One more access, of a bit that there is.

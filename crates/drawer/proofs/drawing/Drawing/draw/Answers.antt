@@ -1,12 +1,16 @@
-use Rattle.std.proofs.Common.{codes}
+use Rattle.std.proofs.Common.{[], ◌++◌, ap, codes}
 use Rattle.replayer.proofs.Written.{ok_then}
+use Rattle.replayer.specs.declared.summaries.Summary.{Summary}
 use Rattle.picture.specs.Pages.{held, lines_of_band}
 use Rattle.picture.specs.Told.{saying_text}
-use Rattle.drawer.proofs.Drawn.{draws_on_line}
+use Rattle.drawer.proofs.Drawn.{draws_on_both, draws_on_line, draws_on_same}
 use Rattle.drawer.proofs.drawing.Drawing.draw.Goals as goal
 
 pub returns-clause-ok : goal.returns-clause-ok
 returns-clause-ok g c =
+    let told = λ (s : Summary). saying_text s.events c.args.saying ++ codes "\n" in
     ok_then c.write_band.result
-    (draws_on_line (held c.args.self.now.page) (lines_of_band c.in_ok-full.full) (held c.take.new.self) (saying_text c.args.self.now.summary.events c.args.saying) (g.W.Sink.taken c.args.output.now) (g.W.Sink.taken c.write_band.new.output) c.in_ok-full.ensures)
+    (λ wrote. draws_on_same _ _ _ _ (told c.draw_reads.new.self.summary) (told c.args.self.now.summary) (ap told c.in_ok-draw_reads.ensures.summary)
+    (draws_on_both _ _ _ _ _ _ [] (told c.draw_reads.new.self.summary) c.in_ok-draw_reads.ensures.ok
+    (draws_on_line (held c.draw_reads.new.self.page) (lines_of_band c.in_ok-full.full) (held c.take.new.self) (saying_text c.draw_reads.new.self.summary.events c.args.saying) (g.W.Sink.taken c.draw_reads.new.output) (g.W.Sink.taken c.write_band.new.output) c.in_ok-full.ensures.lines wrote)))
     c.write_band.ensures.ok

@@ -1,7 +1,7 @@
-use Rattle.std.proofs.Common.{◌≡◌, ℕ, ◌+◌, ◌<◌, ◌∙◌, Option, ap, arith, refl, sym, subst}
+use Rattle.std.proofs.Common.{◌≡◌, ◌+◌, ◌<◌, ◌∙◌, ap, arith, refl, sym, subst}
 use Rattle.picture.specs.Pages.{held}
-use Rattle.replayer.specs.Courses.{CourseState, Follows, MakesTurns}
-use Rattle.replayer.specs.Runs.{Run, run_after}
+use Rattle.replayer.specs.Courses.{CourseState, Follows}
+use Rattle.replayer.specs.Runs.{run_after}
 use Rattle.replayer.specs.Summaries.{counted}
 use Rattle.replayer.specs.Telling.{told_text}
 use Rattle.replayer.specs.declared.summaries.Summary.{Summary}
@@ -27,22 +27,22 @@ turns-init g c =
 pub returns-in_default-clause-ok : goal.returns-in_default-clause-ok
 returns-in_default-clause-ok g c = λ run follows counts.
     let s = c.args.self.now.course.world.setup in
-    subst (λ n. Advances s run (run_after s c.args.line.now run) c.turns-in-turns.new.self (with_events n c.turns.self.summary) (held c.args.self.now.page) (held c.turns.self.page) (g.W.Sink.taken c.args.output.now) (g.W.Sink.taken c.turns.output)) (sym c.from.ensures)
-    (going_ended s c.args.line.now run c.turns.self.course c.turns-in-turns.new.self c.turns.self.summary c.in_ok-turns.turns (held c.args.self.now.page) (held c.turns.self.page) _ _ c.turns.invariant.left (c.turns.invariant.going run follows counts) c.in_ok-turns.ensures.made c.in_default.is)
+    subst (λ n. Advances s run (run_after s c.args.line.now run) c.next_turns.new.course (with_events n c.turns.self.summary) (held c.args.self.now.page) (held c.turns.self.page) (g.W.Sink.taken c.args.output.now) (g.W.Sink.taken c.turns.output)) (sym c.from.ensures)
+    (going_ended s c.args.line.now run c.turns.self.course c.next_turns.new.course c.turns.self.summary c.in_ok-turns.turns (held c.args.self.now.page) (held c.turns.self.page) _ _ c.turns.invariant.left (c.turns.invariant.going run follows counts) c.in_ok-turns.ensures.made c.in_default.is)
 
 pub turns-preserved : goal.turns-preserved
 turns-preserved g c =
-    let less : c.in_ok-turns.turns.quiet + c.turns-in-turns.new.self.left < c.turns.self.course.left = rw c.in-Some.is at c.in_ok-turns.ensures.less in
+    let less : c.in_ok-turns.turns.quiet + c.next_turns.new.course.left < c.turns.self.course.left = rw c.in-Some.is at c.in_ok-turns.ensures.less in
     let mid : Summary = with_events c.in_ok-turns.turns.quiet c.turns.self.summary in
     let now : c.tell.new.self.summary ≡ counted c.in-Some.told mid = (rw c.in-Some.told-is at c.in_ok-tell.ensures.count) ∙ ap (λ n. counted c.in-Some.told (with_events n c.turns.self.summary)) c.from.ensures in
-    let course : c.tell.new.self.course ≡ c.turns-in-turns.new.self = c.in_ok-tell.ensures.course in
+    let course : c.tell.new.self.course ≡ c.next_turns.new.course = c.in_ok-tell.ensures.course in
     record {
       going = λ run follows counts.
           let s = c.args.self.now.course.world.setup in
           let drew = subst (λ n. IsToldLine c.in-Some.told → DrawsOn (held c.turns.self.page) (held c.tell.new.self.page) (g.W.Sink.taken c.turns.output) (g.W.Sink.taken c.tell.new.output) (told_text (c.turns.self.summary.events + n) c.in-Some.told)) c.from.ensures (rw c.in-Some.told-is at c.in_ok-tell.ensures.ok) in
           subst (λ (summary : Summary). Going s c.args.line.now run c.tell.new.self.course summary (held c.args.self.now.page) (held c.tell.new.self.page) (g.W.Sink.taken c.args.output.now) (g.W.Sink.taken c.tell.new.output)) (sym now)
           (subst (λ (course : CourseState). Going s c.args.line.now run course (counted c.in-Some.told mid) (held c.args.self.now.page) (held c.tell.new.self.page) (g.W.Sink.taken c.args.output.now) (g.W.Sink.taken c.tell.new.output)) (sym course)
-          (going_on s c.args.line.now run c.turns.self.course c.turns-in-turns.new.self c.turns.self.summary c.in_ok-turns.turns c.in-Some.told (held c.args.self.now.page) (held c.turns.self.page) (held c.tell.new.self.page) _ _ _ c.turns.invariant.left (c.turns.invariant.going run follows counts) c.in_ok-turns.ensures.made c.in-Some.is drew));
+          (going_on s c.args.line.now run c.turns.self.course c.next_turns.new.course c.turns.self.summary c.in_ok-turns.turns c.in-Some.told (held c.args.self.now.page) (held c.turns.self.page) (held c.tell.new.self.page) _ _ _ c.turns.invariant.left (c.turns.invariant.going run follows counts) c.in_ok-turns.ensures.made c.in-Some.is drew));
       whole = omega (arith, c.in_ok-tell.ensures.failures, c.turns.invariant.whole);
       left = omega (arith, less, c.turns.invariant.left, ap (λ (course : CourseState). course.left) course);
       events = omega (arith, less, c.turns.invariant.events, ap (λ (s : Summary). s.events) now, events_counted c.in-Some.told mid, ap (λ (course : CourseState). course.left) course);
@@ -51,17 +51,17 @@ turns-preserved g c =
 
 pub turns-preserved-in_ok-tell : goal.turns-preserved-in_ok-tell
 turns-preserved-in_ok-tell g c =
-    let less : c.in_ok-turns.turns.quiet + c.turns-in-turns.new.self.left < c.turns.self.course.left = rw c.in-Some.is at c.in_ok-turns.ensures.less in
+    let less : c.in_ok-turns.turns.quiet + c.next_turns.new.course.left < c.turns.self.course.left = rw c.in-Some.is at c.in_ok-turns.ensures.less in
     let mid : Summary = with_events c.in_ok-turns.turns.quiet c.turns.self.summary in
     let now : c.tell.new.self.summary ≡ counted c.in-Some.told mid = (rw c.in-Some.told-is at c.in_ok-tell.ensures.count) ∙ ap (λ n. counted c.in-Some.told (with_events n c.turns.self.summary)) c.from.ensures in
-    let course : c.tell.new.self.course ≡ c.turns-in-turns.new.self = c.in_ok-tell.ensures.course in
+    let course : c.tell.new.self.course ≡ c.next_turns.new.course = c.in_ok-tell.ensures.course in
     record {
       going = λ run follows counts.
           let s = c.args.self.now.course.world.setup in
           let drew = subst (λ n. IsToldLine c.in-Some.told → DrawsOn (held c.turns.self.page) (held c.tell.new.self.page) (g.W.Sink.taken c.turns.output) (g.W.Sink.taken c.tell.new.output) (told_text (c.turns.self.summary.events + n) c.in-Some.told)) c.from.ensures (rw c.in-Some.told-is at c.in_ok-tell.ensures.ok) in
           subst (λ (summary : Summary). Going s c.args.line.now run c.tell.new.self.course summary (held c.args.self.now.page) (held c.tell.new.self.page) (g.W.Sink.taken c.args.output.now) (g.W.Sink.taken c.tell.new.output)) (sym now)
           (subst (λ (course : CourseState). Going s c.args.line.now run course (counted c.in-Some.told mid) (held c.args.self.now.page) (held c.tell.new.self.page) (g.W.Sink.taken c.args.output.now) (g.W.Sink.taken c.tell.new.output)) (sym course)
-          (going_on s c.args.line.now run c.turns.self.course c.turns-in-turns.new.self c.turns.self.summary c.in_ok-turns.turns c.in-Some.told (held c.args.self.now.page) (held c.turns.self.page) (held c.tell.new.self.page) _ _ _ c.turns.invariant.left (c.turns.invariant.going run follows counts) c.in_ok-turns.ensures.made c.in-Some.is drew));
+          (going_on s c.args.line.now run c.turns.self.course c.next_turns.new.course c.turns.self.summary c.in_ok-turns.turns c.in-Some.told (held c.args.self.now.page) (held c.turns.self.page) (held c.tell.new.self.page) _ _ _ c.turns.invariant.left (c.turns.invariant.going run follows counts) c.in_ok-turns.ensures.made c.in-Some.is drew));
       whole = omega (arith, c.in_ok-tell.ensures.failures, c.turns.invariant.whole);
       left = omega (arith, less, c.turns.invariant.left, ap (λ (course : CourseState). course.left) course);
       events = omega (arith, less, c.turns.invariant.events, ap (λ (s : Summary). s.events) now, events_counted c.in-Some.told mid, ap (λ (course : CourseState). course.left) course);

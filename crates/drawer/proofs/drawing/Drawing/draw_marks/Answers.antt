@@ -1,5 +1,4 @@
-use Rattle.std.proofs.Common.{◌≡◌, ℕ, ◌+◌, ◌∙◌, flat_map, take, arith, ap, refl, subst, sym}
-use Rattle.std.proofs.lemmas.List.{take_all}
+use Rattle.std.proofs.Common.{ℕ, ◌∙◌, flat_map, take, arith, refl, subst, sym}
 use Rattle.picture.specs.Pages.{held}
 use Rattle.replayer.specs.Texts.{mark_line}
 use Rattle.replayer.specs.declared.summaries.Summary.{Summary}

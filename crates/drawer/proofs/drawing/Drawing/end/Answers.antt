@@ -1,9 +1,8 @@
-use Rattle.std.proofs.Common.{◌≡◌, ℕ, List, [], ◌++◌, codes, append-nil, append_assoc, subst, sym, ◌∙◌}
+use Rattle.std.proofs.Common.{[], ◌++◌, append-nil}
 use Rattle.shapes.specs.Titles.{lines_in}
 use Rattle.replayer.proofs.Written.{ok_then}
 use Rattle.replayer.specs.Texts.{end_line}
 use Rattle.picture.specs.Pages.{held, lines_of_band}
-use Rattle.drawer.specs.Drawings.{Draws, DrawsOn}
 use Rattle.drawer.proofs.Drawn.{draws_on_both, draws_on_rest, draws_on_same}
 use Rattle.drawer.proofs.drawing.Drawing.end.Goals as goal
 
