@@ -19,8 +19,8 @@ import time
 import tty
 from typing import NamedTuple
 
-TOP = pathlib.Path(__file__).resolve().parent.parent
-PROGRAM = TOP / "crates" / "bakerystore" / "out" / "bakerystore"
+from running import PROGRAM, TOP
+
 COMMANDS = ["plain", "bits", "replay", "audit", "sweep", "race", "record", "judge", "draw", "draw-svg"]
 KINDS = ["too-long", "not-first", "unknown", "words", "number", "bad-name", "bad-value", "bad-setup", "memory"]
 FAULT_LINES = ["read fault", "write fault", "out of memory", "no thread"]
@@ -50,6 +50,10 @@ REFUSED = [
     (["--version", "plain"], "too many words, from `plain` on"),
     (["plain", "-x"], "unknown option `-x` (a file of that name is `./-x`)"),
     (["--hlep"], "unknown option `--hlep` (a file of that name is `./--hlep`)"),
+    (["replay", "--reads", "-"], "`replay` has no option `--reads` (draw and draw-svg have)"),
+    (["--reads"], "`plain` has no option `--reads` (draw and draw-svg have)"),
+    (["--reads", "draw"], "no FILE behind `draw` (`-` is standard input)"),
+    (["draw", "--read", "-"], "unknown option `--read` (a file of that name is `./--read`)"),
     (["plain", b"\xff"], "a word is not UTF-8 (a file of such a name can be given by: bakerystore COMMAND - < FILE)"),
 ]
 
@@ -235,27 +239,45 @@ def lines_at_a_terminal(counter, interrupter):
 
 def progress(counter, interrupter):
     """The line of progress stands where standard error is a terminal and standard output is none, from two seconds on, and not
-    with `--quiet`. The clock goes on by 100 ms each time, so that each event takes as long."""
+    with `--quiet`. The clock goes on by 100 ms each time, and is asked at the begin of the run and before each of its lines."""
     scenario, text = marks(16)
-    shown = "".join(f"\r{events} events so far, 10 a second\x1b[K" for events in range(20, 33, 2)) + CLEAR
-    for options, wanted in [([], shown), (["--quiet"], "")]:
-        terminal = Terminal()
-        ran, *_ = interrupter.run(["replay", "-", *options], scenario, tick=100, stderr=terminal.end)
-        counter.compare(f"progress {options}", (ran, terminal.text()), (Ran(0, text, None), wanted))
-    ran, *_ = interrupter.run(["replay", "-"], scenario, tick=100)
-    counter.compare("no progress in a pipe", ran, Ran(0, text, ""))
+    # a comment behind each line: the first line that is run is the 5th one of the file
+    spaced = scenario.replace("\n", "\n# a comment\n")
+    times = range(20, 33, 2)
+    shown = "".join(f"\r{asked - 1} events so far, 9 a second, line {2 * asked + 3} of the file\x1b[K" for asked in times) + CLEAR
+    # `draw-svg` makes the run twice: its lines come again, at the times from 33 on
+    again = shown.removesuffix(CLEAR)
+    for asked in range(34, 65, 2):
+        events = asked - 33
+        again += f"\r{events} events so far, {10 * events // asked} a second, line {2 * events + 5} of the file\x1b[K"
+    again += CLEAR
+    for command in ["replay", "record", "audit", "draw", "draw-svg"]:
+        alone = run([command, "-"], spaced)
+        counter.compare(f"{command} in pipes", (alone.status, alone.errors), (0, ""))
+        for options, wanted in [([], again if command == "draw-svg" else shown), (["--quiet"], "")]:
+            terminal = Terminal()
+            ran, *_ = interrupter.run([command, "-", *options], spaced, tick=100, stderr=terminal.end)
+            counter.compare(f"progress of {command} {options}", (ran, terminal.text()), (Ran(0, alone.output, None), wanted))
+        ran, *_ = interrupter.run([command, "-"], spaced, tick=100)
+        counter.compare(f"no progress of {command} in a pipe", ran, alone)
     terminal = Terminal()
     ran, *_ = interrupter.run(["replay", "-"], scenario, tick=100, stdout=terminal.end, stderr=terminal.end)
     counter.compare("no progress beside the text", (ran.status, terminal.text()), (0, text))
+    few, text = marks(9)
+    terminal = Terminal()
+    ran, *_ = interrupter.run(["replay", "-"], few, tick=100, stderr=terminal.end)
+    counter.compare("no progress within two seconds", (ran, terminal.text()), (Ran(0, text, None), ""))
+    # the process fails after each of its 32 events, in two runs
+    swept = "sweep runs 64 good 64 stuck 0\n"
+    shown = "".join(f"\r{asked - 1} of 32 events swept so far, 9 a second\x1b[K" for asked in times) + CLEAR
+    terminal = Terminal()
+    ran, *_ = interrupter.run(["sweep", "-"], "bakery 1\ncall 0 read a\nstep 0 31\n", tick=100, stderr=terminal.end)
+    counter.compare("progress of sweep", (ran, terminal.text()), (Ran(0, swept, None), shown))
     comments = "record 1\n" + "# a line\n" * 31
     shown = "".join(f"\r{lines} lines read so far, 10 a second\x1b[K" for lines in range(20, 33, 2)) + CLEAR
     terminal = Terminal()
     ran, *_ = interrupter.run(["judge", "-"], comments, tick=100, stderr=terminal.end)
     counter.compare("progress of judge", (ran, terminal.text()), (Ran(0, "good 0\n", None), shown))
-    few, text = marks(9)
-    terminal = Terminal()
-    ran, *_ = interrupter.run(["replay", "-"], few, tick=100, stderr=terminal.end)
-    counter.compare("no progress within two seconds", (ran, terminal.text()), (Ran(0, text, None), ""))
 
 
 def interrupted(counter, interrupter, folder):

@@ -64,9 +64,11 @@ Commands, each with an example:
 
 Options:
 
+  --reads   of draw and draw-svg: shows the reads too that writes overlapped
   --quiet   shows no progress. Else, where standard error is a terminal and standard
             output is none, a run of more than two seconds shows there how far it is
-            (but audit, sweep and race, which print when all is done, show nothing)
+            (but plain and bits, which are soon done, and race, of which all threads
+            run at once, show nothing)
   --        ends the options: what is behind it is a command or a file
 
 Exit status:
@@ -214,11 +216,13 @@ the law, and then ends with status 3. The lines of a record: docs/RECORDS.md
 ";
 
 /// The page of `draw`.
-const DRAW: &str = r"usage: bakerystore draw FILE
+const DRAW: &str = r"usage: bakerystore draw [--reads] FILE
 
 Makes the run of a scenario, as replay does, and writes its picture as one page for
 a browser, which needs nothing else: a lane for each process, its marks and what it
 is doing, above the one history; the lines that replay prints can be read off it.
+With --reads it shows the reads too that writes overlapped: from when to when, whose
+bit, and what each gave; of those between two lines of the run the first three.
 What a picture shows: docs/PICTURE.md
 The lines of a scenario: bakerystore help replay
 
@@ -229,9 +233,10 @@ The lines of a scenario: bakerystore help replay
 ";
 
 /// The page of `draw-svg`.
-const DRAW_SVG: &str = r"usage: bakerystore draw-svg FILE
+const DRAW_SVG: &str = r"usage: bakerystore draw-svg [--reads] FILE
 
 Writes the picture of the run of a scenario as one picture, without a page round it.
+With --reads it shows the reads too that writes overlapped, as draw does.
 What a picture shows: docs/PICTURE.md
 The lines of a scenario: bakerystore help replay
 

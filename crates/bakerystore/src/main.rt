@@ -12,9 +12,10 @@ mod words;
 use drawer::{draw, draw_svg};
 use engines::{run_bits, run_plain};
 use help::text_of;
-use progress::{WatchedInput, WatchedOutput};
+use onlooker::Onlooker;
+use progress::{WatchedInput, Watcher};
 use race_engine::{RunFault, run_fault_status, run_race};
-use replayer::{replay, run_audit, run_judge, run_record, run_sweep};
+use replayer::{replay_seen, run_audit_seen, run_judge, run_record_seen, run_sweep_seen};
 use scenario::{DONE, Fault, FromRead, IntoWrite, Sink, Source, ended};
 use std::env::{self, Env};
 use std::fs::{File, Files};
@@ -115,18 +116,14 @@ fn run_on<T: Print + Eprint + Clock + AllocGlobal + Threads + Wait + Sync, R: Re
         return Err(Fault::Memory.into());
     };
     let shows = terminals.error && !terminals.output && !request.quiet;
-    // Of `judge` the input tells how far it is, since it writes nothing before its end.
-    let reads = request.engine == Engine::Judge;
-    let mut input = WatchedInput::new(FromRead::new(reader), rt, shows && reads);
-    let mut output = WatchedOutput::new(
-        IntoWrite::new(&mut writer),
-        rt,
-        request.engine,
-        shows && !reads,
-    );
-    let ran = run_engine(rt, request.engine, &mut input, &mut output);
+    // Of `judge` the input tells how far it is; the other engines have read all of theirs before they run.
+    let from_input = request.engine == Engine::Judge;
+    let mut input = WatchedInput::new(FromRead::new(reader), rt, shows && from_input);
+    let mut output = IntoWrite::new(&mut writer);
+    let mut watcher = Watcher::new(rt, rt.alloc(), shows && !from_input);
+    let ran = run_engine(rt, request, &mut input, &mut output, &mut watcher);
     input.end();
-    output.end();
+    watcher.end();
     // After a fault too: what the engine has written is a front of its text.
     let flushed = writer.flush();
     let status = ran?;
@@ -137,27 +134,28 @@ fn run_on<T: Print + Eprint + Clock + AllocGlobal + Threads + Wait + Sync, R: Re
 }
 
 /// Runs the engine from a source to a sink; answers the exit status that its end stands for.
-fn run_engine<T: AllocGlobal + Threads + Wait + Sync, R: Source, W: Sink>(
+fn run_engine<T: AllocGlobal + Threads + Wait + Sync, R: Source, W: Sink, L: Onlooker>(
     rt: &T,
-    engine: Engine,
+    request: &Request<'_>,
     input: &mut R,
     output: &mut W,
+    onlooker: &mut L,
 ) -> Result<u8, RunFault>
     requires reads { R.failures input.old < 2 ^ 64 - 1 }
     requires writes { W.failures output.old < 2 ^ 64 - 1 }
 {
     let alloc = rt.alloc();
-    let ran = match engine {
+    let ran = match request.engine {
         Engine::Plain => ended(run_plain(alloc, input, output)),
         Engine::Bits => ended(run_bits(alloc, input, output)),
-        Engine::Replay => ended(replay(alloc, input, output)),
-        Engine::Audit => run_audit(alloc, input, output),
-        Engine::Sweep => run_sweep(alloc, input, output),
-        Engine::Record => ended(run_record(alloc, input, output)),
+        Engine::Replay => ended(replay_seen(alloc, input, output, onlooker)),
+        Engine::Audit => run_audit_seen(alloc, input, output, onlooker),
+        Engine::Sweep => run_sweep_seen(alloc, input, output, onlooker),
+        Engine::Record => ended(run_record_seen(alloc, input, output, onlooker)),
         Engine::Judge => run_judge(alloc, input, output),
         Engine::Race => return run_race(rt, alloc, input, output),
-        Engine::Draw => ended(draw(alloc, input, output)),
-        Engine::DrawSvg => ended(draw_svg(alloc, input, output)),
+        Engine::Draw => ended(draw(alloc, request.reads, input, output, onlooker)),
+        Engine::DrawSvg => ended(draw_svg(alloc, request.reads, input, output, onlooker)),
     };
     Ok(ran?)
 }

@@ -1,8 +1,9 @@
 //! The line that shows how far a run is, on standard error.
 ghost use Rattle.std.specs.Prelude.{◌≡◌};
 
-use crate::words::Engine;
-use scenario::{Failed, Sink, Source};
+use onlooker::{Onlooker, Reached};
+use scenario::{Failed, Source};
+use std::alloc::Global;
 use std::time::{Clock, Duration};
 
 /// How many milliseconds a run goes on before the line is shown.
@@ -14,31 +15,23 @@ const NEXT: u64 = 200;
 /// What takes back the line: to its begin, and clear to the end.
 const CLEAR: &str = "\r\x1b[K";
 
-/// A sink in front of another one, which notes how far the text is and shows it.
+/// Shows how far an engine says that it is.
 #[derive(Drop)]
-pub struct WatchedOutput<'a, S: Sink + Drop, T> {
-    sink: S,
+pub struct Watcher<'a, T> {
     rt: &'a T,
+    alloc: Global,
     progress: Option<Progress>,
 }
 
-impl<'a, S: Sink + Drop, T: Clock + Eprint> WatchedOutput<'a, S, T> {
-    /// In front of this sink; nothing is shown unless `shows`.
-    pub fn new(sink: S, rt: &'a T, engine: Engine, shows: bool) -> WatchedOutput<'a, S, T>
-        ensures taken { ⟦<WatchedOutput<'a, S, T> as Sink>⟧.taken result ≡ S.taken sink }
-        ensures failures { ⟦<WatchedOutput<'a, S, T> as Sink>⟧.failures result ≡ S.failures sink }
-    {
-        let counted = if engine == Engine::Replay {
-            Counted::Events
-        } else {
-            Counted::Lines
-        };
-        let progress = if shows {
-            Progress::new(rt, counted)
-        } else {
-            None
-        };
-        WatchedOutput { sink, rt, progress }
+impl<'a, T: Clock + Eprint> Watcher<'a, T> {
+    /// Nothing is shown unless `shows`.
+    pub fn new(rt: &'a T, alloc: Global, shows: bool) -> Watcher<'a, T> {
+        let progress = if shows { Progress::new(rt) } else { None };
+        Watcher {
+            rt,
+            alloc,
+            progress,
+        }
     }
 
     /// Takes the line back, where it is shown.
@@ -50,18 +43,29 @@ impl<'a, S: Sink + Drop, T: Clock + Eprint> WatchedOutput<'a, S, T> {
     }
 }
 
-impl<'a, S: Sink + Drop, T: Clock + Eprint> Sink for WatchedOutput<'a, S, T> {
-    ghost taken = { λ watched. S.taken watched.sink };
-
-    ghost failures = { λ watched. S.failures watched.sink };
-
-    fn put(&mut self, bytes: &[u8]) -> Result<usize, Failed> {
-        let count = self.sink.put(bytes)?;
-        if let Some(progress) = &mut self.progress {
-            progress.note(&bytes[..count]);
-            progress.show(self.rt);
+impl<'a, T: Clock + Eprint> Onlooker for Watcher<'a, T> {
+    fn reached(&mut self, reached: Reached<'_>) {
+        let Some(progress) = &mut self.progress else {
+            return;
+        };
+        let Some(millis) = progress.millis_to_show(self.rt) else {
+            return;
+        };
+        match reached {
+            Reached::Line(place) => {
+                let (events, number) = (place.events(), place.number(self.alloc));
+                let speed = in_a_second(events, millis);
+                let _ = eprint!(self.rt;
+                    "\r{events} events so far, {speed} a second, line {number} of the file\x1b[K"
+                );
+            }
+            Reached::Swept { events, of } => {
+                let speed = in_a_second(events, millis);
+                let _ = eprint!(self.rt;
+                    "\r{events} of {of} events swept so far, {speed} a second\x1b[K"
+                );
+            }
         }
-        Ok(count)
     }
 }
 
@@ -71,6 +75,8 @@ pub struct WatchedInput<'a, S: Source + Drop, T> {
     source: S,
     rt: &'a T,
     progress: Option<Progress>,
+    /// How many lines were read.
+    lines: u64,
 }
 
 impl<'a, S: Source + Drop, T: Clock + Eprint> WatchedInput<'a, S, T> {
@@ -79,16 +85,28 @@ impl<'a, S: Source + Drop, T: Clock + Eprint> WatchedInput<'a, S, T> {
         ensures to_come { ⟦<WatchedInput<'a, S, T> as Source>⟧.to_come result ≡ S.to_come source }
         ensures failures { ⟦<WatchedInput<'a, S, T> as Source>⟧.failures result ≡ S.failures source }
     {
-        let progress = if shows {
-            Progress::new(rt, Counted::LinesRead)
-        } else {
-            None
-        };
+        let progress = if shows { Progress::new(rt) } else { None };
         WatchedInput {
             source,
             rt,
             progress,
+            lines: 0,
         }
+    }
+
+    /// Shows how many lines were read, if it is time to.
+    fn show(&mut self)
+        ensures { self.new.source ≡ self.old.source }
+    {
+        let Some(progress) = &mut self.progress else {
+            return;
+        };
+        let Some(millis) = progress.millis_to_show(self.rt) else {
+            return;
+        };
+        let lines = self.lines;
+        let speed = in_a_second(lines, millis);
+        let _ = eprint!(self.rt; "\r{lines} lines read so far, {speed} a second\x1b[K");
     }
 
     /// Takes the line back, where it is shown.
@@ -108,108 +126,59 @@ impl<'a, S: Source + Drop, T: Clock + Eprint> Source for WatchedInput<'a, S, T> 
     fn next_byte(&mut self) -> Result<Option<u8>, Failed> {
         let byte = self.source.next_byte()?;
         if byte == Some(b'\n') {
-            if let Some(progress) = &mut self.progress {
-                progress.note_byte(b'\n');
-                progress.show(self.rt);
-            }
+            self.lines = self.lines.saturating_add(1);
+            self.show();
         }
         Ok(byte)
     }
-}
 
-/// What the line of progress counts.
-#[derive(Clone, Copy, Debug, PartialEq, Eq)]
-enum Counted {
-    /// Events, of which the number stands at the begin of a line that is written.
-    Events,
-    /// The lines that are written.
-    Lines,
-    /// The lines that are read.
-    LinesRead,
-}
-
-impl Counted {
-    /// What is counted, in words.
-    fn name(self) -> &'static str {
-        match self {
-            Counted::Events => "events",
-            Counted::Lines => "lines",
-            Counted::LinesRead => "lines read",
+    fn next_bytes(&mut self, buffer: &mut [u8]) -> Result<usize, Failed> {
+        let count = self.source.next_bytes(buffer)?;
+        if self.progress.is_some() {
+            self.lines = self.lines.saturating_add(ends_among(&buffer[..count]));
+            self.show();
         }
+        Ok(count)
     }
 }
 
-/// How far a run is, as far as the bytes that it reads or writes tell.
+/// How many lines end among bytes.
+fn ends_among(bytes: &[u8]) -> u64 {
+    let mut ends: u64 = 0;
+    for byte in bytes {
+        ends = ends.saturating_add(u64::from(*byte == b'\n'));
+    }
+    ends
+}
+
+/// Since when a run goes on, and when the line was shown.
 #[derive(Clone, Copy, Debug)]
 struct Progress {
-    counted: Counted,
-    count: u64,
-    /// The number at the begin of the present line, as far as it has come; none behind it.
-    number: Option<u64>,
     begun: Duration,
     shown: Option<Duration>,
 }
 
 impl Progress {
     /// At the begin of a run; none where there is no clock.
-    fn new<T: Clock>(rt: &T, counted: Counted) -> Option<Progress> {
+    fn new<T: Clock>(rt: &T) -> Option<Progress> {
         Some(Progress {
-            counted,
-            count: 0,
-            number: Some(0),
             begun: rt.monotonic().ok()?,
             shown: None,
         })
     }
 
-    /// Notes bytes.
-    fn note(&mut self, bytes: &[u8]) {
-        for byte in bytes {
-            self.note_byte(*byte);
-        }
-    }
-
-    /// Notes one byte. Events are numbered from 0.
-    fn note_byte(&mut self, byte: u8) {
-        if byte == b'\n' {
-            if self.counted != Counted::Events {
-                self.count = self.count.saturating_add(1);
-            }
-            self.number = Some(0);
-            return;
-        }
-        let Some(number) = self.number else {
-            return;
-        };
-        if byte.is_ascii_digit() {
-            let digit = u64::from(byte - b'0');
-            self.number = Some(number.saturating_mul(10).saturating_add(digit));
-            return;
-        }
-        if byte == b' ' && self.counted == Counted::Events {
-            self.count = number.saturating_add(1);
-        }
-        self.number = None;
-    }
-
-    /// Shows how far the run is, if it is time to.
-    fn show<T: Clock + Eprint>(&mut self, rt: &T) {
-        let Ok(now) = rt.monotonic() else {
-            return;
-        };
+    /// For how many milliseconds the run has gone on, if it is time to show how far it is.
+    fn millis_to_show<T: Clock>(&mut self, rt: &T) -> Option<u128> {
+        let now = rt.monotonic().ok()?;
         let (since, wait) = match self.shown {
             None => (self.begun, FIRST),
             Some(shown) => (shown, NEXT),
         };
         if now.saturating_sub(since) < Duration::from_millis(wait) {
-            return;
+            return None;
         }
         self.shown = Some(now);
-        let count = self.count;
-        let what = self.counted.name();
-        let millis = now.saturating_sub(self.begun).as_millis().max(1);
-        let speed = u128::from(count) * 1000 / millis;
-        let _ = eprint!(rt; "\r{count} {what} so far, {speed} a second\x1b[K");
+        Some(now.saturating_sub(self.begun).as_millis())
     }
 
     /// Takes the line back, where it is shown.
@@ -218,4 +187,9 @@ impl Progress {
             let _ = rt.eprint(CLEAR);
         }
     }
+}
+
+/// How many in a second, where there were so many in some milliseconds.
+fn in_a_second(count: u64, millis: u128) -> u128 {
+    u128::from(count) * 1000 / millis.max(1)
 }

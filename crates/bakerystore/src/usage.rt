@@ -30,6 +30,8 @@ pub enum WordsFault<'a> {
     TooManyWords(&'a str),
     /// A word begins with `-`, and is no option.
     UnknownOption(&'a str),
+    /// The option `--reads` stands with a command that draws no picture.
+    ReadsOfAnother(&'a str),
     /// Some word is not UTF-8.
     NotText,
     /// A growth was refused while the words were read.
@@ -60,6 +62,12 @@ impl Display for WordsFault<'_> {
                 write!(
                     f,
                     "unknown option `{word}` (a file of that name is `./{word}`)"
+                )
+            }
+            WordsFault::ReadsOfAnother(command) => {
+                write!(
+                    f,
+                    "`{command}` has no option `--reads` (draw and draw-svg have)"
                 )
             }
             WordsFault::NotText => f.write_str(

@@ -1,5 +1,6 @@
 //! The program's words.
 use crate::usage::{WordsFault, unknown_command};
+use drawer::Reads;
 use std::alloc::Global;
 
 /// What runs a file.
@@ -44,6 +45,11 @@ impl Engine {
             _ => None,
         }
     }
+
+    /// Whether it draws a picture.
+    fn draws(self) -> bool {
+        matches!(self, Engine::Draw | Engine::DrawSvg)
+    }
 }
 
 /// An engine, and the file that it is to run.
@@ -52,6 +58,8 @@ pub struct Request<'a> {
     pub engine: Engine,
     /// The path of the file; `-` is standard input.
     pub file: &'a str,
+    /// Whether the picture shows the reads that writes overlapped.
+    pub reads: Reads,
     /// Whether nothing is to be shown of how far the run is.
     pub quiet: bool,
 }
@@ -87,6 +95,7 @@ struct Sorted<'a> {
     unknown: Option<&'a str>,
     help: bool,
     version: bool,
+    reads: Reads,
     quiet: bool,
     /// Whether a word `--` came, behind which no word is an option.
     ended: bool,
@@ -102,6 +111,7 @@ impl<'a> Sorted<'a> {
             unknown: None,
             help: false,
             version: false,
+            reads: Reads::Hidden,
             quiet: false,
             ended: false,
         }
@@ -117,6 +127,7 @@ impl<'a> Sorted<'a> {
             "--" => self.ended = true,
             "--help" | "-h" => self.help = true,
             "--version" => self.version = true,
+            "--reads" => self.reads = Reads::Shown,
             "--quiet" => self.quiet = true,
             _ => self.unknown = self.unknown.or(Some(word)),
         }
@@ -131,6 +142,24 @@ impl<'a> Sorted<'a> {
         } else if self.third.is_none() {
             self.third = Some(word);
         }
+    }
+
+    /// The request that an engine runs a file, with the options; `command`: the engine's name.
+    fn request(
+        &self,
+        command: &'a str,
+        engine: Engine,
+        file: &'a str,
+    ) -> Result<Request<'a>, WordsFault<'a>> {
+        if self.reads == Reads::Shown && !engine.draws() {
+            return Err(WordsFault::ReadsOfAnother(command));
+        }
+        Ok(Request {
+            engine,
+            file,
+            reads: self.reads,
+            quiet: self.quiet,
+        })
     }
 }
 
@@ -162,11 +191,7 @@ fn read_command<'a>(alloc: Global, sorted: &Sorted<'a>) -> Result<Asked<'a>, Wor
         return Ok(if sorted.help {
             Asked::Tell(Page::Words)
         } else {
-            Asked::Run(Request {
-                engine: Engine::Plain,
-                file: "-",
-                quiet: sorted.quiet,
-            })
+            Asked::Run(sorted.request("plain", Engine::Plain, "-")?)
         });
     };
     if word == "help" {
@@ -181,11 +206,7 @@ fn read_command<'a>(alloc: Global, sorted: &Sorted<'a>) -> Result<Asked<'a>, Wor
     let Some(file) = sorted.second else {
         return Err(WordsFault::NoFile(word));
     };
-    Ok(Asked::Run(Request {
-        engine,
-        file,
-        quiet: sorted.quiet,
-    }))
+    Ok(Asked::Run(sorted.request(word, engine, file)?))
 }
 
 /// The page that `help` and a word, if there is one, ask for.

@@ -16,6 +16,7 @@ use crate::turns::Course;
 use crate::writing::write_line;
 use auditor::Audited;
 use judge::{status_of, verdict_line};
+use onlooker::{Nobody, Onlooker, Place};
 use scenario::{Fault, Line, Scenario, Sink, Source, read_input, read_scenario};
 use std::alloc::{AllocError, Global};
 
@@ -35,13 +36,37 @@ pub fn run_audit<R: Source, W: Sink>(
     ensures input { ReadsFront (R.to_come input.old) (R.to_come input.new) }
     ensures verdict { IfOk result (λ status. InputTellsVerdict (R.to_come input.old) status (W.taken output.old) (W.taken output.new)) }
 {
-    let file = read_input(alloc, input)?;
-    let scenario = read_scenario(alloc, file.as_slice())?;
-    audit_scenario(alloc, &scenario, output)
+    run_audit_seen(alloc, input, output, &mut Nobody)
 }
 
-/// Makes a scenario's run, writes the verdict on its record, and answers the exit status.
-fn audit_scenario<W: Sink>(alloc: Global, scenario: &Scenario, output: &mut W) -> Result<u8, Fault>
+/// The same before an onlooker, who hears how far it is.
+pub fn run_audit_seen<R: Source, W: Sink, L: Onlooker>(
+    alloc: Global,
+    input: &mut R,
+    output: &mut W,
+    onlooker: &mut L,
+) -> Result<u8, Fault>
+    requires reads { R.failures input.old < 2 ^ 64 - 1 }
+    requires writes { W.failures output.old < 2 ^ 64 - 1 }
+    ensures ran { Ran audit_text (ended result)
+        (record { to_come = R.to_come input.old; taken = W.taken output.old; read_failures = R.failures input.old; write_failures = W.failures output.old })
+        (record { to_come = R.to_come input.new; taken = W.taken output.new; read_failures = R.failures input.new; write_failures = W.failures output.new }) }
+    ensures input { ReadsFront (R.to_come input.old) (R.to_come input.new) }
+    ensures verdict { IfOk result (λ status. InputTellsVerdict (R.to_come input.old) status (W.taken output.old) (W.taken output.new)) }
+{
+    let file = read_input(alloc, input)?;
+    let scenario = read_scenario(alloc, file.as_slice())?;
+    audit_scenario(alloc, file.as_slice(), &scenario, output, onlooker)
+}
+
+/// Makes the run of a file's scenario, writes the verdict on its record, and answers the exit status.
+fn audit_scenario<W: Sink, L: Onlooker>(
+    alloc: Global,
+    file: &[u8],
+    scenario: &Scenario,
+    output: &mut W,
+    onlooker: &mut L,
+) -> Result<u8, Fault>
     requires { W.failures output.old < 2 ^ 64 - 1 }
     ensures ok { OnOk result (Appends (W.taken output.old) (W.taken output.new) (audited (script scenario.now))) }
     ensures front { WritesFront (W.taken output.old) (W.taken output.new) (audited (script scenario.now)) }
@@ -49,20 +74,27 @@ fn audit_scenario<W: Sink>(alloc: Global, scenario: &Scenario, output: &mut W) -
     ensures fault { IfErr result IsWriteFault }
     ensures failures { W.failures output.new ≡ W.failures output.old + failed_write result }
 {
-    let audited = audit_run(alloc, scenario)?;
+    let audited = audit_run(alloc, file, scenario, onlooker)?;
     write_line(output, verdict_line(alloc, &audited))?;
     Ok(status_of(&audited.verdict))
 }
 
-/// Makes a scenario's run, of which an auditor hears each entry. The one fault is want of memory.
-fn audit_run(alloc: Global, scenario: &Scenario) -> Result<Audited, AllocError>
+/// Makes the run of a file's scenario, of which an auditor hears each entry. The one fault is want of memory.
+fn audit_run<L: Onlooker>(
+    alloc: Global,
+    file: &[u8],
+    scenario: &Scenario,
+    onlooker: &mut L,
+) -> Result<Audited, AllocError>
     ensures verdict { IfOk result (λ audited. IsVerdict scenario.now.setup (run_record (script scenario.now)) audited.verdict) }
     ensures good { IfOk result (λ audited. audited.verdict ≡ Good) }
     ensures entries { IfOk result (λ audited. audited.entries ≡ length (run_record (script scenario.now))) }
 {
     let mut course = Course::new(alloc, &scenario.setup, true)?;
     let mut summary = Summary::new();
+    let mut place = Place::before(file, scenario.lines.len());
     for line in &scenario.lines {
+        onlooker.reached(place.begin_line(summary.events));
         count_line(&mut course, line, &mut summary)?;
     }
     Ok(Audited {

@@ -1,5 +1,10 @@
-//! One run of a scenario, replayed: its text, its accepted events, and their record; audited as it is made, or from a
-//! record that is given; and swept by failures.
+//! One run of a scenario, replayed: its text, its accepted events, and their record. A run is audited as it is made, or from a
+//! record that is given, and swept by failures. Each engine reads a whole file, and then writes what it
+//! has to tell of its run.
+//!
+//! ```rust
+//! replay(alloc, &mut Tape::new(file.as_bytes()), &mut output)?;
+//! ```
 #![tactic(auto)]
 
 mod auditing;
@@ -14,7 +19,7 @@ mod told;
 mod turns;
 mod writing;
 
-pub use auditing::run_audit;
+pub use auditing::{run_audit, run_audit_seen};
 pub use auditor::{
     Audited, Auditor, Law, Verdict, audit, good_records_are_of_events, records_have_one_verdict,
     records_of_events_are_good,
@@ -22,12 +27,12 @@ pub use auditor::{
 pub use judge::{Judge, run_judge, status_of};
 pub use listing::{events_of, record_of};
 pub use record::{Entry, Record};
-pub use recording::run_record;
-pub use replaying::replay;
+pub use recording::{run_record, run_record_seen};
+pub use replaying::{replay, replay_seen};
 pub use summaries::Summary;
 pub use sweeper::{
     BadRun, Swept, fails_are_of_whom_stands, steps_are_of_whom_moves, sweep, swept_runs_are_good,
 };
-pub use sweeping::{run_sweep, status_of_sweep};
+pub use sweeping::{run_sweep, run_sweep_seen, status_of_sweep};
 pub use told::{Accepted, Told, Turns};
 pub use turns::Course;

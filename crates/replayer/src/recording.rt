@@ -4,6 +4,7 @@ ghost use Rattle.std.specs.Prelude.{◌≡◌, ◌+◌, ◌-◌, ◌^◌, ◌<�
 ghost use Rattle.std.specs.Io.KnownBytes.{Appends};
 ghost use Rattle.files.specs.Engines.{Ran};
 ghost use Rattle.files.specs.Streams.{ReadsFront, WritesFront};
+ghost use Rattle.record_file.specs.Printing.{entry_line};
 ghost use Rattle.scenario.specs.Reads.{script};
 ghost use Rattle.replayer.specs.Recordings.{CopiesLine, CutsCopy, entry_told, recorded, recording_text};
 ghost use Rattle.replayer.specs.Replays.{ended};
@@ -11,6 +12,8 @@ ghost use Rattle.replayer.specs.Writing.{IsWriteFault, failed_write};
 
 use crate::told::Told;
 use crate::turns::Course;
+use onlooker::{Nobody, Onlooker, Place};
+use record::Entry;
 use record_file::{print_entry, print_setup};
 use scenario::{Fault, Line, Scenario, Sink, Source, read_input, read_scenario, write_all};
 use std::alloc::{AllocError, Global};
@@ -29,13 +32,36 @@ pub fn run_record<R: Source, W: Sink>(
         (record { to_come = R.to_come input.new; taken = W.taken output.new; read_failures = R.failures input.new; write_failures = W.failures output.new }) }
     ensures input { ReadsFront (R.to_come input.old) (R.to_come input.new) }
 {
-    let file = read_input(alloc, input)?;
-    let scenario = read_scenario(alloc, file.as_slice())?;
-    record_scenario(alloc, &scenario, output)
+    run_record_seen(alloc, input, output, &mut Nobody)
 }
 
-/// Writes the record of a scenario's run.
-fn record_scenario<W: Sink>(alloc: Global, scenario: &Scenario, output: &mut W) -> Result<(), Fault>
+/// The same before an onlooker, who hears how far it is.
+pub fn run_record_seen<R: Source, W: Sink, L: Onlooker>(
+    alloc: Global,
+    input: &mut R,
+    output: &mut W,
+    onlooker: &mut L,
+) -> Result<(), Fault>
+    requires reads { R.failures input.old < 2 ^ 64 - 1 }
+    requires writes { W.failures output.old < 2 ^ 64 - 1 }
+    ensures ran { Ran recording_text (ended result)
+        (record { to_come = R.to_come input.old; taken = W.taken output.old; read_failures = R.failures input.old; write_failures = W.failures output.old })
+        (record { to_come = R.to_come input.new; taken = W.taken output.new; read_failures = R.failures input.new; write_failures = W.failures output.new }) }
+    ensures input { ReadsFront (R.to_come input.old) (R.to_come input.new) }
+{
+    let file = read_input(alloc, input)?;
+    let scenario = read_scenario(alloc, file.as_slice())?;
+    record_scenario(alloc, file.as_slice(), &scenario, output, onlooker)
+}
+
+/// Writes the record of the run of a file's scenario.
+fn record_scenario<W: Sink, L: Onlooker>(
+    alloc: Global,
+    file: &[u8],
+    scenario: &Scenario,
+    output: &mut W,
+    onlooker: &mut L,
+) -> Result<(), Fault>
     requires { W.failures output.old < 2 ^ 64 - 1 }
     ensures ok { OnOk result (Appends (W.taken output.old) (W.taken output.new) (recorded (script scenario.now))) }
     ensures front { WritesFront (W.taken output.old) (W.taken output.new) (recorded (script scenario.now)) }
@@ -44,17 +70,24 @@ fn record_scenario<W: Sink>(alloc: Global, scenario: &Scenario, output: &mut W) 
 {
     let mut course = Course::new(alloc, &scenario.setup, false)?;
     write_bytes(output, print_setup(alloc, &scenario.setup))?;
+    let mut place = Place::before(file, scenario.lines.len());
+    let mut events = 0;
+    let mut text = String::new(alloc);
     for line in &scenario.lines {
-        record_line(alloc, &mut course, line, output)?;
+        onlooker.reached(place.begin_line(events));
+        record_line(alloc, &mut course, line, &mut events, &mut text, output)?;
     }
     Ok(())
 }
 
-/// Makes the turns of a line, and writes the entry of each before the next is made.
+/// Makes the turns of a line, and writes the entry of each before the next is made; `events` counts them. The text is
+/// room for one entry's line, which is kept from one to the next.
 fn record_line<W: Sink>(
     alloc: Global,
     course: &mut Course,
     line: &Line,
+    events: &mut u64,
+    text: &mut String,
     output: &mut W,
 ) -> Result<(), Fault>
     requires { W.failures output.old < 2 ^ 64 - 1 }
@@ -65,13 +98,24 @@ fn record_line<W: Sink>(
 {
     course.begin(line);
     'turns: while let Some(told) = course.turn(line)? {
-        write_entry(alloc, &told, output)?;
+        write_entry(alloc, &told, text, output)?;
+        *events = events.saturating_add(accepted_by(&told));
     }
     Ok(())
 }
 
+/// How many events were accepted where this is told: one or none.
+fn accepted_by(told: &Told) -> u64 {
+    u64::from(matches!(told, Told::Accepted(_)))
+}
+
 /// Writes the line of the entry that is told, if one is.
-fn write_entry<W: Sink>(alloc: Global, told: &Told, output: &mut W) -> Result<(), Fault>
+fn write_entry<W: Sink>(
+    alloc: Global,
+    told: &Told,
+    text: &mut String,
+    output: &mut W,
+) -> Result<(), Fault>
     requires { W.failures output.old < 2 ^ 64 - 1 }
     ensures ok { OnOk result (Appends (W.taken output.old) (W.taken output.new) (entry_told told.now)) }
     ensures front { WritesFront (W.taken output.old) (W.taken output.new) (entry_told told.now) }
@@ -81,10 +125,29 @@ fn write_entry<W: Sink>(alloc: Global, told: &Told, output: &mut W) -> Result<()
     match told {
         Told::Accepted(made) => {
             let entry = made.entry(alloc);
-            write_bytes(output, print_entry(alloc, &entry))
+            write_entry_line(alloc, &entry, text, output)
         }
         Told::Refused { .. } | Told::Tired(_) | Told::Shown(_) => Ok(()),
     }
+}
+
+/// Writes the line of an entry, by a text that is cleared for it, unless there was no memory for the line.
+#[tactic(auto, using(crate::proofs::Written::front_none))]
+fn write_entry_line<W: Sink>(
+    alloc: Global,
+    entry: &Entry,
+    text: &mut String,
+    output: &mut W,
+) -> Result<(), Fault>
+    requires { W.failures output.old < 2 ^ 64 - 1 }
+    ensures ok { OnOk result (Appends (W.taken output.old) (W.taken output.new) (entry_line entry.now)) }
+    ensures front { WritesFront (W.taken output.old) (W.taken output.new) (entry_line entry.now) }
+    ensures fault { IfErr result IsWriteFault }
+    ensures failures { W.failures output.new ≡ W.failures output.old + failed_write result }
+{
+    text.clear();
+    print_entry(alloc, entry, text)?;
+    write_all(output, text.as_bytes())
 }
 
 /// Writes bytes, unless there was no memory for them.

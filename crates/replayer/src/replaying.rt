@@ -13,6 +13,7 @@ ghost use Rattle.replayer.specs.Writing.{IsWriteFault, failed_write};
 use crate::summaries::Summary;
 use crate::turns::Course;
 use crate::writing::{tell, write_end};
+use onlooker::{Nobody, Onlooker, Place};
 use scenario::{Fault, Line, Scenario, Sink, Source, read_input, read_scenario};
 use std::alloc::Global;
 
@@ -36,16 +37,37 @@ pub fn replay<R: Source, W: Sink>(
     ensures summary { IfOk result (λ summary. IsSummaryOf (R.to_come input.old) summary) }
     ensures headline { OnOk result (InputKeepsHeadline (R.to_come input.old)) }
 {
-    let file = read_input(alloc, input)?;
-    let scenario = read_scenario(alloc, file.as_slice())?;
-    replay_scenario(alloc, &scenario, output)
+    replay_seen(alloc, input, output, &mut Nobody)
 }
 
-/// Writes the marks of a scenario's run, and its three numbers.
-fn replay_scenario<W: Sink>(
+/// The same before an onlooker, who hears how far it is.
+pub fn replay_seen<R: Source, W: Sink, L: Onlooker>(
     alloc: Global,
+    input: &mut R,
+    output: &mut W,
+    onlooker: &mut L,
+) -> Result<Summary, Fault>
+    requires reads { R.failures input.old < 2 ^ 64 - 1 }
+    requires writes { W.failures output.old < 2 ^ 64 - 1 }
+    ensures ran { Ran replay_text (ended result)
+        (record { to_come = R.to_come input.old; taken = W.taken output.old; read_failures = R.failures input.old; write_failures = W.failures output.old })
+        (record { to_come = R.to_come input.new; taken = W.taken output.new; read_failures = R.failures input.new; write_failures = W.failures output.new }) }
+    ensures input { ReadsFront (R.to_come input.old) (R.to_come input.new) }
+    ensures summary { IfOk result (λ summary. IsSummaryOf (R.to_come input.old) summary) }
+    ensures headline { OnOk result (InputKeepsHeadline (R.to_come input.old)) }
+{
+    let file = read_input(alloc, input)?;
+    let scenario = read_scenario(alloc, file.as_slice())?;
+    replay_scenario(alloc, file.as_slice(), &scenario, output, onlooker)
+}
+
+/// Writes the marks of the run of a file's scenario, and its three numbers.
+fn replay_scenario<W: Sink, L: Onlooker>(
+    alloc: Global,
+    file: &[u8],
     scenario: &Scenario,
     output: &mut W,
+    onlooker: &mut L,
 ) -> Result<Summary, Fault>
     requires { W.failures output.old < 2 ^ 64 - 1 }
     ensures ok { OnOk result (Appends (W.taken output.old) (W.taken output.new) (replayed (script scenario.now))) }
@@ -57,7 +79,9 @@ fn replay_scenario<W: Sink>(
 {
     let mut course = Course::new(alloc, &scenario.setup, false)?;
     let mut summary = Summary::new();
+    let mut place = Place::before(file, scenario.lines.len());
     for line in &scenario.lines {
+        onlooker.reached(place.begin_line(summary.events));
         replay_line(alloc, &mut course, line, &mut summary, output)?;
     }
     summary.taken = course.taken();

@@ -13,11 +13,12 @@ use crate::listing::events_of;
 use crate::writing::write_line;
 use auditor::Verdict;
 use judge::status_of;
+use onlooker::{Nobody, Onlooker};
 use plain_store::{Command, NestedTypes};
 use record::Event;
 use scenario::{Fault, Scenario, Sink, Source, read_input, read_scenario};
 use std::alloc::{AllocError, Global};
-use sweeper::{Swept, sweep};
+use sweeper::{Swept, sweep_seen};
 
 /// Reads a whole file, makes a sweep over its run, and then writes what that finds: the counts on one line, and on a
 /// second one the first bad run, if there is one. The sweep goes along the accepted events of the run, and in each of its
@@ -36,9 +37,27 @@ pub fn run_sweep<R: Source, W: Sink>(
     ensures input { ReadsFront (R.to_come input.old) (R.to_come input.new) }
     ensures swept { IfOk result (λ status. InputTellsSweep (R.to_come input.old) status (W.taken output.old) (W.taken output.new)) }
 {
+    run_sweep_seen(alloc, input, output, &mut Nobody)
+}
+
+/// The same before an onlooker, who hears how far it is.
+pub fn run_sweep_seen<R: Source, W: Sink, L: Onlooker>(
+    alloc: Global,
+    input: &mut R,
+    output: &mut W,
+    onlooker: &mut L,
+) -> Result<u8, Fault>
+    requires reads { R.failures input.old < 2 ^ 64 - 1 }
+    requires writes { W.failures output.old < 2 ^ 64 - 1 }
+    ensures ran { Ran sweep_text (ended result)
+        (record { to_come = R.to_come input.old; taken = W.taken output.old; read_failures = R.failures input.old; write_failures = W.failures output.old })
+        (record { to_come = R.to_come input.new; taken = W.taken output.new; read_failures = R.failures input.new; write_failures = W.failures output.new }) }
+    ensures input { ReadsFront (R.to_come input.old) (R.to_come input.new) }
+    ensures swept { IfOk result (λ status. InputTellsSweep (R.to_come input.old) status (W.taken output.old) (W.taken output.new)) }
+{
     let file = read_input(alloc, input)?;
     let scenario = read_scenario(alloc, file.as_slice())?;
-    sweep_scenario(alloc, &scenario, output)
+    sweep_scenario(alloc, &scenario, output, onlooker)
 }
 
 /// The exit status that what a sweep finds stands for: 3 where a run is bad, else 0.
@@ -52,7 +71,12 @@ pub fn status_of_sweep(found: &Swept) -> u8
 }
 
 /// Makes a sweep over a scenario's run, writes what it finds, and answers the exit status.
-fn sweep_scenario<W: Sink>(alloc: Global, scenario: &Scenario, output: &mut W) -> Result<u8, Fault>
+fn sweep_scenario<W: Sink, L: Onlooker>(
+    alloc: Global,
+    scenario: &Scenario,
+    output: &mut W,
+    onlooker: &mut L,
+) -> Result<u8, Fault>
     requires { W.failures output.old < 2 ^ 64 - 1 }
     ensures ok { OnOk result (Appends (W.taken output.old) (W.taken output.new) (swept (script scenario.now))) }
     ensures front { WritesFront (W.taken output.old) (W.taken output.new) (swept (script scenario.now)) }
@@ -60,19 +84,29 @@ fn sweep_scenario<W: Sink>(alloc: Global, scenario: &Scenario, output: &mut W) -
     ensures fault { IfErr result IsWriteFault }
     ensures failures { W.failures output.new ≡ W.failures output.old + failed_write result }
 {
-    let found = sweep_run(alloc, scenario)?;
+    let found = sweep_run(alloc, scenario, onlooker)?;
     write_line(output, swept_lines(alloc, &found))?;
     Ok(status_of_sweep(&found))
 }
 
 /// Makes a sweep over a scenario's run. The one fault is want of memory.
-fn sweep_run(alloc: Global, scenario: &Scenario) -> Result<Swept, AllocError>
+fn sweep_run<L: Onlooker>(
+    alloc: Global,
+    scenario: &Scenario,
+    onlooker: &mut L,
+) -> Result<Swept, AllocError>
     ensures swept { IfOk result (IsRunSwept (script scenario.now)) }
     ensures is { IfOk result (λ found. found ≡ run_swept (script scenario.now)) }
 {
     let events = events_of(alloc, scenario)?;
     let calls = calls_in(alloc, events.as_slice())?;
-    sweep(alloc, &scenario.setup, events.as_slice(), calls.as_slice())
+    sweep_seen(
+        alloc,
+        &scenario.setup,
+        events.as_slice(),
+        calls.as_slice(),
+        onlooker,
+    )
 }
 
 /// The calls among events, in their order.

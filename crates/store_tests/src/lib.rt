@@ -9,6 +9,8 @@ mod failing;
 #[cfg(test)]
 mod images;
 #[cfg(test)]
+mod places;
+#[cfg(test)]
 mod printing;
 #[cfg(test)]
 mod scenarios;

@@ -1,4 +1,10 @@
-//! Sweeps: the runs in which a process fails after one event of a list, each audited while it is made.
+//! Sweeps: what a failure after any one event of a run leads to. After each event of a list there are two runs in which its
+//! process fails, is restarted, all go on and the calls are made again, each audited while it is made. Every run of every sweep
+//! is good, which is a law here; whether one met its limits is what is found.
+//!
+//! ```rust
+//! let found = sweep(rt.alloc(), &scenario.setup, &events, &[(0, write)])?;
+//! ```
 #![tactic(auto)]
 
 mod laws_of_sweeps;
@@ -9,5 +15,5 @@ mod sweeping;
 mod swept;
 
 pub use laws_of_sweeps::{fails_are_of_whom_stands, steps_are_of_whom_moves, swept_runs_are_good};
-pub use sweeping::sweep;
+pub use sweeping::{sweep, sweep_seen};
 pub use swept::{BadRun, Swept};

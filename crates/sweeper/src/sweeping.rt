@@ -10,6 +10,7 @@ ghost use Rattle.sweeper.specs.Tallies.{AreFew, Counts, HasSwept};
 
 use crate::runner::Runner;
 use crate::swept::Swept;
+use onlooker::{Nobody, Onlooker, Reached};
 use plain_store::{Command, Setup};
 use record::Event;
 use std::alloc::{AllocError, Global};
@@ -31,11 +32,30 @@ pub fn sweep(
     ensures swept { IfOk result (λ found. IsSwept setup.now events.now calls.now found) }
     ensures good { IfOk result (λ found. AreAllGood found) }
 {
+    sweep_seen(alloc, setup, events, calls, &mut Nobody)
+}
+
+/// The same before an onlooker, who hears how far it is.
+pub fn sweep_seen<L: Onlooker>(
+    alloc: Global,
+    setup: &Setup,
+    events: &[Event],
+    calls: &[(u8, Command)],
+    onlooker: &mut L,
+) -> Result<Swept, AllocError>
+    requires { checked setup.now ≡ Ok tt }
+    ensures swept { IfOk result (λ found. IsSwept setup.now events.now calls.now found) }
+    ensures good { IfOk result (λ found. AreAllGood found) }
+{
     if MOST < events.len() || MOST < calls.len() {
         return Err(AllocError);
     }
     let mut sweeper = Sweeper::new(alloc, setup)?;
     for event in events {
+        onlooker.reached(Reached::Swept {
+            events: sweeper.number,
+            of: events.len() as u64,
+        });
         sweeper.event(event, calls);
     }
     Ok(sweeper.found)

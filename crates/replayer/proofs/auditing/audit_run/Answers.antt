@@ -8,7 +8,7 @@ use Rattle.replayer.proofs.Onwards.{Onward, onward_on}
 use Rattle.replayer.proofs.auditing.audit_run.Goals as goal
 
 pub loop-line-preserved : goal.loop-line-preserved
-loop-line-preserved c =
+loop-line-preserved g c =
     let s : Setup = c.args.scenario.now.setup in
     let lines : List Line = c.args.scenario.now.lines.items in
     let k : ℕ = c.loop-line.line-index in
@@ -23,14 +23,14 @@ loop-line-preserved c =
     }
 
 pub returns-clause-verdict : goal.returns-clause-verdict
-returns-clause-verdict c =
+returns-clause-verdict g c =
     let s : Setup = c.args.scenario.now.setup in
     let lines : List Line = c.args.scenario.now.lines.items in
     rw c.verdict.ensures (audit_is_good s lines c.loop-line.course c.loop-line.summary
     (subst (λ (rest : List Line). Onward s lines rest c.loop-line.course c.loop-line.summary None None) (drop_all c.loop-line.line-index lines (omega arith)) c.loop-line.invariant.onward))
 
 pub returns-clause-entries : goal.returns-clause-entries
-returns-clause-entries c =
+returns-clause-entries g c =
     let s : Setup = c.args.scenario.now.setup in
     let lines : List Line = c.args.scenario.now.lines.items in
     audit_counts s lines c.loop-line.course c.loop-line.summary

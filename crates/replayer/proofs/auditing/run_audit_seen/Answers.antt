@@ -7,7 +7,7 @@ use Rattle.files.specs.declared.faults.Fault.TheVariants.{Line}
 use Rattle.replayer.specs.Audits.{TellsVerdict, audited}
 use Rattle.replayer.specs.Replays.{ended}
 use Rattle.replayer.proofs.ReplayEnds.{ended_err, engine_ran, input_answer}
-use Rattle.replayer.proofs.auditing.run_audit.Goals as goal
+use Rattle.replayer.proofs.auditing.run_audit_seen.Goals as goal
 
 pub returns-in_err-scenario-clause-ran : goal.returns-in_err-scenario-clause-ran
 returns-in_err-scenario-clause-ran g c =

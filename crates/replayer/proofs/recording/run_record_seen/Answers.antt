@@ -7,7 +7,7 @@ use Rattle.files.specs.declared.faults.Fault.TheVariants.{Line}
 use Rattle.replayer.specs.Recordings.{recorded}
 use Rattle.replayer.specs.Replays.{ended}
 use Rattle.replayer.proofs.ReplayEnds.{ended_err, engine_ran}
-use Rattle.replayer.proofs.recording.run_record.Goals as goal
+use Rattle.replayer.proofs.recording.run_record_seen.Goals as goal
 
 pub returns-in_err-scenario-clause-ran : goal.returns-in_err-scenario-clause-ran
 returns-in_err-scenario-clause-ran g c =

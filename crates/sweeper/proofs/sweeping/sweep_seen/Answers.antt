@@ -5,10 +5,10 @@ use Rattle.sweeper.specs.Sweeps.{cuts}
 use Rattle.sweeper.specs.Tallies.{AreFew, Counts, HasSwept}
 use Rattle.sweeper.proofs.Counting.{events_more}
 use Rattle.sweeper.proofs.Goods.{is_found}
-use Rattle.sweeper.proofs.sweeping.sweep.Goals as goal
+use Rattle.sweeper.proofs.sweeping.sweep_seen.Goals as goal
 
 pub loop-event-init : goal.loop-event-init
-loop-event-init c = record {
+loop-event-init g c = record {
   swept = c.in_ok-sweeper.ensures.swept c.args.calls.now;
   due = c.in_ok-sweeper.ensures.due;
   number = let none = c.in_ok-sweeper.ensures.number in omega (arith, none);
@@ -16,7 +16,7 @@ loop-event-init c = record {
 }
 
 pub loop-event-preserved : goal.loop-event-preserved
-loop-event-preserved c =
+loop-event-preserved g c =
     let k : ℕ = c.loop-event.event-index in
     let more : reverse (take (k + 1) c.args.events.now) ≡ c.event-item.result ∷ reverse (take k c.args.events.now) = events_more c.args.events.now k c.event-item.result c.loop-event-test.true c.event-item.is in
     let two : 2 * k + 2 ≡ 2 * (k + 1) = omega arith in
@@ -29,7 +29,7 @@ loop-event-preserved c =
     }
 
 pub returns-clause-swept : goal.returns-clause-swept
-returns-clause-swept c =
+returns-clause-swept g c =
     let k : ℕ = c.loop-event.event-index in
     let whole : take k c.args.events.now ≡ c.args.events.now = take_all k c.args.events.now (omega (arith, c.loop-event-test.false)) in
     is_found c.args.setup.now (cuts c.args.setup.now c.args.calls.now (reverse c.args.events.now)) c.loop-event.sweeper.found

@@ -7,7 +7,7 @@ use Rattle.files.specs.declared.faults.Fault.TheVariants.{Line}
 use Rattle.replayer.specs.Replays.{ended}
 use Rattle.replayer.specs.Texts.{replayed}
 use Rattle.replayer.proofs.ReplayEnds.{ended_err, engine_ran, replay_headline, replay_numbers}
-use Rattle.replayer.proofs.replaying.replay.Goals as goal
+use Rattle.replayer.proofs.replaying.replay_seen.Goals as goal
 
 pub returns-in_err-scenario-clause-ran : goal.returns-in_err-scenario-clause-ran
 returns-in_err-scenario-clause-ran g c =
