@@ -2,7 +2,8 @@
 """Makes docs/API.md, the public items crate by crate, from crates.txt and the sources.
 
 With the word `write` it writes the page. Without it, it compares: the page has each item as the sources have it; each crate
-says on its root page what it gives; each public name is found, and none is found twice. What docs/LIBRARY.md and the root pages
+says on its root page what it gives, those that docs/LIBRARY.md sends a caller to in three sentences and with a first example;
+each public name is found, and none is found twice. What docs/LIBRARY.md and the root pages
 quote of code or of output stands so in a source or in what the tour prints.
 """
 
@@ -203,6 +204,16 @@ def stripped(text):
     return "\n" + "\n".join(line.strip() for line in text.strip().split("\n")) + "\n"
 
 
+def thin_pages():
+    """The crates that a caller is sent to and whose root page has fewer than three sentences, or no example."""
+    table = re.search(r"^## Which crates\n(.*?)^## ", (TOP / "docs" / "LIBRARY.md").read_text(), re.M | re.S)[1]
+    rows = re.findall(r"^\| [^|]* \| (`.*?) \|", table, re.M)
+    for crate in sorted({crate for row in rows for crate in re.findall(r"`(\w+)`", row)}):
+        told, _, example = root_page(Source(root_of(crate))).partition("```rust\n")
+        if len(re.findall(r"\.(?=\s)", told)) < 3 or not example:
+            yield crate
+
+
 def lost_quotes():
     """What is quoted and stands nowhere."""
     crates = TOP / "crates"
@@ -229,6 +240,7 @@ def main():
         PAGE.write_text(made)
     if not PAGE.exists() or PAGE.read_text() != made:
         faults.append("docs/API.md is not what the sources say: python3 tests/api.py write")
+    faults += [f"{crate}'s root page has fewer than three sentences, or no example" for crate in thin_pages()]
     faults += [f"a quote stands nowhere:\n{quote}" for quote in lost_quotes()]
     for fault in faults:
         print(fault)

@@ -15,8 +15,8 @@ import subprocess
 import sys
 import tempfile
 
-TOP = pathlib.Path(__file__).resolve().parent.parent
-PROGRAM = TOP / "crates" / "bakerystore" / "out" / "bakerystore"
+from running import PROGRAM, TOP
+
 WORKED = TOP / "examples" / "worked"
 NAMES = ["chromium", "chromium-browser", "google-chrome", "chrome"]
 OPTIONS = ["--headless", "--no-sandbox", "--disable-gpu", "--virtual-time-budget=10000", "--dump-dom"]

@@ -6,12 +6,11 @@ and another process reads what it wrote. A cut gives a fault of its last line, o
 and the numbers of a run up to there.
 """
 
-import pathlib
 import subprocess
 import sys
 
-TOP = pathlib.Path(__file__).resolve().parent.parent
-PROGRAM = TOP / "crates" / "bakerystore" / "out" / "bakerystore"
+from running import PROGRAM, TOP
+
 WORKED = TOP / "examples" / "worked" / "failure-commit-settled-new"
 
 # (the last of some cuts, by the bytes that are left; the fault of these, or: the bytes of the whole text that are

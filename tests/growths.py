@@ -2,15 +2,19 @@
 the tests of the crates. And each thread of a race.
 
 A run whose growth was refused must end with status 4 and tell `out of memory`, or `memory` on a line, and must have printed a
-front of what the file prints with ample memory. A race must have printed nothing: its text is made when it has ended, and
-weighed. It tells `no thread` in place of that if not all threads were started, and only then. A test whose growth was refused
-must pass, or fail and tell want of memory; of four tests, whose assertions do not tell what they found, it is asked that they
-fail by an assertion. The growths are those of the compiled programs, which a library loaded before them
-counts and refuses: where a program starts no thread, to a copy of a run that is made at the growth, and else in a run of its
-own for each growth. A run that has very many growths makes the same worlds and audits again and again: there a growth is refused
-if fewer than twenty like it were, of the same size, from the same depth of the stack, and behind seven that were alike.
+front of what the file prints with ample memory; where no file is run, but words are answered, it must have printed nothing. One
+kind of growth is no need: the room that `collect` of the standard library takes by a hint. The program collects only where it
+looks for the nearest command to a word; there, and nowhere else, a run may end as with ample memory too, to the byte. A race
+must have printed nothing: its text is made when it has ended, and weighed. It tells `no thread` in place of that if not all
+threads were started, and only then. A test whose growth was refused must pass, or fail and tell want of memory; of four tests,
+whose assertions do not tell what they found, it is asked that they fail by an assertion. The growths are those of the compiled
+programs, which a library loaded before them counts and refuses: where a program starts no thread, to a copy of a run that is
+made at the growth, and else in a run of its own for each growth. A run that has very many growths makes the same worlds and
+audits again and again: there a growth is refused if fewer than twenty like it were, of the same size, from the same depth of
+the stack, and behind seven that were alike.
 """
 
+import collections
 import itertools
 import random
 import re
@@ -31,6 +35,8 @@ ENDED_WELL = (0, "")
 # how a test ends that fails: by its own error, or by an assertion, which ends the program and tells where
 FAILED, STOPPED, STOPPED_AT = 101, -signal.SIGABRT, "test stopped at "
 WORDS = [["--help"], ["help", "faults"], ["--version"], ["rplay", "-"], ["plain"], ["plain", "-x"], ["plain", "a", "b"]]
+# those for which the nearest command is looked for: the letters of both words are collected
+COLLECTED = [["rplay", "-"]]
 PROCESSES = re.compile(r"^processes (\d+)$", re.M)
 # files of several processes: which answers a race of them gives the threads decide
 RACES = {
@@ -102,15 +108,19 @@ def files_in(examples, is_short):
 
 
 def words_row(refuser, words):
-    """Each growth of a run whose words ask for no file, or for nothing that there is. Room that std's `collect` takes
-    beforehand, by a hint, it does without: then the run goes on as with ample memory."""
+    """Each growth of a run whose words ask for no file, or for nothing that there is: nothing is written before the last one."""
     ran, _ = refuser.run([PROGRAM, *words])
+    endings = collections.Counter()
 
     def is_good(copy):
-        goes_on = (copy.returncode, copy.stdout, copy.stderr) == (ran.returncode, ran.stdout[copy.before :], ran.stderr)
-        return is_lost(copy) or goes_on
+        is_whole = (copy.returncode, copy.stdout, copy.stderr) == (ran.returncode, ran.stdout, ran.stderr)
+        is_unwritten = is_lost(copy) and copy.stdout == ""
+        endings.update(whole=is_whole, lost=is_unwritten)
+        return copy.before == 0 and (is_unwritten or is_whole and words in COLLECTED)
 
     _, _, tried, wrong = refused(refuser, [PROGRAM, *words], is_good)
+    if not endings["lost"] or (words in COLLECTED) != (endings["whole"] > 0):
+        wrong.append(f"how the runs ended: {dict(endings)}")
     return Row("the words of the program", " ".join(words), tried, wrong or met_none(tried))
 
 

@@ -8,16 +8,14 @@ shows its picture, which is the one that the program draws. The commands of the 
 tests/readme.py.
 """
 
-import pathlib
 import re
 import subprocess
 import sys
 
 from races import texts_beside, texts_of_orders
+from running import PROGRAM, TOP
 
-TOP = pathlib.Path(__file__).resolve().parent.parent
 LESSONS = TOP / "lessons"
-PROGRAM = TOP / "crates" / "bakerystore" / "out" / "bakerystore"
 FILE = re.compile(r"^File: `(?P<file>(?P<stem>[\w-]+)\.(?P<kind>\w+))`(?:, for `(?P<word>\w+)`)?\.", re.M)
 PARTS = ["**Expect.**", "**Run.**", "**See.**", "**Question.**", "<summary>Answer</summary>"]
 RACES = 50

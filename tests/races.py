@@ -8,15 +8,13 @@ orders, neither more nor fewer.
 
 import collections
 import itertools
-import pathlib
 import re
 import subprocess
 import sys
 
+from running import PROGRAM, TOP
 from weighing import Call, Store
 
-TOP = pathlib.Path(__file__).resolve().parent.parent
-PROGRAM = TOP / "crates" / "bakerystore" / "out" / "bakerystore"
 PAGE = TOP / "docs" / "RACES.md"
 RACES = 200
 

@@ -1,19 +1,25 @@
 #!/usr/bin/env python3
-"""Follows the README, that of examples/, the pages of lessons/, docs/RECORDS.md and docs/FAULTS.md: runs each command that they show, and compares what it prints byte for byte.
+"""Follows the README, that of examples/, the pages of lessons/, docs/RECORDS.md and docs/FAULTS.md: runs each command that they
+show, and compares what it prints byte for byte. And the README is short enough to be read.
 
-A command stands behind `$ ` in a block of `console`, and what it prints, on both streams, on the lines below it. `bakerystore` is the proved program that `rt ci` or `rt run` leaves. A command by which rt runs it,
-`rt try -- WORDS` or `rt run -- WORDS`, is followed by that program too, with these words: what it prints is the same.
+A command stands behind `$ ` in a block of `console`, and what it prints, on both streams, on the lines below it. `bakerystore`
+is the proved program that `rt ci` or `rt run` leaves. A command by which rt runs it, `rt try -- WORDS` or `rt run -- WORDS`, is
+followed by that program too, with these words: what it prints is the same.
 """
 
 import os
-import pathlib
 import re
 import subprocess
 import sys
 
-TOP = pathlib.Path(__file__).resolve().parent.parent
-CRATE = TOP / "crates" / "bakerystore"
-PAGES = [TOP / "README.md", TOP / "examples" / "README.md", TOP / "lessons" / "README.md", TOP / "lessons" / "HOUR.md", TOP / "docs" / "RECORDS.md", TOP / "docs" / "FAULTS.md"]
+from running import PROGRAM, TOP
+
+PAGES = [
+    TOP / name
+    for name in ("README.md", "examples/README.md", "lessons/README.md", "lessons/HOUR.md", "docs/RECORDS.md", "docs/FAULTS.md")
+]
+# the most words of the README
+MOST_WORDS = 900
 BY_RT = re.compile(r"\brt (try|run)( --jobs \d+)? -- ")
 
 
@@ -26,7 +32,7 @@ def commands_of(page):
 
 
 def printed_by(command):
-    paths = f"{CRATE / 'out'}{os.pathsep}{os.environ['PATH']}"
+    paths = f"{PROGRAM.parent}{os.pathsep}{os.environ['PATH']}"
     ran = subprocess.run(
         BY_RT.sub("bakerystore ", command),
         shell=True,
@@ -40,7 +46,10 @@ def printed_by(command):
 
 
 def main():
-    passed = failed = 0
+    words = len((TOP / "README.md").read_text().split())
+    passed, failed = int(words <= MOST_WORDS), int(words > MOST_WORDS)
+    if words > MOST_WORDS:
+        print(f"README.md has {words} words, of at most {MOST_WORDS}")
     for page in PAGES:
         commands = [*commands_of(page)]
         if not commands:

@@ -16,8 +16,7 @@ import sys
 import termios
 import time
 
-TOP = pathlib.Path(__file__).resolve().parent.parent
-PROGRAM = TOP / "crates" / "bakerystore" / "out" / "bakerystore"
+from running import PROGRAM, TOP
 
 # a record file, and the line and kind of its fault: at least one of each kind, and of each order of two
 FAULTS = [
@@ -135,47 +134,66 @@ def memory_and_end(times):
     return int(re.search(r"^VmHWM:\s+(\d+) kB$", told, re.M)[1]), said.decode()
 
 
-def main():
-    passed = failed = 0
+class Counter:
+    """How many comparisons held."""
 
-    def compare(what, got, want):
-        nonlocal passed, failed
-        passed, failed = passed + (got == want), failed + (got != want)
-        if got != want:
-            print(f"{what}: {got}, wanted {want}")
+    def __init__(self):
+        self.passed = self.failed = 0
 
-    def told(text):
-        ran = run("judge", "-", text.encode())
-        return ran.returncode, ran.stdout.decode(), ran.stderr.decode()
+    def compare(self, what, found, wanted):
+        self.passed += found == wanted
+        if found != wanted:
+            self.failed += 1
+            print(f"{what}: {found}, wanted {wanted}")
 
+
+def ended(ran):
+    return ran.returncode, ran.stdout, ran.stderr
+
+
+def kept_records(counter):
+    """The records that stand in examples/records/: what is told of each, and those that are recorded."""
     for folder in sorted((TOP / "examples" / "records").iterdir()):
         file = folder / "record-file"
-        wanted = (content(folder / "judge", b""), content(folder / "judge.err", b""), int(content(folder / "judge.status", b"0")))
-        judge = run("judge", file)
-        compare(folder.name, (judge.stdout, judge.stderr, judge.returncode), wanted)
+        wanted = int(content(folder / "judge.status", b"0")), content(folder / "judge", b""), content(folder / "judge.err", b"")
+        counter.compare(folder.name, ended(run("judge", file)), wanted)
         if (folder / "scenario").exists():
-            record = run("record", folder / "scenario")
-            compare(f"{folder.name}, recorded", (record.stdout, record.stderr, record.returncode), (file.read_bytes(), b"", 0))
+            counter.compare(f"{folder.name}, recorded", ended(run("record", folder / "scenario")), (0, file.read_bytes(), b""))
+
+
+def worked_records(counter):
+    """The records of the worked scenarios: each is judged as its run is audited, or has the fault that the audit tells."""
     for folder in sorted((TOP / "examples" / "worked").iterdir()):
         if (folder / "audit").exists():
-            record = run("record", folder / "scenario")
-            audit = run("audit", folder / "scenario")
-            judge = run("judge", "-", record.stdout)
-            if record.returncode == 0:
-                compare(folder.name, (judge.stdout, judge.stderr, judge.returncode), (audit.stdout, audit.stderr, audit.returncode))
-            else:
-                compare(folder.name, (record.stdout, record.stderr, record.returncode), (audit.stdout, audit.stderr, audit.returncode))
+            record, audit = run("record", folder / "scenario"), ended(run("audit", folder / "scenario"))
+            told = run("judge", "-", record.stdout) if record.returncode == 0 else record
+            counter.compare(folder.name, ended(told), audit)
+
+
+def given_texts(counter):
+    """The texts of the two tables."""
     for text, line, kind in FAULTS:
-        compare(text, told(text), (1, "", f"line {line}: {kind}\n"))
+        counter.compare(text, ended(run("judge", "-", text.encode())), (1, b"", f"line {line}: {kind}\n".encode()))
     for text, verdict in VERDICTS:
-        compare(text, told(text), (0 if verdict.startswith("good") else 3, f"{verdict}\n", ""))
+        status = 0 if verdict.startswith("good") else 3
+        counter.compare(text, ended(run("judge", "-", text.encode())), (status, f"{verdict}\n".encode(), b""))
+
+
+def long_records(counter):
+    """A record of ten entries, and one of a million."""
     few, said = memory_and_end(1)
-    compare("a failure and a restart", said, "good 10\n")
+    counter.compare("a failure and a restart", said, "good 10\n")
     many, said = memory_and_end(100_000)
-    compare("a hundred thousand of them", said, "good 1000000\n")
-    compare(f"{many} KiB for a record of a million lines, {few} for one of ten", many <= few + SLACK, True)
-    print(f"{passed} passed, {failed} failed")
-    sys.exit(failed != 0)
+    counter.compare("a hundred thousand of them", said, "good 1000000\n")
+    counter.compare(f"{many} KiB for a record of a million lines, {few} for one of ten", many <= few + SLACK, True)
+
+
+def main():
+    counter = Counter()
+    for part in [kept_records, worked_records, given_texts, long_records]:
+        part(counter)
+    print(f"{counter.passed} passed, {counter.failed} failed")
+    sys.exit(counter.failed != 0)
 
 
 main()

@@ -19,8 +19,8 @@ import sys
 import tempfile
 
 from refusing import Refuser
+from running import PROGRAM
 
-PROGRAM = pathlib.Path(__file__).resolve().parent.parent / "crates" / "bakerystore" / "out" / "bakerystore"
 SECONDS = 60
 NOBODY = 2_000_000_000
 NO_THREAD = (4, "", "no thread\n")

@@ -19,9 +19,9 @@ import subprocess
 import sys
 from dataclasses import dataclass
 
+from running import PROGRAM
 from weighing import Left, Store, changed, follow, verdict
 
-PROGRAM = pathlib.Path(__file__).resolve().parent.parent / "crates" / "bakerystore" / "out" / "bakerystore"
 ANSWER = re.compile(r"(\d+) (\d+|-) (.+)")
 NAMES = "aaaabc"
 VALUES = ["c:0", "c:1", "c:2", "c:3", "c:9223372036854775807", "t:text", "t:"]

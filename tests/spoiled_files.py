@@ -3,16 +3,16 @@ of its lines doubled, dropped and exchanged with the next.
 
 Each command must tell the one fault that a second reading of the file finds (`grammar.py`, `record_grammar.py`), and write
 nothing. Where it finds none, `plain`, `bits` and `judge` must write what a second reading of what the file does gives
-(`weighing.py`, `second_judge.py`); `replay` must end well, `audit` and `record` must have as many entries as it
+(`weighing.py`, `record_judge.py`); `replay` must end well, `audit` and `record` must have as many entries as it
 has events, `record` the setup of the file, and a race must be good.
 """
 
 import random
 import re
 
-import second_judge
 from grammar import Fault, read_bits, read_scenario
 from record_grammar import read_record
+from record_judge import Setup, judged
 from running import CHUNK, FILES, SCENARIO_COMMANDS, counted, files_of, runner, workers
 from weighing import Call, Store
 
@@ -103,7 +103,7 @@ def bits_text(lines):
 
 def judge_text(record):
     head, entries = record
-    return second_judge.judged(second_judge.Setup(head), entries).encode()
+    return judged(Setup(head), entries).encode()
 
 
 READINGS = {

@@ -9,6 +9,8 @@ from dataclasses import dataclass, field
 
 OTHER_ANSWERS = ("tickets-full", "stamps-full", "withdrawn")
 GREATEST = 2**63 - 1
+# the bytes that a pair takes in an image
+SLOT = 23
 
 
 @dataclass
@@ -97,7 +99,7 @@ class Store:
     def image(self):
         """The bytes of its image: a slot for each pair, then unused ones, then the numbers."""
         slots = [slot(name, value) for name, value in self.pairs.items()]
-        unused = [bytes(23)] * (self.slots - len(slots))
+        unused = [bytes(SLOT)] * (self.slots - len(slots))
         return b"".join([*slots, *unused, *(number.to_bytes(2, "big") for number in self.numbers)]).hex()
 
 

@@ -9,7 +9,8 @@ import subprocess
 import sys
 import tempfile
 
-PROGRAM = pathlib.Path(__file__).resolve().parent.parent / "crates" / "bakerystore" / "out" / "bakerystore"
+from running import PROGRAM
+
 SCENARIO = "bakery 1\ncall 0 add a 1\n"
 PLAIN = (0, "0 0 no-name\n", "")
 REPLAY = (0, "0 0 call add a 1\nend events 1 taken 0 refused 0\n", "")
@@ -56,6 +57,8 @@ CASES = [
     (["judge", "-"], "record 1\n0 : fail\n0 : frob\n", (1, "", "line 3: unknown\n")),
     (["draw", "-"], "bakery 1\nprocesses 0\n", (1, "", "line 2: bad-setup\n")),
     (["draw-svg", "-"], "bakery 1\nprocesses 0\n", (1, "", "line 2: bad-setup\n")),
+    (["draw", "--reads", "-"], "bakery 1\nprocesses 0\n", (1, "", "line 2: bad-setup\n")),
+    (["--reads", "draw-svg", "."], SCENARIO, (1, "", "read fault\n")),
 ]
 
 
