@@ -113,7 +113,8 @@ def pages(counter):
         for words in [[command, "--help"], ["-h", command], [command, "a file", "--help"]]:
             counter.compare(words, run(words), page)
         texts[command] = page.output
-        counter.compare(f"begin of the page of {command}", page.output.splitlines()[0], f"usage: bakerystore {command} FILE")
+        option = " [--reads]" if command in ("draw", "draw-svg") else ""
+        counter.compare(f"begin of the page of {command}", page.output.splitlines()[0], f"usage: bakerystore {command}{option} FILE")
     faults = texts["faults"] = run(["help", "faults"]).output
     counter.compare("kinds of fault", re.findall(r"^([a-z]+(?:-[a-z]+)?)  +[A-Z]", faults, re.M), KINDS)
     counter.compare("other faults", re.findall(r"^([a-z]+(?: [a-z]+)+)  +[A-Z]", faults, re.M), FAULT_LINES)
@@ -273,8 +274,9 @@ def progress(counter, interrupter):
     terminal = Terminal()
     ran, *_ = interrupter.run(["sweep", "-"], "bakery 1\ncall 0 read a\nstep 0 31\n", tick=100, stderr=terminal.end)
     counter.compare("progress of sweep", (ran, terminal.text()), (Ran(0, swept, None), shown))
-    comments = "record 1\n" + "# a line\n" * 31
-    shown = "".join(f"\r{lines} lines read so far, 10 a second\x1b[K" for lines in range(20, 33, 2)) + CLEAR
+    # it reads blocks of 1,024 bytes, of which each has eight of these lines
+    comments = "".join(f"{line:127}\n" for line in ["record 1", *["# a line"] * 255])
+    shown = "".join(f"\r{8 * blocks} lines read so far, 80 a second\x1b[K" for blocks in times) + CLEAR
     terminal = Terminal()
     ran, *_ = interrupter.run(["judge", "-"], comments, tick=100, stderr=terminal.end)
     counter.compare("progress of judge", (ran, terminal.text()), (Ran(0, "good 0\n", None), shown))
