@@ -28,7 +28,7 @@ fn text_of_command(engine: Engine) -> &'static str {
 }
 
 /// The program's version, and the line by which the toolchain names itself.
-const VERSION: &str = "bakerystore 0.1.0, proved with rattle-kit-13f logic dac8208d650f15bf\n";
+const VERSION: &str = "bakerystore 0.1.0, proved with rattle-kit-13b logic dac8208d650f15bf\n";
 
 /// All words.
 const WORDS: &str = r"usage: bakerystore COMMAND FILE   (FILE - is standard input)
