@@ -1,9 +1,10 @@
 #!/usr/bin/env python3
 """Runs the proved program on every worked example and compares byte for byte.
 
-Each folder of examples/worked/ has a `scenario` or a `bits-file`, and for each command that can run it, as `plain`, what
-the command writes to standard output; beside it `plain.err` (no such file: nothing) and `plain.status` (no such file: 0).
-What a command writes with `--reads` is in `draw-reads` and `draw-svg-reads`.
+Each folder of examples/worked/ has a `scenario` or a `bits-file`, and under the name of a command, as `plain`, what that
+command writes for it to standard output (`record` has none, nor have some commands of some folders); beside it `plain.err`
+(no such file: nothing) and `plain.status` (no such file: 0). What a command writes with `--reads` is in `draw-reads` and
+`draw-svg-reads`.
 The program is the one that `rt run` leaves in crates/bakerystore.
 """
 
