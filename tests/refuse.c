@@ -7,13 +7,15 @@
    gives SHARE modulo SHARES. With REPEATS a growth is copied only if fewer than so many like it were: of the same size, from
    the same depth of the stack, and behind seven that were alike. A process that has started a thread is not copied.
 
-   At the end of the program it writes into the file that MET names how many growths it met, how many of them were copied, how
-   many threads were asked for, how many were started, and how much memory was resident at most, in KiB. */
+   At the end of the program, also where SIGABRT ends it, it writes into the file that MET names how many growths it met, how
+   many of them were copied, how many threads were asked for, how many were started, and how much memory was resident at most,
+   in KiB. */
 #define _GNU_SOURCE
 #include <dlfcn.h>
 #include <errno.h>
 #include <fcntl.h>
 #include <pthread.h>
+#include <signal.h>
 #include <stddef.h>
 #include <stdint.h>
 #include <stdio.h>
@@ -197,6 +199,19 @@ __attribute__((destructor)) static void tell(void)
     int length = snprintf(text, sizeof text, "%lu %lu %lu %lu %lu\n", growths, copied, asked, started, peak());
     syscall(SYS_write, file, text, length);
     close(file);
+}
+
+/* A test whose assertion fails ends by this signal, and runs no destructor. */
+static void stop(int signal_number)
+{
+    tell();
+    signal(signal_number, SIG_DFL);
+    raise(signal_number);
+}
+
+__attribute__((constructor)) static void tell_when_stopped(void)
+{
+    signal(SIGABRT, stop);
 }
 
 /* A program that starts threads ends by this call, and runs no destructor. */

@@ -5,8 +5,8 @@ threads. And lets the system refuse the first one, by a limit of one process.
 A race of which a thread was refused must start none after it, end with status 4, tell `no thread`, and print nothing. The
 threads that run finish, and nobody waits for the process whose thread is not there: the calls here are so many that they
 meet at the door. A race that has not ended within a minute is taken for one that hangs. It needs the proved program that
-`rt ci` or `rt run` leaves, and `cc`, without which it says so and ends. The limit binds no superuser, who therefore runs the
-program as a user that there is not; where the system allows no such user, it says so and leaves this part out.
+`rt ci` or `rt run` leaves, and `cc`. The limit binds no superuser, who therefore runs the program as a user that there is not;
+where the system allows no such user, it says so and leaves this part out.
 """
 
 import itertools
@@ -73,9 +73,6 @@ def limited(folder, file):
 
 def main():
     passed = failed = 0
-    if shutil.which("cc") is None:
-        print("no thread was refused, for there is no cc\n0 passed, 0 failed")
-        return
     with tempfile.TemporaryDirectory() as name:
         folder = pathlib.Path(name)
         refuser, file = Refuser(folder, SECONDS), folder / "race"
