@@ -3,7 +3,7 @@
 
 tests/hostile.py [short] [PART..] [--examples FOLDER]: all parts, or those named: files, devices, growths, long, races. The whole
 takes ten minutes on 4 idle cores, and writes docs/TESTED.md, a table of what was tried and how often. `short` tries a part of
-each, drawn by fixed numbers, in about three minutes, and writes nothing. It needs `cc`, and what `rt ci` leaves: the proved
+each, drawn by fixed numbers, in half a minute, and writes nothing. It needs `cc`, and what `rt ci` leaves: the proved
 programs, and the tests of the crates. The last line counts what was tried: `N passed, M failed`.
 """
 
