@@ -93,7 +93,7 @@ impl Lock {
     }
 
     /// Makes the next access of a read of the ticket by its reader, whose end gives what the reader's copy answers.
-    #[inline]
+    #[inline(always)]
     fn read_on(&mut self, reader: u8, run: &mut ReadRun, flick: bool)
         requires going { length run.old.bits < run.old.width }
         requires there { HasCell self.old.ticket (length run.old.bits) reader }
@@ -105,7 +105,7 @@ impl Lock {
     }
 
     /// Makes the next access of a write of a ticket, with copies for so many readers.
-    #[inline]
+    #[inline(always)]
     fn write_on(&mut self, readers: u8, run: &mut WriteRun, ticket: u32)
         requires going { run.old.bit < run.old.width × (bit_written [] run.old).made < 2 * readers }
         requires readers { readers ≤ 16 }
@@ -189,7 +189,7 @@ impl Locks {
 
     /// Makes the next access of a read of a process's ticket by its reader, whose end gives what the reader's copy
     /// answers.
-    #[inline]
+    #[inline(always)]
     pub(crate) fn read_on(&mut self, owner: u8, reader: u8, run: &mut ReadRun, flick: bool)
         requires owner { owner < length self.old }
         requires going { length run.old.bits < run.old.width }
@@ -202,7 +202,7 @@ impl Locks {
     }
 
     /// Makes the next access of a process's write of its ticket, with copies for so many readers.
-    #[inline]
+    #[inline(always)]
     pub(crate) fn write_on(&mut self, owner: u8, readers: u8, run: &mut WriteRun, ticket: u32)
         requires owner { owner < length self.old }
         requires going { run.old.bit < run.old.width × (bit_written [] run.old).made < 2 * readers }

@@ -1,73 +1,82 @@
--- Four planes as a list of cells.
-use Rattle.std.proofs.Common.{◌≡◌, ℕ, ◌<◌, Bool, false, List, map, set, get_or, length, replicate, sym, ◌∙◌, arith, ap}
+-- Copies, sixty-four to a place, as a list of cells.
+use Rattle.std.proofs.Common.{◌≡◌, ℕ, ◌+◌, ◌*◌, ◌/◌, ◌%◌, ◌<◌, ◌≤◌, false, List, map, set, get_or, length, replicate, sym, subst, ◌∙◌, arith, ap, inl, inr}
 use Rattle.safe_bit.specs.Cell.{Cell, new_cell, without_read}
 use Rattle.std.specs.List.{range_with_len}
-use Rattle.std.proofs.lemmas.List.{get_or-set_same, get_or-set_other, length-set, get_or-replicate, length-replicate, length-map, get_or-map, set-get_or, ext_get_or}
+use Rattle.std.proofs.lemmas.Bool.{cases_eq}
+use Rattle.std.proofs.lemmas.List.{get_or-set_same, get_or-set_other, get_or-replicate, length-replicate, length-map, get_or-map, get_or_default, ext_get_or}
 use Rattle.std.proofs.lemmas.List.FromFn.{length-map-range_with_len, get_or-map-range_with_len}
-use Rattle.reader_copies.specs.Plane.{cell_from, cells_of, IsEven}
+use Rattle.reader_copies.specs.declared.flag_words.Flags.{Flags}
+use Rattle.reader_copies.specs.Flags.{ChangesAt, cell_among, cell_in_flags, cells_of, flag_in, no_flags}
 use Rattle.reader_copies.specs.Row.{cell_in}
-use Rattle.reader_copies.proofs.Flags.{made-set}
+use Rattle.reader_copies.proofs.Flags.{cell, flag-zero, made-set, same_cell}
 
-pub length_cells : (v w r t : List Bool) → length (cells_of v w r t) ≡ length v
-length_cells v w r t = length-map-range_with_len (cell_from v w r t) 0 (length v)
+pub length_cells : (flags : List Flags) (n : ℕ) → length (cells_of flags n) ≡ n
+length_cells flags n = length-map-range_with_len (cell_among flags) 0 n
 
-pub get-cells : (v w r t : List Bool) (k : ℕ) → k < length v → cell_in (cells_of v w r t) k ≡ cell_from v w r t k
-get-cells v w r t k h = get_or-map-range_with_len (cell_from v w r t) 0 (length v) k k (new_cell false) h (omega arith)
+get-cells : (flags : List Flags) (n k : ℕ) → k < n → cell_in (cells_of flags n) k ≡ cell_among flags k
+get-cells flags n k h = get_or-map-range_with_len (cell_among flags) 0 n k k (new_cell false) h (omega arith)
 
-abbrev cell : Bool → Bool → Bool → Bool → Cell
-cell a b c d = record { value = a; writing = b; reading = c; touched = d }
+-- one copy of sixty-four changes, and so one of all
+cells-set : (flags : List Flags) (n k : ℕ) (now : Flags) (c : Cell) → k < n → n ≤ 64 * length flags → ChangesAt (get_or flags (k / 64) no_flags) (k % 64) c now → cells_of (set flags (k / 64) now) n ≡ set (cells_of flags n) k c
+cells-set flags n k now c h fits changes =
+    let there : k / 64 < length flags = omega arith in
+    made-set (cell_among flags) (cell_among (set flags (k / 64) now)) n k c h
+    (ap (λ x. cell_in_flags x (k % 64)) (get_or-set_same flags (k / 64) now no_flags there) ∙ changes.same)
+    (λ j below apart. elim (cases_eq (j / 64) (k / 64)) [
+      | inl e ↦ ap (λ i. cell_in_flags (get_or (set flags (k / 64) now) i no_flags) (j % 64)) e
+          ∙ ap (λ x. cell_in_flags x (j % 64)) (get_or-set_same flags (k / 64) now no_flags there)
+          ∙ changes.others (j % 64) (omega arith) (omega arith)
+          ∙ ap (λ i. cell_in_flags (get_or flags i no_flags) (j % 64)) (sym e)
+      | inr e ↦ ap (λ x. cell_in_flags x (j % 64)) (get_or-set_other flags (k / 64) (j / 64) now no_flags e)
+    ])
 
-same_cell : (a b c d a' b' c' d' : Bool) → a ≡ a' → b ≡ b' → c ≡ c' → d ≡ d' → cell a b c d ≡ cell a' b' c' d'
-same_cell a b c d a' b' c' d' e f g h = ap (λ x. cell x b c d) e ∙ ap (λ x. cell a' x c d) f ∙ ap (λ x. cell a' b' x d) g ∙ ap (λ x. cell a' b' c' x) h
+-- where a copy is found
+pub place-there : (flags : List Flags) (n k : ℕ) (cells : List Cell) → cells_of flags n ≡ cells → length flags ≡ (n + 63) / 64 → k < length cells → k / 64 < length flags
+place-there flags n k cells seen many inside = omega (arith, length_cells flags n, ap length seen)
 
--- one flag of each plane is written, and so one cell
-pub cells-set : (v w r t : List Bool) (k : ℕ) (a b c d : Bool) → k < length v → IsEven v w r t → cells_of (set v k a) (set w k b) (set r k c) (set t k d) ≡ set (cells_of v w r t) k (cell a b c d)
-cells-set v w r t k a b c d h even =
-    ap (λ n. map (cell_from (set v k a) (set w k b) (set r k c) (set t k d)) (range_with_len 0 n)) (length-set v k a)
-    ∙ made-set (cell_from v w r t) (cell_from (set v k a) (set w k b) (set r k c) (set t k d)) (length v) k (cell a b c d) h
-    (same_cell _ _ _ _ _ _ _ _ (get_or-set_same v k a false h) (get_or-set_same w k b false (omega (arith, even.writing_len))) (get_or-set_same r k c false (omega (arith, even.reading_len))) (get_or-set_same t k d false (omega (arith, even.touched_len))))
-    (λ j below apart. same_cell _ _ _ _ _ _ _ _ (get_or-set_other v k j a false apart) (get_or-set_other w k j b false apart) (get_or-set_other r k j c false apart) (get_or-set_other t k j d false apart))
+-- what is read there
+pub cells-read : (flags : List Flags) (n k : ℕ) (at : Flags) (cells : List Cell) → cells_of flags n ≡ cells → length flags ≡ (n + 63) / 64 → k < length cells → at ≡ get_or flags (k / 64) at → cell_in_flags at (k % 64) ≡ cell_in cells k
+cells-read flags n k at cells seen many inside read =
+    let below : k < n = omega (arith, length_cells flags n, ap length seen) in
+    ap (λ x. cell_in_flags x (k % 64)) (read ∙ get_or_default flags (k / 64) at no_flags (place-there flags n k cells seen many inside)) ∙ sym (get-cells flags n k below) ∙ ap (λ x. cell_in x k) seen
 
--- a plane that is not written has at k what it had
-pub kept : (flags : List Bool) (k : ℕ) → flags ≡ set flags k (get_or flags k false)
-kept flags k = sym (set-get_or flags k false)
+-- and what a change there makes of all
+pub cells-moved : (flags : List Flags) (n k : ℕ) (at now : Flags) (cells : List Cell) (f : Cell → Cell) → cells_of flags n ≡ cells → length flags ≡ (n + 63) / 64 → k < length cells → at ≡ get_or flags (k / 64) at → ChangesAt at (k % 64) (f (cell_in_flags at (k % 64))) now → cells_of (set flags (k / 64) now) n ≡ set cells k (f (cell_in cells k))
+cells-moved flags n k at now cells f seen many inside read changes =
+    let below : k < n = omega (arith, length_cells flags n, ap length seen) in
+    let is : at ≡ get_or flags (k / 64) no_flags = read ∙ get_or_default flags (k / 64) at no_flags (place-there flags n k cells seen many inside) in
+    cells-set flags n k now (f (cell_in_flags at (k % 64))) below (omega (arith, many)) (subst (λ (x : Flags). ChangesAt x (k % 64) (f (cell_in_flags at (k % 64))) now) is changes)
+    ∙ ap (λ c. set (cells_of flags n) k (f c)) (cells-read flags n k at cells seen many inside read)
+    ∙ ap (λ x. set x k (f (cell_in cells k))) seen
 
--- the same by what the writes of the planes ensure, for what they make of the cell
-pub cells-moved : (v w r t v' w' r' t' : List Bool) (cells : List Cell) (k : ℕ) (a b c d : Bool) (f : Cell → Cell) → cells_of v w r t ≡ cells → IsEven v w r t → k < length cells → v' ≡ set v k a → w' ≡ set w k b → r' ≡ set r k c → t' ≡ set t k d → cell a b c d ≡ f (cell_from v w r t k) → cells_of v' w' r' t' ≡ set cells k (f (cell_in cells k))
-cells-moved v w r t v' w' r' t' cells k a b c d f seen even inside ev ew er et is =
-    let there : k < length v = omega (arith, length_cells v w r t, ap length seen) in
-    ap (λ x. cells_of x w' r' t') ev ∙ ap (λ x. cells_of (set v k a) x r' t') ew ∙ ap (λ x. cells_of (set v k a) (set w k b) x t') er ∙ ap (λ x. cells_of (set v k a) (set w k b) (set r k c) x) et
-    ∙ cells-set v w r t k a b c d there even
-    ∙ ap (λ x. set (cells_of v w r t) k x) (is ∙ ap f (sym (get-cells v w r t k there)))
-    ∙ ap (λ x. set x k (f (cell_in x k))) seen
+no-flags : (k : ℕ) → cell_in_flags no_flags k ≡ new_cell false
+no-flags k = same_cell _ _ _ _ _ _ _ _ (flag-zero k) (flag-zero k) (flag-zero k) (flag-zero k)
 
--- what is read from the planes
-pub cells-read : (v w r t : List Bool) (cells : List Cell) (k : ℕ) → cells_of v w r t ≡ cells → k < length cells → cell_from v w r t k ≡ cell_in cells k
-cells-read v w r t cells k seen inside =
-    sym (get-cells v w r t k (omega (arith, length_cells v w r t, ap length seen))) ∙ ap (λ x. cell_in x k) seen
-
--- planes without a flag
-pub cells-new : (v w r t : List Bool) (n : ℕ) → v ≡ replicate n false → w ≡ replicate n false → r ≡ replicate n false → t ≡ replicate n false → cells_of v w r t ≡ replicate n (new_cell false)
-cells-new v w r t n ev ew er et =
-    let len : length v ≡ n = ap length ev ∙ length-replicate n false in
-    ext_get_or (new_cell false) _ _ (length_cells v w r t ∙ len ∙ sym (length-replicate n (new_cell false)))
+-- copies that open at 0
+pub cells-new : (flags : List Flags) (m n : ℕ) → flags ≡ replicate m no_flags → n ≤ 64 * m → cells_of flags n ≡ replicate n (new_cell false)
+cells-new flags m n is fits =
+    ap (λ fs. cells_of fs n) is
+    ∙ ext_get_or (new_cell false) _ _ (length_cells (replicate m no_flags) n ∙ sym (length-replicate n (new_cell false)))
     (λ k below.
-    let inside : k < n = omega (arith, length_cells v w r t) in
-    let off : (flags : List Bool) → flags ≡ replicate n false → get_or flags k false ≡ false = λ flags e. ap (λ x. get_or x k false) e ∙ get_or-replicate n k false false inside in
-    get-cells v w r t k (omega arith)
-    ∙ same_cell _ _ _ _ _ _ _ _ (off v ev) (off w ew) (off r er) (off t et)
+    let inside : k < n = omega (arith, length_cells (replicate m no_flags) n) in
+    get-cells (replicate m no_flags) n k inside
+    ∙ ap (λ x. cell_in_flags x (k % 64)) (get_or-replicate m (k / 64) no_flags no_flags (omega arith))
+    ∙ no-flags (k % 64)
     ∙ sym (get_or-replicate n k (new_cell false) (new_cell false) inside))
 
--- with the reading plane cleared, each open read is dropped
-pub cells-without_reads : (v w r t r' : List Bool) (cells : List Cell) → cells_of v w r t ≡ cells → IsEven v w r t → r' ≡ replicate (length r) false → cells_of v w r' t ≡ map without_read cells
-cells-without_reads v w r t r' cells seen even er =
-    let same_len : length (map without_read (cells_of v w r t)) ≡ length v = length-map (cells_of v w r t) without_read ∙ length_cells v w r t in
-    ext_get_or (new_cell false) _ _ (length_cells v w r' t ∙ sym same_len)
+-- the flags of sixty-four copies with each open read dropped
+abbrev pub dropped : Flags → Flags
+dropped flags = record { value = flags.value; writing = flags.writing; reading = 0; touched = flags.touched }
+
+pub cells-without_reads : (flags now : List Flags) (n : ℕ) (cells : List Cell) → cells_of flags n ≡ cells → length flags ≡ (n + 63) / 64 → now ≡ map dropped flags → cells_of now n ≡ map without_read cells
+cells-without_reads flags now n cells seen many is =
+    ap (λ fs. cells_of fs n) is
+    ∙ ext_get_or (new_cell false) _ _ (length_cells (map dropped flags) n ∙ sym (length-map (cells_of flags n) without_read ∙ length_cells flags n))
     (λ k below.
-    let inside : k < length v = omega (arith, length_cells v w r' t) in
-    let off : get_or r' k false ≡ false = ap (λ x. get_or x k false) er ∙ get_or-replicate (length r) k false false (omega (arith, even.reading_len)) in
-    get-cells v w r' t k inside
-    ∙ ap (λ b. cell (get_or v k false) (get_or w k false) b (get_or t k false)) off
-    ∙ ap without_read (sym (get-cells v w r t k inside))
-    ∙ sym (get_or-map without_read (cells_of v w r t) k (new_cell false) (new_cell false) (omega (arith, length_cells v w r t))))
+    let inside : k < n = omega (arith, length_cells (map dropped flags) n) in
+    get-cells (map dropped flags) n k inside
+    ∙ ap (λ x. cell_in_flags x (k % 64)) (get_or-map dropped flags (k / 64) no_flags no_flags (omega (arith, many)))
+    ∙ ap (λ b. let x = get_or flags (k / 64) no_flags in cell (flag_in x.value (k % 64)) (flag_in x.writing (k % 64)) b (flag_in x.touched (k % 64))) (flag-zero (k % 64))
+    ∙ ap without_read (sym (get-cells flags n k inside))
+    ∙ sym (get_or-map without_read (cells_of flags n) k (new_cell false) (new_cell false) (omega (arith, length_cells flags n))))
     ∙ ap (map without_read) seen

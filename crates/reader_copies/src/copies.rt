@@ -2,7 +2,7 @@ ghost use Rattle.std.specs.Prelude.{◌≡◌, ◌<◌, false, length, map, repl
 ghost use Rattle.safe_bit.specs.Cell.{new_cell, cell_after, without_read, read_answer};
 ghost use Rattle.reader_copies.specs.Row.{cell_in};
 
-use crate::plane::Plane;
+use crate::flag_words::Flags;
 use safe_bit::Move;
 use std::alloc::{AllocError, Global};
 use std::marker::Model;
@@ -10,22 +10,20 @@ use std::marker::Model;
 /// One reader's copies of all bits of a row: four flags for each.
 #[derive(Drop)]
 pub struct Copies {
-    value: Plane,
-    writing: Plane,
-    reading: Plane,
-    touched: Plane,
+    flags: Vec<Flags>,
+    len: usize,
 }
 
 impl Model for Copies {
-    ghost use Rattle.std.specs.Prelude.{◌≡◌, List, length};
+    ghost use Rattle.std.specs.Prelude.{◌≡◌, ◌+◌, ◌/◌, List, length};
     ghost use Rattle.safe_bit.specs.Cell.{Cell};
-    ghost use Rattle.reader_copies.specs.Plane.{cells_of, IsEven};
+    ghost use Rattle.reader_copies.specs.Flags.{cells_of};
 
     ghost Value = { List Cell };
 
-    ghost view = { λ c. cells_of c.value c.writing c.reading c.touched };
+    ghost view = { λ c. cells_of c.flags.items c.len };
 
-    ghost invariant = { λ c. IsEven c.value c.writing c.reading c.touched };
+    ghost invariant = { λ c. length c.flags.items ≡ (c.len + 63) / 64 };
 }
 
 #[tactic(auto, using(crate::proofs::Cells::length_cells))]
@@ -34,12 +32,8 @@ impl Copies {
     pub fn new(alloc: Global, width: usize) -> Result<Copies, AllocError>
         ensures { IfOk result (λ copies. copies ≡ replicate width (new_cell false)) }
     {
-        Ok(Copies {
-            value: Plane::new(alloc, width)?,
-            writing: Plane::new(alloc, width)?,
-            reading: Plane::new(alloc, width)?,
-            touched: Plane::new(alloc, width)?,
-        })
+        let flags = vec![in alloc; Flags::none(); width.div_ceil(64)]?;
+        Ok(Copies { flags, len: width })
     }
 
     /// The copy of bit `k` goes on by one access.
@@ -48,23 +42,7 @@ impl Copies {
         requires { k < length self.old }
         ensures { self.new ≡ slice_set self.old k (cell_after (cell_in self.old k) how) }
     {
-        match how {
-            Move::BeginWrite(value) => {
-                self.value.set(k, value);
-                self.writing.set(k, true);
-                self.touched.set(k, true);
-            }
-            Move::EndWrite => self.writing.set(k, false),
-            Move::BeginRead => {
-                self.reading.set(k, true);
-                self.touched.set(k, self.writing.get(k));
-            }
-            Move::EndRead(_) => self.reading.set(k, false),
-            Move::Settle(value) => {
-                self.value.set(k, value);
-                self.writing.set(k, false);
-            }
-        }
+        self.flags[k / 64].go_on(k % 64, how);
     }
 
     /// What the end of the open read of bit `k` gives.
@@ -73,11 +51,7 @@ impl Copies {
         requires { k < length self.now }
         ensures { result ≡ read_answer (cell_in self.now k) flick }
     {
-        if self.touched.get(k) {
-            flick
-        } else {
-            self.value.get(k)
-        }
+        self.flags[k / 64].answer(k % 64, flick)
     }
 
     /// Drops the open read of bit `k`.
@@ -85,14 +59,16 @@ impl Copies {
         requires { k < length self.old }
         ensures { self.new ≡ slice_set self.old k (without_read (cell_in self.old k)) }
     {
-        self.reading.set(k, false);
+        self.flags[k / 64].drop_read(k % 64);
     }
 
     /// Drops every open read.
     pub fn drop_reads(&mut self)
         ensures { self.new ≡ map without_read self.old }
     {
-        self.reading.clear();
+        for place in 0..self.flags.len() {
+            self.flags[place].drop_reads();
+        }
     }
 
     /// Bit `k` is as if it had opened at `value`.
@@ -100,10 +76,7 @@ impl Copies {
         requires { k < length self.old }
         ensures { self.new ≡ slice_set self.old k (new_cell value) }
     {
-        self.value.set(k, value);
-        self.writing.set(k, false);
-        self.reading.set(k, false);
-        self.touched.set(k, false);
+        self.flags[k / 64].preset(k % 64, value);
     }
 
     /// What the copy of bit `k` is.
@@ -112,7 +85,7 @@ impl Copies {
         requires { k < length self.now }
         ensures { result ≡ (cell_in self.now k).value }
     {
-        self.value.get(k)
+        self.flags[k / 64].value(k % 64)
     }
 
     /// Becomes as the other, of as many bits. It takes no memory.
@@ -120,9 +93,6 @@ impl Copies {
         requires { length self.old ≡ length other.now }
         ensures { self.new ≡ other.now }
     {
-        self.value.copy_from(&other.value);
-        self.writing.copy_from(&other.writing);
-        self.reading.copy_from(&other.reading);
-        self.touched.copy_from(&other.touched);
+        self.flags.copy_from_slice(&other.flags);
     }
 }

@@ -1,6 +1,6 @@
 //! The cursors of one bit: how far a write, a read or a settling has come. Each tells its next access and
 //! is moved on by it, whatever memory the access is made on.
-ghost use Rattle.std.specs.Prelude.{◌≡◌, ◌+◌, ◌*◌, ◌<◌, ◌==◌, ◌≤◌, false, None};
+ghost use Rattle.std.specs.Prelude.{◌≡◌, ◌+◌, ◌*◌, ◌<◌, ◌==◌, ◌≤◌, true, false, None};
 ghost use Rattle.reader_copies.specs.Runs.{Writing, Reading, Settling, next_write, write_after, next_read, read_after, next_settle, settle_after, settled_at, torn_of, progress_of};
 
 use safe_bit::Move;
@@ -148,6 +148,15 @@ impl CopyRead {
         ensures { result ≡ self.now.begun }
     {
         self.begun
+    }
+
+    /// Goes on by its begin.
+    #[inline]
+    pub fn begin(&mut self)
+        requires { self.old.begun ≡ false }
+        ensures { self.new ≡ record self.old { begun = true } }
+    {
+        self.begun = true;
     }
 
     /// The next access of this reader's read: the begin, and then the end, which gives `value`.

@@ -1,4 +1,4 @@
-ghost use Rattle.std.specs.Prelude.{◌≡◌, ◌<◌, ◌≤◌, ◌+◌, ◌-◌, ◌/◌, ◌==◌, [], false, length, IfOk, IsErrOf, ◌↔◌};
+ghost use Rattle.std.specs.Prelude.{◌≡◌, ◌<◌, ◌≤◌, ◌+◌, ◌-◌, ◌/◌, ◌==◌, [], Bool, true, false, length, IfOk, IsErrOf, ◌↔◌};
 ghost use Rattle.reader_copies.specs.Runs.{progress_of};
 ghost use Rattle.safe_number.specs.Bytes.{IsBytesOf, IsBadWidth};
 ghost use Rattle.safe_number.specs.Runs.{NumberRead, next_of_read, number_read_after, new_read};
@@ -105,20 +105,38 @@ impl ReadRun {
         ensures run { self.new ≡ number_read_after self.old value }
         ensures progress { result ≡ progress_of (length self.new.bits == self.new.width) }
     {
-        match self.run.advance(value) {
-            Progress::Going => Progress::Going,
-            Progress::Done => {
-                self.run = CopyRead::new();
-                let k = self.bit as usize;
-                self.bytes[k / 8] = bytes::with_next_bit(self.bytes[k / 8], k % 8, value);
-                self.bit += 1;
-                if self.bit == self.width {
-                    Progress::Done
-                } else {
-                    Progress::Going
-                }
-            }
+        if !self.has_begun() {
+            self.begin();
+            return Progress::Going;
         }
+        self.end(value);
+        if self.bit == self.width {
+            Progress::Done
+        } else {
+            Progress::Going
+        }
+    }
+
+    /// Goes on by that access where it is the begin of a bit's read.
+    #[inline]
+    pub(crate) fn begin(&mut self)
+        requires { self.old.begun ≡ false }
+        ensures { (value : Bool) → self.new ≡ number_read_after self.old value }
+    {
+        self.run.begin();
+    }
+
+    /// Goes on by that access where it is the end of a bit's read, which gives `value`.
+    #[inline]
+    pub(crate) fn end(&mut self, value: bool)
+        requires begun { self.old.begun ≡ true }
+        requires going { length self.old.bits < self.old.width }
+        ensures { self.new ≡ number_read_after self.old value }
+    {
+        self.run = CopyRead::new();
+        let k = self.bit as usize;
+        self.bytes[k / 8] = bytes::with_next_bit(self.bytes[k / 8], k % 8, value);
+        self.bit += 1;
     }
 
     /// How many bits are read now or later, without the last one.

@@ -114,7 +114,7 @@ impl Register {
 
     /// Makes the next access of a write of `value` by the writer as `write_step` does, and tells nothing. The
     /// write goes on as of a register with copies for `readers` readers.
-    #[inline]
+    #[inline(always)]
     pub fn write_on(&mut self, readers: u8, run: &mut WriteRun, value: &[u8])
         requires going { run.old.bit < run.old.width × (bit_write value.now run.old).made < 2 * readers }
         requires readers { readers ≤ 16 }
@@ -129,7 +129,7 @@ impl Register {
     }
 
     /// Makes the next access of a read by its reader, as `read_step` does, and tells nothing.
-    #[inline]
+    #[inline(always)]
     pub fn read_on(&mut self, reader: u8, run: &mut ReadRun, flick: bool)
         requires going { length run.old.bits < run.old.width }
         requires there { HasCell self.old (length run.old.bits) reader }
@@ -140,13 +140,13 @@ impl Register {
         let bit = run.bit();
         if run.has_begun() {
             let value = self.answer(bit, reader, flick);
-            run.advance(value);
             let how = Move::EndRead(value);
             self.apply(bit, Made { reader, how });
+            run.end(value);
         } else {
-            run.advance(false);
             let how = Move::BeginRead;
             self.apply(bit, Made { reader, how });
+            run.begin();
         }
     }
 
@@ -166,8 +166,8 @@ impl Register {
         (bit, made, progress)
     }
 
-    /// Drops the open read of a reader: it ends without a value. It clears the words of one plane and does
-    /// not go over the bits.
+    /// Drops the open read of a reader: it ends without a value. It clears a word for each 64 bits, and
+    /// does not go over the bits.
     pub fn drop_read(&mut self, reader: u8)
         requires { reader < length self.old }
         ensures { self.new ≡ without_reads self.old reader }
