@@ -66,6 +66,20 @@ impl Flicks {
         }
     }
 
+    /// The same once more, to draw from ahead of time.
+    #[inline]
+    pub fn twin(&self) -> Self
+        ensures { result ≡ self.now }
+    {
+        let Ok(generator) = self.generator.clone() else {
+            unreachable!()
+        };
+        Flicks {
+            mode: self.mode,
+            generator,
+        }
+    }
+
     /// Sets where later flicks come from. A constant leaves the generator; a seed makes it anew.
     pub fn set(&mut self, flick: Flick)
         ensures { self.new ≡ after_set flick self.old }
@@ -97,6 +111,15 @@ impl Flicks {
         ensures after { self.new ≡ after_pick self.old }
     {
         remainder(self.generator.next_word() as usize, k)
+    }
+
+    /// Takes the word of a pick, and that of a flick if it takes one, where a twin has told both already.
+    #[inline]
+    pub fn skip_step(&mut self)
+        ensures { self.new ≡ after_flick (after_pick self.old) }
+    {
+        let _word = self.generator.next_word();
+        let _flick = self.flick();
     }
 }
 

@@ -3,6 +3,7 @@ pub mod Stages
 pub mod Marked
 -- One process, by what it is doing
 pub mod Doors
+pub mod Asked
 pub mod AtDoor
 pub mod Steps
 pub mod Data

@@ -1,5 +1,5 @@
 -- A step of a core within a number access, by the seat of its process.
-use Rattle.std.proofs.Common.{◌≡◌, ℕ, ◌<◌, ◌||◌, Bool, true, List, [], length, Some, refl, sym, ap, subst, ◌∙◌, unwrap_or}
+use Rattle.std.proofs.Common.{◌≡◌, ℕ, ◌<◌, ◌||◌, Bool, List, [], length, Some, refl, sym, subst, ◌∙◌}
 use Rattle.std.specs.Prelude.{slice_index_or, slice_set}
 use Rattle.safe_number.specs.declared.Access.{Access}
 use Rattle.record.specs.declared.events.Event.TheVariants.{Step}
@@ -7,8 +7,8 @@ use Rattle.record.specs.declared.history.Taken.{Taken}
 use Rattle.laws.specs.Doings.{Doing}
 use Rattle.laws.specs.Steps.{next_of}
 use Rattle.process.specs.Processes.{ProcessState}
-use Rattle.process.specs.Registers.{CanMake, MayStep, RegistersState, StepsWithin, answered}
-use Rattle.process.specs.Steps.{IsAt, bits_to_walk, is_at_door, may_step}
+use Rattle.process.specs.Registers.{MayStep, RegistersState, StepsWithin, answered}
+use Rattle.process.specs.Steps.{IsAt, bits_to_walk, is_at_door}
 use Rattle.world.specs.Changes.{pending_in}
 use Rattle.world.specs.Cores.{CoreState, CoreStepsQuietly, KeepsCore, with_history}
 use Rattle.world.specs.Events.{Adds}
@@ -16,8 +16,7 @@ use Rattle.world.specs.Seats.{Seat}
 use Rattle.world.specs.Shows.{WorldState}
 use Rattle.world.specs.Walks.{bits_within_at}
 use Rattle.world.proofs.CoreKeeps.{fewer_pending}
-use Rattle.world.proofs.WorldEnds.{used-turns}
-use Rattle.world.proofs.WorldWalks.{bits-at, bits-there, keeps_of, quiet-adds, quiet-ends, quiet-on, room_of, within-may, within-used}
+use Rattle.world.proofs.WorldWalks.{bits-at, bits-there, keeps_of, quiet-adds, quiet-ends, quiet-on, room_of, within-may}
 
 -- a seat of a core whose process is within a number access
 pub record IsWithin (core : CoreState) (p i : ℕ) (seat : Seat) : Type 0 where
@@ -49,12 +48,6 @@ within-core-may core p i flick seat h =
     let w : WorldState = with_history core h.kept.taken in
     within-may w (room_of w) p i flick seat (keeps_of w h.kept.events h.kept.shows) h.index h.there h.seat_is h.some
 
--- it has a next access
-pub within-core-goes : (core : CoreState) (p i : ℕ) (flick : Bool) (seat : Seat) → IsWithin core p i seat → may_step seat.process.kept ≡ true
-within-core-goes core p i flick seat h =
-    let w : WorldState = with_history core h.kept.taken in
-    used-turns w (room_of w) p i flick seat (within-used w (room_of w) p i flick seat (keeps_of w h.kept.events h.kept.shows) h.index h.there h.seat_is h.some)
-
 -- with each history it is a step without a mark
 pub within-core-steps : (core : CoreState) (p i : ℕ) (flick : Bool) (seat : Seat) (registers : RegistersState) (then : Seat) → IsWithin core p i seat → SeatGoes core flick seat registers then → CoreStepsQuietly core p flick (core_within core i registers then)
 within-core-steps core p i flick seat registers then h g = record {
@@ -65,17 +58,9 @@ within-core-steps core p i flick seat registers then h g = record {
       (quiet-ends w (room_of w) p i flick seat registers then (keeps_of w h.kept.events h.kept.shows) h.index h.there h.seat_is h.some g.stays g.within).room refl;
 }
 
--- an access that is told as the next one is that one
-pub asked-is : (now : ProcessState) (r : RegistersState) (flick : Bool) (asked : Access) (m : MayStep now r flick) → ((d : Doing) → IsAt now d → next_of now.setup now.process d flick ≡ Some asked) → m.next ≡ asked
-asked-is now r flick asked m is = ap (λ o. unwrap_or o asked) (sym m.is_next ∙ is m.doing m.is_at)
-
--- it may be made on the registers
-pub asked-can : (now : ProcessState) (r : RegistersState) (flick : Bool) (asked : Access) → MayStep now r flick → ((d : Doing) → IsAt now d → next_of now.setup now.process d flick ≡ Some asked) → CanMake r (answered r flick asked)
-asked-can now r flick asked m is = subst (λ a. CanMake r (answered r flick a)) (asked-is now r flick asked m is) m.can
-
--- and is the access of the step
-pub asked-made : (now then : ProcessState) (r r_then : RegistersState) (flick : Bool) (asked : Access) → MayStep now r flick → (e : StepsWithin r flick now r_then then) → ((d : Doing) → IsAt now d → next_of now.setup now.process d flick ≡ Some asked) → e.access ≡ answered r flick asked
-asked-made now then r r_then flick asked m e is = e.is_next m.doing asked m.is_at (is m.doing m.is_at)
+-- the access that a process tells as its next one is that of its step
+pub told-made : (now then : ProcessState) (r r_then : RegistersState) (flick : Bool) (told : Access) → MayStep now r flick → (e : StepsWithin r flick now r_then then) → ((d : Doing) (next : Access) → IsAt now d → next_of now.setup now.process d flick ≡ Some next → told ≡ answered r flick next) → e.access ≡ told
+told-made now then r r_then flick told m e is = e.is_next m.doing m.next m.is_at m.is_next ∙ sym (is m.doing m.next m.is_at m.is_next)
 
 -- so with each history that access is added
 pub within-core-adds : (core : CoreState) (p i : ℕ) (flick : Bool) (seat : Seat) (registers : RegistersState) (then : Seat) (access : Access) → IsWithin core p i seat → (g : SeatGoes core flick seat registers then) → g.within.access ≡ access →

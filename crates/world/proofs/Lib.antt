@@ -21,6 +21,7 @@ pub mod WorldOpen
 pub mod WorldMarks
 pub mod WorldHeadline
 pub mod WorldWalks
+pub mod WithinStages
 pub mod WorldShows
 pub mod WorldGoes
 pub mod WorldGoesMarked

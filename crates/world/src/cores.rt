@@ -19,6 +19,7 @@ ghost use Rattle.world.specs.Shows.{Shows};
 ghost use Rattle.world.specs.Walks.{bits_within_at};
 
 mod copies;
+mod told;
 
 use crate::queue::listed;
 use crate::seat::Seat;
@@ -315,7 +316,7 @@ impl Core {
 
     /// The same, with its access. So few words are looked at that it is quicker than a step which may lead to something.
     #[inline]
-    fn make_step_told(&mut self, process: u8, flick: bool) -> Access
+    pub fn make_step_told(&mut self, process: u8, flick: bool) -> Access
         requires { 0 < bits_within_at self.old.seats process }
         ensures quietly { CoreStepsQuietly self.old process flick self.new }
         ensures accepted { (taken : List Seen) → Adds (with_history self.old taken) (Step process flick) process (record { access = Some result; marks = [] }) }
@@ -323,8 +324,7 @@ impl Core {
     {
         let at = usize::from(process);
         let seat = &mut self.seats[at];
-        let asked = seat.process().next(flick);
-        let access = self.registers.answered(asked, flick);
+        let access = seat.process().answered_within(&self.registers, flick);
         seat.step_within(&mut self.registers, flick);
         access
     }

@@ -1,4 +1,4 @@
-ghost use Rattle.std.specs.Prelude.{◌≡◌, ◌↔◌, Bool, ◌==◌, ◌&&◌, nat_le, ◌<◌, ◌≤◌, ◌∷◌, ◌++◌, ◌+◌, [], true, false, map, option_map, None, Some, IfOk, IfErr, OnOk, OnErr, IsOk, IsTrue, Ok, length, List};
+ghost use Rattle.std.specs.Prelude.{◌≡◌, ◌↔◌, Bool, ◌==◌, ◌&&◌, nat_le, ◌<◌, ◌≤◌, ◌∷◌, ◌++◌, ◌+◌, [], true, false, map, option_map, None, Some, IfOk, IfErr, IfSome, OnOk, OnErr, OnSome, IsOk, IsSome, IsTrue, Ok, length, List};
 ghost use Rattle.std.specs.Vec.{vec_capacity, vec_len};
 ghost use Rattle.plain_store.specs.Setups.{checked};
 ghost use Rattle.store_image.specs.Image.{image_of};
@@ -168,6 +168,36 @@ impl World {
         ensures unmade { result ≡ false → self.new ≡ self.old }
     {
         self.core.step_within(process, flick)
+    }
+
+    /// Whether the next step of a process is within a number access, as those of `walk` are; not, if there is no such
+    /// process.
+    #[inline]
+    pub fn is_within(&self, process: u8) -> bool
+        ensures { IsTrue result ↔ (0 < bits_within_at self.now.seats process) }
+    {
+        self.core.is_within(process)
+    }
+
+    /// One step as `step_within` makes it, with its access: a read's end with the value that it gave; none where nothing is made.
+    #[inline]
+    pub fn step_told(&mut self, process: u8, flick: bool) -> Option<Access>
+        ensures whether { IsSome result ↔ (0 < bits_within_at self.old.seats process) }
+        ensures made { OnSome result (StepsQuietly self.old process flick self.new) }
+        ensures adds { IfSome result (λ access. Adds self.old (Step process flick) process (record { access = Some access; marks = [] })) }
+        ensures unmade { result ≡ None → self.new ≡ self.old }
+    {
+        self.core.step_told(process, flick)
+    }
+
+    /// The step of a process that is within a number access, with its access: a read's end with the value that it gave.
+    #[inline]
+    pub fn make_step_told(&mut self, process: u8, flick: bool) -> Access
+        requires { 0 < bits_within_at self.old.seats process }
+        ensures quietly { StepsQuietly self.old process flick self.new }
+        ensures accepted { Adds self.old (Step process flick) process (record { access = Some result; marks = [] }) }
+    {
+        self.core.make_step_told(process, flick)
     }
 
     /// There are events whose record the world shows. Nothing to do: it hands over what every other clause takes for

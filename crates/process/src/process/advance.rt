@@ -45,6 +45,16 @@ impl Process {
         self.section.next(false)
     }
 
+    /// The next access at the door.
+    #[inline(always)]
+    pub(crate) fn next_at_door(&self) -> Access
+        requires { is_at_door self.now.kept ≡ true }
+        ensures access { (d : Doing) (flick : Bool) → IsAt self.now d → next_of self.now.setup self.now.process d flick ≡ Some result }
+        ensures there { IsThere self.now.setup result }
+    {
+        self.door.next(false)
+    }
+
     /// The next access elsewhere than at the data.
     #[inline]
     pub(crate) fn next_elsewhere(&self, flick: bool) -> Access
@@ -54,7 +64,7 @@ impl Process {
         ensures there { IsThere self.now.setup result }
     {
         match &self.work {
-            Work::AtDoor { .. } => self.door.next(false),
+            Work::AtDoor { .. } => self.next_at_door(),
             Work::Leaves { leaving, .. } => leaving.next(),
             Work::Withdraws(leaving) => leaving.next(),
             Work::Settles { unit, .. } => unit.next(flick),

@@ -66,6 +66,21 @@ impl Process {
         }
     }
 
+    /// The next access within a number access at the door or at the data, as `step` makes it: a read's end with what the
+    /// registers answer. Nothing is made.
+    #[inline(always)]
+    pub fn answered_within(&self, registers: &Registers, flick: bool) -> Access
+        requires within { 0 < bits_to_walk self.now.kept }
+        requires may { MayStep self.now registers.now flick }
+        ensures { (d : Doing) (next : Access) → IsAt self.now d → next_of self.now.setup self.now.process d flick ≡ Some next → result ≡ answered registers.now flick next }
+    {
+        if self.is_at_door() {
+            registers.answered(self.next_at_door(), flick)
+        } else {
+            registers.versions.answered(self.next_at_data(), flick)
+        }
+    }
+
     /// Makes the next access, within a number access at the door or at the data: the quick way through the many bits of
     /// a ticket or of an image.
     #[inline(always)]

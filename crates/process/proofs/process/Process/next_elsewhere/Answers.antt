@@ -2,7 +2,6 @@
 use Rattle.std.proofs.Common.{sym, ap, subst, ◌∙◌}
 use Rattle.std.specs.Prelude.{Some}
 use Rattle.safe_number.specs.declared.Access.{Access}
-use Rattle.record.specs.Places.{place_of}
 use Rattle.laws.specs.Doings.{call}
 use Rattle.laws.specs.Held.{IsThere}
 use Rattle.process.specs.Processes.{ProcessState}
@@ -10,36 +9,24 @@ use Rattle.laws.specs.Steps.{next_of}
 use Rattle.process.specs.Keeping.{Goes}
 use Rattle.process.specs.Steps.{is_at_door}
 use Rattle.process.proofs.Turns.{kept-is}
-use Rattle.process.proofs.Steps as door
 use Rattle.process.proofs.Clears as clears
 use Rattle.process.proofs.Withdraws as leaves
 use Rattle.process.proofs.Units as units
-use Rattle.process.proofs.Named.{ended-next, leaving_there, leaving_next}
+use Rattle.process.proofs.Named.{leaving_there, leaving_next}
 use Rattle.process.proofs.process.Process.next_elsewhere.Goals as goal
 
-pub next-requires : goal.next-requires
-next-requires c =
+pub next_at_door-requires : goal.next_at_door-requires
+next_at_door-requires c =
     let f = c.self.inside in
-    (door.kept-here f.setup f.process f.command f.number f.work f.door f.section c.args.self.now c.self.view_is c.self.invariant.goes (sym (ap is_at_door (kept-is f.setup f.process f.command f.number f.work f.door f.section c.args.self.now c.self.view_is _ c.in-AtDoor.is)))).1
+    sym (ap is_at_door (kept-is f.setup f.process f.command f.number f.work f.door f.section c.args.self.now c.self.view_is _ c.in-AtDoor.is))
 
 pub returns-in-AtDoor : goal.returns-in-AtDoor
-returns-in-AtDoor c =
-    let f = c.self.inside in
-    let h = sym (ap is_at_door (kept-is f.setup f.process f.command f.number f.work f.door f.section c.args.self.now c.self.view_is _ c.in-AtDoor.is)) in
-    record {
-      access = λ d is.
-          let at = door.here f.setup f.process f.command f.number f.work f.door f.section c.args.self.now c.self.view_is c.self.invariant.goes h d is in
-          let k = call f.setup f.process f.command f.number in
-          ap (λ (state : ProcessState). next_of state.setup state.process d c.args.flick) (sym c.self.view_is)
-          ∙ ap (λ d. next_of f.setup f.process d c.args.flick) at.is
-          ∙ ap Some (sym (ended-next k (place_of k at.accesses).part (place_of k at.accesses).run) ∙ sym (c.next.ensures.program k at.accesses at.shown));
-      there = subst (λ (state : ProcessState). IsThere state.setup c.next.result) c.self.view_is (subst (λ s. IsThere s c.next.result) c.self.invariant.door_setup (record { owner = c.next.ensures.named.owner; reader = c.next.ensures.named.reader; bit = c.next.ensures.named.bit }));
-    }
+returns-in-AtDoor c = record { access = λ d. c.next_at_door.ensures.access d c.args.flick; there = c.next_at_door.ensures.there }
 
 pub returns-in-Leaves : goal.returns-in-Leaves
 returns-in-Leaves c =
     let f = c.self.inside in
-    let n = c.next-in-Leaves in
+    let n = c.next in
     let found = clears.seen f.setup f.process f.command f.number f.work f.door f.section c.args.self.now c.self.view_is c.in-Leaves.answer c.in-Leaves.fresh c.in-Leaves.leaving c.in-Leaves.is c.self.invariant.goes in
     record {
       access = λ d is.

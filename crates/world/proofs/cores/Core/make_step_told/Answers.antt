@@ -1,16 +1,18 @@
-use Rattle.std.proofs.Common.{◌≡◌, ◌<◌, ◌∷◌, [], List, Some, true, sym, subst, ◌∙◌, arith}
+use Rattle.std.proofs.Common.{◌≡◌, ◌<◌, ◌∷◌, [], List, Some, true, sym, subst, arith}
 use Rattle.std.proofs.lemmas.List.{length-set}
 use Rattle.record.specs.declared.events.Event.TheVariants.{Step}
 use Rattle.record.specs.declared.history.Taken.{Taken}
+use Rattle.safe_number.specs.declared.Access.{Access}
 use Rattle.laws.specs.Doings.{Doing}
 use Rattle.laws.specs.Steps.{next_of}
 use Rattle.process.specs.Processes.{ProcessState}
-use Rattle.process.specs.Steps.{IsAt, may_step}
+use Rattle.process.specs.Registers.{MayStep, answered}
+use Rattle.process.specs.Steps.{IsAt, bits_to_walk}
 use Rattle.world.specs.Cores.{CoreState, CoreStepsQuietly, with_history}
 use Rattle.world.specs.Events.{Adds}
 use Rattle.world.specs.Walks.{bits_within_at}
 use Rattle.world.proofs.CoreKeeps.{keeps_core}
-use Rattle.world.proofs.CoreWithin.{SeatGoes, asked-can, asked-made, core_within, within-at, within-core-adds, within-core-goes, within-core-may, within-core-steps}
+use Rattle.world.proofs.CoreWithin.{SeatGoes, core_within, told-made, within-at, within-core-adds, within-core-may, within-core-steps}
 use Rattle.world.proofs.WorldWalks.{bits-there}
 use Rattle.world.proofs.cores.Core.make_step_told.Goals as goal
 
@@ -21,21 +23,16 @@ index_mut-seat-requires c =
     let there = bits-there i.seats.items c.from-at.result c.args.process c.from-at.ensures some in
     omega (arith, there, i.seats.ok.0)
 
-pub next-asked-requires : goal.next-asked-requires
-next-asked-requires c =
-    let i = c.self.inside in
-    let core : CoreState = record { setup = i.setup; registers = i.registers; seats = i.seats.items } in
-    let h = within-at core c.args.self.now c.args.process c.from-at.result c.index_mut-seat.result.now c.self.invariant c.self.view_is c.requires c.from-at.ensures c.index_mut-seat.ensures.value in
-    record { goes = subst (λ (now : ProcessState). may_step now.kept ≡ true) (sym c.process.ensures) (within-core-goes core c.args.process c.from-at.result c.args.flick c.index_mut-seat.result.now h) }
-
-pub answered-access-requires : goal.answered-access-requires
-answered-access-requires c =
+pub answered_within-access-requires : goal.answered_within-access-requires
+answered_within-access-requires c =
     let i = c.self.inside in
     let core : CoreState = record { setup = i.setup; registers = i.registers; seats = i.seats.items } in
     let seat = c.index_mut-seat.result.now in
     let h = within-at core c.args.self.now c.args.process c.from-at.result seat c.self.invariant c.self.view_is c.requires c.from-at.ensures c.index_mut-seat.ensures.value in
-    let asked = subst (λ (now : ProcessState). (d : Doing) → IsAt now d → next_of now.setup now.process d c.args.flick ≡ Some c.next-asked.result) c.process.ensures c.next-asked.ensures.access in
-    asked-can seat.process i.registers c.args.flick c.next-asked.result (within-core-may core c.args.process c.from-at.result c.args.flick seat h) asked
+    record {
+      within = subst (λ (now : ProcessState). 0 < bits_to_walk now.kept) (sym c.process.ensures) h.some;
+      may = subst (λ (now : ProcessState). MayStep now i.registers c.args.flick) (sym c.process.ensures) (within-core-may core c.args.process c.from-at.result c.args.flick seat h);
+    }
 
 pub step_within-requires-clause-within : goal.step_within-requires-clause-within
 step_within-requires-clause-within c =
@@ -77,11 +74,11 @@ returns-clause-accepted c =
     let seat = c.index_mut-seat.result.now in
     let h = within-at core c.args.self.now c.args.process c.from-at.result seat c.self.invariant c.self.view_is c.requires c.from-at.ensures c.index_mut-seat.ensures.value in
     let g : SeatGoes core c.args.flick seat c.step_within.new.registers c.step_within.new.self = record { stays = c.step_within.ensures.seat; within = c.step_within.ensures.within } in
-    let asked = subst (λ (now : ProcessState). (d : Doing) → IsAt now d → next_of now.setup now.process d c.args.flick ≡ Some c.next-asked.result) c.process.ensures c.next-asked.ensures.access in
+    let told = subst (λ (now : ProcessState). (d : Doing) (next : Access) → IsAt now d → next_of now.setup now.process d c.args.flick ≡ Some next → c.answered_within-access.result ≡ answered i.registers c.args.flick next) c.process.ensures c.answered_within-access.ensures in
     let may = within-core-may core c.args.process c.from-at.result c.args.flick seat h in
-    let same = asked-made seat.process c.step_within.new.self.process i.registers c.step_within.new.registers c.args.flick c.next-asked.result may g.within asked ∙ sym c.answered-access.ensures in
-    subst (λ (old : CoreState). (taken : List Taken) → Adds (with_history old taken) (Step c.args.process c.args.flick) c.args.process (record { access = Some c.answered-access.result; marks = [] })) c.self.view_is
-    (within-core-adds core c.args.process c.from-at.result c.args.flick seat c.step_within.new.registers c.step_within.new.self c.answered-access.result h g same)
+    let same = told-made seat.process c.step_within.new.self.process i.registers c.step_within.new.registers c.args.flick c.answered_within-access.result may g.within told in
+    subst (λ (old : CoreState). (taken : List Taken) → Adds (with_history old taken) (Step c.args.process c.args.flick) c.args.process (record { access = Some c.answered_within-access.result; marks = [] })) c.self.view_is
+    (within-core-adds core c.args.process c.from-at.result c.args.flick seat c.step_within.new.registers c.step_within.new.self c.answered_within-access.result h g same)
 
 pub returns-clause-there : goal.returns-clause-there
 returns-clause-there c =

@@ -1,0 +1,30 @@
+-- The next access at the door, by the place of the call.
+use Rattle.std.proofs.Common.{sym, ap, subst, ◌∙◌}
+use Rattle.std.specs.Prelude.{Some}
+use Rattle.record.specs.Places.{place_of}
+use Rattle.laws.specs.Doings.{call}
+use Rattle.laws.specs.Held.{IsThere}
+use Rattle.laws.specs.Steps.{next_of}
+use Rattle.process.specs.Processes.{ProcessState}
+use Rattle.process.proofs.Steps.{here, kept-here}
+use Rattle.process.proofs.Named.{ended-next}
+use Rattle.process.proofs.process.Process.next_at_door.Goals as goal
+
+pub next-requires : goal.next-requires
+next-requires c =
+    let f = c.self.inside in
+    (kept-here f.setup f.process f.command f.number f.work f.door f.section c.args.self.now c.self.view_is c.self.invariant.goes c.requires).1
+
+pub returns-clause-access : goal.returns-clause-access
+returns-clause-access c = λ d flick is.
+    let f = c.self.inside in
+    let at = here f.setup f.process f.command f.number f.work f.door f.section c.args.self.now c.self.view_is c.self.invariant.goes c.requires d is in
+    let k = call f.setup f.process f.command f.number in
+    ap (λ (state : ProcessState). next_of state.setup state.process d flick) (sym c.self.view_is)
+    ∙ ap (λ d. next_of f.setup f.process d flick) at.is
+    ∙ ap Some (sym (ended-next k (place_of k at.accesses).part (place_of k at.accesses).run) ∙ sym (c.next.ensures.program k at.accesses at.shown))
+
+pub returns-clause-there : goal.returns-clause-there
+returns-clause-there c =
+    let named = c.next.ensures.named in
+    subst (λ (state : ProcessState). IsThere state.setup c.next.result) c.self.view_is (subst (λ s. IsThere s c.next.result) c.self.invariant.door_setup (record { owner = named.owner; reader = named.reader; bit = named.bit }))
