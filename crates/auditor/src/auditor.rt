@@ -1,4 +1,4 @@
-ghost use Rattle.std.specs.Prelude.{◌≡◌, ◌↔◌, true, IfOk, IsTrue, Ok, Some, None, List, [], nat_lt};
+ghost use Rattle.std.specs.Prelude.{◌≡◌, ◌↔◌, true, false, IfOk, IfSome, IsTrue, Ok, Some, None, List, [], nat_lt};
 ghost use Rattle.std.specs.List.{list_any};
 ghost use Rattle.plain_store.specs.Setups.{checked};
 ghost use Rattle.record.specs.declared.events.Event.{Event as Happening};
@@ -12,7 +12,7 @@ ghost use Rattle.world.specs.Shows.{Shows};
 ghost use Rattle.auditor.specs.Hearing.{HasHeard, IsHeard, event_in, law_of_misplaced, law_of_wrong};
 ghost use Rattle.auditor.specs.Verdicts.{tells_event};
 
-use crate::matching::{are_at, event_in, flick_in, is_alike, more, tells};
+use crate::matching::{are_at, event_in, flick_in, flick_of, is_alike, is_that, more, tells};
 use crate::verdicts::Law;
 use plain_store::Setup;
 use record::{Entry, Event, Mark, Stage};
@@ -88,11 +88,35 @@ impl Auditor {
         ensures setup { result ≡ None → self.new.core.setup ≡ self.old.core.setup }
         ensures heard { (past : Past) → HasHeard self.old past → IsHeard self.old.core.setup past (record { process = process; access = access.now; marks = marks.now }) self.new result }
     {
-        if access.is_some() {
-            self.hear_step(process, access, marks)
-        } else {
-            self.hear_without_access(process, access, marks)
+        let Some(told) = access else {
+            return self.hear_without_access(process, access, marks);
+        };
+        if marks.is_empty() {
+            return self.hear_access(process, *told);
         }
+        self.hear_step(process, access, marks)
+    }
+
+    /// The same of an entry with this access and no mark, as nearly all are. Within a number access its process has
+    /// nothing else to do than a step, and does not settle: the step is made, and its access alone is compared.
+    #[inline]
+    pub fn hear_access(&mut self, process: u8, access: Access) -> Option<Law>
+        ensures setup { result ≡ None → self.new.core.setup ≡ self.old.core.setup }
+        ensures heard { (past : Past) → HasHeard self.old past → IsHeard self.old.core.setup past (record { process = process; access = Some access; marks = [] }) self.new result }
+    {
+        match self.core.step_told(process, flick_of(access)) {
+            Some(made) => different(made, access),
+            None => self.hear_elsewhere(process, access),
+        }
+    }
+
+    /// The same where its process is not within a number access.
+    #[inline(never)]
+    fn hear_elsewhere(&mut self, process: u8, access: Access) -> Option<Law>
+        ensures setup { result ≡ None → self.new.core.setup ≡ self.old.core.setup }
+        ensures heard { (past : Past) → HasHeard self.old past → IsHeard self.old.core.setup past (record { process = process; access = Some access; marks = [] }) self.new result }
+    {
+        self.hear_step(process, &Some(access), &[])
     }
 
     /// An entry without an access, which no step adds.
@@ -143,6 +167,19 @@ impl Auditor {
         }
         self.taken = more(self.taken, &told);
         None
+    }
+}
+
+/// The law that is broken by an entry without a mark that is to have this access, where its process does not settle.
+#[inline]
+fn different(made: Access, access: Access) -> Option<Law>
+    ensures none { result ≡ None ↔ (made ≡ access) }
+    ensures program { IfSome result (λ law. law ≡ law_of_wrong false false) }
+{
+    if is_that(made, access) {
+        None
+    } else {
+        Some(Law::Program)
     }
 }
 

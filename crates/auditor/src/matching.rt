@@ -17,17 +17,25 @@ use safe_number::{Access, Field};
 use std::alloc::Global;
 use world::Told;
 
-/// The flick that an access tells: the value with which a read ends, or a write begins or is settled.
+/// The flick that an access tells, if there is one.
 #[inline]
 pub(crate) fn flick_in(access: &Option<Access>) -> bool
     ensures { result ≡ flick_in access.now }
 {
     match access {
         None => false,
-        Some(access) => match access.how {
-            Move::BeginWrite(value) | Move::EndRead(value) | Move::Settle(value) => value,
-            Move::EndWrite | Move::BeginRead => false,
-        },
+        Some(access) => flick_of(*access),
+    }
+}
+
+/// The flick that an access tells: the value with which a read ends, or a write begins or is settled.
+#[inline]
+pub(crate) fn flick_of(access: Access) -> bool
+    ensures { result ≡ flick_in (Some access) }
+{
+    match access.how {
+        Move::BeginWrite(value) | Move::EndRead(value) | Move::Settle(value) => value,
+        Move::EndWrite | Move::BeginRead => false,
     }
 }
 
@@ -81,8 +89,16 @@ fn is_access(told: &Option<Access>, access: &Access) -> bool
 {
     match told {
         None => false,
-        Some(told) => told == access,
+        Some(told) => is_that(*told, *access),
     }
+}
+
+/// Whether an access is that one.
+#[inline]
+pub(crate) fn is_that(access: Access, that: Access) -> bool
+    ensures { IsTrue result ↔ (access ≡ that) }
+{
+    access == that
 }
 
 /// Whether the marks are those that a step leads to, but for places.

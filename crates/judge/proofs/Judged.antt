@@ -109,3 +109,19 @@ judged_more j j' s entries e judged is both one = record {
 pub judged_past : (j j' : JudgeState) (s : Setup) (entries : List Entry) (e : Entry) → HasJudged j s entries → (j.verdict ≡ Good → ⊥) → j'.verdict ≡ j.verdict → j'.entries ≡ j.entries + 1 → HasJudged j' s (entries ++ e ∷ [])
 judged_past j j' s entries e judged bad same one =
     judged_more j j' s entries e judged (subst (IsVerdict s (entries ++ e ∷ [])) (sym same) (stays_bad s entries e j.verdict bad judged.verdict)) (λ is. absurd (bad (sym same ∙ is))) one
+
+-- one more entry was heard, and is to be counted
+abbrev pub HearsOn : JudgeState → Entry → JudgeState → Type 0
+HearsOn old e j = (s : Setup) (entries : List Entry) → HasJudged old s entries → HasJudged (record j { entries = j.entries + 1 }) s (entries ++ e ∷ [])
+
+-- with the verdict on it, behind a good record,
+pub hears_good : (old now : JudgeState) (e : Entry) (v : Verdict) → old.verdict ≡ Good → now.entries ≡ old.entries → ((s : Setup) (entries : List Entry) → old.verdict ≡ Good → HasJudged old s entries → IsVerdict s (entries ++ e ∷ []) v) →
+    ((s : Setup) (entries : List Entry) → old.verdict ≡ Good → HasJudged old s entries → v ≡ Good → BothHeard now s (reverse (entries ++ e ∷ []))) → HearsOn old e (record now { verdict = v })
+hears_good old now e v good same verdict goes_on s entries judged =
+    judged_more old (record now { verdict = v; entries = now.entries + 1 }) s entries e judged (verdict s entries good judged)
+    (λ still. let both : BothHeard now s (reverse (entries ++ e ∷ [])) = goes_on s entries good judged still in record { watched = both.watched; watch = both.watch; audited = both.audited; auditor = both.auditor })
+    (ap (λ k. k + 1) same)
+
+-- and behind a bad one
+pub hears_bad : (old : JudgeState) (e : Entry) → (old.verdict ≡ Good → ⊥) → HearsOn old e old
+hears_bad old e bad s entries judged = judged_past old (record old { entries = old.entries + 1 }) s entries e judged bad refl refl

@@ -13,8 +13,13 @@ use Rattle.files.specs.declared.faults.FaultKind.TheVariants.{NotFirst, Unknown,
 use Rattle.files.proofs.Passing.{passed}
 use Rattle.record.specs.Entries.{Entry}
 use Rattle.record_file.specs.Reading.{entry_of}
+use Rattle.record_file.specs.Given.{is_entry}
+use Rattle.record_file.specs.Printing.{entry_words, step_entry}
+use Rattle.safe_number.specs.declared.Access.{Access}
+use Rattle.scenario.specs.Printing.{spaced}
 use Rattle.scenario.specs.Reading.{at_version, heading_read, open_read}
 use Rattle.scenario.specs.Reading.{Progress as Head}
+use Rattle.record_reader.proofs.EntryLines.{entry_of_line}
 use Rattle.record_reader.specs.RecordFiles.{Progress, cleared, entry_in, kind_of, first_read, head_read, pair_read, line_said, line_read, record_grammar}
 use Rattle.record_reader.specs.declared.kinds.LineKind.{LineKind}
 use Rattle.record_reader.specs.declared.kinds.LineKind.TheVariants as kind
@@ -95,10 +100,10 @@ first_left (first ∷ words) now is = by (begins_with 35 first) is
         let same : a.value ≡ now = cc in
         ap (λ (p : Progress). p.entry) (sym same) ∙ first_says_none first words a.value a.first
 
--- with the first entry there is a judge
-pub hears_first : (j : Option JudgeState) (first k : JudgeState) (s : Setup) (entries : List Entry) → is_some j ≡ false → Some first ≡ Some k → Hears j s entries → HasJudged first s [] → HasJudged k s entries
-hears_first None first k s entries none same heard judged = let is : first ≡ k = cc in subst (λ (j : JudgeState). HasJudged j s entries) is (subst (λ (l : List Entry). HasJudged first s l) (sym heard) judged)
-hears_first (Some j) first k s entries none same heard judged = absurd (cc)
+-- a judge that begins where there was none
+pub hears_begun : (j k : Option JudgeState) (s : Setup) (entries : List Entry) → is_some j ≡ false → Hears j s entries → Hears k s [] → Hears k s entries
+hears_begun None k s entries none heard begun = subst (λ (l : List Entry). Hears k s l) (sym heard) begun
+hears_begun (Some j) k s entries none heard begun = absurd (cc)
 
 -- a judge hears by the setup that was read
 judged_at : (s t : Setup) (j : JudgeState) (entries : List Entry) → s ≡ t → HasJudged j s entries → HasJudged j t entries
@@ -165,6 +170,10 @@ pub clear_twice : (now : Option Progress) → cleared (cleared now) ≡ cleared 
 clear_twice None = refl
 clear_twice (Some p) = refl
 
+-- where no entry was read, there is none to take
+pub quiet_is_cleared : (now : Progress) → now.entry ≡ None → Some now ≡ cleared (Some now)
+quiet_is_cleared now none = ap (λ (o : Option Entry). Some (record now { entry = o })) none
+
 -- a line says one entry at most
 pub few_in : (now : Option Progress) → length (entry_in now) ≤ 1
 few_in None = omega arith
@@ -227,3 +236,24 @@ pub ends_heard : (line : List ℕ) (old t : TrialState) (now : Progress) (e : En
 ends_heard line old t now e before entries short stands read says reader some hears =
     ends_well line old t (Some now) before entries short stands read reader
     (heard_more (words_of line) before now e old.judge t.judge entries (sym (read_at line old before entries stands) ∙ read) stands.clear says some (hears entries) stands.judge)
+
+-- it is as it is printed for a Step, which was heard behind an entry
+pub ends_stepped : (line : List ℕ) (old t : TrialState) (j j' : JudgeState) (process : ℕ) (access : Access) (before : Option Progress) (entries : List Entry) → length line ≤ 128 → line ≡ spaced (entry_words (step_entry process access)) → is_entry (step_entry process access) ≡ true → old.judge ≡ Some j →
+    t.reader ≡ old.reader → t.judge ≡ Some j' → ((s : Setup) (entries : List Entry) → HasJudged j s entries → HasJudged j' s (entries ++ step_entry process access ∷ [])) → Stands old before entries → GoesOn (line_read line before) t entries
+ends_stepped line old t j j' process access before entries short printed sound some reader judge hears stands =
+    by before stands.clear (subst (λ (o : Option JudgeState). HearsAt o before entries) some stands.judge) (reader ∙ stands.reader)
+  where
+    e : Entry
+    e = step_entry process access
+
+    by : (b : Option Progress) → cleared b ≡ b → HearsAt (Some j) b entries → t.reader ≡ b → GoesOn (line_read line b) t entries
+    by None clear heard same = absurd heard
+    by (Some p) clear heard same = record {
+      now = Some (record p { ended = true; entry = Some e });
+      says = short_read line (Some p) short ∙ ap (λ (l : List ℕ). words_read record_grammar (words_of l) (Some p)) printed ∙ entry_of_line e p (record { sound = sound; few = omega arith });
+      stands = record {
+        reader = same ∙ sym clear ∙ ap (λ (b : Bool). Some (record p { ended = b; entry = None })) heard.0;
+        clear = refl;
+        judge = subst (λ (o : Option JudgeState). HearsAt o (Some (record p { ended = true; entry = None })) (entries ++ e ∷ [])) (sym judge) (refl, hears p.head.setup entries heard.1);
+      };
+    }

@@ -4,11 +4,13 @@ ghost use Rattle.plain_store.specs.Setups.{checked};
 ghost use Rattle.record.specs.Entries.{Entry as Noted};
 ghost use Rattle.auditor.specs.Verdicts.{IsVerdict};
 ghost use Rattle.auditor.specs.declared.verdicts.Verdict.TheVariants.{Good};
+ghost use Rattle.record_file.specs.Printing.{step_entry};
 ghost use Rattle.judge.specs.Judging.{BothHeard, HasJudged, found as verdict_found};
 
 use auditor::{Audited, Auditor, Law, Verdict};
 use plain_store::Setup;
 use record::Entry;
+use safe_number::Access;
 use std::alloc::{AllocError, Global};
 use std::marker::Model;
 use watch::Watch;
@@ -66,6 +68,33 @@ impl Judge {
     {
         let is_safe = self.watch.hear(entry);
         let law = self.auditor.hear(entry);
+        found(self.entries, is_safe, law)
+    }
+
+    /// The same of an entry with this access and no mark, as nearly all are, by its parts: so it need not stand
+    /// anywhere.
+    #[inline]
+    pub fn hear_access(&mut self, process: u8, access: Access)
+        requires { self.old.entries < 2 ^ 64 - 1 }
+        ensures heard { (s : Given) (entries : List Noted) → HasJudged self.old s entries → HasJudged self.new s (entries ++ step_entry process access ∷ []) }
+        ensures count { self.new.entries ≡ self.old.entries + 1 }
+    {
+        if self.verdict == Verdict::Good {
+            self.verdict = self.verdict_with_access(process, access);
+        }
+        self.entries += 1;
+    }
+
+    /// The verdict with such an entry more, where that on the entries before it is good.
+    #[inline]
+    fn verdict_with_access(&mut self, process: u8, access: Access) -> Verdict
+        ensures verdict { self.new.verdict ≡ self.old.verdict }
+        ensures entries { self.new.entries ≡ self.old.entries }
+        ensures heard { (s : Given) (entries : List Noted) → self.old.verdict ≡ Good → HasJudged self.old s entries → IsVerdict s (entries ++ step_entry process access ∷ []) result }
+        ensures goes_on { (s : Given) (entries : List Noted) → self.old.verdict ≡ Good → HasJudged self.old s entries → result ≡ Good → BothHeard self.new s (reverse (entries ++ step_entry process access ∷ [])) }
+    {
+        let is_safe = self.watch.hear_access(access);
+        let law = self.auditor.hear_access(process, access);
         found(self.entries, is_safe, law)
     }
 

@@ -170,11 +170,10 @@ fn hear_step(
     ensures setup { result ≡ None → auditor.new.core.setup ≡ auditor.old.core.setup }
     ensures heard { (past : Past) → HasHeard auditor.old past → IsHeard auditor.old.core.setup past (record { process = process; access = Some access; marks = map (placed place) (marks_told told.now) }) auditor.new result }
 {
-    let access = Some(access);
     if matches!(told, Told::Nothing) {
-        return auditor.hear_parts(process, &access, &[]);
+        return auditor.hear_access(process, access);
     }
-    auditor.hear_parts(process, &access, &told.marks(alloc, place))
+    auditor.hear_parts(process, &Some(access), &told.marks(alloc, place))
 }
 
 /// The first bad entry, after one more with this number, which breaks this law or none.

@@ -72,13 +72,25 @@ impl Watch {
         ensures stray { (a : Made) → entry.now.access ≡ Some a → (IsThere self.old.setup a → ⊥) → result ≡ true }
         ensures first { (past : Past) → HasHeard self.old past → AllAreOfThere self.old.setup past → MatchBool result (KeepsSafe self.old.setup past entry.now) (KeepsSafe self.old.setup past entry.now → ⊥) }
     {
-        let Some(access) = &entry.act.access else {
-            return true;
-        };
-        if !is_there(&self.setup, access) {
+        match &entry.act.access {
+            Some(access) => self.hear_access(*access),
+            None => true,
+        }
+    }
+
+    /// The same of an entry with this access, whatever its process and its marks.
+    #[inline]
+    pub fn hear_access(&mut self, access: Access) -> bool
+        ensures setup { self.new.setup ≡ self.old.setup }
+        ensures heard { (past : Past) (e : Noted) → e.access ≡ Some access → HasHeard self.old past → HasHeard self.new (e ∷ past) }
+        ensures there { (past : Past) (e : Noted) → e.access ≡ Some access → HasHeard self.old past → IsThere self.old.setup access → MatchBool result (KeepsSafe self.old.setup past e) (KeepsSafe self.old.setup past e → ⊥) }
+        ensures stray { (IsThere self.old.setup access → ⊥) → result ≡ true }
+        ensures first { (past : Past) (e : Noted) → e.access ≡ Some access → HasHeard self.old past → AllAreOfThere self.old.setup past → MatchBool result (KeepsSafe self.old.setup past e) (KeepsSafe self.old.setup past e → ⊥) }
+    {
+        if !is_there(&self.setup, &access) {
             return true;
         }
-        self.hear_access(access)
+        self.hear_there(access)
     }
 
     /// Whether an access that is made now ends a read that a write overlapped. An access of a bit that is not there
@@ -103,16 +115,17 @@ impl Watch {
 
     /// One more access, of a bit that there is.
     #[inline]
-    fn hear_access(&mut self, access: &Access) -> bool
-        requires { IsThere self.old.setup access.now }
+    fn hear_there(&mut self, access: Access) -> bool
+        requires { IsThere self.old.setup access }
         ensures setup { self.new.setup ≡ self.old.setup }
-        ensures heard { (past : Past) (e : Noted) → e.access ≡ Some access.now → HasHeard self.old past → HasHeard self.new (e ∷ past) }
-        ensures answer { (past : Past) (e : Noted) → e.access ≡ Some access.now → HasHeard self.old past → MatchBool result (KeepsSafe self.old.setup past e) (KeepsSafe self.old.setup past e → ⊥) }
+        ensures heard { (past : Past) (e : Noted) → e.access ≡ Some access → HasHeard self.old past → HasHeard self.new (e ∷ past) }
+        ensures answer { (past : Past) (e : Noted) → e.access ≡ Some access → HasHeard self.old past → MatchBool result (KeepsSafe self.old.setup past e) (KeepsSafe self.old.setup past e → ⊥) }
     {
-        let register = register_of(access);
-        let place = copy_of(&self.setup, access);
-        let look = self.registers[register].get(place);
-        self.registers[register].set(place, look.with(access.how));
+        let register = register_of(&access);
+        let place = copy_of(&self.setup, &access);
+        let looks = &mut self.registers[register];
+        let look = looks.get(place);
+        looks.set(place, look.with(access.how));
         look.allows(access.how)
     }
 }
