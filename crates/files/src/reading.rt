@@ -5,8 +5,9 @@ ghost use Rattle.files.specs.Reads.{Makes, MakesFile, Takes};
 ghost use Rattle.files.specs.Words.{texts, words_of};
 
 use crate::faults::{FaultKind, LineFault};
-use crate::words::words;
+use crate::words::add_words;
 use bstr::ByteSlice;
+use smallvec::SmallVec;
 use std::alloc::Global;
 
 /// The most lines of a file, skipped ones among them.
@@ -74,7 +75,8 @@ pub fn read_any_line<T: FromLines>(
 ) -> Result<(), FaultKind>
     ensures { Takes result (words_read T.grammar (words_of line.now) read.old) read.new }
 {
-    let words = words(alloc, line)?;
+    let mut words = SmallVec::new(alloc);
+    add_words(line, &mut words)?;
     read_words(alloc, words.as_slice(), read)
 }
 

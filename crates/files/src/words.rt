@@ -1,22 +1,51 @@
 //! The words of a line.
-ghost use Rattle.std.specs.Prelude.{◌≡◌, IfOk};
+ghost use Rattle.std.specs.Prelude.{◌≡◌, ◌<◌, ◌++◌, IfSome, OnOk, length};
+ghost use Rattle.std.specs.List.{after_first, before_first, position};
 ghost use Rattle.files.specs.Words.{texts, words_of, is_blank as blank};
 
 use smallvec::SmallVec;
-use std::alloc::{AllocError, Global};
+use std::alloc::AllocError;
 
-/// The words of a line, which spaces and tabs separate. Up to 16 of them lie in place: few lines have more, and room
-/// for all that a line may have would be cleared for each of them.
-pub fn words<'a>(alloc: Global, line: &'a [u8]) -> Result<SmallVec<&'a [u8], 16>, AllocError>
-    ensures { IfOk result (λ words. texts words.items ≡ words_of line.now) }
+/// Room for the words of a line. Up to 8 of them lie in place: few lines have more, and room for all that a line may
+/// have would be cleared for each of them.
+pub type Words<'a> = SmallVec<&'a [u8], 8>;
+
+/// Adds the words of a line, which spaces and tabs separate. They are not handed out, since their room would be moved.
+#[tactic(auto, using(crate::proofs::FoundWords::one_more, crate::proofs::FoundWords::none_more))]
+pub fn add_words<'a>(line: &'a [u8], words: &mut Words<'a>) -> Result<(), AllocError>
+    ensures { OnOk result (texts words.new.items ≡ texts words.old.items ++ words_of line.now) }
 {
-    line.split(|b| is_blank(*b))
-        .filter(|word| !word.is_empty())
-        .collect(alloc)
+    let mut rest = line;
+    'words: while !rest.is_empty() {
+        let (word, behind) = cut_at_blank(rest);
+        if !word.is_empty() {
+            words.push(word)?;
+        }
+        rest = behind;
+    }
+    Ok(())
+}
+
+/// The bytes before the first blank, and those behind it.
+#[tactic(auto, using(crate::proofs::FoundWords::place_or_all, std::proofs::lemmas::List::drop_min, std::proofs::lemmas::List::take_rest))]
+fn cut_at_blank(line: &[u8]) -> (&[u8], &[u8])
+    ensures before { result.0.now ≡ before_first blank line.now }
+    ensures behind { result.1.now ≡ after_first blank line.now }
+{
+    let at = place_of_blank(line).unwrap_or(line.len());
+    (&line[..at], &line[(at + 1).min(line.len())..])
+}
+
+/// How many bytes stand before the first blank, if there is one.
+fn place_of_blank(line: &[u8]) -> Option<usize>
+    ensures place { result ≡ position blank line.now }
+    ensures within { IfSome result (λ at. at < length line.now) }
+{
+    line.iter().position(|b| is_blank(*b))
 }
 
 fn is_blank(b: u8) -> bool
     ensures { result ≡ blank b }
 {
-    b == b' ' || b == b'\t'
+    b <= b' ' && (b == b' ' || b == b'\t')
 }

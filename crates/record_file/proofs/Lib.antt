@@ -3,9 +3,13 @@ pub mod Cuts
 pub mod Dots
 pub mod Parts
 -- What is printed
+pub mod Fronts
 pub mod Printed
 -- What is printed, and read again
 pub mod NoSigns
 pub mod ReadBack
+pub mod PrintedWords
 -- What was read has the words that are printed for it
 pub mod Spelled
+-- The line of a Step
+pub mod StepWords

@@ -15,7 +15,7 @@ use Rattle.record.specs.declared.marks.Mark.{Mark}
 use Rattle.record.specs.declared.marks.Mark.TheVariants as mark
 use Rattle.scenario.specs.Printing.{command_words, spaced}
 use Rattle.scenario.proofs.Places.{drop_in}
-use Rattle.record_file.specs.Printing.{access_words, answer_words, behind_spaces, entry_line, field_word, mark_words, move_words, reply_words, signed_words}
+use Rattle.record_file.specs.Printing.{access_words, answer_words, behind_spaces, dotted_field, entry_line, mark_words, move_words, reply_words, signed_words, step_entry}
 
 -- words with a single space between them, the first and the others
 spaced_first : (w : List ℕ) (ws : List (List ℕ)) → spaced (w ∷ ws) ≡ w ++ behind_spaces ws
@@ -71,10 +71,6 @@ mark_is mark.Restarted = refl
 pub signed_is : (m : Mark) → codes " : " ++ mark_text m ≡ behind_spaces (signed_words m)
 signed_is m = ap (λ t. codes " :" ++ t) (mark_is m)
 
--- the words of an access, behind a text
-pub access_is : (told : List ℕ) (a : Access) → ((((((told ++ codes " ") ++ decimal a.owner) ++ (codes "." ++ (field_word a.field ++ codes "."))) ++ decimal a.bit) ++ codes ".") ++ decimal a.reader) ++ behind_spaces (move_words a.how) ≡ told ++ behind_spaces (access_words (Some a))
-access_is told a = simp append_assoc
-
 -- a line and the marks from a place on, one mark later
 pub marks_more : (told : List ℕ) (marks : List Mark) (k : ℕ) (here : Mark) → k < length marks → here ≡ get_or marks k here → (told ++ behind_spaces (signed_words here)) ++ behind_spaces (flat_map signed_words (drop (k + 1) marks)) ≡ told ++ behind_spaces (flat_map signed_words (drop k marks))
 marks_more told marks k here within is =
@@ -82,19 +78,27 @@ marks_more told marks k here within is =
     ∙ ap (λ t. told ++ t) (sym (spaces_append (signed_words here) (flat_map signed_words (drop (k + 1) marks))))
     ∙ ap (λ ms. told ++ behind_spaces (flat_map signed_words ms)) (sym (drop_in marks k here within is))
 
--- without an access nothing is added
-pub no_access_is : (line : List ℕ) → line ≡ line ++ behind_spaces (access_words None)
-no_access_is line = sym (append-nil line)
+-- a process without an access
+pub no_access_is : (p : ℕ) → decimal p ≡ decimal p ++ behind_spaces (access_words None)
+no_access_is p = sym (append-nil (decimal p))
 
--- four parts, put together behind a text
-behind_text : (told a b c d : List ℕ) → (((told ++ a) ++ b) ++ c) ++ d ≡ told ++ (((a ++ b) ++ c) ++ d)
-behind_text told a b c d = simp append_assoc
+-- three parts, put together behind a text
+behind_text : (told a b c : List ℕ) → ((told ++ a) ++ b) ++ c ≡ told ++ ((a ++ b) ++ c)
+behind_text told a b c = simp append_assoc
 
 line_is : (e : Entry) → ((decimal e.process ++ behind_spaces (access_words e.access)) ++ behind_spaces (flat_map signed_words e.marks)) ++ codes "\n" ≡ entry_line e
 line_is e =
     ap (λ t. t ++ codes "\n") (append_assoc (decimal e.process) (behind_spaces (access_words e.access)) (behind_spaces (flat_map signed_words e.marks)) ∙ ap (λ t. decimal e.process ++ t) (sym (spaces_append (access_words e.access) (flat_map signed_words e.marks))))
     ∙ ap (λ t. t ++ codes "\n") (sym (spaced_first (decimal e.process) (access_words e.access ++ flat_map signed_words e.marks)))
 
--- The line of an entry, by its parts, behind a text.
-pub entry_is : (told : List ℕ) (e : Entry) → (((told ++ decimal e.process) ++ behind_spaces (access_words e.access)) ++ behind_spaces (flat_map signed_words e.marks)) ++ codes "\n" ≡ told ++ entry_line e
-entry_is told e = behind_text told (decimal e.process) (behind_spaces (access_words e.access)) (behind_spaces (flat_map signed_words e.marks)) (codes "\n") ∙ ap (λ t. told ++ t) (line_is e)
+-- the words of a process and its access, by their parts, in front of a text
+pub words_are : (p : ℕ) (a : Access) (text : List ℕ) → decimal p ++ (32 ∷ (decimal a.owner ++ (dotted_field a.field ++ (decimal a.bit ++ (46 ∷ (decimal a.reader ++ (behind_spaces (move_words a.how) ++ text))))))) ≡ (decimal p ++ behind_spaces (access_words (Some a))) ++ text
+words_are p a text = simp append_assoc
+
+-- The line of a Step is that of its entry, which has no mark.
+pub step_is : (p : ℕ) (a : Access) → (decimal p ++ behind_spaces (access_words (Some a))) ++ codes "\n" ≡ entry_line (step_entry p a)
+step_is p a = ap (λ t. t ++ codes "\n") (sym (append-nil (decimal p ++ behind_spaces (access_words (Some a))))) ∙ line_is (step_entry p a)
+
+-- the line of an entry behind a text, by what stands before its marks
+pub entry_is : (told : List ℕ) (e : Entry) → ((told ++ (decimal e.process ++ behind_spaces (access_words e.access))) ++ behind_spaces (flat_map signed_words e.marks)) ++ codes "\n" ≡ told ++ entry_line e
+entry_is told e = behind_text told (decimal e.process ++ behind_spaces (access_words e.access)) (behind_spaces (flat_map signed_words e.marks)) (codes "\n") ∙ ap (λ t. told ++ t) (line_is e)

@@ -30,6 +30,10 @@ field_word Stamp1 = codes "stamp1"
 field_word Image0 = codes "image0"
 field_word Image1 = codes "image1"
 
+-- between the dots of a copy
+abbrev pub dotted_field : Field → List ℕ
+dotted_field f = codes "." ++ (field_word f ++ codes ".")
+
 -- the word of a copy of a bit: `0.ticket.3.1` is the copy for reader 1 of bit 3 of process 0's ticket
 abbrev pub copy_word : Access → List ℕ
 copy_word a = decimal a.owner ++ (codes "." ++ (field_word a.field ++ (codes "." ++ (decimal a.bit ++ (codes "." ++ decimal a.reader)))))
@@ -100,6 +104,10 @@ behind_spaces = flat_map (λ w. codes " " ++ w)
 -- the line of an entry, with its end
 abbrev pub entry_line : Entry → List ℕ
 entry_line e = printed_line (entry_words e)
+
+-- the entry of a Step of a process with this access and no mark
+abbrev pub step_entry : ℕ → Access → Entry
+step_entry p access = record { process = p; access = Some access; marks = [] }
 
 -- the words of the lines before the entries: the version, the four headings, the opening pairs
 abbrev pub head_words : Setup → List (List (List ℕ))

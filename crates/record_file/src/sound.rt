@@ -1,8 +1,9 @@
 //! What the types of an entry say of its parts. Each function has nothing to do but to name the parts.
-ghost use Rattle.std.specs.Prelude.{◌≡◌, ◌^◌, ◌&&◌, true, nat_lt};
+ghost use Rattle.std.specs.Prelude.{◌≡◌, ◌^◌, ◌&&◌, true, nat_lt, Some};
 ghost use Rattle.std.specs.List.{list_all};
 ghost use Rattle.plain_store.specs.Values.{is_value};
 ghost use Rattle.record_file.specs.Given.{is_access, is_answer, is_entry, is_mark, is_reply};
+ghost use Rattle.record_file.specs.Printing.{step_entry};
 
 use plain_store::{Answer, NestedTypes, Reply, Value};
 use record::{Entry, Mark};
@@ -18,6 +19,14 @@ pub fn sound_entry(entry: &Entry)
     sound_marks(&entry.act.marks);
 }
 
+/// The same of the entry of a Step.
+pub fn sound_step(process: u8, access: &Access)
+    ensures { is_entry (step_entry process access.now) ≡ true }
+{
+    sound_process(process);
+    sound_parts(access);
+}
+
 fn sound_process(process: u8)
     ensures { nat_lt process 256 ≡ true }
 {}
@@ -26,10 +35,16 @@ fn sound_access(access: &Option<Access>)
     ensures { is_access access.now ≡ true }
 {
     if let Some(access) = access {
-        sound_process(access.owner);
-        sound_number(access.bit);
-        sound_process(access.reader);
+        sound_parts(access);
     }
+}
+
+fn sound_parts(access: &Access)
+    ensures { is_access (Some access.now) ≡ true }
+{
+    sound_process(access.owner);
+    sound_number(access.bit);
+    sound_process(access.reader);
 }
 
 #[tactic(auto, using(scenario::proofs::Places::next_in, scenario::proofs::Places::all_at_end))]

@@ -1,5 +1,4 @@
 -- What is printed, and read again
-pub mod PrintedWords
 pub mod ReadBack
 -- The entries of every record fit their lines
 pub mod SoundReplies

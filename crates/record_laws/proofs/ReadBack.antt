@@ -1,30 +1,26 @@
 -- A printed record is read as that record.
-use Rattle.std.proofs.Common.{◌≡◌, ℕ, ◌+◌, ◌<◌, ◌≤◌, ◌^◌, ◌==◌, ◌&&◌, not, nat_le, nat_lt, true, false, if◌then◌else◌, List, [], ◌∷◌, ◌++◌, length, map, flat_map, codes, Option, Some, None, Result, Ok, Err, refl, ap, sym, ◌∙◌, arith, append-nil, append_assoc}
+use Rattle.std.proofs.Common.{◌≡◌, ℕ, ◌+◌, ◌<◌, ◌≤◌, ◌==◌, ◌&&◌, not, nat_le, nat_lt, true, false, if◌then◌else◌, List, [], ◌∷◌, ◌++◌, length, map, flat_map, codes, Option, Some, None, Result, Ok, Err, refl, ap, sym, ◌∙◌, arith, append-nil, append_assoc}
 use Rattle.std.proofs.lemmas.Bool.{and_from, and_parts}
 use Rattle.std.proofs.lemmas.Bool.Decides.{nat_tests}
-use Rattle.std.proofs.lemmas.Fmt.{decimal_nonempty, digits_decimal}
 use Rattle.std.proofs.lemmas.Grind.{flat_map-append}
 use Rattle.std.proofs.lemmas.List.{length-append, map-append}
 use Rattle.std.proofs.lemmas.List.Folds.{flat_map-map, list_all-append}
 use Rattle.std.specs.Fmt.{decimal}
 use Rattle.std.specs.Int.{is_in_range}
 use Rattle.std.specs.List.{list_all}
-use Rattle.std.specs.Str.{bytes_eq}
 use Rattle.plain_store.proofs.GoodSetups.{IsGood, few-opening, good-checked}
 use Rattle.plain_store.specs.Pairs.{Pair, is_pair}
 use Rattle.plain_store.specs.Shown.{value_text}
 use Rattle.plain_store.specs.Store.{names_differ}
 use Rattle.plain_store.specs.declared.setups.Setup.{Setup}
-use Rattle.files.specs.Checks.{◌>>=◌, fault_if, known}
-use Rattle.files.specs.Files.{at_line, statement_read, words_read}
+use Rattle.files.specs.Checks.{◌>>=◌, fault_if}
+use Rattle.files.specs.Files.{at_line, words_read}
 use Rattle.files.specs.Limits.{is_said}
-use Rattle.files.specs.Words.{begins_with, lines, words_of}
+use Rattle.files.specs.Words.{lines, words_of}
 use Rattle.files.specs.declared.faults.FaultKind.{FaultKind}
 use Rattle.files.specs.declared.faults.FaultKind.TheVariants.{TooLong, Unknown}
 use Rattle.files.specs.declared.faults.LineFault.{LineFault}
 use Rattle.record.specs.Entries.{Entry}
-use Rattle.scenario.specs.Keywords.{opener_of}
-use Rattle.scenario.specs.Numbers.{are_digits}
 use Rattle.scenario.specs.Printing.{heading_words, headings_of, open_words, printed_line, spaced}
 use Rattle.scenario.specs.Reading.{heading_read, open_read}
 use Rattle.scenario.specs.Reading.{Progress as Head}
@@ -34,18 +30,15 @@ use Rattle.scenario.specs.declared.headings.Given.{Given}
 use Rattle.scenario.specs.declared.keywords.Heading.{Heading}
 use Rattle.scenario.specs.declared.keywords.Heading.TheVariants.{Processes, Tickets, Stamps, Slots}
 use Rattle.scenario.proofs.HeadingLists.{all_given, are_free, are_others, free_more, heading_in, heading_keeps, number_kept, number_set, version_keeps}
-use Rattle.scenario.proofs.Numerals.{own}
 use Rattle.scenario.proofs.Printout.{all_free, may_add, none_before, two_if_open}
 use Rattle.scenario.proofs.ReadBack.{heading_said_again, open_again, version_again}
 use Rattle.scenario.proofs.ShortLines.{heading_fits, script_printable, small_heading}
 use Rattle.scenario.proofs.Spaced.{is_printable, is_word, length-spaced, lines_of_words, printable_words, size, words_of_spaced}
-use Rattle.record_file.proofs.ReadBack.{entry_words_again}
-use Rattle.record_file.specs.Given.{IsEntry, is_access, is_mark}
-use Rattle.record_file.specs.Printing.{access_words, entry_words, head_words, record_text, signed_words}
-use Rattle.record_reader.specs.RecordFiles.{Progress, begins_with_digit, cleared, entry_in, first_read, head_read, kind_in, line_read, line_said, lines_read, pair_read, record_grammar, record_of, said_by}
-use Rattle.record_reader.specs.declared.kinds.LineKind.TheVariants as kind
+use Rattle.record_file.proofs.PrintedWords.{entry_is_words}
+use Rattle.record_file.specs.Printing.{entry_words, head_words, record_text}
+use Rattle.record_reader.specs.RecordFiles.{Progress, cleared, entry_in, first_read, head_read, line_read, lines_read, pair_read, record_grammar, record_of, said_by}
+use Rattle.record_reader.proofs.EntryLines.{entry_of_words}
 use Rattle.record_laws.specs.ReadAgain.{FitLines, IsSetupOfFile}
-use Rattle.record_laws.proofs.PrintedWords.{entry_is_words}
 
 -- One line.
 
@@ -154,23 +147,6 @@ pairs_on (p ∷ ps) more given s r room two good differ short rest n =
 
 -- The entries.
 
--- the first word of an entry is a number: it begins with a digit
-begins_so : (ds : List ℕ) → 0 < length ds → are_digits ds ≡ true → (begins_with_digit ds ≡ true) × (begins_with 35 ds ≡ false)
-begins_so [] some digits = absurd (omega (arith, some))
-begins_so (d ∷ ds) some digits = (grind (arith, nat_tests), grind (arith, nat_tests))
-
--- a line of an entry
-entry_of_line : (e : Entry) (p : Progress) → IsEntry e → words_read record_grammar (entry_words e) (Some p) ≡ Ok (Some (record p { ended = true; entry = Some e }))
-entry_of_line e p is =
-    let number : nat_lt e.process 256 ≡ true = (and_parts (nat_lt e.process 256) (is_access e.access && list_all is_mark e.marks) is.sound).0 in
-    let small : e.process < 2 ^ 64 = grind (arith, nat_tests) in
-    let first : List ℕ = decimal e.process in
-    let rest : List (List ℕ) = access_words e.access ++ flat_map signed_words e.marks in
-    let begins = begins_so first (decimal_nonempty e.process small) (digits_decimal own e.process small) in
-    ap (λ t. if t then Ok (Some p) else statement_read record_grammar first rest (Some p)) begins.1
-    ∙ ap (λ t. (known (if t then Some kind.Entry else if bytes_eq first (codes "record") then Some kind.Record else kind_in (opener_of first)) >>= λ k. line_said k first rest p) >>= λ (p : Progress). Ok (Some p)) begins.0
-    ∙ ap (λ r. (r >>= λ entry. Ok (record p { ended = true; entry = Some entry })) >>= λ (p : Progress). Ok (Some p)) (entry_words_again first rest e refl is)
-
 -- what was read, behind entries
 abbrev behind : Progress → List Entry → Progress
 behind p [] = p
@@ -184,7 +160,7 @@ head_stays p (e ∷ entries) = head_stays (record p { ended = true; entry = None
 entries_on : (entries : List Entry) (n : ℕ) (p : Progress) (done : List Entry) → FitLines entries → lines_read n (map spaced (map entry_words entries)) (Some p) done ≡ Ok (Some (behind p entries), done ++ entries)
 entries_on [] n p done are = ap (λ (l : List Entry). Ok (Some p, l)) (sym (append-nil done))
 entries_on (e ∷ entries) n p done are =
-    line_on n (entry_words e) (map spaced (map entry_words entries)) (Some p) (Some (record p { ended = true; entry = Some e })) done (record { words = entry_is_words e are.0.entry.sound; short = are.0.short }) (entry_of_line e p are.0.entry)
+    line_on n (entry_words e) (map spaced (map entry_words entries)) (Some p) (Some (record p { ended = true; entry = Some e })) done (record { words = entry_is_words e are.0.entry.sound; short = are.0.short }) (entry_of_words e p are.0.entry)
     ∙ entries_on entries (n + 1) (record p { ended = true; entry = None }) (done ++ e ∷ []) are.1
     ∙ ap (λ (l : List Entry). Ok (Some (behind p (e ∷ entries)), l)) (append_assoc done (e ∷ []) entries)
 

@@ -1,5 +1,5 @@
 //! What the lines of a record file say.
-ghost use Rattle.std.specs.Prelude.{◌≡◌, Ok};
+ghost use Rattle.std.specs.Prelude.{◌≡◌, MatchOption, None, Ok, Some};
 ghost use Rattle.plain_store.specs.Setups.{checked};
 ghost use Rattle.files.specs.Reads.{Makes, Takes};
 ghost use Rattle.files.specs.Words.{texts};
@@ -60,13 +60,19 @@ impl RecordReader {
         self.head.setup()
     }
 
-    /// Takes the entry of the last line, if it is one.
-    pub fn take_entry(&mut self) -> Option<Entry>
-        ensures entry { result ≡ self.old.entry }
-        ensures left { self.new ≡ record self.old { entry = None } }
+    /// The entry of the last line, if it is one.
+    pub fn last_entry(&self) -> Option<&Entry>
+        ensures { MatchOption result (self.now.entry ≡ None) (λ entry. self.now.entry ≡ Some entry.now) }
+    {
+        self.entry.as_ref()
+    }
+
+    /// Lets the entry of the last line go.
+    pub fn forget_entry(&mut self)
+        ensures { self.new ≡ record self.old { entry = None } }
     {
         let _nested: NestedTypes = None;
-        self.entry.take()
+        self.entry = None;
     }
 
     /// The first line: `record 1` or `record 2`.

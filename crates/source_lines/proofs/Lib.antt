@@ -1,3 +1,5 @@
+-- The first 0x0A
+pub mod Ends
 -- Bytes that come in blocks
 pub mod Blocks
 -- The first line of a text

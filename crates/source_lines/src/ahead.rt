@@ -6,6 +6,7 @@ ghost use Rattle.source_lines.specs.Lines.{ends_line, MovesAll, MovesEnded};
 ghost use Rattle.source_lines.specs.Streams.{ComesToEnd, EndHolds, Stays, coming};
 
 use files::{Failed, Fault, Source};
+use memchr::memchr;
 use std::alloc::{AllocError, Global};
 use std::marker::Model;
 
@@ -107,9 +108,10 @@ impl Ahead {
 }
 
 /// How many bytes stand before the first 0x0A, if there is one.
+#[tactic(auto, using(crate::proofs::Ends::place_is))]
 fn place_of_end(bytes: &[u8]) -> Option<usize>
     ensures place { result ≡ position ends_line bytes.now }
     ensures within { IfSome result (λ at. at < length bytes.now) }
 {
-    bytes.iter().position(|byte| *byte == b'\n')
+    memchr(b'\n', bytes)
 }

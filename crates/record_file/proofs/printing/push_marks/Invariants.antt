@@ -1,8 +1,7 @@
 use Rattle.std.proofs.Common.{◌≡◌, ◌++◌, drop, flat_map}
-use Rattle.std.specs.String.{string_bytes}
 use Rattle.record_file.specs.Printing.{behind_spaces, signed_words}
 use Rattle.record_file.proofs.printing.push_marks.Given as goal
 
 -- the line so far and the marks to come are all marks
 abbrev pub invariant-loop-mark : goal.invariant-loop-mark
-invariant-loop-mark l = string_bytes l.line ++ behind_spaces (flat_map signed_words (drop l.mark-index l.marks)) ≡ string_bytes l.fn.line ++ behind_spaces (flat_map signed_words l.marks)
+invariant-loop-mark l = l.line.items ++ behind_spaces (flat_map signed_words (drop l.mark-index l.marks)) ≡ l.fn.line.items ++ behind_spaces (flat_map signed_words l.marks)

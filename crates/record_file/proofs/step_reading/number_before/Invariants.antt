@@ -1,0 +1,10 @@
+use Rattle.std.proofs.Common.{◌≡◌, ◌++◌, length}
+use Rattle.std.specs.Fmt.{decimal}
+use Rattle.record_file.proofs.step_reading.number_before.Given as goal
+
+-- the number so far, and the bytes that are left
+abbrev pub invariant-digits : goal.invariant-digits
+invariant-digits l = l.bytes ≡ decimal l.number ++ l.rest
+
+abbrev pub decreases-digits : goal.decreases-digits
+decreases-digits l = length l.rest

@@ -1,0 +1,204 @@
+//! How the entry of a Step without a mark is printed: nearly all entries are of this kind, so that it has a quick way of
+//! its own. Its line is written from its end to its front, so that each number and each word ends where a place is known.
+ghost use Rattle.std.specs.Prelude.{◌≡◌, ◌+◌, ◌-◌, ◌≤◌, ◌++◌, ◌∷◌, [], drop, length, Some};
+ghost use Rattle.std.specs.Fmt.{decimal};
+ghost use Rattle.record_file.specs.Printing.{access_words, behind_spaces, dotted_field, entry_line, move_words, step_entry};
+
+use itoa::write_digits;
+use safe_bit::Move;
+use safe_number::{Access, Field};
+use std::marker::Model;
+
+/// Room for the longest line, and for the bytes that stand in front of a word while it is written.
+const ROOM: usize = 64;
+
+/// The line of a Step, with its end, and room for it. Contracts see the line.
+#[derive(Drop)]
+pub struct StepLine {
+    bytes: [u8; ROOM],
+    at: usize,
+}
+
+impl Model for StepLine {
+    ghost use Rattle.std.specs.Prelude.{ℕ, ◌≤◌, List, drop};
+
+    ghost Value = { List ℕ };
+
+    ghost view = { λ line. drop line.at line.bytes };
+
+    ghost invariant = { λ line. line.at ≤ 64 };
+}
+
+impl StepLine {
+    /// No line yet.
+    pub fn new() -> StepLine
+        ensures { result ≡ [] }
+    {
+        StepLine {
+            bytes: [0; ROOM],
+            at: ROOM,
+        }
+    }
+
+    /// The line's bytes.
+    #[inline]
+    pub fn as_bytes(&self) -> &[u8]
+        ensures { result.now ≡ self.now }
+    {
+        &self.bytes[self.at..]
+    }
+
+    /// Prints the line of a Step of this process with this access and no mark, in place of the one before.
+    #[inline]
+    #[tactic(auto, using(crate::proofs::Printed::step_is))]
+    pub fn print(&mut self, process: u8, access: Access)
+        ensures { self.new ≡ entry_line (step_entry process access) }
+    {
+        let end = put_byte(b'\n', &mut self.bytes, ROOM);
+        self.at = put_words(process, access, &mut self.bytes, end);
+    }
+
+    /// Prints its words alone, without the end of the line.
+    pub(crate) fn print_words(&mut self, process: u8, access: Access)
+        ensures { self.new ≡ decimal process ++ behind_spaces (access_words (Some access)) }
+    {
+        self.at = put_words(process, access, &mut self.bytes, ROOM);
+    }
+}
+
+/// Puts the words of a process and its access in front of a place, and answers where they begin.
+#[inline(always)]
+fn put_words(process: u8, access: Access, line: &mut [u8; ROOM], end: usize) -> usize
+    requires { (63 ≤ end) × (end ≤ 64) }
+    ensures place { result ≤ 64 }
+    ensures line { drop result line.new ≡ (decimal process ++ behind_spaces (access_words (Some access))) ++ drop end line.old }
+{
+    let at = put_move(access.how, line, end);
+    let at = put_number(u16::from(access.reader), line, at);
+    let at = put_byte(b'.', line, at);
+    let at = put_number(access.bit, line, at);
+    let at = put_field(access.field, line, at);
+    let at = put_number(u16::from(access.owner), line, at);
+    let at = put_byte(b' ', line, at);
+    put_number(u16::from(process), line, at)
+}
+
+/// Puts a byte in front of a place, and answers its own.
+#[inline(always)]
+fn put_byte(byte: u8, line: &mut [u8; ROOM], end: usize) -> usize
+    requires { (1 ≤ end) × (end ≤ 64) }
+    ensures place { result + 1 ≡ end }
+    ensures line { drop result line.new ≡ byte ∷ drop end line.old }
+{
+    line[end - 1] = byte;
+    end - 1
+}
+
+/// Puts a number in front of a place, and answers where it begins.
+#[inline(always)]
+fn put_number(number: u16, line: &mut [u8; ROOM], end: usize) -> usize
+    requires { (5 ≤ end) × (end ≤ 64) }
+    ensures place { (result ≤ end) × (end ≤ result + 5) }
+    ensures line { drop result line.new ≡ decimal number ++ drop end line.old }
+{
+    write_digits(u64::from(number), line, end)
+}
+
+/// A word that is written as one load and one store: it ends with the last of 16 bytes, and the bytes in front of it are
+/// written over by what comes next.
+const WIDTH: usize = 16;
+
+/// Puts the last bytes of a word in front of a place, so many, and answers where they begin.
+#[inline(always)]
+fn put_word(word: &[u8; WIDTH], count: usize, line: &mut [u8; ROOM], end: usize) -> usize
+    requires { (count ≤ 16) × (16 ≤ end) × (end ≤ 64) }
+    ensures place { result + count ≡ end }
+    ensures line { drop result line.new ≡ drop (16 - count) word.now ++ drop end line.old }
+{
+    line[end - WIDTH..end].copy_from_slice(word);
+    end - count
+}
+
+/// Puts the word of a register, between its dots, in front of a place.
+#[inline(always)]
+fn put_field(field: Field, line: &mut [u8; ROOM], end: usize) -> usize
+    requires { (16 ≤ end) × (end ≤ 64) }
+    ensures place { (result ≤ end) × (end ≤ result + 10) }
+    ensures line { drop result line.new ≡ dotted_field field ++ drop end line.old }
+{
+    put_word(field_word(field), field_count(field), line, end)
+}
+
+/// The word of a register, between its dots, as the last of these bytes.
+#[inline(always)]
+fn field_word(field: Field) -> &'static [u8; WIDTH]
+    ensures { drop (16 - length (dotted_field field)) result.now ≡ dotted_field field }
+{
+    match field {
+        Field::Choosing => b"      .choosing.",
+        Field::Ticket => b"        .ticket.",
+        Field::Commit => b"        .commit.",
+        Field::Stamp0 => b"        .stamp0.",
+        Field::Stamp1 => b"        .stamp1.",
+        Field::Image0 => b"        .image0.",
+        Field::Image1 => b"        .image1.",
+    }
+}
+
+/// How many bytes it has.
+#[inline(always)]
+fn field_count(field: Field) -> usize
+    ensures count { result ≡ length (dotted_field field) }
+    ensures few { result ≤ 10 }
+{
+    match field {
+        Field::Choosing => 10,
+        Field::Ticket
+        | Field::Commit
+        | Field::Stamp0
+        | Field::Stamp1
+        | Field::Image0
+        | Field::Image1 => 8,
+    }
+}
+
+/// Puts the words of a move, each behind a space, in front of a place.
+#[inline(always)]
+fn put_move(how: Move, line: &mut [u8; ROOM], end: usize) -> usize
+    requires { (16 ≤ end) × (end ≤ 64) }
+    ensures place { (result ≤ end) × (end ≤ result + 10) }
+    ensures line { drop result line.new ≡ behind_spaces (move_words how) ++ drop end line.old }
+{
+    put_word(move_word(how), move_count(how), line, end)
+}
+
+/// The words of a move, each behind a space, as the last of these bytes.
+#[inline(always)]
+fn move_word(how: Move) -> &'static [u8; WIDTH]
+    ensures { drop (16 - length (behind_spaces (move_words how))) result.now ≡ behind_spaces (move_words how) }
+{
+    match how {
+        Move::BeginWrite(false) => b"         write 0",
+        Move::BeginWrite(true) => b"         write 1",
+        Move::EndWrite => b"             end",
+        Move::BeginRead => b"            read",
+        Move::EndRead(false) => b"         value 0",
+        Move::EndRead(true) => b"         value 1",
+        Move::Settle(false) => b"        settle 0",
+        Move::Settle(true) => b"        settle 1",
+    }
+}
+
+/// How many bytes they have.
+#[inline(always)]
+fn move_count(how: Move) -> usize
+    ensures count { result ≡ length (behind_spaces (move_words how)) }
+    ensures few { result ≤ 10 }
+{
+    match how {
+        Move::EndWrite => 4,
+        Move::BeginRead => 5,
+        Move::BeginWrite(_) | Move::EndRead(_) => 8,
+        Move::Settle(_) => 9,
+    }
+}

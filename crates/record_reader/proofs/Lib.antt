@@ -1,0 +1,2 @@
+-- The lines of printed entries
+pub mod EntryLines
