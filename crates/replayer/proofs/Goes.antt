@@ -13,6 +13,7 @@ use Rattle.world.specs.Shows.{Shows, WorldState}
 use Rattle.replayer.specs.Courses.{CourseState, Follows, IsQuiet, Makes, MakesQuietly, MakesTurns, QuietTurns, course}
 use Rattle.replayer.specs.Happenings.{Lacks, tried}
 use Rattle.replayer.specs.Runs.{Run, is_there, next_step, past_in, stepped}
+use Rattle.replayer.specs.Steppers.{IsAway}
 use Rattle.replayer.specs.Telling.{AddsMarks}
 use Rattle.replayer.specs.Turns.{Turn, ends, go_turn, happens, made_turn, on_turn, step_turn, turn_of}
 use Rattle.replayer.specs.declared.told.Told.{Told}
@@ -22,19 +23,14 @@ use Rattle.replayer.proofs.CourseTurns.{stage_told}
 use Rattle.replayer.proofs.Walks.{step_turn_made}
 use Rattle.replayer.proofs.Wanders.{stage_quiet}
 
--- a process is there, and not where it is to go
-pub record IsAway (s : Setup) (p : ℕ) (target : Target) (run : Run) : Type 0 where
-  pub there : nat_lt p s.processes ≡ true
-  pub away : is_there target (stage p (past_in s run)) ≡ false
-
--- then a turn of `go` is a Step, or the last one
+-- where a process is away a turn of `go` is a Step, or the last one
 away_turn : (s : Setup) (p : ℕ) (target : Target) (left : ℕ) (run : Run) → IsAway s p target run → go_turn s p target left run ≡ on_turn s p left run
 away_turn s p target left run is =
     ap (λ b. elim b as (λ _. Turn) [ false ↦ happens (Lacks p) 0 run | true ↦ elim (is_there target (stage p (past_in s run))) [ true ↦ ends run | false ↦ on_turn s p left run ] ]) is.there
     ∙ ap (λ b. elim b as (λ _. Turn) [ true ↦ ends run | false ↦ on_turn s p left run ]) is.away
 
 -- as long as two turns are left, a Step
-go_steps : (s : Setup) (p steps : ℕ) (target : Target) (left : ℕ) (run : Run) → IsAway s p target run → 1 < left → turn_of s (line.Go p target) left run ≡ turn_of s (line.Step p steps) left run
+pub go_steps : (s : Setup) (p steps : ℕ) (target : Target) (left : ℕ) (run : Run) → IsAway s p target run → 1 < left → turn_of s (line.Go p target) left run ≡ turn_of s (line.Step p steps) left run
 go_steps s p steps target zero run is more = absurd (omega (arith, more))
 go_steps s p steps target (suc zero) run is more = absurd (omega (arith, more))
 go_steps s p steps target (suc (suc left)) run is more = away_turn s p target (suc left) run is

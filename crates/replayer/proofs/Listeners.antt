@@ -1,9 +1,10 @@
 -- What the auditor of a run has heard: no entry breaks a law.
-use Rattle.std.proofs.Common.{◌≡◌, ℕ, map, List, [], ◌∷◌, length, reverse, Option, None, Some, Ok, refl, ap, sym, subst, ◌∙◌}
+use Rattle.std.proofs.Common.{◌≡◌, ℕ, ◌+◌, Bool, add-one, map, List, [], ◌∷◌, length, reverse, Option, None, Some, Ok, refl, ap, sym, subst, ◌∙◌}
 use Rattle.std.proofs.lemmas.List.{length-reverse, reverse-reverse}
 use Rattle.plain_store.specs.declared.setups.Setup.{Setup}
 use Rattle.plain_store.specs.Setups.{checked}
 use Rattle.record.specs.declared.events.Event.{Event}
+use Rattle.record.specs.declared.events.Event.TheVariants.{Step}
 use Rattle.record.specs.declared.history.Taken.{Taken}
 use Rattle.record.specs.declared.refusals.Refusal.{Refusal}
 use Rattle.record.specs.Entries.{Entry, Past}
@@ -16,6 +17,8 @@ use Rattle.process.specs.Telling.{act_of, marks_of}
 use Rattle.world.specs.Events.{Adds, GoesOn, entry_with}
 use Rattle.world.specs.Cores.{CoreState, core_of, with_history}
 use Rattle.world.specs.Shows.{Shows, WorldState, world_of}
+use Rattle.world.specs.Walks.{StepsQuietly, Walks}
+use Rattle.flicks.specs.Flicks.{FlickState, after_flick, flick_of}
 use Rattle.world.proofs.WorldShows.{past-after}
 use Rattle.auditor.specs.Hearing.{AuditorState, HasHeard, IsCount, IsHeard}
 use Rattle.auditor.specs.Verdicts.{AllKeep, IsVerdict, KeepsAll}
@@ -131,6 +134,14 @@ entry_heard old new e l a law adds agrees hears setup = record { core = core_is 
     still : a.core.setup ≡ new.setup
     still = setup both.0 ∙ same ∙ sym adds.setup
 
+-- so whoever listens agrees with the world still
+pub heard_agrees : (new : WorldState) (a : AuditorState) (law : Option Law) (l : Listener) → Heard new a law → l.auditor ≡ a → l.verdict ≡ Good → Agrees new l
+heard_agrees new a law l h is good = record {
+  core = ap (λ (a : AuditorState). a.core) is ∙ h.core;
+  taken = subst (λ (a : AuditorState). IsCount a.taken (length new.history)) (sym is) h.taken;
+  kept = good;
+}
+
 -- what a world adds that goes on by an event, where a command that it takes gets the place after those taken before
 pub adds_entry : (old new : WorldState) (event : Event) (p : ℕ) (access : Option Access) (effect : Effect) (taken : List Taken) → ((events : List Event) × Shows old events) → ((events : List Event) → Shows old events → taken ≡ history old.setup (past_of old.setup events)) →
     Adds old event p (act_of (length old.history) (record { access = access; effect = effect })) → GoesOn old event new → new.setup ≡ old.setup → AddsEntry old (record { process = p; access = access; marks = map (placed (length taken)) (marks_of effect) }) new
@@ -142,3 +153,20 @@ adds_entry old new event p access effect taken (events, shows) are adds goes set
   goes = goes events shows;
   setup = setup;
 }
+
+-- and by a step within a number access
+pub adds_access : (old new : WorldState) (p : ℕ) (flick : Bool) (access : Access) → ((events : List Event) × Shows old events) → StepsQuietly old p flick new → Adds old (Step p flick) p (record { access = Some access; marks = [] }) →
+    AddsEntry old (record { process = p; access = Some access; marks = [] }) new
+adds_access old new p flick access (events, shows) steps adds = record {
+  events = events;
+  event = Step p flick;
+  shows = shows;
+  adds = adds events shows;
+  goes = steps.shows events shows;
+  setup = steps.setup;
+}
+
+-- one such step more
+pub walks_on : (old mid new : WorldState) (f g h : FlickState) (p made : ℕ) (flick : Bool) → Walks old f p made mid g → StepsQuietly mid p flick new → flick ≡ flick_of g → h ≡ after_flick g → Walks old f p (made + 1) new h
+walks_on old mid new f g h p made flick first step is after =
+    subst (λ n. Walks old f p n new h) (sym (add-one made)) (mid, g, first, subst (λ flick. StepsQuietly mid p flick new) is step, after)

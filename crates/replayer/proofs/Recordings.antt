@@ -7,19 +7,23 @@ use Rattle.files.specs.Streams.{WritesFront}
 use Rattle.plain_store.specs.declared.setups.Setup.{Setup}
 use Rattle.record.specs.Entries.{Entry, Past}
 use Rattle.record.specs.Records.{entry_of}
-use Rattle.record_file.specs.Printing.{entry_line, head_words}
+use Rattle.record_file.specs.Printing.{entry_line, head_words, step_entry}
 use Rattle.scenario.specs.Printing.{printed_line}
 use Rattle.scenario.specs.Reading.{Script}
 use Rattle.scenario.specs.declared.lines.Line.{Line}
 use Rattle.replayer.specs.Audits.{run_record}
-use Rattle.replayer.specs.Courses.{CourseState, Follows, MakesTurn}
+use Rattle.replayer.specs.Courses.{CourseState, Follows, Makes}
 use Rattle.replayer.specs.Happenings.{Happening, Tries, Lacks, Tires, Looks, past_after, tried}
 use Rattle.replayer.specs.Recordings.{Copies, CopiesLine, CopiesPart, CutsCopy, entries_text, entry_told, recorded}
 use Rattle.replayer.specs.Runs.{Run, past_in, run_after, run_at_start, runs}
-use Rattle.replayer.specs.Telling.{TellsOf, entry_made}
+use Rattle.replayer.specs.Steppers.{AreNext, IsReady, MakesStep}
+use Rattle.replayer.specs.Telling.{TellsOf, entry_made, told_unmarked}
 use Rattle.replayer.specs.Turns.{Turn, turn_of, turns_in}
+use Rattle.replayer.specs.declared.told.Drawn.{Drawn}
+use Rattle.replayer.specs.declared.told.Stepped.{Stepped}
 use Rattle.replayer.specs.declared.told.Told.{Told}
 use Rattle.replayer.specs.declared.told.Told.TheVariants as told
+use Rattle.replayer.specs.declared.turns.steps.Steppers.{Steppers}
 use Rattle.replayer.proofs.Grows.{Grows, lines_grow, rest_grows}
 use Rattle.replayer.proofs.Listeners.{run_past}
 use Rattle.replayer.proofs.Refusals.{past_kept}
@@ -81,9 +85,8 @@ more_longer s before (this ∷ more) =
 longer : (s : Setup) (before after : List Happening) → Grows before after → Longer s before after
 longer s before after grows = subst (λ (l : List Happening). Longer s before l) (sym grows.is) (more_longer s before grows.more)
 
--- A line that is being made.
-pub record Copying (s : Setup) (line : Line) (start : Run) (course : CourseState) (old new : Option (List ℕ)) : Type 0 where
-  pub now : Run
+-- A line that is being made: after this run so much is written.
+pub record CopyingAt (s : Setup) (line : Line) (start : Run) (course : CourseState) (old new : Option (List ℕ)) (now : Run) : Type 0 where
   pub follows : Follows course now
   pub setup : course.world.setup ≡ s
   pub text : List ℕ
@@ -91,100 +94,160 @@ pub record Copying (s : Setup) (line : Line) (start : Run) (course : CourseState
   pub taken : Appends old new text
   pub rest : rest_of s line course.left now ≡ run_after s line start
 
+-- and these make the next Steps
+pub record Copying (s : Setup) (line : Line) (start : Run) (course : CourseState) (steppers : Steppers) (old new : Option (List ℕ)) : Type 0 where
+  pub now : Run
+  pub at : CopyingAt s line start course old new now
+  pub next : AreNext s line now steppers
+
+-- who makes the next Steps is looked for after each turn but such a Step
+copying_with : (s : Setup) (line : Line) (start : Run) (course : CourseState) (steppers : Steppers) (old new : Option (List ℕ)) (now : Run) → CopyingAt s line start course old new now → ((run : Run) → Follows course run → AreNext course.world.setup line run steppers) →
+    Copying s line start course steppers old new
+copying_with s line start course steppers old new now at next = record { now = now; at = at; next = subst (λ (s : Setup). AreNext s line now steppers) at.setup (next now at.follows) }
+
 -- before its first turn
-pub copying_start : (s : Setup) (line : Line) (start : Run) (course : CourseState) (taken : Option (List ℕ)) → course.world.setup ≡ s → course.left ≡ turns_in line → Follows course start → Copying s line start course taken taken
-copying_start s line start course taken setup left follows = record {
-  now = start;
-  follows = follows;
-  setup = setup;
-  text = [];
-  is = sym (append-nil (entries_text s start.happened));
-  taken = appends_none taken;
-  rest = ap (λ n. rest_of s line n start) left ∙ rest_whole s line start;
-}
+pub copying_start : (s : Setup) (line : Line) (start : Run) (course : CourseState) (steppers : Steppers) (taken : Option (List ℕ)) → course.world.setup ≡ s → course.left ≡ turns_in line → Follows course start →
+    ((run : Run) → Follows course run → AreNext course.world.setup line run steppers) → Copying s line start course steppers taken taken
+copying_start s line start course steppers taken setup left follows next =
+    let at : CopyingAt s line start course taken taken start = record {
+      follows = record { shows = follows.shows; flicks = follows.flicks };
+      setup = setup;
+      text = [];
+      is = sym (append-nil (entries_text s start.happened));
+      taken = appends_none taken;
+      rest = ap (λ n. rest_of s line n start) left ∙ rest_whole s line start;
+    } in
+    copying_with s line start course steppers taken taken start at next
 
 -- a turn more
-pub copying_on : (s : Setup) (line : Line) (start : Run) (course course' : CourseState) (answer : Told) (old mid new : Option (List ℕ)) → course.left ≤ turns_in line →
-    Copying s line start course old mid → MakesTurn course line (Some answer) course' → Appends mid new (entry_told answer) → Copying s line start course' old new
-copying_on s line start course course' answer old mid new few u makes wrote = by (turned s line course.left u.now)
+copying_on : (s : Setup) (line : Line) (start : Run) (course course' : CourseState) (answer : Told) (old mid new : Option (List ℕ)) (now : Run) → course.left ≤ turns_in line →
+    CopyingAt s line start course old mid now → Makes course now (turn_of course.world.setup line course.left now) (Some answer) course' → Appends mid new (entry_told answer) → CopyingAt s line start course' old new (turn_of s line course.left now).run
+copying_on s line start course course' answer old mid new now few u makes wrote = by (turned s line course.left now)
   where
     t : Turn
-    t = turn_of s line course.left u.now
+    t = turn_of s line course.left now
 
-    is : Said s line course.left u.now (Some answer) course'
-    is = said s line u.now (Some answer) course course' u.setup (makes u.now u.follows)
+    is : Said s line course.left now (Some answer) course'
+    is = said s line now (Some answer) course course' u.setup makes
 
-    by : Turned t u.now.happened → Copying s line start course' old new
-    by (Nothing none ended same) = absurd (told_none s (past_in s u.now) t.this answer none is.tells)
+    by : Turned t now.happened → CopyingAt s line start course' old new t.run
+    by (Nothing none ended same) = absurd (told_none s (past_in s now) t.this answer none is.tells)
     by (One this some same) =
-        let tells : TellsOf s (past_in s u.now) this answer = told_one s (past_in s u.now) t.this this answer some is.tells in
+        let tells : TellsOf s (past_in s now) this answer = told_one s (past_in s now) t.this this answer some is.tells in
         record {
-          now = t.run;
           follows = is.follows;
           setup = is.setup;
           text = u.text ++ entry_told answer;
-          is = ap (entries_text s) same ∙ entry_is s u.now.happened this answer tells ∙ ap (λ l. l ++ entry_told answer) u.is ∙ append_assoc (entries_text s start.happened) u.text (entry_told answer);
+          is = ap (entries_text s) same ∙ entry_is s now.happened this answer tells ∙ ap (λ l. l ++ entry_told answer) u.is ∙ append_assoc (entries_text s start.happened) u.text (entry_told answer);
           taken = appends_both old mid new u.text (entry_told answer) u.taken wrote;
-          rest = ap (λ n. rest_of s line n t.run) is.left ∙ sym (turn_on s line course.left u.now few) ∙ u.rest;
+          rest = ap (λ n. rest_of s line n t.run) is.left ∙ sym (turn_on s line course.left now few) ∙ u.rest;
         }
 
+-- what the turn that comes next tells, where it may be drawn already
+abbrev pub TellsNext : CourseState → CourseState → Line → Option Drawn → Option Told → CourseState → Type 0
+TellsNext course ready line drawn answer course' = (run : Run) → Follows course run → IsReady course line run drawn ready → Makes course run (turn_of course.world.setup line course.left run) answer course'
+
+-- what is drawn is so, however much has happened
+abbrev pub Draws : CourseState → Line → Steppers → Option Drawn → CourseState → Type 0
+Draws course line steppers drawn ready = (run : Run) → Follows course run → AreNext course.world.setup line run steppers → IsReady course line run drawn ready
+
+makes_next : (s : Setup) (line : Line) (start : Run) (course ready course' : CourseState) (steppers : Steppers) (drawn : Option Drawn) (answer : Option Told) (old new : Option (List ℕ)) → (u : Copying s line start course steppers old new) → Draws course line steppers drawn ready →
+    TellsNext course ready line drawn answer course' → Makes course u.now (turn_of course.world.setup line course.left u.now) answer course'
+makes_next s line start course ready course' steppers drawn answer old new u draws tells = tells u.now u.at.follows (draws u.now u.at.follows (subst (λ (s : Setup). AreNext s line u.now steppers) (sym u.at.setup) u.next))
+
+pub copying_turn : (s : Setup) (line : Line) (start : Run) (course ready course' : CourseState) (steppers steppers' : Steppers) (drawn : Option Drawn) (answer : Told) (old mid new : Option (List ℕ)) → course.left ≤ turns_in line → Copying s line start course steppers old mid → Draws course line steppers drawn ready →
+    TellsNext course ready line drawn (Some answer) course' → Appends mid new (entry_told answer) → ((run : Run) → Follows course' run → AreNext course'.world.setup line run steppers') → Copying s line start course' steppers' old new
+copying_turn s line start course ready course' steppers steppers' drawn answer old mid new few u draws tells wrote next =
+    copying_with s line start course' steppers' old new (turn_of s line course.left u.now).run
+    (copying_on s line start course course' answer old mid new u.now few u.at (makes_next s line start course ready course' steppers drawn (Some answer) old mid u draws tells) wrote) next
+
+-- a Step within a number access more
+abbrev pub StepsNext : CourseState → CourseState → Line → Option Drawn → Stepped → CourseState → Type 0
+StepsNext course ready line drawn made course' = (run : Run) → Follows course run → IsReady course line run drawn ready → MakesStep course line run made course'
+
+step_next : (s : Setup) (line : Line) (start : Run) (course ready course' : CourseState) (steppers : Steppers) (drawn : Option Drawn) (made : Stepped) (old new : Option (List ℕ)) → (u : Copying s line start course steppers old new) → Draws course line steppers drawn ready →
+    StepsNext course ready line drawn made course' → MakesStep course line u.now made course'
+step_next s line start course ready course' steppers drawn made old new u draws steps = steps u.now u.at.follows (draws u.now u.at.follows (subst (λ (s : Setup). AreNext s line u.now steppers) (sym u.at.setup) u.next))
+
+pub copying_step : (s : Setup) (line : Line) (start : Run) (course ready course' : CourseState) (steppers : Steppers) (drawn : Option Drawn) (made : Stepped) (old mid new : Option (List ℕ)) → course.left ≤ turns_in line → Copying s line start course steppers old mid → Draws course line steppers drawn ready →
+    StepsNext course ready line drawn made course' → Appends mid new (entry_line (step_entry made.process made.access)) → Copying s line start course' steppers old new
+copying_step s line start course ready course' steppers drawn made old mid new few u draws steps wrote =
+    let m : MakesStep course line u.now made course' = step_next s line start course ready course' steppers drawn made old mid u draws steps in
+    record {
+      now = (turn_of s line course.left u.now).run;
+      at = copying_on s line start course course' (told_unmarked made m.flick) old mid new u.now few u.at m.makes wrote;
+      next = subst (λ (s : Setup). AreNext s line (turn_of s line course.left u.now).run steppers) u.at.setup (m.next steppers (subst (λ (s : Setup). AreNext s line u.now steppers) (sym u.at.setup) u.next));
+    }
+
 -- the end of a line
-pub copying_ended : (s : Setup) (line : Line) (start : Run) (course course' : CourseState) (old new : Option (List ℕ)) → course.left ≤ turns_in line → Copying s line start course old new → MakesTurn course line None course' → Copies s start (run_after s line start) course' old new
-copying_ended s line start course course' old new few u makes = by (turned s line course.left u.now)
+pub copying_ended : (s : Setup) (line : Line) (start : Run) (course ready course' : CourseState) (steppers : Steppers) (drawn : Option Drawn) (old new : Option (List ℕ)) → course.left ≤ turns_in line → Copying s line start course steppers old new → Draws course line steppers drawn ready →
+    TellsNext course ready line drawn None course' → Copies s start (run_after s line start) course' old new
+copying_ended s line start course ready course' steppers drawn old new few u draws tells = by (turned s line course.left u.now)
   where
     t : Turn
     t = turn_of s line course.left u.now
 
     is : Said s line course.left u.now None course'
-    is = said s line u.now None course course' u.setup (makes u.now u.follows)
+    is = said s line u.now None course course' u.at.setup (makes_next s line start course ready course' steppers drawn None old new u draws tells)
 
     by : Turned t u.now.happened → Copies s start (run_after s line start) course' old new
     by (One this some same) = absurd (silent_one s (past_in s u.now) t.this this some is.tells)
     by (Nothing none ended same) =
-        let all : t.run ≡ run_after s line start = sym (rest_none s line t.run) ∙ ap (λ n. rest_of s line n t.run) (sym ended) ∙ sym (turn_on s line course.left u.now few) ∙ u.rest in
+        let all : t.run ≡ run_after s line start = sym (rest_none s line t.run) ∙ ap (λ n. rest_of s line n t.run) (sym ended) ∙ sym (turn_on s line course.left u.now few) ∙ u.at.rest in
         record {
           follows = subst (λ (r : Run). Follows course' r) all is.follows;
           setup = is.setup;
-          text = u.text;
-          is = ap (λ (r : Run). entries_text s r.happened) (sym all) ∙ ap (entries_text s) same ∙ u.is;
-          taken = u.taken;
+          text = u.at.text;
+          is = ap (λ (r : Run). entries_text s r.happened) (sym all) ∙ ap (entries_text s) same ∙ u.at.is;
+          taken = u.at.taken;
         }
 
 -- a line that is cut short before its next turn
-pub copying_cut : (s : Setup) (line : Line) (start : Run) (course : CourseState) (old new : Option (List ℕ)) → Copying s line start course old new → CopiesPart s start (run_after s line start) old new
-copying_cut s line start course old new u =
+pub copying_cut : (s : Setup) (line : Line) (start : Run) (course : CourseState) (steppers : Steppers) (old new : Option (List ℕ)) → Copying s line start course steppers old new → CopiesPart s start (run_after s line start) old new
+copying_cut s line start course steppers old new u =
     let more : Longer s u.now.happened (rest_of s line course.left u.now).happened = longer s u.now.happened (rest_of s line course.left u.now).happened (rest_grows s line course.left u.now) in
     record {
-      text = u.text ++ more.text;
-      is = ap (λ (r : Run). entries_text s r.happened) (sym u.rest) ∙ more.is ∙ ap (λ l. l ++ more.text) u.is ∙ append_assoc (entries_text s start.happened) u.text more.text;
-      front = front_whole old new u.text more.text u.taken;
+      text = u.at.text ++ more.text;
+      is = ap (λ (r : Run). entries_text s r.happened) (sym u.at.rest) ∙ more.is ∙ ap (λ l. l ++ more.text) u.at.is ∙ append_assoc (entries_text s start.happened) u.at.text more.text;
+      front = front_whole old new u.at.text more.text u.at.taken;
     }
 
 -- a line that is cut short in an entry
-pub copying_torn : (s : Setup) (line : Line) (start : Run) (course course' : CourseState) (answer : Told) (old mid new : Option (List ℕ)) → course.left ≤ turns_in line →
-    Copying s line start course old mid → MakesTurn course line (Some answer) course' → WritesFront mid new (entry_told answer) → CopiesPart s start (run_after s line start) old new
-copying_torn s line start course course' answer old mid new few u makes wrote = by (turned s line course.left u.now)
+cut_in : (s : Setup) (line : Line) (start : Run) (course course' : CourseState) (answer : Told) (old mid new : Option (List ℕ)) (now : Run) → course.left ≤ turns_in line →
+    CopyingAt s line start course old mid now → Makes course now (turn_of course.world.setup line course.left now) (Some answer) course' → WritesFront mid new (entry_told answer) → CopiesPart s start (run_after s line start) old new
+cut_in s line start course course' answer old mid new now few u makes wrote = by (turned s line course.left now)
   where
     t : Turn
-    t = turn_of s line course.left u.now
+    t = turn_of s line course.left now
 
-    is : Said s line course.left u.now (Some answer) course'
-    is = said s line u.now (Some answer) course course' u.setup (makes u.now u.follows)
+    is : Said s line course.left now (Some answer) course'
+    is = said s line now (Some answer) course course' u.setup makes
 
-    by : Turned t u.now.happened → CopiesPart s start (run_after s line start) old new
-    by (Nothing none ended same) = absurd (told_none s (past_in s u.now) t.this answer none is.tells)
+    by : Turned t now.happened → CopiesPart s start (run_after s line start) old new
+    by (Nothing none ended same) = absurd (told_none s (past_in s now) t.this answer none is.tells)
     by (One this some same) =
-        let tells : TellsOf s (past_in s u.now) this answer = told_one s (past_in s u.now) t.this this answer some is.tells in
+        let tells : TellsOf s (past_in s now) this answer = told_one s (past_in s now) t.this this answer some is.tells in
         let here : List ℕ = entry_told answer in
         let more : Longer s t.run.happened (rest_of s line t.left t.run).happened = longer s t.run.happened (rest_of s line t.left t.run).happened (rest_grows s line t.left t.run) in
-        let all : rest_of s line t.left t.run ≡ run_after s line start = sym (turn_on s line course.left u.now few) ∙ u.rest in
+        let all : rest_of s line t.left t.run ≡ run_after s line start = sym (turn_on s line course.left now few) ∙ u.rest in
         record {
           text = u.text ++ (here ++ more.text);
           is = ap (λ (r : Run). entries_text s r.happened) (sym all) ∙ more.is ∙ ap (λ l. entries_text s l ++ more.text) same
-              ∙ ap (λ l. l ++ more.text) (entry_is s u.now.happened this answer tells)
-              ∙ append_assoc (entries_text s u.now.happened) here more.text ∙ ap (λ l. l ++ (here ++ more.text)) u.is ∙ append_assoc (entries_text s start.happened) u.text (here ++ more.text);
+              ∙ ap (λ l. l ++ more.text) (entry_is s now.happened this answer tells)
+              ∙ append_assoc (entries_text s now.happened) here more.text ∙ ap (λ l. l ++ (here ++ more.text)) u.is ∙ append_assoc (entries_text s start.happened) u.text (here ++ more.text);
           front = front_after old mid new u.text (here ++ more.text) u.taken (front_longer mid new here more.text wrote);
         }
+
+pub copying_torn : (s : Setup) (line : Line) (start : Run) (course ready course' : CourseState) (steppers : Steppers) (drawn : Option Drawn) (answer : Told) (old mid new : Option (List ℕ)) → course.left ≤ turns_in line → Copying s line start course steppers old mid → Draws course line steppers drawn ready →
+    TellsNext course ready line drawn (Some answer) course' → WritesFront mid new (entry_told answer) → CopiesPart s start (run_after s line start) old new
+copying_torn s line start course ready course' steppers drawn answer old mid new few u draws tells wrote =
+    cut_in s line start course course' answer old mid new u.now few u.at (makes_next s line start course ready course' steppers drawn (Some answer) old mid u draws tells) wrote
+
+pub step_torn : (s : Setup) (line : Line) (start : Run) (course ready course' : CourseState) (steppers : Steppers) (drawn : Option Drawn) (made : Stepped) (old mid new : Option (List ℕ)) → course.left ≤ turns_in line → Copying s line start course steppers old mid → Draws course line steppers drawn ready →
+    StepsNext course ready line drawn made course' → WritesFront mid new (entry_line (step_entry made.process made.access)) → CopiesPart s start (run_after s line start) old new
+step_torn s line start course ready course' steppers drawn made old mid new few u draws steps wrote =
+    let m : MakesStep course line u.now made course' = step_next s line start course ready course' steppers drawn made old mid u draws steps in
+    cut_in s line start course course' (told_unmarked made m.flick) old mid new u.now few u.at m.makes wrote
 
 -- Between two lines.
 

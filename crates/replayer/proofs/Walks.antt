@@ -81,7 +81,7 @@ no_marks Withdraws is = absurd (cc)
 no_marks Restarts is = absurd (cc)
 
 -- a Step that is made, by the flick that is next
-step_follows : (w w' : WorldState) (flicks : FlickState) (left left' p : ℕ) (flick : Bool) (run : Run) → flick ≡ flick_of flicks → GoesOn w (event.Step p flick) w' → Follows (course w flicks left) run →
+pub step_follows : (w w' : WorldState) (flicks : FlickState) (left left' p : ℕ) (flick : Bool) (run : Run) → flick ≡ flick_of flicks → GoesOn w (event.Step p flick) w' → Follows (course w flicks left) run →
     Follows (course w' (after_flick flicks) left') (stepped p run)
 step_follows w w' flicks left left' p flick run is on follows = record {
   shows = subst (λ b. Shows w' (event.Step p b ∷ tried run.happened)) (is ∙ ap flick_of follows.flicks) (on (tried run.happened) follows.shows);
@@ -89,7 +89,7 @@ step_follows w w' flicks left left' p flick run is on follows = record {
 }
 
 -- it adds its entry
-step_entry : (w : WorldState) (flicks : FlickState) (left p place : ℕ) (flick : Bool) (made : Made) (marks : List Mark) (run : Run) → flick ≡ flick_of flicks → Adds w (event.Step p flick) p (act_of place made) → map (placed place) (marks_of made.effect) ≡ marks → Follows (course w flicks left) run →
+pub step_entry : (w : WorldState) (flicks : FlickState) (left p place : ℕ) (flick : Bool) (made : Made) (marks : List Mark) (run : Run) → flick ≡ flick_of flicks → Adds w (event.Step p flick) p (act_of place made) → map (placed place) (marks_of made.effect) ≡ marks → Follows (course w flicks left) run →
     entry_of w.setup (past_in w.setup run) (next_step p run) ≡ Some (record { process = p; access = made.access; marks = marks })
 step_entry w flicks left p place flick made marks run is adds are follows =
     let entry : entry_of w.setup (past_in w.setup run) (event.Step p flick) ≡ Some (entry_with p (act_of place made)) = adds (tried run.happened) follows.shows in
@@ -225,7 +225,7 @@ pub left_err : (result : Result Made Refusal) (left : ℕ) → is_err result ≡
 left_err (Ok made) left is = absurd (cc)
 left_err (Err r) left is = refl
 
-step_turn_left : (s : Setup) (p left place : ℕ) (flick : Bool) (run : Run) (result : Result Made Refusal) → TellsOf s (past_in s run) (Tries (next_step p run)) (told_step p flick place result) → step_turn s p left run ≡ made_turn p (left_after result left) run
+pub step_turn_left : (s : Setup) (p left place : ℕ) (flick : Bool) (run : Run) (result : Result Made Refusal) → TellsOf s (past_in s run) (Tries (next_step p run)) (told_step p flick place result) → step_turn s p left run ≡ made_turn p (left_after result left) run
 step_turn_left s p left place flick run (Ok made) tells = step_turn_made s p left run (map (placed place) (marks_of made.effect)) (made.access, tells.1)
 step_turn_left s p left place flick run (Err r) tells = step_turn_refused s p left run r tells.1
 

@@ -43,7 +43,7 @@ stage_quiet s p events event adds =
     ap (λ (o : Option Entry). stage p (elim o as (λ _. Past) [ None ↦ past_of s events | Some e ↦ e ∷ past_of s events ])) adds.1 ∙ stage_kept p e (past_of s events) refl
 
 -- and the same processes have a Step to make
-movers_quiet : (s : Setup) (events : List Event) (event : Event) → AddsMarks s (past_of s events) event [] → movers s (past_of s (event ∷ events)) ≡ movers s (past_of s events)
+pub movers_quiet : (s : Setup) (events : List Event) (event : Event) → AddsMarks s (past_of s events) event [] → movers s (past_of s (event ∷ events)) ≡ movers s (past_of s events)
 movers_quiet s events event adds = λ i. filter (λ p. has_step (stage_quiet s p events event adds i)) (processes s)
 
 -- the course goes on by turns without a mark, and these may be picked
@@ -59,7 +59,7 @@ wander_starts old steps run ps w flicks left is follows are =
     (record { made = record { now = run; turns = (refl, refl); follows = record { shows = follows.shows; flicks = follows.flicks }; setup = refl }; movers = are })
 
 -- the turn of `wander` with one to pick
-pick_turn : (s : Setup) (steps left p : ℕ) (flicks : FlickState) (ps : List ℕ) (run : Run) → (left ≡ 0 → ⊥) → 0 < length ps → flicks ≡ run.flicks → p ≡ slice_index ps (pick_of (length ps) flicks) → ps ≡ movers s (past_in s run) →
+pub pick_turn : (s : Setup) (steps left p : ℕ) (flicks : FlickState) (ps : List ℕ) (run : Run) → (left ≡ 0 → ⊥) → 0 < length ps → flicks ≡ run.flicks → p ≡ slice_index ps (pick_of (length ps) flicks) → ps ≡ movers s (past_in s run) →
     turn_of s (line.Wander steps) left run ≡ made_turn p (left - 1) (after_pick_in run)
 pick_turn s steps left p flicks ps run some_left some same is are =
     turn_next s (line.Wander steps) left run some_left ∙ ap (λ ps. wander_turn (left - 1) run ps) (sym are) ∙ by ps some is

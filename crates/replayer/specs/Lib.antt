@@ -6,6 +6,7 @@ pub mod Listings
 pub mod Recordings
 pub mod Replays
 pub mod Runs
+pub mod Steppers
 pub mod Summaries
 pub mod Sweepings
 pub mod Telling

@@ -19,6 +19,7 @@ use Rattle.process.specs.declared.told.Told.TheVariants as step
 use Rattle.replayer.specs.Happenings.{Happening, Tries, Lacks, Tires, Looks}
 use Rattle.replayer.specs.Texts.{mark_line, newest_store, refusal_line, store_text, turns_line}
 use Rattle.replayer.specs.declared.told.Accepted.{Accepted}
+use Rattle.replayer.specs.declared.told.Stepped.{Stepped}
 use Rattle.replayer.specs.declared.told.Told.{Told}
 use Rattle.replayer.specs.declared.told.Told.TheVariants as told
 
@@ -65,6 +66,10 @@ with_told leads (Err refusal) = Err refusal
 abbrev pub told_step : ℕ → Bool → ℕ → Result Made Refusal → Told
 told_step p flick place (Ok made) = told.Accepted (record { event = event.Step p flick; place = place; access = made.access; effect = made.effect })
 told_step p flick place (Err refusal) = told.Refused p refusal
+
+-- what a Step tells that has no mark, made by this flick; since it takes no command, its place does not matter
+abbrev pub told_unmarked : Stepped → Bool → Told
+told_unmarked made flick = told.Accepted (record { event = event.Step made.process flick; place = 0; access = Some made.access; effect = Steps step.Nothing })
 
 -- a Step leads to nothing
 abbrev pub is_nothing : Effect → Bool

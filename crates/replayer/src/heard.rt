@@ -1,5 +1,5 @@
 //! A world, and an auditor that hears the entries that it makes.
-ghost use Rattle.std.specs.Prelude.{true, false, ◌≡◌, ◌≤◌, [], IfOk, IfErr, OnErr, OnOk, List, None, Ok, Some, length, map, option_map};
+ghost use Rattle.std.specs.Prelude.{true, false, ◌≡◌, ◌↔◌, ◌<◌, ◌≤◌, [], IfOk, IfErr, IfSome, IsSome, IsTrue, OnErr, OnOk, OnSome, List, None, Ok, Some, length, map, option_map};
 ghost use Rattle.plain_store.specs.Setups.{checked};
 ghost use Rattle.store_image.specs.Image.{image_of};
 ghost use Rattle.record.specs.declared.Event.{Event as Happening};
@@ -11,11 +11,11 @@ ghost use Rattle.process.specs.declared.told.Effect.TheVariants.{Steps};
 ghost use Rattle.process.specs.Telling.{act_of, marks_of, marks_told};
 ghost use Rattle.world.specs.Events.{Adds, GoesOn, IsRefused, IsTurnedAway, stage_in};
 ghost use Rattle.world.specs.Shows.{Shows, WorldState};
-ghost use Rattle.world.specs.Walks.{StepsQuietly, Walks};
+ghost use Rattle.world.specs.Walks.{StepsQuietly, Walks, bits_within_at};
 ghost use Rattle.auditor.specs.declared.verdicts.Verdict.TheVariants.{Good};
 ghost use Rattle.replayer.specs.Hearing.{AddsEntry, Agrees, Listens};
 
-use auditor::{Auditor, Verdict};
+use auditor::{Auditor, Law, Verdict};
 use plain_store::{NestedTypes, Setup};
 use record::{Event, Mark, Refusal, Stage, Taken};
 use safe_number::Access;
@@ -126,29 +126,84 @@ impl HeardWorld {
         }
     }
 
-    /// Steps of a process within a number access, as `World::walk` makes them; none where an auditor listens, which
-    /// hears one entry at a time.
+    /// Steps of a process within a number access, as `World::walk` makes them; their entries are heard.
     #[inline]
     pub fn walk(&mut self, process: u8, flicks: &mut Flicks, most: u32) -> u32
         ensures most { result ≤ most }
         ensures walks { Walks self.old flicks.old process result self.new flicks.new }
     {
-        if self.listener.is_some() {
-            return 0;
+        if self.listener.is_none() {
+            return self.world.walk(process, flicks, most);
         }
-        self.world.walk(process, flicks, most)
+        self.walk_heard(process, flicks, most)
     }
 
-    /// One step of a process within a number access, as `World::step_within` makes it; none where an auditor listens.
+    /// The same where an auditor listens, which hears one entry at a time.
+    #[inline(never)]
+    fn walk_heard(&mut self, process: u8, flicks: &mut Flicks, most: u32) -> u32
+        ensures most { result ≤ most }
+        ensures walks { Walks self.old flicks.old process result self.new flicks.new }
+    {
+        let mut made = 0;
+        'steps: while made < most {
+            if !self.is_within(process) {
+                return made;
+            }
+            let flick = flicks.flick();
+            self.make_step_told(process, flick);
+            made += 1;
+        }
+        made
+    }
+
+    /// Whether the next step of a process is within a number access; not, if there is no such process.
+    #[inline]
+    fn is_within(&self, process: u8) -> bool
+        ensures { IsTrue result ↔ (0 < bits_within_at self.now.seats process) }
+    {
+        self.world.is_within(process)
+    }
+
+    /// One step of a process within a number access, as `World::step_within` makes it; its entry is heard.
     #[inline]
     pub fn step_within(&mut self, process: u8, flick: bool) -> bool
+        ensures whether { IsTrue result ↔ (0 < bits_within_at self.old.seats process) }
         ensures made { result ≡ true → StepsQuietly self.old process flick self.new }
         ensures unmade { result ≡ false → self.new ≡ self.old }
     {
-        if self.listener.is_some() {
-            return false;
+        if self.listener.is_none() {
+            return self.world.step_within(process, flick);
         }
-        self.world.step_within(process, flick)
+        self.step_told(process, flick).is_some()
+    }
+
+    /// One step of a process within a number access, as `World::step_told` makes it, with its access; its entry is heard.
+    /// None where the step is not within one, or there is no such process: then nothing is made.
+    #[inline]
+    pub fn step_told(&mut self, process: u8, flick: bool) -> Option<Access>
+        ensures whether { IsSome result ↔ (0 < bits_within_at self.old.seats process) }
+        ensures made { OnSome result (StepsQuietly self.old process flick self.new) }
+        ensures adds { IfSome result (λ access. Adds self.old (Step process flick) process (record { access = Some access; marks = [] })) }
+        ensures unmade { result ≡ None → self.new ≡ self.old }
+    {
+        if !self.is_within(process) {
+            return None;
+        }
+        Some(self.make_step_told(process, flick))
+    }
+
+    /// The step of a process that is within a number access.
+    #[inline]
+    fn make_step_told(&mut self, process: u8, flick: bool) -> Access
+        requires { 0 < bits_within_at self.old.seats process }
+        ensures quietly { StepsQuietly self.old process flick self.new }
+        ensures accepted { Adds self.old (Step process flick) process (record { access = Some result; marks = [] }) }
+    {
+        // the world shows some record, to which the entry is added
+        self.world.shown();
+        let access = self.world.make_step_told(process, flick);
+        hear_access(&mut self.listener, process, access);
+        access
     }
 
     /// Where a process stands; none, if there is no such process.
@@ -205,14 +260,44 @@ impl Listener {
         ensures { (old new : WorldState) → AddsEntry old (record { process = process; access = access.now; marks = marks.now }) new → Agrees old self.old → Agrees new self.new }
     {
         let _nested: NestedTypes = None;
-        if !matches!(self.verdict, Verdict::Good) {
+        if !self.is_good() {
             return;
         }
-        let Some(law) = self.auditor.hear_parts(process, access, marks) else {
-            self.entries = self.entries.saturating_add(1);
+        let law = self.auditor.hear_parts(process, access, marks);
+        self.note(law);
+    }
+
+    /// Hears an entry with this access and no mark, unless one before has broken a law.
+    #[inline]
+    fn hear_access(&mut self, process: u8, access: Access)
+        ensures { (old new : WorldState) → AddsEntry old (record { process = process; access = Some access; marks = [] }) new → Agrees old self.old → Agrees new self.new }
+    {
+        let _nested: NestedTypes = None;
+        if !self.is_good() {
             return;
-        };
-        self.verdict = Verdict::Bad(self.entries, law);
+        }
+        let law = self.auditor.hear_access(process, access);
+        self.note(law);
+    }
+
+    /// Whether no entry has broken a law.
+    #[inline]
+    fn is_good(&self) -> bool
+        ensures { IsTrue result ↔ (self.now.verdict ≡ Good) }
+    {
+        matches!(self.verdict, Verdict::Good)
+    }
+
+    /// One more entry was heard, which breaks this law or none.
+    #[inline]
+    fn note(&mut self, law: Option<Law>)
+        ensures auditor { self.new.auditor ≡ self.old.auditor }
+        ensures kept { law ≡ None → self.new.verdict ≡ self.old.verdict }
+    {
+        match law {
+            None => self.entries = self.entries.saturating_add(1),
+            Some(law) => self.verdict = Verdict::Bad(self.entries, law),
+        }
     }
 }
 
@@ -225,6 +310,17 @@ fn hear(listener: &mut Option<Listener>, process: u8, access: &Option<Access>, m
         return;
     };
     listener.hear(process, access, marks);
+}
+
+/// The same of an entry with this access and no mark.
+#[inline]
+fn hear_access(listener: &mut Option<Listener>, process: u8, access: Access)
+    ensures { (old new : WorldState) → AddsEntry old (record { process = process; access = Some access; marks = [] }) new → Listens old listener.old → Listens new listener.new }
+{
+    let Some(listener) = listener else {
+        return;
+    };
+    listener.hear_access(process, access);
 }
 
 /// The same of an event that leads to this, where a command that it takes gets this place. Its marks take room, which
@@ -256,12 +352,11 @@ fn hear_step(
 )
     ensures { (old new : WorldState) → AddsEntry old (record { process = process; access = Some access; marks = map (placed place) (marks_told told.now) }) new → Listens old listener.old → Listens new listener.new }
 {
-    let access = Some(access);
     match told {
-        Told::Nothing => hear(listener, process, &access, &[]),
+        Told::Nothing => hear_access(listener, process, access),
         _ => {
             let effect = Effect::Steps(*told);
-            hear_event(listener, alloc, process, &access, &effect, place);
+            hear_event(listener, alloc, process, &Some(access), &effect, place);
         }
     }
 }

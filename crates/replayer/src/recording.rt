@@ -4,17 +4,17 @@ ghost use Rattle.std.specs.Prelude.{◌≡◌, ◌+◌, ◌-◌, ◌^◌, ◌<�
 ghost use Rattle.std.specs.Io.KnownBytes.{Appends};
 ghost use Rattle.files.specs.Engines.{Ran};
 ghost use Rattle.files.specs.Streams.{ReadsFront, WritesFront};
-ghost use Rattle.record_file.specs.Printing.{entry_line};
+ghost use Rattle.record_file.specs.Printing.{entry_line, step_entry};
 ghost use Rattle.scenario.specs.Reads.{script};
 ghost use Rattle.replayer.specs.Recordings.{CopiesLine, CutsCopy, entry_told, recorded, recording_text};
 ghost use Rattle.replayer.specs.Replays.{ended};
 ghost use Rattle.replayer.specs.Writing.{IsWriteFault, failed_write};
 
-use crate::told::Told;
+use crate::told::{Stepped, Told};
 use crate::turns::Course;
 use onlooker::{Nobody, Onlooker, Place};
 use record::Entry;
-use record_file::{print_entry, print_setup};
+use record_file::{StepLine, print_entry, print_setup};
 use scenario::{Fault, Line, Scenario, Sink, Source, read_input, read_scenario, write_all};
 use std::alloc::{AllocError, Global};
 
@@ -72,10 +72,19 @@ fn record_scenario<W: Sink, L: Onlooker>(
     write_bytes(output, print_setup(alloc, &scenario.setup))?;
     let mut place = Place::before(file, scenario.lines.len());
     let mut events = 0;
-    let mut text = String::new(alloc);
+    let mut text = Vec::new(alloc);
+    let mut printed = StepLine::new();
     for line in &scenario.lines {
         onlooker.reached(place.begin_line(events));
-        record_line(alloc, &mut course, line, &mut events, &mut text, output)?;
+        record_line(
+            alloc,
+            &mut course,
+            line,
+            &mut events,
+            &mut text,
+            &mut printed,
+            output,
+        )?;
     }
     Ok(())
 }
@@ -87,7 +96,8 @@ fn record_line<W: Sink>(
     course: &mut Course,
     line: &Line,
     events: &mut u64,
-    text: &mut String,
+    text: &mut Vec<u8>,
+    printed: &mut StepLine,
     output: &mut W,
 ) -> Result<(), Fault>
     requires { W.failures output.old < 2 ^ 64 - 1 }
@@ -97,11 +107,34 @@ fn record_line<W: Sink>(
     ensures failures { W.failures output.new ≡ W.failures output.old + failed_write result }
 {
     course.begin(line);
-    'turns: while let Some(told) = course.turn(line)? {
+    let mut steppers = course.steppers(line);
+    'turns: loop {
+        let drawn = course.draw(&steppers);
+        if let Some(made) = course.step_drawn(drawn) {
+            write_step(made, printed, output)?;
+            *events = events.saturating_add(1);
+            continue 'turns;
+        }
+        let Some(told) = course.turn_drawn(line, drawn)? else {
+            return Ok(());
+        };
         write_entry(alloc, &told, text, output)?;
         *events = events.saturating_add(accepted_by(&told));
+        steppers = course.steppers(line);
     }
-    Ok(())
+}
+
+/// Writes the line of the entry of a Step.
+#[inline]
+fn write_step<W: Sink>(made: Stepped, printed: &mut StepLine, output: &mut W) -> Result<(), Fault>
+    requires { W.failures output.old < 2 ^ 64 - 1 }
+    ensures ok { OnOk result (Appends (W.taken output.old) (W.taken output.new) (entry_line (step_entry made.process made.access))) }
+    ensures front { WritesFront (W.taken output.old) (W.taken output.new) (entry_line (step_entry made.process made.access)) }
+    ensures fault { IfErr result IsWriteFault }
+    ensures failures { W.failures output.new ≡ W.failures output.old + failed_write result }
+{
+    printed.print(made.process, made.access);
+    write_all(output, printed.as_bytes())
 }
 
 /// How many events were accepted where this is told: one or none.
@@ -113,7 +146,7 @@ fn accepted_by(told: &Told) -> u64 {
 fn write_entry<W: Sink>(
     alloc: Global,
     told: &Told,
-    text: &mut String,
+    text: &mut Vec<u8>,
     output: &mut W,
 ) -> Result<(), Fault>
     requires { W.failures output.old < 2 ^ 64 - 1 }
@@ -136,7 +169,7 @@ fn write_entry<W: Sink>(
 fn write_entry_line<W: Sink>(
     alloc: Global,
     entry: &Entry,
-    text: &mut String,
+    text: &mut Vec<u8>,
     output: &mut W,
 ) -> Result<(), Fault>
     requires { W.failures output.old < 2 ^ 64 - 1 }
@@ -147,7 +180,7 @@ fn write_entry_line<W: Sink>(
 {
     text.clear();
     print_entry(alloc, entry, text)?;
-    write_all(output, text.as_bytes())
+    write_all(output, text.as_slice())
 }
 
 /// Writes bytes, unless there was no memory for them.

@@ -43,6 +43,22 @@ impl Accepted {
     }
 }
 
+/// A Step that is drawn, and not made yet.
+#[derive(Clone, Copy)]
+pub struct Drawn {
+    pub process: u8,
+    pub flick: bool,
+    /// Its line is of this process alone, and ends where the Step is refused.
+    pub alone: bool,
+}
+
+/// A Step that was made within a number access: whose it is, and its access. It has no mark.
+#[derive(Clone, Copy)]
+pub struct Stepped {
+    pub process: u8,
+    pub access: Access,
+}
+
 /// What a turn of a run tells.
 #[derive(Drop)]
 pub enum Told {

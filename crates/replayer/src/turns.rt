@@ -16,6 +16,7 @@ ghost use Rattle.replayer.specs.Runs.{Run, is_there as is_target, past_in, run_a
 ghost use Rattle.replayer.specs.Texts.{newest_store, store_text};
 ghost use Rattle.replayer.specs.Turns.{happens, turn_of, turns_in as turns_of};
 
+mod steps;
 mod walks;
 
 use crate::heard::HeardWorld;

@@ -1,6 +1,7 @@
 //! The lines that make Steps. A Step without a mark leaves every process where it is, so that only after one with
 //! marks a line has to look again who is where.
-ghost use Rattle.std.specs.Prelude.{◌≡◌, ◌+◌, ◌<◌, ◌≤◌, ℕ, true, false, IfSome, None};
+ghost use Rattle.std.specs.Prelude.{◌≡◌, ◌+◌, ◌<◌, ◌≤◌, ℕ, true, false, length, slice_index, IfSome, None};
+ghost use Rattle.flicks.specs.Flicks.{after_flick, after_pick, flick_of, pick_of};
 ghost use Rattle.record.specs.Stages.{stage};
 ghost use Rattle.scenario.specs.declared.lines.Line.TheVariants.{Step as StepLine, Go as GoLine, Wander as WanderLine};
 ghost use Rattle.world.specs.Walks.{StepsQuietly};
@@ -89,7 +90,9 @@ impl Course {
         }
     }
 
-    /// Turns of `wander`: Steps of picked ones, if there is one to pick.
+    /// Turns of `wander`: Steps of picked ones, if there is one to pick. Whose Step comes next is drawn before this one is
+    /// made: nobody can foretell where in its access a picked process is, and so a processor that has foretold it wrongly
+    /// begins with what comes after anew, but not with that draw.
     pub(super) fn wander(&mut self, all: bool) -> Turns
         ensures left { result.quiet + self.new.left ≤ self.old.left }
         ensures less { IfSome result.told (λ _. result.quiet + self.new.left < self.old.left) }
@@ -104,10 +107,13 @@ impl Course {
         let movers = movers.as_slice();
         let mut quiet = 0;
         let mut leads = world::Told::Nothing;
+        let mut ahead = self.flicks.twin();
+        let mut next = drawn(&mut ahead, movers);
         'steps: while 0 < self.left {
             self.left -= 1;
-            let process = movers[self.flicks.pick(movers.len())];
-            let flick = self.flicks.flick();
+            let (process, flick) = next;
+            self.flicks.skip_step();
+            next = drawn(&mut ahead, movers);
             if stride(&mut self.world, process, flick, all) {
                 quiet += 1;
                 continue 'steps;
@@ -127,7 +133,7 @@ impl Course {
     }
 
     /// The processes with a Step to make, ascending. They take no memory.
-    fn movers(&self) -> SmallVec<u8, 16>
+    pub(super) fn movers(&self) -> SmallVec<u8, 16>
         ensures { (run : Run) → Follows self.now run → result.items ≡ movers self.now.world.setup (past_in self.now.world.setup run) }
     {
         let mut movers = SmallVec::new(self.alloc);
@@ -176,6 +182,18 @@ fn stroll(
     made
 }
 
+/// Who is picked among these, and the flick of its Step.
+#[inline]
+fn drawn(flicks: &mut Flicks, movers: &[u8]) -> (u8, bool)
+    requires { 0 < length movers.now }
+    ensures process { result.0 ≡ slice_index movers.now (pick_of (length movers.now) flicks.old) }
+    ensures flick { result.1 ≡ flick_of (after_pick flicks.old) }
+    ensures after { flicks.new ≡ after_flick (after_pick flicks.old) }
+{
+    let process = movers[flicks.pick(movers.len())];
+    (process, flicks.flick())
+}
+
 /// A Step of a process within a number access, which has no mark; none, if it is not within one, or each Step is to be
 /// told.
 #[inline]
@@ -198,7 +216,7 @@ fn has_step_in(stage: Stage) -> bool
 }
 
 /// Whether a process in this stage is where it is to go.
-fn is_there(target: Target, stage: Stage) -> bool
+pub(super) fn is_there(target: Target, stage: Stage) -> bool
     ensures { result ≡ is_target target stage }
 {
     match target {
@@ -220,7 +238,7 @@ fn is_quiet(stepped: &Result<Access, Refusal>, leads: &world::Told) -> bool
 
 /// What a Step tells, made or refused.
 #[inline(never)]
-fn told_of(
+pub(super) fn told_of(
     process: u8,
     flick: bool,
     place: u64,

@@ -4,10 +4,11 @@ use Rattle.record.specs.declared.refusals.Refusal.TheVariants.{NoProcess}
 use Rattle.scenario.specs.declared.lines.Line.TheVariants.{Go as GoLine}
 use Rattle.replayer.specs.Courses.{CourseState, Follows, MakesTurns, course}
 use Rattle.replayer.specs.Runs.{Run}
+use Rattle.replayer.specs.Steppers.{IsAway}
 use Rattle.replayer.specs.declared.told.Told.TheVariants as told
 use Rattle.replayer.specs.declared.told.Turns.{Turns}
 use Rattle.replayer.proofs.CourseTurns.{go_ends, go_lacks, one_told}
-use Rattle.replayer.proofs.Goes.{IsAway, go_tires, go_told, if_told, is_away, none_told}
+use Rattle.replayer.proofs.Goes.{go_tires, go_told, if_told, is_away, none_told}
 use Rattle.replayer.proofs.turns.Course.go.Goals as goal
 
 pub returns-in_default-clause-made : goal.returns-in_default-clause-made

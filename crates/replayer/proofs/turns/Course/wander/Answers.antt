@@ -2,6 +2,7 @@ use Rattle.std.proofs.Common.{Ok, Result, Some, ◌≡◌, ◌∙◌, ◌<◌, �
 use Rattle.plain_store.specs.declared.setups.Setup.{Setup}
 use Rattle.record.specs.declared.events.Event.TheVariants.{Step}
 use Rattle.record.specs.declared.refusals.Refusal.{Refusal}
+use Rattle.flicks.specs.Flicks.{FlickState, after_flick, after_pick, flick_of, pick_of}
 use Rattle.world.specs.Events.{Adds, GoesOn, IsRefused}
 use Rattle.world.specs.Shows.{WorldState}
 use Rattle.process.specs.declared.told.Effect.TheVariants.{Steps}
@@ -28,29 +29,43 @@ returns-then-is_empty-clause-made c = λ steps.
 pub steps-init : goal.steps-init
 steps-init c =
     let i = c.self.inside in
+    let ps = c.as_slice-movers.result.now in
     let left = ap (λ (old : CourseState). old.left) c.self.view_is in
     record {
       made = λ steps run follows. wander_starts c.args.self.now steps run c.as_slice-movers.result.now i.world i.flicks i.left c.self.view_is follows (c.as_slice-movers.ensures ∙ c.movers-movers.ensures run follows);
       kept = record { are = c.self.invariant.are; few = c.self.invariant.few };
       left = omega (arith, left);
       all = λ all. refl;
+      process = c.drawn-next.ensures.process ∙ ap (λ (f : FlickState). slice_index ps (pick_of (length ps) f)) c.twin-ahead.ensures;
+      flick = c.drawn-next.ensures.flick ∙ ap (λ (f : FlickState). flick_of (after_pick f)) c.twin-ahead.ensures;
+      ahead = c.drawn-next.ensures.after ∙ ap (λ (f : FlickState). after_flick (after_pick f)) c.twin-ahead.ensures;
     }
+
+pub drawn-next-requires : goal.drawn-next-requires
+drawn-next-requires c = subst (λ (l : List ℕ). 0 < length l) (sym c.as_slice-movers.ensures) (some_left c.movers-movers.result.items (sym c.is_empty.ensures ∙ c.if-is_empty.false))
+
+pub drawn-next-requires-in-steps : goal.drawn-next-requires-in-steps
+drawn-next-requires-in-steps c = subst (λ (l : List ℕ). 0 < length l) (sym c.as_slice-movers.ensures) (some_left c.movers-movers.result.items (sym c.is_empty.ensures ∙ c.if-is_empty.false))
 
 -- a Step within a number access
 pub steps-preserved-then-stride : goal.steps-preserved-then-stride
 steps-preserved-then-stride c =
     let i = c.steps.self-inside in
     let quietly = c.stride.ensures.made c.if-stride.true in
+    let same : c.steps.ahead ≡ c.skip_step.new.self = c.steps.invariant.ahead ∙ sym c.skip_step.ensures in
     let result : Result Made Refusal = Ok (record { access = Some quietly.access; effect = Steps step.Nothing }) in
     let ps = c.as_slice-movers.result.now in
     let some : 0 < length ps = subst (λ (l : List ℕ). 0 < length l) (sym c.as_slice-movers.ensures) (some_left c.movers-movers.result.items (sym c.is_empty.ensures ∙ c.if-is_empty.false)) in
     record {
-      made = λ steps run follows. wander_on c.args.self.now steps run c.steps.quiet ps i.world c.stride.new.world i.flicks c.pick.new.self c.flick-flick.new.self i.left _ c.flick-flick.result result
-          (λ none. omega (arith, none, c.steps-test.true)) some c.pick.ensures.after (ap (slice_index ps) c.pick.ensures.index) c.flick-flick.ensures.flick c.flick-flick.ensures.after
+      made = λ steps run follows. wander_on c.args.self.now steps run c.steps.quiet ps i.world c.stride.new.world i.flicks (after_pick i.flicks) c.skip_step.new.self i.left _ c.steps.next.1 result
+          (λ none. omega (arith, none, c.steps-test.true)) some refl c.steps.invariant.process c.steps.invariant.flick c.skip_step.ensures
           quietly.adds quietly.shows quietly.setup refl (c.steps.invariant.made steps run follows);
       kept = record { are = c.steps.invariant.kept.are ∙ ap (λ (s : Setup). s.processes) (sym quietly.setup); few = c.steps.invariant.kept.few };
       left = omega (arith, c.steps-test.true, c.steps.invariant.left);
       all = λ all. let no = sym (c.stride.ensures.all all) ∙ c.if-stride.true in absurd (cc);
+      process = c.drawn-next-in-steps.ensures.process ∙ ap (λ (f : FlickState). slice_index ps (pick_of (length ps) f)) same;
+      flick = c.drawn-next-in-steps.ensures.flick ∙ ap (λ (f : FlickState). flick_of (after_pick f)) same;
+      ahead = c.drawn-next-in-steps.ensures.after ∙ ap (λ (f : FlickState). after_flick (after_pick f)) same;
     }
 
 pub returns-then-all-clause-made : goal.returns-then-all-clause-made
@@ -60,15 +75,15 @@ returns-then-all-clause-made c = λ steps run follows.
     let unmade : w ≡ i.world = c.stride.ensures.unmade c.if-stride.false in
     let leads = c.step-stepped.new.told in
     let result = with_told leads c.step-stepped.result in
-    let adds = told_if_ok leads c.step-stepped.result (λ made. Adds w (Step (slice_index c.as_slice-movers.result.now c.pick.result) c.flick-flick.result) (slice_index c.as_slice-movers.result.now c.pick.result) (act_of (length w.history) made)) c.step-stepped.ensures.accepted in
-    let shows = told_on_ok leads c.step-stepped.result (GoesOn w (Step (slice_index c.as_slice-movers.result.now c.pick.result) c.flick-flick.result) c.step-stepped.new.self) c.step-stepped.ensures.shows in
+    let adds = told_if_ok leads c.step-stepped.result (λ made. Adds w (Step c.steps.next.0 c.steps.next.1) c.steps.next.0 (act_of (length w.history) made)) c.step-stepped.ensures.accepted in
+    let shows = told_on_ok leads c.step-stepped.result (GoesOn w (Step c.steps.next.0 c.steps.next.1) c.step-stepped.new.self) c.step-stepped.ensures.shows in
     let setup_ok = told_on_ok leads c.step-stepped.result (c.step-stepped.new.self.setup ≡ w.setup) c.step-stepped.ensures.setup in
-    let away = told_if_err leads c.step-stepped.result (λ refusal. IsRefused w (Step (slice_index c.as_slice-movers.result.now c.pick.result) c.flick-flick.result) (Some refusal)) c.step-stepped.ensures.refused in
+    let away = told_if_err leads c.step-stepped.result (λ refusal. IsRefused w (Step c.steps.next.0 c.steps.next.1) (Some refusal)) c.step-stepped.ensures.refused in
     let same = told_on_err leads c.step-stepped.result (c.step-stepped.new.self ≡ w) c.step-stepped.ensures.unchanged in
     let ps = c.as_slice-movers.result.now in
     let some : 0 < length ps = subst (λ (l : List ℕ). 0 < length l) (sym c.as_slice-movers.ensures) (some_left c.movers-movers.result.items (sym c.is_empty.ensures ∙ c.if-is_empty.false)) in
-    wander_told c.args.self.now steps run c.steps.quiet ps w c.step-stepped.new.self i.flicks c.pick.new.self c.flick-flick.new.self i.left _ _ c.flick-flick.result c.history.result.now result c.told_of-told.result
-    (λ none. omega (arith, none, c.steps-test.true)) some c.pick.ensures.after (ap (slice_index ps) c.pick.ensures.index) c.flick-flick.ensures.flick c.flick-flick.ensures.after c.history.ensures refl
+    wander_told c.args.self.now steps run c.steps.quiet ps w c.step-stepped.new.self i.flicks (after_pick i.flicks) c.skip_step.new.self i.left _ _ c.steps.next.1 c.history.result.now result c.told_of-told.result
+    (λ none. omega (arith, none, c.steps-test.true)) some refl c.steps.invariant.process c.steps.invariant.flick c.skip_step.ensures c.history.ensures refl
     adds shows away same setup_ok c.told_of-told.ensures (subst (λ w. WandersQuietly c.args.self.now (WanderLine steps) run c.steps.quiet ps (course w i.flicks i.left)) (sym unmade) (c.steps.invariant.made steps run follows))
 
 pub steps-preserved : goal.steps-preserved
@@ -78,20 +93,24 @@ steps-preserved c =
     let unmade : w ≡ i.world = c.stride.ensures.unmade c.if-stride.false in
     let leads = c.step-stepped.new.told in
     let result = with_told leads c.step-stepped.result in
-    let adds = told_if_ok leads c.step-stepped.result (λ made. Adds w (Step (slice_index c.as_slice-movers.result.now c.pick.result) c.flick-flick.result) (slice_index c.as_slice-movers.result.now c.pick.result) (act_of (length w.history) made)) c.step-stepped.ensures.accepted in
-    let shows = told_on_ok leads c.step-stepped.result (GoesOn w (Step (slice_index c.as_slice-movers.result.now c.pick.result) c.flick-flick.result) c.step-stepped.new.self) c.step-stepped.ensures.shows in
+    let adds = told_if_ok leads c.step-stepped.result (λ made. Adds w (Step c.steps.next.0 c.steps.next.1) c.steps.next.0 (act_of (length w.history) made)) c.step-stepped.ensures.accepted in
+    let shows = told_on_ok leads c.step-stepped.result (GoesOn w (Step c.steps.next.0 c.steps.next.1) c.step-stepped.new.self) c.step-stepped.ensures.shows in
     let setup_ok = told_on_ok leads c.step-stepped.result (c.step-stepped.new.self.setup ≡ w.setup) c.step-stepped.ensures.setup in
     let ps = c.as_slice-movers.result.now in
     let some : 0 < length ps = subst (λ (l : List ℕ). 0 < length l) (sym c.as_slice-movers.ensures) (some_left c.movers-movers.result.items (sym c.is_empty.ensures ∙ c.if-is_empty.false)) in
     let quiet = sym c.if-not-is_quiet.ensures in
+    let same : c.steps.ahead ≡ c.skip_step.new.self = c.steps.invariant.ahead ∙ sym c.skip_step.ensures in
     let setup : c.step-stepped.new.self.setup ≡ w.setup = quiet_ok result quiet setup_ok in
     record {
-      made = λ steps run follows. wander_on c.args.self.now steps run c.steps.quiet ps w c.step-stepped.new.self i.flicks c.pick.new.self c.flick-flick.new.self i.left _ c.flick-flick.result result
-          (λ none. omega (arith, none, c.steps-test.true)) some c.pick.ensures.after (ap (slice_index ps) c.pick.ensures.index) c.flick-flick.ensures.flick c.flick-flick.ensures.after
+      made = λ steps run follows. wander_on c.args.self.now steps run c.steps.quiet ps w c.step-stepped.new.self i.flicks (after_pick i.flicks) c.skip_step.new.self i.left _ c.steps.next.1 result
+          (λ none. omega (arith, none, c.steps-test.true)) some refl c.steps.invariant.process c.steps.invariant.flick c.skip_step.ensures
           adds shows setup_ok quiet (subst (λ w. WandersQuietly c.args.self.now (WanderLine steps) run c.steps.quiet ps (course w i.flicks i.left)) (sym unmade) (c.steps.invariant.made steps run follows));
       kept = record { are = c.steps.invariant.kept.are ∙ ap (λ (s : Setup). s.processes) (sym (setup ∙ ap (λ (w : WorldState). w.setup) unmade)); few = c.steps.invariant.kept.few };
       left = omega (arith, c.steps-test.true, c.steps.invariant.left);
       all = λ all. let no = c.if-all.false in absurd (cc);
+      process = c.drawn-next-in-steps.ensures.process ∙ ap (λ (f : FlickState). slice_index ps (pick_of (length ps) f)) same;
+      flick = c.drawn-next-in-steps.ensures.flick ∙ ap (λ (f : FlickState). flick_of (after_pick f)) same;
+      ahead = c.drawn-next-in-steps.ensures.after ∙ ap (λ (f : FlickState). after_flick (after_pick f)) same;
     }
 
 pub returns-clause-made : goal.returns-clause-made

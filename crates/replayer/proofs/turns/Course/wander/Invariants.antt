@@ -1,17 +1,21 @@
-use Rattle.std.proofs.Common.{◌≡◌, ◌+◌, ℕ, true}
+use Rattle.std.proofs.Common.{◌≡◌, ◌+◌, ℕ, length, slice_index, true}
 use Rattle.scenario.specs.declared.lines.Line.TheVariants.{Wander as WanderLine}
+use Rattle.flicks.specs.Flicks.{after_flick, after_pick, flick_of, pick_of}
 use Rattle.replayer.specs.Courses.{Follows, KeepsCourse, course}
 use Rattle.replayer.specs.Runs.{Run}
 use Rattle.replayer.proofs.Wanders.{WandersQuietly}
 use Rattle.replayer.proofs.turns.Course.wander.Given as goal
 
--- so far each Step was made without a mark, and so the same processes may be picked
+-- so far each Step was made without a mark, and so the same processes may be picked; what comes next is drawn already
 abbrev pub invariant-steps : goal.invariant-steps
 invariant-steps l = record {
   made : (steps : ℕ) (run : Run) → Follows l.fn.self run → WandersQuietly l.fn.self (WanderLine steps) run l.quiet l.movers (course l.self-inside.world l.self-inside.flicks l.self-inside.left);
   kept : KeepsCourse l.self-inside.processes l.self-inside.world;
   left : l.quiet + l.self-inside.left ≡ l.fn.self.left;
   all : l.all ≡ true → l.quiet ≡ 0;
+  process : l.next.0 ≡ slice_index l.movers (pick_of (length l.movers) l.self-inside.flicks);
+  flick : l.next.1 ≡ flick_of (after_pick l.self-inside.flicks);
+  ahead : l.ahead ≡ after_flick (after_pick l.self-inside.flicks);
 }
 
 abbrev pub decreases-steps : goal.decreases-steps

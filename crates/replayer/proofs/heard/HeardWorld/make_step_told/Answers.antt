@@ -1,0 +1,22 @@
+use Rattle.std.proofs.Common.{◌<◌, [], Some, sym, subst}
+use Rattle.record.specs.declared.events.Event.TheVariants.{Step}
+use Rattle.world.specs.Events.{Adds}
+use Rattle.world.specs.Shows.{WorldState}
+use Rattle.world.specs.Walks.{StepsQuietly, bits_within_at}
+use Rattle.replayer.proofs.Listeners.{adds_access}
+use Rattle.replayer.proofs.heard.HeardWorld.make_step_told.Goals as goal
+
+pub make_step_told-access-requires : goal.make_step_told-access-requires
+make_step_told-access-requires c = subst (λ (w : WorldState). 0 < bits_within_at w.seats c.args.process) (sym c.self.view_is) c.requires
+
+pub invariant_of-self : goal.invariant_of-self
+invariant_of-self c =
+    c.hear_access.ensures c.self.inside.world c.make_step_told-access.new.self
+    (adds_access c.self.inside.world c.make_step_told-access.new.self c.args.process c.args.flick c.make_step_told-access.result c.shown.ensures c.make_step_told-access.ensures.quietly c.make_step_told-access.ensures.accepted)
+    c.self.invariant
+
+pub returns-clause-quietly : goal.returns-clause-quietly
+returns-clause-quietly c = subst (λ (w : WorldState). StepsQuietly w c.args.process c.args.flick c.make_step_told-access.new.self) c.self.view_is c.make_step_told-access.ensures.quietly
+
+pub returns-clause-accepted : goal.returns-clause-accepted
+returns-clause-accepted c = subst (λ (w : WorldState). Adds w (Step c.args.process c.args.flick) c.args.process (record { access = Some c.make_step_told-access.result; marks = [] })) c.self.view_is c.make_step_told-access.ensures.accepted
