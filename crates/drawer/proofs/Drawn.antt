@@ -1,31 +1,42 @@
 -- Markup that is written piece by piece, and the lines that are held back.
-use Rattle.std.proofs.Common.{◌≡◌, ℕ, true, List, [], ◌∷◌, ◌++◌, codes, Option, refl, ap, sym, subst, ◌∙◌, append-nil, append_assoc}
+use Rattle.std.proofs.Common.{◌≡◌, ℕ, true, List, [], ◌∷◌, ◌++◌, codes, Option, Some, refl, ap, sym, ◌∙◌, append-nil, append_assoc}
 use Rattle.std.proofs.lemmas.Grind.{flat_map-append}
 use Rattle.std.specs.Io.KnownBytes.{Appends}
+use Rattle.shapes.specs.Elements.{EndsAll, opens_in}
 use Rattle.shapes.specs.Titles.{is_at_rest, lines_in, tags_of}
 use Rattle.shapes.proofs.Lines.{lines_on, rests_on}
+use Rattle.shapes.proofs.Stacks.{opens_on}
 use Rattle.replayer.proofs.Written.{appends_both, appends_none}
-use Rattle.drawer.specs.Drawings.{Draws, DrawsOn, ended_lines}
+use Rattle.drawer.specs.Drawings.{Draws, DrawsAll, DrawsOn, Writes, ended_lines}
 
 -- lines, and then others
 pub ended-append : (xs ys : List (List ℕ)) → ended_lines (xs ++ ys) ≡ ended_lines xs ++ ended_lines ys
 ended-append xs ys = flat_map-append (λ (line : List ℕ). line ++ codes "\n") xs ys
 
+-- markup at rest
+pub writes_bytes : (a b : Option (List ℕ)) (bytes : List ℕ) → is_at_rest (tags_of bytes) ≡ true → Appends a b bytes → Writes a b bytes
+writes_bytes a b bytes rests taken = record { rests = rests; taken = taken }
+
+pub draws_bytes : (a b : Option (List ℕ)) (bytes : List ℕ) → is_at_rest (tags_of bytes) ≡ true → Appends a b bytes → EndsAll bytes → Draws a b (ended_lines (lines_in bytes))
+draws_bytes a b bytes rests taken ended = record { markup = bytes; ended = ended; read_back = refl; writes = writes_bytes a b bytes rests taken }
+
 -- nothing
 pub draws_none : (a : Option (List ℕ)) → Draws a a []
-draws_none a = record { markup = []; rests = refl; read_back = refl; taken = appends_none a }
+draws_none a = record { markup = []; ended = λ stack. refl; read_back = refl; writes = writes_bytes a a [] refl (appends_none a) }
 
--- markup at rest
-pub draws_bytes : (a b : Option (List ℕ)) (bytes : List ℕ) → is_at_rest (tags_of bytes) ≡ true → Appends a b bytes → Draws a b (ended_lines (lines_in bytes))
-draws_bytes a b bytes rests taken = record { markup = bytes; rests = rests; read_back = refl; taken = taken }
+pub draws_no_band : (a : Option (List ℕ)) → Unit {0} → Draws a a []
+draws_no_band a none = draws_none a
 
 -- one piece, and then the next
+writes_both : (a b c : Option (List ℕ)) (bytes more : List ℕ) → Writes a b bytes → Writes b c more → Writes a c (bytes ++ more)
+writes_both a b c bytes more first next = record { rests = rests_on bytes more first.rests next.rests; taken = appends_both a b c bytes more first.taken next.taken }
+
 pub draws_both : (a b c : Option (List ℕ)) (text more : List ℕ) → Draws a b text → Draws b c more → Draws a c (text ++ more)
 draws_both a b c text more first next = record {
   markup = first.markup ++ next.markup;
-  rests = rests_on first.markup next.markup first.rests next.rests;
-  read_back = ap ended_lines (lines_on first.markup next.markup first.rests) ∙ ended-append (lines_in first.markup) (lines_in next.markup) ∙ (λ i. first.read_back i ++ next.read_back i);
-  taken = appends_both a b c first.markup next.markup first.taken next.taken;
+  ended = λ stack. opens_on first.markup next.markup stack first.writes.rests ∙ ap (opens_in next.markup) (first.ended stack) ∙ next.ended stack;
+  read_back = ap ended_lines (lines_on first.markup next.markup first.writes.rests) ∙ ended-append (lines_in first.markup) (lines_in next.markup) ∙ (λ i. first.read_back i ++ next.read_back i);
+  writes = writes_both a b c first.markup next.markup first.writes next.writes;
 }
 
 -- nothing is drawn on
@@ -73,13 +84,23 @@ draws_on_same had held a b text other same on = record { drawn = on.drawn; draws
 pub draws_all : (a b : Option (List ℕ)) (text : List ℕ) → DrawsOn [] [] a b text → Draws a b text
 draws_all a b text on = record {
   markup = on.draws.markup;
-  rests = on.draws.rests;
+  ended = on.draws.ended;
   read_back = on.draws.read_back ∙ sym (append-nil on.drawn) ∙ on.goes_on;
-  taken = on.draws.taken;
+  writes = on.draws.writes;
 }
 
--- what stands before and behind tells nothing
-pub draws_framed : (a b c d : Option (List ℕ)) (head ending : List (List ℕ)) (text : List ℕ) → head ≡ [] → ending ≡ [] → Draws a b (ended_lines head) → Draws b c text → Draws c d (ended_lines ending) → Draws a d text
-draws_framed a b c d head ending text no_head no_ending first bands last =
-    subst (λ l. Draws a d l) ((λ i. (ended_lines (no_head i) ++ text) ++ ended_lines (no_ending i)) ∙ append-nil text)
-    (draws_both a c d (ended_lines head ++ text) (ended_lines ending) (draws_both a b c (ended_lines head) text first bands) last)
+-- what stands before and behind tells nothing, and ends what it begins
+pub draws_framed : (a b c d : Option (List ℕ)) (head ending : List ℕ) (names : List (List ℕ)) (text : List ℕ) → lines_in head ≡ [] → opens_in head (Some []) ≡ Some names → lines_in ending ≡ [] → opens_in ending (Some names) ≡ Some [] →
+    Writes a b head → Draws b c text → Writes c d ending → DrawsAll a d text
+draws_framed a b c d head ending names text no_head begin no_ending end first bands last =
+    let front = writes_both a b c head bands.markup first bands.writes in
+    let whole = writes_both a c d (head ++ bands.markup) ending front last in
+    record {
+      markup = (head ++ bands.markup) ++ ending;
+      elements = opens_on (head ++ bands.markup) ending (Some []) front.rests
+          ∙ ap (opens_in ending) (opens_on head bands.markup (Some []) first.rests ∙ ap (opens_in bands.markup) begin ∙ bands.ended (Some names))
+          ∙ end;
+      read_back = ap ended_lines (lines_on (head ++ bands.markup) ending front.rests ∙ (λ i. lines_on head bands.markup first.rests i ++ no_ending i)
+          ∙ append-nil (lines_in head ++ lines_in bands.markup) ∙ ap (λ l. l ++ lines_in bands.markup) no_head) ∙ bands.read_back;
+      writes = whole;
+    }

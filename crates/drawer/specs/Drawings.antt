@@ -2,6 +2,7 @@
 use Rattle.std.specs.Prelude.{◌≡◌, ◌<◌, ℕ, true, List, [], ◌++◌, codes, flat_map, Option, Some, IfSome, Result, Ok, Err}
 use Rattle.std.specs.Io.KnownBytes.{Appends, IsAtEnd}
 use Rattle.std.specs.String.{string_bytes}
+use Rattle.shapes.specs.Elements.{EndsAll, opens_in}
 use Rattle.shapes.specs.Titles.{is_at_rest, lines_in, tags_of}
 use Rattle.plain_store.specs.declared.setups.Setup.{Setup}
 use Rattle.files.specs.Engines.{Ran, Streams}
@@ -21,12 +22,24 @@ use Rattle.replayer.specs.declared.told.Told.TheVariants as told
 abbrev pub ended_lines : List (List ℕ) → List ℕ
 ended_lines = flat_map (λ line. line ++ codes "\n")
 
--- Markup was written, and the titles of its marks, read back, are the lines of this text. However it goes on, they stay as they are.
+-- This markup was written. However it goes on, what is read of it stays as it is.
+pub record Writes (old new : Option (List ℕ)) (markup : List ℕ) : Type 0 where
+  pub rests : is_at_rest (tags_of markup) ≡ true
+  pub taken : Appends old new markup
+
+-- Markup was written, in which each element that begins ends, and the titles of its marks, read back, are the lines of this text.
 pub record Draws (old new : Option (List ℕ)) (text : List ℕ) : Type 0 where
   pub markup : List ℕ
-  pub rests : is_at_rest (tags_of markup) ≡ true
+  pub ended : EndsAll markup
   pub read_back : ended_lines (lines_in markup) ≡ text
-  pub taken : Appends old new markup
+  pub writes : Writes old new markup
+
+-- A whole picture was written, and however it goes on, what is read of it stays as it is: its tags fit, and no element is open at its end; and the titles of its marks, read back, are the lines of this text.
+pub record DrawsAll (old new : Option (List ℕ)) (text : List ℕ) : Type 0 where
+  pub markup : List ℕ
+  pub elements : opens_in markup (Some []) ≡ Some []
+  pub read_back : ended_lines (lines_in markup) ≡ text
+  pub writes : Writes old new markup
 
 -- the same, where some lines were held back before, and some are now
 pub record DrawsOn (had held : List (List ℕ)) (old new : Option (List ℕ)) (text : List ℕ) : Type 0 where
@@ -52,7 +65,7 @@ IsToldLine _ = Unit {0}
 
 -- How `draw` ends: where it ends well, what was written is a picture of the whole run; after a fault of the input nothing was written.
 abbrev pub Drew : Result (Unit {0}) Fault → Streams → Streams → Type 0
-Drew (Ok done) old new = IfSome old.to_come (λ input. (text : List ℕ) × (replay_text input ≡ Ok text) × Draws old.taken new.taken text) × IsAtEnd new.to_come
+Drew (Ok done) old new = IfSome old.to_come (λ input. (text : List ℕ) × (replay_text input ≡ Ok text) × DrawsAll old.taken new.taken text) × IsAtEnd new.to_come
 Drew (Err (fault.Line f)) old new = Ran replay_text (Err (fault.Line f)) old new
 Drew (Err fault.Read) old new = Ran replay_text (Err fault.Read) old new
 Drew (Err fault.Write) old new = old.write_failures < new.write_failures

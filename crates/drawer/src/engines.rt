@@ -7,7 +7,7 @@ ghost use Rattle.replayer.specs.Runs.{happenings};
 ghost use Rattle.replayer.specs.Summaries.{summary_of};
 ghost use Rattle.replayer.specs.Texts.{replayed};
 ghost use Rattle.replayer.specs.Writing.{IsWriteFault, failed_write};
-ghost use Rattle.drawer.specs.Drawings.{Draws, Drew};
+ghost use Rattle.drawer.specs.Drawings.{DrawsAll, Drew};
 
 use crate::changes::Changes;
 use crate::drawing::draw_bands;
@@ -21,7 +21,7 @@ use std::alloc::Global;
 
 /// Reads a whole file, and writes the page of its run: a picture in bands, each written when it is full. Where it ends
 /// well, the titles of the marks, read back, are the lines that `replay` writes for the file, whether or not the page
-/// shows the reads that writes overlapped too.
+/// shows the reads that writes overlapped too; and its tags fit, and no element is open at its end.
 pub fn draw<R: Source, W: Sink, L: Onlooker>(
     alloc: Global,
     reads: Reads,
@@ -52,7 +52,7 @@ fn draw_page<W: Sink, L: Onlooker>(
     onlooker: &mut L,
 ) -> Result<Summary, Fault>
     requires { W.failures output.old < 2 ^ 64 - 1 }
-    ensures ok { OnOk result (Draws (W.taken output.old) (W.taken output.new) (replayed (script scenario.now))) }
+    ensures ok { OnOk result (DrawsAll (W.taken output.old) (W.taken output.new) (replayed (script scenario.now))) }
     ensures summary { IfOk result (λ summary. summary ≡ summary_of scenario.now.setup (happenings (script scenario.now))) }
     ensures fault { IfErr result IsWriteFault }
     ensures failures { W.failures output.new ≡ W.failures output.old + failed_write result }
@@ -99,7 +99,7 @@ fn draw_picture<W: Sink, L: Onlooker>(
     onlooker: &mut L,
 ) -> Result<Summary, Fault>
     requires { W.failures output.old < 2 ^ 64 - 1 }
-    ensures ok { OnOk result (Draws (W.taken output.old) (W.taken output.new) (replayed (script scenario.now))) }
+    ensures ok { OnOk result (DrawsAll (W.taken output.old) (W.taken output.new) (replayed (script scenario.now))) }
     ensures summary { IfOk result (λ summary. summary ≡ summary_of scenario.now.setup (happenings (script scenario.now))) }
     ensures fault { IfErr result IsWriteFault }
     ensures failures { W.failures output.new ≡ W.failures output.old + failed_write result }

@@ -1,6 +1,6 @@
 //! The engines `draw` and `draw-svg`: the picture of a scenario's run, as a page for a browser and as one picture. A run is made
-//! anew, and each band of its picture is written as soon as it is full. From what is written the run's lines are read back, each
-//! once and in order. Where it is asked, a picture shows the reads that writes overlapped too.
+//! anew, and each band of its picture is written as soon as it is full. The titles of the marks that are written, read back, are
+//! together the text of `replay`. Where it is asked, a picture shows the reads that writes overlapped too.
 //!
 //! ```rust
 //! Engine::Draw => ended(draw(alloc, request.reads, input, output, onlooker)),

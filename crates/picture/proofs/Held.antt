@@ -1,8 +1,7 @@
 -- What a page holds back, from line to line.
 use Rattle.std.proofs.Common.{◌≡◌, ℕ, zero, suc, List, [], ◌∷◌, ◌++◌, flat_map, get_or, slice_set, Option, None, Some, refl, ap, sym, ◌∙◌, append-nil, append_assoc}
 use Rattle.std.proofs.lemmas.Grind.{flat_map-append}
-use Rattle.shapes.specs.Titles.{lines_in}
-use Rattle.picture.specs.Pages.{lines_of, lines_of_band}
+use Rattle.picture.specs.Pages.{lines_of}
 use Rattle.picture.specs.Told.{told_in}
 use Rattle.picture.specs.declared.columns.Column.{Column}
 

@@ -1,4 +1,10 @@
+mod Beginnings
+mod Drawn
+mod Steps
 mod Texts
 mod Tellings
 mod Held
 mod Stages
+mod Framing
+mod Lists
+mod Lines

@@ -1,14 +1,14 @@
 -- Lines that say the marks of a record lead to its stages.
-use Rattle.std.proofs.Common.{◌≡◌, ◌<◌, ◌⊎◌, inl, inr, ℕ, zero, suc, Bool, true, false, cond, nat_lt, ◌==◌, List, [], ◌∷◌, ◌++◌, flat_map, fold, get_or, length, map, replicate, set, refl, ap, sym, subst, ◌∙◌, arith}
-use Rattle.std.proofs.lemmas.Bool.{cases_eq, eq-eqb, ne_eqb, cond-true, cond-false, cases_Bool, ltb-false}
+use Rattle.std.proofs.Common.{◌≡◌, ◌<◌, ◌⊎◌, inl, inr, ℕ, zero, suc, Bool, true, false, cond, nat_lt, ◌==◌, List, [], ◌∷◌, flat_map, fold, get_or, length, map, replicate, refl, ap, sym, subst, ◌∙◌, arith}
+use Rattle.std.proofs.lemmas.Bool.{cases_eq, eq-eqb, ne_eqb, cond-true, cond-false, ltb-false}
 use Rattle.std.proofs.lemmas.Grind.{fold-append}
 use Rattle.std.proofs.lemmas.List.{length-set, get_or-set_same, get_or-set_other}
 use Rattle.record.specs.declared.marks.Mark.{Mark}
 use Rattle.record.specs.declared.stages.Stage.{Stage}
 use Rattle.record.specs.declared.stages.Stage.TheVariants.{Idle}
-use Rattle.record.specs.Entries.{Entry, Past}
+use Rattle.record.specs.Entries.{Past}
 use Rattle.record.specs.Stages.{stage, stage_after}
-use Rattle.picture.specs.Stages.{StagesAreTheRecords, marks_in, marks_said, nothing_told, stage_among, stages_after, stages_marked, stages_told}
+use Rattle.picture.specs.Stages.{StagesAreTheRecords, marks_in, marks_said, nothing_told, stage_among, stages_marked, stages_told}
 use Rattle.picture.specs.declared.told.Saying.{Saying}
 use Rattle.picture.specs.declared.told.Saying.TheVariants.{Marked, Refused, Tired, Shown, Ended}
 

@@ -1,3 +1,12 @@
+pub mod Bars
+pub mod Columns
+pub mod Drawings
+pub mod Layouts
+pub mod Overlaps
 pub mod Pages
+pub mod Placings
+pub mod Signs
 pub mod Stages
+pub mod States
 pub mod Told
+pub mod Words

@@ -1,5 +1,5 @@
 -- What a page holds back: the lines that were told and are not drawn yet; and what it keeps of all lines.
-use Rattle.std.specs.Prelude.{ℕ, List, [], ◌++◌, flat_map, Option, None, Some}
+use Rattle.std.specs.Prelude.{ℕ, List, [], ◌∷◌, ◌++◌, codes, flat_map, Option, None, Some}
 use Rattle.std.specs.Option.{option_to_list}
 use Rattle.record.specs.declared.stages.Stage.{Stage}
 use Rattle.shapes.specs.Titles.{lines_in}
@@ -23,3 +23,10 @@ lines_of_band (Some band) = lines_in band
 -- the stages that the lines have told so far, those that are held back too
 abbrev pub stages_kept : Page → List Stage
 stages_kept page = page.state.stages
+
+-- the elements that are open behind what stands before the bands, in a page and in one picture
+abbrev pub page_names : List (List ℕ)
+page_names = codes "body" ∷ codes "html" ∷ []
+
+abbrev pub picture_names : List (List ℕ)
+picture_names = codes "svg" ∷ []

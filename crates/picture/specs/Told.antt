@@ -1,8 +1,11 @@
 -- The lines of a run's text, as values.
-use Rattle.std.specs.Prelude.{ℕ, List, ◌++◌, codes, flat_map, map}
+use Rattle.std.specs.Prelude.{ℕ, Bool, true, false, List, ◌++◌, codes, map, Option, None, Some, option_map}
 use Rattle.std.specs.Fmt.{decimal}
 use Rattle.record.specs.Shown.{mark_text, refusal_text}
+use Rattle.record.specs.declared.marks.Mark.{Mark}
+use Rattle.record.specs.declared.marks.Mark.TheVariants.{Taken}
 use Rattle.picture.specs.declared.columns.Column.{Column}
+use Rattle.picture.specs.declared.told.Change.{Change}
 use Rattle.picture.specs.declared.told.Line.{Line}
 use Rattle.picture.specs.declared.told.Saying.{Saying}
 use Rattle.picture.specs.declared.told.Saying.TheVariants.{Marked, Refused, Tired, Shown, Ended}
@@ -26,3 +29,40 @@ texts = map text_of
 -- the lines of a column
 abbrev pub told_in : Column → List (List ℕ)
 told_in column = texts column.lines.items
+
+-- the process that is told of
+abbrev pub process_told : Saying → Option ℕ
+process_told (Marked p mark change) = Some p
+process_told (Refused p refusal) = Some p
+process_told (Tired p) = Some p
+process_told (Shown words) = None
+process_told (Ended events taken refused) = None
+
+-- the mark that is told
+abbrev pub mark_told : Saying → Option Mark
+mark_told (Marked p mark change) = Some mark
+mark_told _ = None
+
+-- what the command changed that is told of
+abbrev pub change_told : Saying → Option Change
+change_told (Marked p mark change) = change
+change_told _ = None
+
+-- the place in the history that a mark tells
+abbrev pub place_marked : Mark → Option ℕ
+place_marked (Taken place reply) = Some place
+place_marked _ = None
+
+-- the place in the history that is told
+abbrev pub place_told : Saying → Option ℕ
+place_told (Marked p mark change) = place_marked mark
+place_told _ = None
+
+-- whether a refusal is told
+abbrev pub tells_refusal : Saying → Bool
+tells_refusal (Refused p refusal) = true
+tells_refusal _ = false
+
+-- the number of an event that has a mark
+abbrev pub event_told : Line → Option ℕ
+event_told line = option_map (λ mark. line.at) (mark_told line.saying)

@@ -1,6 +1,9 @@
 //! A band: its columns, and what stood before them.
-ghost use Rattle.std.specs.Prelude.{◌≡◌, ◌++◌, flat_map, OnOk};
-ghost use Rattle.shapes.specs.Titles.{lines_in};
+ghost use Rattle.std.specs.Prelude.{◌≡◌, ◌++◌, flat_map, map, OnOk};
+ghost use Rattle.shapes.specs.Figures.{drawings};
+ghost use Rattle.shapes.specs.Readings.{reading, with_lines};
+ghost use Rattle.picture.specs.Columns.{seen};
+ghost use Rattle.picture.specs.Drawings.{band_shapes, column_shapes, for_each, lane_shapes, lane_words, links, seen_band};
 ghost use Rattle.picture.specs.Told.{told_in};
 
 use crate::columns::Column;
@@ -24,9 +27,10 @@ pub(crate) struct Band {
 }
 
 impl Band {
-    /// Draws it. The titles of its marks are the lines of its columns.
+    /// Draws it. The titles of its marks are the lines of its columns, and each element that begins ends.
     pub fn draw(&self, alloc: Global, markup: &mut Markup) -> Result<(), AllocError>
-        ensures { OnOk result (lines_in markup.new ≡ lines_in markup.old ++ flat_map told_in self.now.columns.items) }
+        ensures draws { OnOk result (markup.new ≡ markup.old ++ drawings (band_shapes (seen_band self.now))) }
+        ensures read { OnOk result (reading markup.new ≡ with_lines (flat_map told_in self.now.columns.items) (reading markup.old)) }
     {
         self.draw_shades(markup)?;
         self.draw_axis(alloc, markup)?;
@@ -39,7 +43,8 @@ impl Band {
 
     /// Draws all lanes.
     fn draw_lanes(&self, alloc: Global, markup: &mut Markup) -> Result<(), AllocError>
-        ensures { OnOk result (lines_in markup.new ≡ lines_in markup.old) }
+        ensures draws { OnOk result (markup.new ≡ markup.old ++ drawings (for_each (lane_shapes (seen_band self.now)) self.now.before.processes)) }
+        ensures read { OnOk result (reading markup.new ≡ reading markup.old) }
     {
         for process in 0..self.before.processes {
             self.draw_lane(alloc, process, markup)?;
@@ -49,7 +54,8 @@ impl Band {
 
     /// Draws what leads from lane to lane.
     fn draw_all_links(&self, alloc: Global, markup: &mut Markup) -> Result<(), AllocError>
-        ensures { OnOk result (lines_in markup.new ≡ lines_in markup.old) }
+        ensures draws { OnOk result (markup.new ≡ markup.old ++ drawings (flat_map (links (seen_band self.now)) (map seen self.now.columns.items))) }
+        ensures read { OnOk result (reading markup.new ≡ reading markup.old) }
     {
         for column in &self.columns {
             self.draw_links(alloc, column, markup)?;
@@ -59,19 +65,22 @@ impl Band {
 
     /// Draws the words in the bars of the lanes with columns.
     fn draw_all_words(&self, alloc: Global, markup: &mut Markup) -> Result<(), AllocError>
-        ensures { OnOk result (lines_in markup.new ≡ lines_in markup.old) }
+        ensures draws { OnOk result (markup.new ≡ markup.old ++ drawings (for_each (lane_words (seen_band self.now)) self.now.before.processes)) }
+        ensures read { OnOk result (reading markup.new ≡ reading markup.old) }
     {
         for process in 0..self.before.processes {
-            if self.layout.lane(process).is_full {
-                self.draw_words(alloc, process, markup)?;
+            if !self.layout.lane(process).is_full {
+                continue;
             }
+            self.draw_words(alloc, process, markup)?;
         }
         Ok(())
     }
 
     /// Draws all columns.
     fn draw_columns(&self, alloc: Global, markup: &mut Markup) -> Result<(), AllocError>
-        ensures { OnOk result (lines_in markup.new ≡ lines_in markup.old ++ flat_map told_in self.now.columns.items) }
+        ensures draws { OnOk result (markup.new ≡ markup.old ++ drawings (flat_map (column_shapes (seen_band self.now)) (map seen self.now.columns.items))) }
+        ensures read { OnOk result (reading markup.new ≡ with_lines (flat_map told_in self.now.columns.items) (reading markup.old)) }
     {
         for column in &self.columns {
             self.draw_column(alloc, column, markup)?;

@@ -1,6 +1,10 @@
 //! The bars of a lane: the stages of its process.
-ghost use Rattle.std.specs.Prelude.{◌≡◌, OnOk};
-ghost use Rattle.shapes.specs.Titles.{lines_in};
+ghost use Rattle.std.specs.Prelude.{◌≡◌, ◌++◌, OnOk};
+ghost use Rattle.shapes.specs.Figures.{drawings};
+ghost use Rattle.shapes.specs.Readings.{reading};
+ghost use Rattle.picture.specs.Bars.{bar, height_of, lane_name, lane_rule};
+ghost use Rattle.picture.specs.Drawings.{lane_shapes, seen_band};
+ghost use Rattle.picture.specs.Words.{stage_text};
 
 use crate::bands::Band;
 use crate::layout::Lane;
@@ -17,7 +21,8 @@ impl Band {
         process: u8,
         markup: &mut Markup,
     ) -> Result<(), AllocError>
-        ensures { OnOk result (lines_in markup.new ≡ lines_in markup.old) }
+        ensures draws { OnOk result (markup.new ≡ markup.old ++ drawings (lane_shapes (seen_band self.now) process)) }
+        ensures read { OnOk result (reading markup.new ≡ reading markup.old) }
     {
         let lane = self.layout.lane(process);
         draw_name(alloc, process, lane, markup)?;
@@ -25,11 +30,12 @@ impl Band {
         let mut stage = self.before.stage(process);
         for column in &self.columns {
             let next = column.after.stage(process);
-            if next != stage {
-                draw_bar(lane, stage, from, column.x, markup)?;
-                from = column.x;
-                stage = next;
+            if next == stage {
+                continue;
             }
+            draw_bar(lane, stage, from, column.x, markup)?;
+            from = column.x;
+            stage = next;
         }
         draw_bar(lane, stage, from, self.layout.end, markup)
     }
@@ -37,16 +43,29 @@ impl Band {
 
 /// Draws what stands to the left of a lane, and the rule above it.
 fn draw_name(alloc: Global, process: u8, lane: Lane, markup: &mut Markup) -> Result<(), AllocError>
-    ensures { OnOk result (lines_in markup.new ≡ lines_in markup.old) }
+    ensures draws { OnOk result (markup.new ≡ markup.old ++ drawings (lane_name lane process)) }
+    ensures read { OnOk result (reading markup.new ≡ reading markup.old) }
 {
-    let top = u32::from(lane.top);
-    if process > 0 {
-        let end = Point::at(u32::from(RIGHT), top);
-        markup.line("rule", Point::at(8, top), end)?;
-    }
-    let style = if lane.is_full { "lane" } else { "thin" };
+    draw_rule(process, lane, markup)?;
     let name = format!(in alloc; "P{process}")?;
-    markup.label(style, Point::at(8, lane.bar() + 4), name.as_bytes())
+    let at = Point::at(8, lane.bar() + 4);
+    if lane.is_full {
+        markup.label("lane", at, name.as_bytes())
+    } else {
+        markup.label("thin", at, name.as_bytes())
+    }
+}
+
+/// Draws the rule between a lane and the one above it.
+fn draw_rule(process: u8, lane: Lane, markup: &mut Markup) -> Result<(), AllocError>
+    ensures draws { OnOk result (markup.new ≡ markup.old ++ drawings (lane_rule lane process)) }
+    ensures read { OnOk result (reading markup.new ≡ reading markup.old) }
+{
+    if process == 0 {
+        return Ok(());
+    }
+    let top = u32::from(lane.top);
+    markup.line("rule", Point::at(8, top), Point::at(u32::from(RIGHT), top))
 }
 
 /// Draws a stage from one place to another.
@@ -57,7 +76,8 @@ fn draw_bar(
     to: u16,
     markup: &mut Markup,
 ) -> Result<(), AllocError>
-    ensures { OnOk result (lines_in markup.new ≡ lines_in markup.old) }
+    ensures draws { OnOk result (markup.new ≡ markup.old ++ drawings (bar lane stage from to)) }
+    ensures read { OnOk result (reading markup.new ≡ reading markup.old) }
 {
     let middle = lane.bar();
     let x = u32::from(from);
@@ -68,18 +88,27 @@ fn draw_bar(
     if to <= from {
         return Ok(());
     }
+    let height = bar_height(lane, stage);
+    let corner = Point::at(x, middle.saturating_sub(height / 2));
+    markup.block(stage_name(stage), corner, u32::from(to - from), height)
+}
+
+/// How high the bar of a stage is.
+fn bar_height(lane: Lane, stage: Stage) -> u32
+    ensures { result ≡ height_of lane stage }
+{
     let full = match stage {
         Stage::Inside => 24,
         Stage::Leaving => 8,
         _ => 14,
     };
-    let height = if lane.is_full { full } else { full / 2 };
-    let corner = Point::at(x, middle.saturating_sub(height / 2));
-    markup.block(stage_name(stage), corner, u32::from(to - from), height)
+    if lane.is_full { full } else { full / 2 }
 }
 
 /// How a stage is called.
-pub(crate) fn stage_name(stage: Stage) -> &'static str {
+pub(crate) fn stage_name(stage: Stage) -> &'static str
+    ensures { result.now ≡ stage_text stage }
+{
     match stage {
         Stage::Idle => "idle",
         Stage::Doorway => "doorway",

@@ -1,6 +1,10 @@
 //! What a band has behind its marks: shades, the axis, and the history.
-ghost use Rattle.std.specs.Prelude.{◌≡◌, OnOk};
-ghost use Rattle.shapes.specs.Titles.{lines_in};
+ghost use Rattle.std.specs.Prelude.{◌≡◌, [], ◌∷◌, ◌++◌, map, None, OnOk, Some};
+ghost use Rattle.shapes.specs.Figures.{drawings};
+ghost use Rattle.shapes.specs.Readings.{reading};
+ghost use Rattle.picture.specs.Columns.{seen};
+ghost use Rattle.picture.specs.Layouts.{chain_ends_of, knot_of, knots_from, with_knot};
+ghost use Rattle.picture.specs.Drawings.{axis, axis_line, axis_up_to, chain_shapes, first_inside, gap_words, inside_since, opening_words, seen_band, shade_of, shade_up_to, shades, tick};
 
 use crate::bands::Band;
 use crate::columns::Column;
@@ -15,28 +19,48 @@ const MIDDLE: u32 = 14;
 impl Band {
     /// Shades all lanes while somebody is inside.
     pub(crate) fn draw_shades(&self, markup: &mut Markup) -> Result<(), AllocError>
-        ensures { OnOk result (lines_in markup.new ≡ lines_in markup.old) }
+        ensures draws { OnOk result (markup.new ≡ markup.old ++ drawings (shades self.now.layout.chain self.now.layout.end (first_inside self.now.before) (map seen self.now.columns.items))) }
+        ensures read { OnOk result (reading markup.new ≡ reading markup.old) }
     {
-        let mut from = self.before.inside.map(|_| LEFT);
+        let mut from = self.shade_start();
         for column in &self.columns {
             let is_inside = column.after.inside.is_some();
-            match from {
-                Some(x) if !is_inside => {
-                    self.shade(x, column.x, markup)?;
-                    from = None;
-                }
-                None if is_inside => from = Some(column.x),
-                _ => {}
-            }
+            self.shade_before(from, is_inside, column.x, markup)?;
+            from = inside_from(from, is_inside, column.x);
         }
+        self.shade_before(from, false, self.layout.end, markup)
+    }
+
+    /// Where the first shade begins, if somebody is inside before the band.
+    fn shade_start(&self) -> Option<u16>
+        ensures { result ≡ first_inside self.now.before }
+    {
+        match self.before.inside {
+            Some(_) => Some(LEFT),
+            None => None,
+        }
+    }
+
+    /// Shades up to a place where nobody is inside any more, if somebody was.
+    fn shade_before(
+        &self,
+        from: Option<u16>,
+        is_inside: bool,
+        to: u16,
+        markup: &mut Markup,
+    ) -> Result<(), AllocError>
+        ensures draws { OnOk result (markup.new ≡ markup.old ++ drawings (shade_up_to self.now.layout.chain from is_inside to)) }
+        ensures read { OnOk result (reading markup.new ≡ reading markup.old) }
+    {
         match from {
-            Some(x) => self.shade(x, self.layout.end, markup),
-            None => Ok(()),
+            Some(x) if !is_inside => self.shade(x, to, markup),
+            _ => Ok(()),
         }
     }
 
     fn shade(&self, from: u16, to: u16, markup: &mut Markup) -> Result<(), AllocError>
-        ensures { OnOk result (lines_in markup.new ≡ lines_in markup.old) }
+        ensures draws { OnOk result (markup.new ≡ markup.old ++ drawings (shade_of self.now.layout.chain from to ∷ [])) }
+        ensures read { OnOk result (reading markup.new ≡ reading markup.old) }
     {
         let corner = Point::at(u32::from(from), u32::from(AXIS));
         let width = u32::from(to.saturating_sub(from));
@@ -46,7 +70,8 @@ impl Band {
 
     /// Draws the axis, with the numbers of events between columns.
     pub(crate) fn draw_axis(&self, alloc: Global, markup: &mut Markup) -> Result<(), AllocError>
-        ensures { OnOk result (lines_in markup.new ≡ lines_in markup.old) }
+        ensures draws { OnOk result (markup.new ≡ markup.old ++ drawings (axis self.now.layout.end 52 (map seen self.now.columns.items))) }
+        ensures read { OnOk result (reading markup.new ≡ reading markup.old) }
     {
         let mut from = LEFT;
         for column in &self.columns {
@@ -60,7 +85,8 @@ impl Band {
 
     /// Draws the chain of the history.
     pub(crate) fn draw_chain(&self, markup: &mut Markup) -> Result<(), AllocError>
-        ensures { OnOk result (lines_in markup.new ≡ lines_in markup.old) }
+        ensures draws { OnOk result (markup.new ≡ markup.old ++ drawings (chain_shapes (seen_band self.now))) }
+        ensures read { OnOk result (reading markup.new ≡ reading markup.old) }
     {
         let ground = u32::from(self.layout.chain.saturating_sub(3));
         let knot = self.layout.knot();
@@ -70,9 +96,7 @@ impl Band {
             Point::at(u32::from(RIGHT), ground),
         )?;
         markup.label("name", Point::at(8, knot + 3), b"history")?;
-        if !self.opens.is_empty() {
-            markup.label("store", Point::at(62, knot + 4), self.opens.as_slice())?;
-        }
+        self.draw_opening(markup)?;
         let Some((from, to)) = self.chain_ends() else {
             return Ok(());
         };
@@ -80,22 +104,53 @@ impl Band {
         markup.line("chain", from, Point::at(u32::from(to), knot))
     }
 
-    /// Where the chain begins and ends, if there is a knot before or in this band.
-    fn chain_ends(&self) -> Option<(u16, u16)> {
-        let mut first = None;
-        let mut last = None;
-        for column in &self.columns {
-            if column.taken().is_some() {
-                first = first.or(Some(column.x));
-                last = Some(column.x);
-            }
+    /// Draws what the store opens with.
+    fn draw_opening(&self, markup: &mut Markup) -> Result<(), AllocError>
+        ensures draws { OnOk result (markup.new ≡ markup.old ++ drawings (opening_words (knot_of self.now.layout) self.now.opens.items)) }
+        ensures read { OnOk result (reading markup.new ≡ reading markup.old) }
+    {
+        if self.opens.is_empty() {
+            return Ok(());
         }
-        let from = if self.before.places > 0 { LEFT } else { first? };
-        let to = match last {
-            Some(x) if self.is_last => x,
-            _ => self.layout.end,
-        };
-        Some((from, to))
+        let at = Point::at(62, self.layout.knot() + 4);
+        markup.label("store", at, self.opens.as_slice())
+    }
+
+    /// Where the chain begins and ends, if there is a knot before or in this band.
+    fn chain_ends(&self) -> Option<(u16, u16)>
+        ensures { result ≡ chain_ends_of self.now.before.places self.now.is_last self.now.layout.end (map seen self.now.columns.items) }
+    {
+        match knots(self.columns.as_slice()) {
+            Some((first, last)) => Some((
+                if self.before.places == 0 { first } else { LEFT },
+                if self.is_last { last } else { self.layout.end },
+            )),
+            None if self.before.places == 0 => None,
+            None => Some((LEFT, self.layout.end)),
+        }
+    }
+}
+
+/// Where the first and the last knot of these columns stand.
+fn knots(columns: &[Column]) -> Option<(u16, u16)>
+    ensures { result ≡ knots_from None (map seen columns.now) }
+{
+    let mut ends = None;
+    for column in columns {
+        if column.taken().is_some() {
+            ends = Some(with_last(ends, column.x));
+        }
+    }
+    ends
+}
+
+/// The first and the last of some knots, once there is one more.
+fn with_last(ends: Option<(u16, u16)>, x: u16) -> (u16, u16)
+    ensures { Some result ≡ with_knot ends x }
+{
+    match ends {
+        Some((first, _)) => (first, x),
+        None => (x, x),
     }
 }
 
@@ -106,26 +161,66 @@ fn draw_stretch(
     column: &Column,
     markup: &mut Markup,
 ) -> Result<(), AllocError>
-    ensures { OnOk result (lines_in markup.new ≡ lines_in markup.old) }
+    ensures draws { OnOk result (markup.new ≡ markup.old ++ drawings (axis_up_to from (seen column.now))) }
+    ensures read { OnOk result (reading markup.new ≡ reading markup.old) }
+{
+    draw_axis_line(from, column, markup)?;
+    draw_tick(column, markup)?;
+    draw_gap(alloc, from, column, markup)
+}
+
+/// Draws the axis up to a column, dotted where there are more events than pixels.
+fn draw_axis_line(from: u16, column: &Column, markup: &mut Markup) -> Result<(), AllocError>
+    ensures draws { OnOk result (markup.new ≡ markup.old ++ drawings (axis_line from (seen column.now) ∷ [])) }
+    ensures read { OnOk result (reading markup.new ≡ reading markup.old) }
 {
     let pixels = column.x.saturating_sub(from);
-    let x = u32::from(column.x);
-    let style = if column.gap > u64::from(pixels) {
-        "far"
-    } else {
-        "axis"
-    };
     let start = Point::at(u32::from(from), MIDDLE);
-    markup.line(style, start, Point::at(x, MIDDLE))?;
-    if column.event.is_some() {
-        markup.line("axis", Point::at(x, MIDDLE - 3), Point::at(x, MIDDLE + 3))?;
+    let end = Point::at(u32::from(column.x), MIDDLE);
+    if column.gap > u64::from(pixels) {
+        markup.line("far", start, end)
+    } else {
+        markup.line("axis", start, end)
     }
-    if column.gap > 1 {
-        let digits = column.gap.to_string(alloc)?;
-        if room(digits.len(), DIGIT).saturating_add(8) <= pixels {
-            let middle = Point::at((u32::from(from) + x) / 2, MIDDLE - 3);
-            markup.label("gap", middle, digits.as_bytes())?;
-        }
+}
+
+/// Draws the tick of a column that has an event.
+fn draw_tick(column: &Column, markup: &mut Markup) -> Result<(), AllocError>
+    ensures draws { OnOk result (markup.new ≡ markup.old ++ drawings (tick (seen column.now))) }
+    ensures read { OnOk result (reading markup.new ≡ reading markup.old) }
+{
+    if column.event.is_none() {
+        return Ok(());
     }
-    Ok(())
+    let x = u32::from(column.x);
+    markup.line("axis", Point::at(x, MIDDLE - 3), Point::at(x, MIDDLE + 3))
+}
+
+/// Draws the number of events before a column, if they are more than one and it has room.
+fn draw_gap(
+    alloc: Global,
+    from: u16,
+    column: &Column,
+    markup: &mut Markup,
+) -> Result<(), AllocError>
+    ensures draws { OnOk result (markup.new ≡ markup.old ++ drawings (gap_words from (seen column.now))) }
+    ensures read { OnOk result (reading markup.new ≡ reading markup.old) }
+{
+    if column.gap <= 1 {
+        return Ok(());
+    }
+    let pixels = column.x.saturating_sub(from);
+    let digits = column.gap.to_string(alloc)?;
+    if room(digits.len(), DIGIT).saturating_add(8) > pixels {
+        return Ok(());
+    }
+    let x = (u32::from(from) + u32::from(column.x)) / 2;
+    markup.label("gap", Point::at(x, MIDDLE - 3), digits.as_bytes())
+}
+
+/// Where somebody has been inside from, after a column at a place.
+fn inside_from(from: Option<u16>, is_inside: bool, x: u16) -> Option<u16>
+    ensures { result ≡ inside_since from is_inside x }
+{
+    if is_inside { from.or(Some(x)) } else { None }
 }

@@ -15,6 +15,7 @@ mod measures;
 mod page;
 mod placing;
 mod reads;
+mod seats;
 mod sheets;
 mod signs;
 mod state;

@@ -1,9 +1,13 @@
 //! What leads from one lane to another.
-ghost use Rattle.std.specs.Prelude.{◌≡◌, OnOk};
-ghost use Rattle.shapes.specs.Titles.{lines_in};
+ghost use Rattle.std.specs.Prelude.{◌≡◌, ◌≤◌, ◌++◌, OnOk};
+ghost use Rattle.shapes.specs.Figures.{drawings};
+ghost use Rattle.shapes.specs.Readings.{reading};
+ghost use Rattle.picture.specs.Columns.{seen};
+ghost use Rattle.picture.specs.Drawings.{arrow_by, distance_of_tip, drop_line, freed_arrow, links, seen_band};
 
 use crate::bands::Band;
 use crate::columns::Column;
+use crate::layout::Lane;
 use shapes::{Markup, Point};
 use std::alloc::{AllocError, Global};
 
@@ -15,49 +19,81 @@ impl Band {
         column: &Column,
         markup: &mut Markup,
     ) -> Result<(), AllocError>
-        ensures { OnOk result (lines_in markup.new ≡ lines_in markup.old) }
+        ensures draws { OnOk result (markup.new ≡ markup.old ++ drawings (links (seen_band self.now) (seen column.now))) }
+        ensures read { OnOk result (reading markup.new ≡ reading markup.old) }
     {
         let Some(process) = column.lane else {
             return Ok(());
         };
         let x = u32::from(column.x);
-        let bar = self.layout.lane(process).bar();
-        if let Some(freed) = column.frees {
-            self.draw_freed(alloc, Point::at(x, bar), freed, markup)?;
-        }
-        if column.taken().is_some() {
-            let knot = Point::at(x, self.layout.knot());
-            markup.line("drop", Point::at(x, bar), knot)?;
-        }
+        let from = Point::at(x, self.layout.lane(process).bar());
+        self.draw_freed(alloc, from, column.frees, markup)?;
+        self.draw_drop(from, column, markup)?;
         match &column.read {
             Some(read) => self.draw_open(alloc, read, x, markup),
             None => Ok(()),
         }
     }
 
-    /// Draws an arrow to the lane of a process, from above or from below.
+    /// Draws the line from a column to its knot, if it has one.
+    fn draw_drop(&self, from: Point, column: &Column, markup: &mut Markup) -> Result<(), AllocError>
+        ensures draws { OnOk result (markup.new ≡ markup.old ++ drawings (drop_line self.now.layout from (seen column.now))) }
+        ensures read { OnOk result (reading markup.new ≡ reading markup.old) }
+    {
+        if column.taken().is_none() {
+            return Ok(());
+        }
+        markup.line("drop", from, Point::at(from.x, self.layout.knot()))
+    }
+
+    /// Draws an arrow to the lane of the process that is freed, if one is, from above or from below.
     fn draw_freed(
         &self,
         alloc: Global,
         from: Point,
-        freed: u8,
+        frees: Option<u8>,
         markup: &mut Markup,
     ) -> Result<(), AllocError>
-        ensures { OnOk result (lines_in markup.new ≡ lines_in markup.old) }
+        ensures draws { OnOk result (markup.new ≡ markup.old ++ drawings (freed_arrow self.now.layout from frees)) }
+        ensures read { OnOk result (reading markup.new ≡ reading markup.old) }
     {
+        let Some(freed) = frees else {
+            return Ok(());
+        };
         let lane = self.layout.lane(freed);
         let bar = lane.bar();
-        let short = if lane.is_full { 9 } else { 5 };
-        let x = from.x;
-        let (tip, end, rest) = if bar > from.y {
-            let tip = bar.saturating_sub(short);
-            (tip, tip.saturating_sub(5), "l-4 -7h8z")
+        if bar > from.y {
+            let tip = bar.saturating_sub(tip_distance(lane));
+            draw_arrow(alloc, from, tip.saturating_sub(5), tip, "l-4 -7h8z", markup)
         } else {
-            let tip = bar + short;
-            (tip, tip + 5, "l-4 7h8z")
-        };
-        let line = format!(in alloc; "L{x} {end}")?;
-        markup.path("frees", from, line.as_str())?;
-        markup.path("tip", Point::at(x, tip), rest)
+            let tip = bar + tip_distance(lane);
+            draw_arrow(alloc, from, tip + 5, tip, "l-4 7h8z", markup)
+        }
     }
+}
+
+/// How far from the middle line of a lane the tip of an arrow ends.
+fn tip_distance(lane: Lane) -> u32
+    ensures small { result ≤ 9 }
+    ensures exact { result ≡ distance_of_tip lane }
+{
+    if lane.is_full { 9 } else { 5 }
+}
+
+/// Draws an arrow: its line down or up to a place, and its head from its tip on.
+fn draw_arrow(
+    alloc: Global,
+    from: Point,
+    end: u32,
+    tip: u32,
+    head: &str,
+    markup: &mut Markup,
+) -> Result<(), AllocError>
+    ensures draws { OnOk result (markup.new ≡ markup.old ++ drawings (arrow_by from end tip head.now)) }
+    ensures read { OnOk result (reading markup.new ≡ reading markup.old) }
+{
+    let x = from.x;
+    let line = format!(in alloc; "L{x} {end}")?;
+    markup.path("frees", from, line.as_str())?;
+    markup.path("tip", Point::at(x, tip), head)
 }

@@ -1,13 +1,19 @@
 //! The marks of a band: for each line of the run a group that has the line as its title.
-ghost use Rattle.std.specs.Prelude.{◌≡◌, ◌++◌, ◌∷◌, [], OnOk};
-ghost use Rattle.shapes.specs.Titles.{lines_in};
-ghost use Rattle.picture.specs.Told.{text_of, texts};
+ghost use Rattle.std.specs.Prelude.{◌≡◌, [], ◌∷◌, ◌++◌, flat_map, IfOk, OnOk, string_bytes};
+ghost use Rattle.shapes.specs.Figures.{drawings};
+ghost use Rattle.shapes.specs.Readings.{reading, with_lines, with_mark};
+ghost use Rattle.picture.specs.Columns.{seen};
+ghost use Rattle.picture.specs.Drawings.{column_shapes, foot_shapes, head_shapes, line_shapes, lines_shapes, mark_shape, note_shapes, number_words, pair_words, place_of_row, queue_said, right_by, rows_of_line, rows_place, seen_band, store_said};
+ghost use Rattle.shapes.specs.Markup.{attribute_text, said_text};
+ghost use Rattle.picture.specs.Told.{change_told, text_of, texts};
+ghost use Rattle.picture.specs.Words.{queue_text, row_class};
 
 use crate::bands::Band;
 use crate::columns::{Column, Row};
 use crate::signs::{below, draw_sign, moved};
 use crate::told::Line;
-use shapes::{Key, Markup, Point, number, words};
+use crate::words::listed;
+use shapes::{Attribute, Key, Markup, Point, number, words};
 use std::alloc::{AllocError, Global};
 
 impl Band {
@@ -18,30 +24,55 @@ impl Band {
         column: &Column,
         markup: &mut Markup,
     ) -> Result<(), AllocError>
-        ensures { OnOk result (lines_in markup.new ≡ lines_in markup.old ++ texts column.now.lines.items) }
+        ensures draws { OnOk result (markup.new ≡ markup.old ++ drawings (column_shapes (seen_band self.now) (seen column.now))) }
+        ensures read { OnOk result (reading markup.new ≡ with_lines (texts column.now.lines.items) (reading markup.old)) }
     {
         let Some(process) = column.lane else {
-            return self.draw_note(alloc, column, markup);
+            return self.draw_note(column, markup);
         };
         let lane = self.layout.lane(process);
         let foot = Point::at(u32::from(column.x), lane.bar());
         let head = Point::at(foot.x, u32::from(lane.top));
-        markup.line("pole", below(head, 5), foot)?;
-        if let Some(event) = column.event {
-            markup.numeral("event", Point::at(foot.x + 3, head.y + 12), event)?;
-        }
-        let rows = Point::at(foot.x + 3, head.y + 23);
-        if let Some(read) = &column.read {
-            read.draw(alloc, rows, markup)?;
-        }
-        let last = column.lines.len().saturating_sub(1);
+        draw_head(alloc, column, head, foot, markup)?;
+        self.draw_lines(column, head, foot, markup)
+    }
+
+    /// Draws the lines of a column that stands in a lane.
+    fn draw_lines(
+        &self,
+        column: &Column,
+        head: Point,
+        foot: Point,
+        markup: &mut Markup,
+    ) -> Result<(), AllocError>
+        ensures draws { OnOk result (markup.new ≡ markup.old ++ drawings (lines_shapes (seen_band self.now) (seen column.now) head foot 0 column.now.lines.items)) }
+        ensures read { OnOk result (reading markup.new ≡ with_lines (texts column.now.lines.items) (reading markup.old)) }
+    {
         for (place, line) in column.lines.iter().enumerate() {
-            begin_mark(alloc, column, line, place == last, markup)?;
-            draw_rows(column, place, line.is_refusal(), rows, markup)?;
-            self.draw_foot(alloc, column, line, foot, markup)?;
-            markup.end_group()?;
+            self.draw_line(column, place, line, head, foot, markup)?;
         }
         Ok(())
+    }
+
+    /// Draws the group of a line of a column that stands in a lane, by its place in the column.
+    fn draw_line(
+        &self,
+        column: &Column,
+        place: usize,
+        line: &Line,
+        head: Point,
+        foot: Point,
+        markup: &mut Markup,
+    ) -> Result<(), AllocError>
+        ensures draws { OnOk result (markup.new ≡ markup.old ++ drawings (line_shapes (seen_band self.now) (seen column.now) head foot place line.now)) }
+        ensures read { OnOk result (reading markup.new ≡ with_lines (text_of line.now ∷ []) (reading markup.old)) }
+    {
+        let alloc = markup.alloc();
+        let last = column.lines.len().saturating_sub(1);
+        begin_mark(alloc, column, line, place == last, markup)?;
+        draw_rows(column, place, line.is_refusal(), rows_below(head), markup)?;
+        self.draw_foot(alloc, column, line, foot, markup)?;
+        markup.end_group()
     }
 
     /// Draws the sign of a line, and its knot if it tells a place of the history.
@@ -53,7 +84,8 @@ impl Band {
         foot: Point,
         markup: &mut Markup,
     ) -> Result<(), AllocError>
-        ensures { OnOk result (lines_in markup.new ≡ lines_in markup.old) }
+        ensures draws { OnOk result (markup.new ≡ markup.old ++ drawings (foot_shapes (seen_band self.now) (seen column.now) line.now foot)) }
+        ensures read { OnOk result (reading markup.new ≡ reading markup.old) }
     {
         if line.place().is_none() {
             let left = if column.settles_and_takes() { 15 } else { 0 };
@@ -62,35 +94,97 @@ impl Band {
         let knot = Point::at(foot.x, self.layout.knot());
         draw_sign(alloc, line, foot, markup)?;
         draw_sign(alloc, line, knot, markup)?;
-        match line.change() {
-            Some(change) => {
-                let at = below(moved(knot, 6, 0), 22);
-                markup.label("store", at, change.pair.as_bytes())
-            }
-            None => Ok(()),
-        }
+        draw_pair(line, knot, markup)
     }
 
     /// Draws a line that stands in the lane of the history.
-    fn draw_note(
-        &self,
-        alloc: Global,
-        column: &Column,
-        markup: &mut Markup,
-    ) -> Result<(), AllocError>
-        ensures { OnOk result (lines_in markup.new ≡ lines_in markup.old ++ texts column.now.lines.items) }
+    fn draw_note(&self, column: &Column, markup: &mut Markup) -> Result<(), AllocError>
+        ensures draws { OnOk result (markup.new ≡ markup.old ++ drawings (flat_map (note_shapes (seen_band self.now) (seen column.now)) column.now.lines.items)) }
+        ensures read { OnOk result (reading markup.new ≡ with_lines (texts column.now.lines.items) (reading markup.old)) }
     {
-        let knot = Point::at(u32::from(column.x), self.layout.knot());
         for line in &column.lines {
-            begin_mark(alloc, column, line, true, markup)?;
-            markup.line("pole", knot, below(knot, 36))?;
-            draw_sign(alloc, line, knot, markup)?;
-            let at = Point::at(knot.x + 4, knot.y + 23);
-            draw_rows(column, 0, false, at, markup)?;
-            markup.end_group()?;
+            self.draw_line_below(column, line, markup)?;
         }
         Ok(())
     }
+
+    /// Draws the group of a line that stands in the lane of the history.
+    fn draw_line_below(
+        &self,
+        column: &Column,
+        line: &Line,
+        markup: &mut Markup,
+    ) -> Result<(), AllocError>
+        ensures draws { OnOk result (markup.new ≡ markup.old ++ drawings (note_shapes (seen_band self.now) (seen column.now) line.now)) }
+        ensures read { OnOk result (reading markup.new ≡ with_lines (text_of line.now ∷ []) (reading markup.old)) }
+    {
+        let alloc = markup.alloc();
+        let knot = Point::at(u32::from(column.x), self.layout.knot());
+        begin_mark(alloc, column, line, true, markup)?;
+        markup.line("pole", knot, below(knot, 36))?;
+        draw_sign(alloc, line, knot, markup)?;
+        let at = Point::at(knot.x + 4, knot.y + 23);
+        draw_rows(column, 0, false, at, markup)?;
+        markup.end_group()
+    }
+}
+
+/// Draws the pair that the command of a line changed, below its knot.
+fn draw_pair(line: &Line, knot: Point, markup: &mut Markup) -> Result<(), AllocError>
+    ensures draws { OnOk result (markup.new ≡ markup.old ++ drawings (pair_words (change_told line.now.saying) knot)) }
+    ensures read { OnOk result (reading markup.new ≡ reading markup.old) }
+{
+    match line.change() {
+        Some(change) => {
+            let at = below(moved(knot, 6, 0), 22);
+            markup.label("store", at, change.pair.as_bytes())
+        }
+        None => Ok(()),
+    }
+}
+
+/// Draws what a column has in its lane beside its lines: its pole, its number, and its read.
+fn draw_head(
+    alloc: Global,
+    column: &Column,
+    head: Point,
+    foot: Point,
+    markup: &mut Markup,
+) -> Result<(), AllocError>
+    ensures draws { OnOk result (markup.new ≡ markup.old ++ drawings (head_shapes (seen column.now) head foot)) }
+    ensures read { OnOk result (reading markup.new ≡ reading markup.old) }
+{
+    markup.line("pole", below(head, 5), foot)?;
+    draw_number(column.event, head, markup)?;
+    match &column.read {
+        Some(read) => read.draw(alloc, rows_below(head), markup),
+        None => Ok(()),
+    }
+}
+
+/// Draws the number of an event, if it is one.
+fn draw_number(event: Option<u64>, head: Point, markup: &mut Markup) -> Result<(), AllocError>
+    ensures draws { OnOk result (markup.new ≡ markup.old ++ drawings (number_words event head)) }
+    ensures read { OnOk result (reading markup.new ≡ reading markup.old) }
+{
+    match event {
+        Some(event) => markup.numeral("event", below(right(head, 3), 12), event),
+        None => Ok(()),
+    }
+}
+
+/// Where the rows of a column begin.
+fn rows_below(head: Point) -> Point
+    ensures { result ≡ rows_place head }
+{
+    below(right(head, 3), 23)
+}
+
+/// A place so far to the right of another.
+fn right(at: Point, by: u32) -> Point
+    ensures { result ≡ right_by at by }
+{
+    Point::at(at.x.saturating_add(by), at.y)
 }
 
 /// Begins the mark of a line, which has the line as its title.
@@ -101,34 +195,49 @@ fn begin_mark(
     is_last: bool,
     markup: &mut Markup,
 ) -> Result<(), AllocError>
-    ensures { OnOk result (lines_in markup.new ≡ lines_in markup.old ++ text_of line.now ∷ []) }
+    ensures draws { OnOk result (markup.new ≡ markup.old ++ drawings (mark_shape (seen column.now) line.now is_last ∷ [])) }
+    ensures read { OnOk result (reading markup.new ≡ with_mark (text_of line.now) (reading markup.old)) }
 {
     let queue = numbers(alloc, column)?;
     let mut attributes = Vec::new(alloc);
     attributes.push(number(Key::Place, u64::from(column.x)))?;
     attributes.push(number(Key::Source, line.source))?;
-    if let Some(change) = line.change() {
-        attributes.push(words(Key::Store, change.store.as_slice()))?;
-    }
-    if is_last {
-        attributes.push(words(Key::Queue, queue.as_bytes()))?;
-    }
+    push_store(&mut attributes, line)?;
+    push_queue(&mut attributes, queue.as_bytes(), is_last)?;
     let text = line.text(alloc)?;
     markup.mark(attributes.as_slice(), text.as_slice())
 }
 
-/// Who stands in line after a column, with single spaces.
-fn numbers(alloc: Global, column: &Column) -> Result<String, AllocError> {
-    let mut text = String::new(alloc);
-    let queue = column.after.queue(alloc)?;
-    for process in &queue {
-        if !text.is_empty() {
-            text.push_str(" ")?;
-        }
-        let number = process.to_string(alloc)?;
-        text.push_str(number.as_str())?;
+/// Says the store behind a line, if its command changed it.
+fn push_store<'a>(attributes: &mut Vec<Attribute<'a>>, line: &'a Line) -> Result<(), AllocError>
+    ensures { OnOk result (flat_map attribute_text attributes.new.items ≡ flat_map attribute_text attributes.old.items ++ flat_map said_text (store_said (change_told line.now.saying))) }
+{
+    match line.change() {
+        Some(change) => Ok(attributes.push(words(Key::Store, change.store.as_slice()))?),
+        None => Ok(()),
     }
-    Ok(text)
+}
+
+/// Says who stands in line, behind the last line of a column.
+fn push_queue<'a>(
+    attributes: &mut Vec<Attribute<'a>>,
+    queue: &'a [u8],
+    is_last: bool,
+) -> Result<(), AllocError>
+    ensures { OnOk result (flat_map attribute_text attributes.new.items ≡ flat_map attribute_text attributes.old.items ++ flat_map said_text (queue_said is_last queue.now)) }
+{
+    if is_last {
+        attributes.push(words(Key::Queue, queue))?;
+    }
+    Ok(())
+}
+
+/// Who stands in line after a column, with single spaces.
+fn numbers(alloc: Global, column: &Column) -> Result<String, AllocError>
+    ensures { IfOk result (λ text. string_bytes text ≡ queue_text column.now.after) }
+{
+    let queue = column.after.queue(alloc)?;
+    listed(alloc, queue.as_slice(), " ")
 }
 
 /// Draws the rows of a line: all of its column, or of two lines the one at its place.
@@ -139,20 +248,32 @@ fn draw_rows(
     at: Point,
     markup: &mut Markup,
 ) -> Result<(), AllocError>
-    ensures { OnOk result (lines_in markup.new ≡ lines_in markup.old) }
+    ensures draws { OnOk result (markup.new ≡ markup.old ++ drawings (rows_of_line (seen column.now) place is_refusal at)) }
+    ensures read { OnOk result (reading markup.new ≡ reading markup.old) }
 {
     let is_alone = column.lines.len() == 1;
     for (number, row) in column.rows.iter().enumerate() {
-        if is_alone || number == place {
-            let at = if number == 0 { at } else { below(at, 11) };
-            markup.label(row_style(row, is_refusal), at, row.text.as_slice())?;
+        let is_drawn = is_alone || number == place;
+        if !is_drawn {
+            continue;
         }
+        let at = row_place(at, number);
+        markup.label(row_style(row, is_refusal), at, row.text.as_slice())?;
     }
     Ok(())
 }
 
+/// Where a row stands: the first one at a place, and any other below it.
+fn row_place(at: Point, number: usize) -> Point
+    ensures { result ≡ place_of_row at number }
+{
+    if number == 0 { at } else { below(at, 11) }
+}
+
 /// The style of a row.
-fn row_style(row: &Row, is_refusal: bool) -> &'static str {
+fn row_style(row: &Row, is_refusal: bool) -> &'static str
+    ensures { result.now ≡ row_class row.now.is_verb is_refusal }
+{
     if row.is_verb {
         if is_refusal { "verb no" } else { "verb" }
     } else if is_refusal {

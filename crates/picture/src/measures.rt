@@ -1,4 +1,6 @@
 //! The measures of a picture, in pixels.
+ghost use Rattle.std.specs.Prelude.{◌≡◌, ◌*◌};
+ghost use Rattle.picture.specs.Columns.{capped};
 
 /// Where lanes begin.
 pub(crate) const LEFT: u16 = 52;
@@ -19,9 +21,9 @@ pub(crate) const PAD: u16 = 9;
 pub(crate) const LONGEST: usize = 44;
 
 /// Room for so many characters of one size.
-pub(crate) fn room(characters: usize, each: u16) -> u16 {
-    match u16::try_from(characters) {
-        Ok(characters) => characters.saturating_mul(each),
-        Err(_) => u16::MAX,
-    }
+pub(crate) fn room(characters: usize, each: u16) -> u16
+    ensures { result ≡ capped (characters * each) }
+{
+    let pixels = characters.saturating_mul(usize::from(each));
+    u16::try_from(pixels).unwrap_or(u16::MAX)
 }

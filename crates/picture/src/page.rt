@@ -1,5 +1,6 @@
 //! The bands of a page, from the lines of a run.
-ghost use Rattle.std.specs.Prelude.{◌≡◌, ◌++◌, [], ◌∷◌, flat_map, IfOk, None, OnOk};
+ghost use Rattle.std.specs.Prelude.{◌≡◌, ◌++◌, [], ◌∷◌, flat_map, IfOk, IfSome, None, OnOk};
+ghost use Rattle.shapes.specs.Elements.{EndsAll};
 ghost use Rattle.shapes.specs.Titles.{lines_in};
 ghost use Rattle.picture.specs.Pages.{held, lines_of_band, stages_kept};
 ghost use Rattle.picture.specs.Stages.{nothing_told, stages_told};
@@ -72,9 +73,11 @@ impl Page {
     }
 
     /// Takes in the next line; answers the band that is full with what came before it, if one is. Its lines, and then
-    /// those that are held back, are those that were held back before, and this one. The stages go on as it tells.
+    /// those that are held back, are those that were held back before, and this one; in the band each element that
+    /// begins ends. The stages go on as the line tells.
     pub fn take(&mut self, line: Line) -> Result<Option<Markup>, AllocError>
         ensures lines { IfOk result (λ full. lines_of_band full ++ held self.new ≡ held self.old ++ text_of line ∷ []) }
+        ensures ended { IfOk result (λ full. IfSome full EndsAll) }
         ensures stages { OnOk result (stages_kept self.new ≡ stages_told self.old.state.processes (stages_kept self.old) line.saying) }
         ensures processes { self.new.state.processes ≡ self.old.state.processes }
     {
@@ -96,6 +99,7 @@ impl Page {
     /// tells no line.
     pub fn take_read(&mut self, read: OverlappedRead) -> Result<Option<Markup>, AllocError>
         ensures lines { IfOk result (λ full. lines_of_band full ++ held self.new ≡ held self.old) }
+        ensures ended { IfOk result (λ full. IfSome full EndsAll) }
         ensures stages { OnOk result (stages_kept self.new ≡ stages_kept self.old) }
         ensures processes { self.new.state.processes ≡ self.old.state.processes }
     {
@@ -108,7 +112,9 @@ impl Page {
 
     /// The last bands, once all lines were told: they tell the lines that were held back.
     pub fn end(&mut self) -> Result<(Option<Markup>, Markup), AllocError>
-        ensures { IfOk result (λ bands. lines_of_band bands.0 ++ lines_in bands.1 ≡ held self.old) }
+        ensures lines { IfOk result (λ bands. lines_of_band bands.0 ++ lines_in bands.1 ≡ held self.old) }
+        ensures full { IfOk result (λ bands. IfSome bands.0 EndsAll) }
+        ensures last { IfOk result (λ bands. EndsAll bands.1) }
     {
         let full = self.place_pending()?;
         let last = self.draw_band(true)?;
@@ -120,6 +126,7 @@ impl Page {
         ensures placed { OnOk result (self.new.pending ≡ None) }
         ensures state { self.new.state ≡ self.old.state }
         ensures lines { IfOk result (λ full. lines_of_band full ++ flat_map told_in self.new.columns.items ≡ held self.old) }
+        ensures ended { IfOk result (λ full. IfSome full EndsAll) }
     {
         let Some(column) = self.pending.take() else {
             return Ok(None);
@@ -134,6 +141,7 @@ impl Page {
         ensures pending { OnOk result (self.new.pending ≡ self.old.pending) }
         ensures state { self.new.state ≡ self.old.state }
         ensures lines { IfOk result (λ full. lines_of_band full ++ flat_map told_in self.new.columns.items ≡ flat_map told_in self.old.columns.items) }
+        ensures ended { IfOk result (λ full. IfSome full EndsAll) }
     {
         let place = self.placing.place(self.alloc, column)?;
         if self.placing.has_room(place) {
@@ -163,6 +171,7 @@ impl Page {
         ensures state { self.new.state ≡ self.old.state }
         ensures begun { OnOk result (self.new.columns.items ≡ []) }
         ensures lines { IfOk result (λ band. lines_in band ≡ flat_map told_in self.old.columns.items) }
+        ensures ended { IfOk result EndsAll }
     {
         let mut columns = std::mem::replace(&mut self.columns, Vec::new(self.alloc));
         stretch(self.alloc, columns.as_mut_slice())?;
@@ -182,46 +191,55 @@ impl Page {
             opens: std::mem::replace(&mut self.opens, Vec::new(self.alloc)),
         };
         self.bands = self.bands.saturating_add(1);
-        let mut markup = Markup::new(self.alloc);
-        self.begin_band(layout.height, &mut markup)?;
-        band.draw(self.alloc, &mut markup)?;
-        self.end_band(layout.height, &mut markup)?;
+        let markup = self.markup_of(&band)?;
+        self.height = self.height.saturating_add(u64::from(layout.height) + 16);
         Ok(markup)
     }
 
-    /// Begins the picture or the group of a band of this height.
-    fn begin_band(&self, height: u16, markup: &mut Markup) -> Result<(), AllocError>
-        ensures { OnOk result (lines_in markup.new ≡ lines_in markup.old) }
+    /// The picture or the group of a band.
+    fn markup_of(&self, band: &Band) -> Result<Markup, AllocError>
+        ensures lines { IfOk result (λ markup. lines_in markup ≡ flat_map told_in band.now.columns.items) }
+        ensures ended { IfOk result EndsAll }
     {
         match self.form {
-            Form::Page => {
-                let view = format!(in self.alloc; "0 0 1200 {height}")?;
-                let bands = self.bands;
-                let label = format!(in self.alloc; "Part {bands} of the run")?;
-                let attributes = [
-                    class("band"),
-                    words(Key::ViewBox, view.as_bytes()),
-                    words(Key::Role, b"group"),
-                    words(Key::Label, label.as_bytes()),
-                ];
-                markup.enter(Tag::Svg, &attributes)?;
-                markup.constant("\n")
-            }
-            Form::Picture(top) => markup.lower(top.saturating_add(self.height)),
+            Form::Page => self.picture_of(band),
+            Form::Picture(top) => self.group_of(band, top),
         }
     }
 
-    fn end_band(&mut self, height: u16, markup: &mut Markup) -> Result<(), AllocError>
-        ensures lines { OnOk result (lines_in markup.new ≡ lines_in markup.old) }
-        ensures columns { self.new.columns.items ≡ self.old.columns.items }
-        ensures pending { self.new.pending ≡ self.old.pending }
-        ensures state { self.new.state ≡ self.old.state }
+    /// A band as a picture of its own.
+    fn picture_of(&self, band: &Band) -> Result<Markup, AllocError>
+        ensures lines { IfOk result (λ markup. lines_in markup ≡ flat_map told_in band.now.columns.items) }
+        ensures ended { IfOk result EndsAll }
     {
-        self.height = self.height.saturating_add(u64::from(height) + 16);
-        match self.form {
-            Form::Page => markup.constant("</svg>\n"),
-            Form::Picture(_) => markup.end_group(),
-        }
+        let height = band.layout.height;
+        let bands = self.bands;
+        let view = format!(in self.alloc; "0 0 1200 {height}")?;
+        let label = format!(in self.alloc; "Part {bands} of the run")?;
+        let attributes = [
+            class("band"),
+            words(Key::ViewBox, view.as_bytes()),
+            words(Key::Role, b"group"),
+            words(Key::Label, label.as_bytes()),
+        ];
+        let mut markup = Markup::new(self.alloc);
+        markup.enter(Tag::Svg, &attributes)?;
+        markup.constant("\n")?;
+        band.draw(self.alloc, &mut markup)?;
+        markup.frame("</svg>\n")?;
+        Ok(markup)
+    }
+
+    /// A band as a group of one picture, whose bands begin at this height.
+    fn group_of(&self, band: &Band, top: u64) -> Result<Markup, AllocError>
+        ensures lines { IfOk result (λ markup. lines_in markup ≡ flat_map told_in band.now.columns.items) }
+        ensures ended { IfOk result EndsAll }
+    {
+        let mut markup = Markup::new(self.alloc);
+        markup.lower(top.saturating_add(self.height))?;
+        band.draw(self.alloc, &mut markup)?;
+        markup.end_group()?;
+        Ok(markup)
     }
 }
 

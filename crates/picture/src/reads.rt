@@ -1,6 +1,11 @@
 //! Reads that writes overlapped: what a picture shows of them beside the lines of the run.
-ghost use Rattle.std.specs.Prelude.{◌≡◌, ◌≤◌, OnOk};
-ghost use Rattle.shapes.specs.Titles.{lines_in};
+ghost use Rattle.std.specs.Prelude.{◌≡◌, ◌≤◌, [], ◌∷◌, ◌++◌, IfOk, map, OnOk, string_bytes};
+ghost use Rattle.shapes.specs.Figures.{drawings};
+ghost use Rattle.shapes.specs.Readings.{reading};
+ghost use Rattle.picture.specs.Columns.{rest, seen, verb, wording};
+ghost use Rattle.picture.specs.Overlaps.{between, bit_text, field_text, read_text, saw_text, title_text};
+ghost use Rattle.picture.specs.Placings.{event_stands};
+ghost use Rattle.picture.specs.Drawings.{open_shapes, read_shapes, seen_band};
 
 use crate::bands::Band;
 use crate::columns::Row;
@@ -38,20 +43,26 @@ pub struct OverlappedRead {
 
 impl OverlappedRead {
     /// The rows of its column.
-    pub(crate) fn rows(&self, alloc: Global) -> Result<Vec<Row>, AllocError> {
+    pub(crate) fn rows(&self, alloc: Global) -> Result<Vec<Row>, AllocError>
+        ensures { IfOk result (λ rows. map wording rows.items ≡ verb (saw_text self.now) ∷ rest (bit_text self.now) ∷ []) }
+    {
         let mut rows = Vec::new(alloc);
         rows.push(Row::new(true, self.saw(alloc)?))?;
         rows.push(Row::new(false, self.bit_words(alloc)?))?;
         Ok(rows)
     }
 
-    fn saw(&self, alloc: Global) -> Result<String, AllocError> {
+    fn saw(&self, alloc: Global) -> Result<String, AllocError>
+        ensures { IfOk result (λ text. string_bytes text ≡ saw_text self.now) }
+    {
         let value = u8::from(self.value);
         format!(in alloc; "saw {value}")
     }
 
     /// The bit that it read, and how many reads are not shown.
-    fn bit_words(&self, alloc: Global) -> Result<String, AllocError> {
+    fn bit_words(&self, alloc: Global) -> Result<String, AllocError>
+        ensures { IfOk result (λ text. string_bytes text ≡ bit_text self.now) }
+    {
         let OverlappedRead {
             owner,
             bit,
@@ -71,20 +82,27 @@ impl OverlappedRead {
         Ok(text)
     }
 
-    fn title(&self, alloc: Global) -> Result<String, AllocError> {
+    fn title(&self, alloc: Global) -> Result<String, AllocError>
+        ensures { IfOk result (λ text. string_bytes text ≡ title_text self.now) }
+    {
+        let OverlappedRead { begin, end, .. } = *self;
+        let read = self.bit_read(alloc)?;
+        let value = u8::from(self.value);
+        format!(in alloc; "{read} from event {begin} to {end} while it was written: {value}")
+    }
+
+    /// Who read which bit.
+    fn bit_read(&self, alloc: Global) -> Result<String, AllocError>
+        ensures { IfOk result (λ text. string_bytes text ≡ read_text self.now) }
+    {
         let OverlappedRead {
             reader,
             owner,
             bit,
-            begin,
-            end,
             ..
         } = *self;
         let field = field_name(self.field);
-        let value = u8::from(self.value);
-        format!(in alloc;
-            "process {reader} read bit {bit} of {field}[{owner}] from event {begin} to {end} while it was written: {value}"
-        )
+        format!(in alloc; "process {reader} read bit {bit} of {field}[{owner}]")
     }
 
     /// Draws its words. Its title is no line of the run.
@@ -94,7 +112,8 @@ impl OverlappedRead {
         at: Point,
         markup: &mut Markup,
     ) -> Result<(), AllocError>
-        ensures { OnOk result (lines_in markup.new ≡ lines_in markup.old) }
+        ensures draws { OnOk result (markup.new ≡ markup.old ++ drawings (read_shapes self.now at)) }
+        ensures read { OnOk result (reading markup.new ≡ reading markup.old) }
     {
         let title = self.title(alloc)?;
         let saw = self.saw(alloc)?;
@@ -115,7 +134,8 @@ impl Band {
         x: u32,
         markup: &mut Markup,
     ) -> Result<(), AllocError>
-        ensures { OnOk result (lines_in markup.new ≡ lines_in markup.old) }
+        ensures draws { OnOk result (markup.new ≡ markup.old ++ drawings (open_shapes (seen_band self.now) read.now x)) }
+        ensures read { OnOk result (reading markup.new ≡ reading markup.old) }
     {
         let reader = self.layout.lane(read.reader).bar();
         let owner = self.layout.lane(read.owner).bar();
@@ -129,7 +149,9 @@ impl Band {
     }
 
     /// Where an event stands, between the columns round it.
-    fn place_of(&self, event: u64) -> u16 {
+    fn place_of(&self, event: u64) -> u16
+        ensures { result ≡ event_stands event (52, self.now.before_at) (map seen self.now.columns.items) }
+    {
         let mut left = LEFT;
         let mut at = self.before_at;
         for column in &self.columns {
@@ -146,20 +168,20 @@ impl Band {
 /// Where an event stands between two places, each with the number of its event.
 fn place_between(event: u64, left: (u16, u64), right: (u16, u64)) -> u16
     requires { event ≤ right.1 }
+    ensures { result ≡ between event left right }
 {
     if event <= left.1 {
         return left.0;
     }
-    let whole = u64::from(right.0.saturating_sub(left.0));
-    let pixels = whole.saturating_mul(event - left.1) / (right.1 - left.1);
-    match u16::try_from(pixels) {
-        Ok(pixels) => left.0.saturating_add(pixels),
-        Err(_) => right.0,
-    }
+    let whole = u128::from(right.0.saturating_sub(left.0));
+    let pixels = whole * u128::from(event - left.1) / u128::from(right.1 - left.1);
+    u16::try_from(u128::from(left.0) + pixels).unwrap_or(u16::MAX)
 }
 
 /// How a register is called.
-fn field_name(field: Field) -> &'static str {
+fn field_name(field: Field) -> &'static str
+    ensures { result.now ≡ field_text field }
+{
     match field {
         Field::Choosing => "choosing",
         Field::Ticket => "ticket",

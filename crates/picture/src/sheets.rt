@@ -1,6 +1,9 @@
 //! What stands around the bands: the heading, the styles, the legend, the scenario and the slider.
-ghost use Rattle.std.specs.Prelude.{◌≡◌, [], IfOk, OnOk};
+ghost use Rattle.std.specs.Prelude.{◌≡◌, [], codes, IfOk, OnOk, Some};
+ghost use Rattle.shapes.specs.Elements.{opens_in};
+ghost use Rattle.shapes.specs.Readings.{reading, with_begun};
 ghost use Rattle.shapes.specs.Titles.{lines_in};
+ghost use Rattle.picture.specs.Pages.{page_names, picture_names};
 
 use crate::constants::{LEGEND, PAGE_STYLE, PATTERNS, READS_LEGEND, SCRIPT, STYLE};
 use crate::reads::Reads;
@@ -12,51 +15,53 @@ use std::alloc::{AllocError, Global};
 /// Where the first band of one picture begins.
 pub const FIRST_BAND: u64 = 34;
 
-/// What a page has before its bands; `printed`: the lines of the scenario.
+/// What a page has before its bands, whose body is open then; `printed`: the lines of the scenario.
 pub fn page_head(
     alloc: Global,
     setup: &Setup,
     printed: &[u8],
     reads: Reads,
 ) -> Result<Markup, AllocError>
-    ensures { IfOk result (λ markup. lines_in markup ≡ []) }
+    ensures lines { IfOk result (λ markup. lines_in markup ≡ []) }
+    ensures elements { IfOk result (λ markup. opens_in markup (Some []) ≡ Some page_names) }
 {
     let heading = heading(alloc, setup)?;
     let heading = heading.as_bytes();
     let mut markup = Markup::new(alloc);
-    markup.constant("<!doctype html>\n<html lang=\"en\"><head><meta charset=\"utf-8\">\n")?;
+    markup.frame("<!doctype html>\n<html lang=\"en\"><head><meta charset=\"utf-8\">\n")?;
     markup.constant("<meta name=\"viewport\" content=\"width=device-width\">\n")?;
     markup.tell(Tag::Title, &[], heading)?;
-    markup.constant("\n<style>\n")?;
+    markup.frame("\n<style>\n")?;
     markup.constant(STYLE)?;
     markup.constant("\n")?;
     markup.constant(PAGE_STYLE)?;
     add_paper(setup.processes, &mut markup)?;
+    markup.frame("</style></head><body>\n")?;
     markup.tell(Tag::Heading, &[], heading)?;
     begin_legend(reads, &mut markup)?;
     markup.constant(PATTERNS)?;
     markup.constant("\n")?;
     add_legend(reads, &mut markup)?;
-    markup.constant("</svg>\n<details open><summary>The scenario</summary><ol>\n")?;
+    markup.frame("</svg>\n<details open><summary>The scenario</summary><ol>\n")?;
     list_lines(printed, &mut markup)?;
-    markup.constant("</ol></details>\n")?;
+    markup.frame("</ol></details>\n")?;
     Ok(markup)
 }
 
-/// How the page lies where it is printed, and the end of the styles.
+/// How the page lies where it is printed.
 fn add_paper(processes: u8, markup: &mut Markup) -> Result<(), AllocError>
-    ensures { OnOk result (lines_in markup.new ≡ lines_in markup.old) }
+    ensures { OnOk result (reading markup.new ≡ reading markup.old) }
 {
     if processes > 10 {
-        markup.constant("\n@page{size:A4 portrait;margin:10mm}\n</style></head><body>\n")
+        markup.constant("\n@page{size:A4 portrait;margin:10mm}\n")
     } else {
-        markup.constant("\n@page{size:A4 landscape;margin:10mm}\n</style></head><body>\n")
+        markup.constant("\n@page{size:A4 landscape;margin:10mm}\n")
     }
 }
 
 /// Begins the picture of the legend in a page.
 fn begin_legend(reads: Reads, markup: &mut Markup) -> Result<(), AllocError>
-    ensures { OnOk result (lines_in markup.new ≡ lines_in markup.old) }
+    ensures { OnOk result (reading markup.new ≡ with_begun (codes "svg") (reading markup.old)) }
 {
     let height = legend_height(reads);
     let view = format!(in markup.alloc(); "0 0 1200 {height}")?;
@@ -74,7 +79,7 @@ fn begin_legend(reads: Reads, markup: &mut Markup) -> Result<(), AllocError>
 
 /// What signs, bars and words mean.
 fn add_legend(reads: Reads, markup: &mut Markup) -> Result<(), AllocError>
-    ensures { OnOk result (lines_in markup.new ≡ lines_in markup.old) }
+    ensures { OnOk result (reading markup.new ≡ reading markup.old) }
 {
     match reads {
         Reads::Hidden => markup.constant(LEGEND)?,
@@ -93,7 +98,7 @@ fn legend_height(reads: Reads) -> u64 {
 
 /// Lists the lines of the printed scenario, and its end.
 fn list_lines(printed: &[u8], markup: &mut Markup) -> Result<(), AllocError>
-    ensures { OnOk result (lines_in markup.new ≡ lines_in markup.old) }
+    ensures { OnOk result (reading markup.new ≡ reading markup.old) }
 {
     for line in printed.lines() {
         markup.tell(Tag::Item, &[], line)?;
@@ -105,24 +110,22 @@ fn list_lines(printed: &[u8], markup: &mut Markup) -> Result<(), AllocError>
 
 /// What a page has behind its bands; `opening`: the opening store.
 pub fn page_end(alloc: Global, opening: &[u8]) -> Result<Markup, AllocError>
-    ensures { IfOk result (λ markup. lines_in markup ≡ []) }
+    ensures lines { IfOk result (λ markup. lines_in markup ≡ []) }
+    ensures elements { IfOk result (λ markup. opens_in markup (Some page_names) ≡ Some []) }
 {
     let mut markup = Markup::new(alloc);
-    markup.constant("<div id=\"now\"><div>")?;
-    markup.enter(
-        Tag::Input,
-        &[
-            words(Key::Id, b"at"),
-            words(Key::Type, b"range"),
-            words(Key::Least, b"0"),
-            words(Key::Value, b"0"),
-            words(Key::Label, b"Line of the run"),
-            words(Key::Store, opening),
-        ],
-    )?;
-    markup.constant("<output id=\"said\" for=\"at\"></output></div></div>\n<script>")?;
-    markup.constant(SCRIPT)?;
-    markup.constant("</script>\n</body></html>\n")?;
+    markup.frame("<div id=\"now\"><div>")?;
+    markup.input(&[
+        words(Key::Id, b"at"),
+        words(Key::Type, b"range"),
+        words(Key::Least, b"0"),
+        words(Key::Value, b"0"),
+        words(Key::Label, b"Line of the run"),
+        words(Key::Store, opening),
+    ])?;
+    markup.frame("<output id=\"said\" for=\"at\"></output></div></div>\n<script>")?;
+    markup.frame(SCRIPT)?;
+    markup.frame("</script>\n</body></html>\n")?;
     Ok(markup)
 }
 
@@ -133,7 +136,8 @@ pub fn picture_head(
     bands: u64,
     reads: Reads,
 ) -> Result<Markup, AllocError>
-    ensures { IfOk result (λ markup. lines_in markup ≡ []) }
+    ensures lines { IfOk result (λ markup. lines_in markup ≡ []) }
+    ensures elements { IfOk result (λ markup. opens_in markup (Some []) ≡ Some picture_names) }
 {
     let heading = heading(alloc, setup)?;
     let heading = heading.as_bytes();
@@ -158,9 +162,9 @@ pub fn picture_head(
     markup.tell(Tag::Title, &[words(Key::Id, b"t")], heading)?;
     markup.constant("\n")?;
     markup.tell(Tag::Desc, &[words(Key::Id, b"d")], DESCRIPTION)?;
-    markup.constant("\n<style>\n")?;
+    markup.frame("\n<style>\n")?;
     markup.constant(STYLE)?;
-    markup.constant("\n</style>\n")?;
+    markup.frame("\n</style>\n")?;
     markup.constant(PATTERNS)?;
     markup.constant("\n")?;
     markup.stand(
@@ -186,13 +190,14 @@ const DESCRIPTION: &[u8] =
 
 /// What one picture has behind its bands, whose heights come to so much.
 pub fn picture_end(alloc: Global, bands: u64, reads: Reads) -> Result<Markup, AllocError>
-    ensures { IfOk result (λ markup. lines_in markup ≡ []) }
+    ensures lines { IfOk result (λ markup. lines_in markup ≡ []) }
+    ensures elements { IfOk result (λ markup. opens_in markup (Some picture_names) ≡ Some []) }
 {
     let y = bands.saturating_add(FIRST_BAND);
     let mut markup = Markup::new(alloc);
     markup.lower(y)?;
     add_legend(reads, &mut markup)?;
-    markup.constant("</g></svg>\n")?;
+    markup.frame("</g></svg>\n")?;
     Ok(markup)
 }
 

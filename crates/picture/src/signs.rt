@@ -1,6 +1,8 @@
 //! The signs at the foot of a column.
-ghost use Rattle.std.specs.Prelude.{◌≤◌, ◌≡◌, OnOk};
-ghost use Rattle.shapes.specs.Titles.{lines_in};
+ghost use Rattle.std.specs.Prelude.{◌≤◌, ◌≡◌, ◌++◌, OnOk};
+ghost use Rattle.shapes.specs.Figures.{drawings};
+ghost use Rattle.shapes.specs.Readings.{reading};
+ghost use Rattle.picture.specs.Signs.{down_by, mark_sign, moved_by, settled_sign, sign, taken_sign};
 
 use crate::measures::{DIGIT, room};
 use crate::told::{Line, Saying};
@@ -15,7 +17,8 @@ pub(crate) fn draw_sign(
     at: Point,
     markup: &mut Markup,
 ) -> Result<(), AllocError>
-    ensures { OnOk result (lines_in markup.new ≡ lines_in markup.old) }
+    ensures draws { OnOk result (markup.new ≡ markup.old ++ drawings (sign line.now.saying at)) }
+    ensures read { OnOk result (reading markup.new ≡ reading markup.old) }
 {
     match &line.saying {
         Saying::Marked { mark, change, .. } => {
@@ -38,7 +41,8 @@ fn draw_mark(
     at: Point,
     markup: &mut Markup,
 ) -> Result<(), AllocError>
-    ensures { OnOk result (lines_in markup.new ≡ lines_in markup.old) }
+    ensures draws { OnOk result (markup.new ≡ markup.old ++ drawings (mark_sign mark.now changed at)) }
+    ensures read { OnOk result (reading markup.new ≡ reading markup.old) }
 {
     match mark {
         Mark::Called(_) => markup.path("sign", moved(at, 0, 5), "l8 5l-8 5z"),
@@ -54,7 +58,8 @@ fn draw_mark(
 }
 
 fn draw_settled(value: bool, at: Point, markup: &mut Markup) -> Result<(), AllocError>
-    ensures { OnOk result (lines_in markup.new ≡ lines_in markup.old) }
+    ensures draws { OnOk result (markup.new ≡ markup.old ++ drawings (settled_sign value at)) }
+    ensures read { OnOk result (reading markup.new ≡ reading markup.old) }
 {
     markup.path("diamond", moved(at, 0, 9), "l9 9l-9 9l-9 -9z")?;
     let digit: &[u8] = if value { b"1" } else { b"0" };
@@ -69,7 +74,8 @@ fn draw_taken(
     at: Point,
     markup: &mut Markup,
 ) -> Result<(), AllocError>
-    ensures { OnOk result (lines_in markup.new ≡ lines_in markup.old) }
+    ensures draws { OnOk result (markup.new ≡ markup.old ++ drawings (taken_sign changed place at)) }
+    ensures read { OnOk result (reading markup.new ≡ reading markup.old) }
 {
     let digits = place.to_string(alloc)?;
     let width = u32::from(room(digits.len(), DIGIT).saturating_add(10));
@@ -81,6 +87,7 @@ fn draw_taken(
 
 /// A place so far to the left of another and above it.
 pub(crate) fn moved(at: Point, left: u32, up: u32) -> Point
+    ensures place { result ≡ moved_by at left up }
     ensures x { result.x ≤ at.x }
     ensures y { result.y ≤ at.y }
 {
@@ -88,6 +95,8 @@ pub(crate) fn moved(at: Point, left: u32, up: u32) -> Point
 }
 
 /// A place so far below another.
-pub(crate) fn below(at: Point, down: u32) -> Point {
+pub(crate) fn below(at: Point, down: u32) -> Point
+    ensures { result ≡ down_by at down }
+{
     Point::at(at.x, at.y.saturating_add(down))
 }

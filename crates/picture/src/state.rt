@@ -1,23 +1,16 @@
 //! What the lines have told so far: a fold over them.
-ghost use Rattle.std.specs.Prelude.{◌≡◌, set, OnOk};
+ghost use Rattle.std.specs.Prelude.{◌≡◌, ◌≤◌, [], ◌∷◌, ◌++◌, ℕ, List, cond, drop, insert, length, map, set, IfOk, OnOk};
 ghost use Rattle.record.specs.Stages as record_stages;
 ghost use Rattle.picture.specs.Stages.{stage_among, stages_marked, stages_told, nothing_told};
+ghost use Rattle.picture.specs.States.{at_first, awaited_in, before_in, behind_in, first_waiting, freed_by, freed_in, goes_on, group_of, inside_marked, is_in_doorway, lined_up, places_from, places_marked, queue_of, seats_by, seats_marked, state_marked, state_told, ticket_in, is_waiting, ticket_set, word_of, word_of_waiting};
 
+use crate::seats::{Seat, forget};
 use crate::told::{Line, Saying};
 use record::{Mark, Stage};
 use std::alloc::{AllocError, Global};
 
 /// The most processes that there are.
 pub(crate) const MOST: usize = 16;
-
-/// What is known of a process beside its stage.
-#[derive(Clone, Copy)]
-struct Seat {
-    /// Its ticket, or 0.
-    ticket: u32,
-    /// Whose doorways were open when its wait began, and are open still.
-    awaits: [bool; 16],
-}
 
 /// What the lines have told of all processes.
 #[derive(Clone, Copy)]
@@ -47,7 +40,9 @@ pub(crate) enum Word {
 
 impl Group {
     /// Nobody.
-    fn nobody() -> Group {
+    fn nobody() -> Group
+        ensures { result ≡ group_of [] }
+    {
         Group {
             count: 0,
             first: [0; 3],
@@ -55,13 +50,20 @@ impl Group {
     }
 
     /// One process more.
-    fn with(&self, process: u8) -> Group {
-        let mut group = *self;
-        if let Some(place) = group.first.get_mut(usize::from(self.count)) {
-            *place = process;
+    fn with(&self, process: u8) -> Group
+        ensures { (some : List ℕ) → self.now ≡ group_of some → result ≡ group_of (some ++ process ∷ []) }
+    {
+        Group {
+            count: self.count.saturating_add(1),
+            first: with_at(self.first, self.count, process),
         }
-        group.count = group.count.saturating_add(1);
-        group
+    }
+
+    /// The same, if it is to be one of them.
+    fn with_if(&self, process: u8, is_one: bool) -> Group
+        ensures { (some : List ℕ) → self.now ≡ group_of some → result ≡ group_of (some ++ cond is_one (process ∷ []) []) }
+    {
+        if is_one { self.with(process) } else { *self }
     }
 }
 
@@ -70,6 +72,7 @@ impl State {
     pub fn new(processes: u8) -> State
         ensures stages { result.stages ≡ nothing_told }
         ensures processes { result.processes ≡ processes }
+        ensures whole { result ≡ at_first processes }
     {
         let seat = Seat {
             ticket: 0,
@@ -94,7 +97,9 @@ impl State {
         }
     }
 
-    fn ticket(&self, process: u8) -> u32 {
+    fn ticket(&self, process: u8) -> u32
+        ensures { result ≡ ticket_in self.now process }
+    {
         match self.seats.get(usize::from(process)) {
             Some(seat) => seat.ticket,
             None => 0,
@@ -102,78 +107,71 @@ impl State {
     }
 
     /// The processes with a ticket, in the order in which the lock serves them.
-    pub fn queue(&self, alloc: Global) -> Result<Vec<u8>, AllocError> {
+    pub fn queue(&self, alloc: Global) -> Result<Vec<u8>, AllocError>
+        ensures { IfOk result (λ queue. queue.items ≡ queue_of self.now) }
+    {
         let mut queue = Vec::new(alloc);
         for process in 0..self.processes {
             if self.ticket(process) != 0 {
                 let place = self.place_in(queue.as_slice(), process);
-                queue.insert(place.min(queue.len()), process)?;
+                queue.insert(place, process)?;
             }
         }
         Ok(queue)
     }
 
     /// Behind how many of these a process with a higher number stands.
-    fn place_in(&self, queue: &[u8], process: u8) -> usize {
-        let mut place: usize = 0;
-        for other in queue {
-            if self.ticket(*other) <= self.ticket(process) {
-                place = place.saturating_add(1);
+    fn place_in(&self, queue: &[u8], process: u8) -> usize
+        ensures within { result ≤ length queue.now }
+        ensures place { insert queue.now result process ≡ lined_up self.now process queue.now }
+    {
+        for (place, other) in queue.iter().enumerate() {
+            if self.ticket(*other) > self.ticket(process) {
+                return place;
             }
         }
-        place
+        queue.len()
     }
 
     /// What the bar of a process says.
-    pub fn word(&self, alloc: Global, process: u8) -> Result<Word, AllocError> {
+    pub fn word(&self, alloc: Global, process: u8) -> Result<Word, AllocError>
+        ensures { IfOk result (λ word. word ≡ word_of self.now process) }
+    {
         let stage = self.stage(process);
         Ok(match stage {
             Stage::Idle | Stage::Leaving => Word::Nothing,
             Stage::Waiting => {
                 let behind = self.before(alloc, process)?;
-                let awaits = self.awaited(process);
-                if behind.count > 0 {
-                    Word::Behind(behind)
-                } else if awaits.count > 0 {
-                    Word::Awaits(awaits)
-                } else {
-                    Word::Is(stage)
-                }
+                waiting_word(behind, self.awaited(process))
             }
             _ => Word::Is(stage),
         })
     }
 
     /// Who stands before a process in the line.
-    fn before(&self, alloc: Global, process: u8) -> Result<Group, AllocError> {
-        let mut group = Group::nobody();
+    fn before(&self, alloc: Global, process: u8) -> Result<Group, AllocError>
+        ensures { IfOk result (λ before. before ≡ group_of (before_in process (queue_of self.now))) }
+    {
         let queue = self.queue(alloc)?;
-        for other in &queue {
-            if *other == process {
-                return Ok(group);
-            }
-            group = group.with(*other);
-        }
-        Ok(group)
+        Ok(group_before(queue.as_slice(), process))
     }
 
     /// Whose doorways a process still awaits.
-    fn awaited(&self, process: u8) -> Group {
-        let mut group = Group::nobody();
-        if let Some(seat) = self.seats.get(usize::from(process)) {
-            for (other, awaited) in (0u8..16).zip(seat.awaits.iter()) {
-                if *awaited {
-                    group = group.with(other);
-                }
-            }
+    fn awaited(&self, process: u8) -> Group
+        ensures { result ≡ group_of (awaited_in self.now process) }
+    {
+        match self.seats.get(usize::from(process)) {
+            Some(seat) => places_said(seat.awaits),
+            None => Group::nobody(),
         }
-        group
     }
 
     /// Takes in a line; answers whom its process frees. The stages go on as the line tells.
     pub fn take(&mut self, alloc: Global, line: &Line) -> Result<Option<u8>, AllocError>
         ensures stages { OnOk result (self.new.stages ≡ stages_told self.old.processes self.old.stages line.now.saying) }
         ensures processes { self.new.processes ≡ self.old.processes }
+        ensures whole { OnOk result (self.new ≡ state_told self.old line.now.saying) }
+        ensures frees { IfOk result (λ freed. freed ≡ freed_by self.old line.now.saying) }
     {
         let Saying::Marked { process, mark, .. } = &line.saying else {
             return Ok(None);
@@ -190,54 +188,69 @@ impl State {
     }
 
     /// Whom a process frees that lets its ticket go: the first behind it in the line that waits.
-    fn freed(&self, alloc: Global, process: u8) -> Result<Option<u8>, AllocError> {
-        let mut passed = false;
+    fn freed(&self, alloc: Global, process: u8) -> Result<Option<u8>, AllocError>
+        ensures { IfOk result (λ freed. freed ≡ freed_in self.now process) }
+    {
         let queue = self.queue(alloc)?;
-        for other in &queue {
-            if passed && self.stage(*other) == Stage::Waiting {
-                return Ok(Some(*other));
-            }
-            if *other == process {
-                passed = true;
+        let from = place_behind(queue.as_slice(), process);
+        Ok(self.first_waiting_from(queue.as_slice(), from))
+    }
+
+    /// The first of these that waits, from this place on.
+    fn first_waiting_from(&self, queue: &[u8], from: usize) -> Option<u8>
+        ensures { result ≡ first_waiting self.now.stages (drop from queue.now) }
+    {
+        for place in from..queue.len() {
+            if self.waits(queue[place]) {
+                return Some(queue[place]);
             }
         }
-        Ok(None)
+        None
+    }
+
+    /// Whether a process waits.
+    fn waits(&self, process: u8) -> bool
+        ensures { result ≡ is_waiting (stage_among self.now.stages process) }
+    {
+        matches!(self.stage(process), Stage::Waiting)
     }
 
     /// The state after a mark of a process.
     fn mark(&mut self, process: u8, mark: &Mark)
         ensures stages { self.new.stages ≡ stages_marked self.old.stages process mark.now }
         ensures processes { self.new.processes ≡ self.old.processes }
+        ensures whole { self.new ≡ state_marked self.old process mark.now }
     {
-        match mark {
-            Mark::Taken(_, _) => self.places = self.places.saturating_add(1),
-            Mark::Settled(_) => {}
-            _ => self.go_on(process, mark),
+        self.set_stage(process, stage_after(self.stage(process), mark));
+        self.set_seats(process, mark);
+        self.inside = inside_after(self.inside, process, mark);
+        self.places = places_after(self.places, mark);
+    }
+
+    /// A process that goes on is awaited by nobody, and gets its ticket or lets it go.
+    fn set_seats(&mut self, process: u8, mark: &Mark)
+        ensures { self.new ≡ record self.old { seats = seats_marked self.old.stages self.old.seats process mark.now } }
+    {
+        if leads_on(mark) {
+            forget(&mut self.seats, process);
+            self.hold_ticket(process, mark);
         }
     }
 
-    /// A process goes on to another stage, and nobody awaits it any more.
-    fn go_on(&mut self, process: u8, mark: &Mark)
-        ensures stages { self.new.stages ≡ stages_marked self.old.stages process mark.now }
-        ensures processes { self.new.processes ≡ self.old.processes }
+    /// What a mark makes of the ticket of its process.
+    fn hold_ticket(&mut self, process: u8, mark: &Mark)
+        ensures { self.new ≡ record self.old { seats = seats_by self.old.stages self.old.seats process mark.now } }
     {
-        self.set_stage(process, stage_after(self.stage(process), mark));
-        forget(&mut self.seats, process);
         match mark {
             Mark::Waiting(ticket) => self.begin_wait(process, *ticket),
-            Mark::Entered => self.inside = Some(process),
-            Mark::Left => {
-                self.inside = None;
-                self.set_ticket(process, 0);
-            }
-            Mark::Answered(_) | Mark::Down => self.set_ticket(process, 0),
-            _ => {}
+            Mark::Left | Mark::Answered(_) | Mark::Down => self.set_ticket(process, 0),
+            Mark::Called(_) | Mark::Entered | Mark::Failed | Mark::Withdrew | Mark::Restarted => {}
+            Mark::Taken(_, _) | Mark::Settled(_) => {}
         }
     }
 
     fn set_stage(&mut self, process: u8, stage: Stage)
-        ensures stages { self.new.stages ≡ set self.old.stages process stage }
-        ensures processes { self.new.processes ≡ self.old.processes }
+        ensures { self.new ≡ record self.old { stages = set self.old.stages process stage } }
     {
         let place = usize::from(process);
         if place < self.stages.len() {
@@ -246,32 +259,76 @@ impl State {
     }
 
     fn set_ticket(&mut self, process: u8, ticket: u32)
-        ensures stages { self.new.stages ≡ self.old.stages }
-        ensures processes { self.new.processes ≡ self.old.processes }
+        ensures { self.new ≡ record self.old { seats = ticket_set self.old.seats process ticket } }
     {
-        if let Some(seat) = self.seats.get_mut(usize::from(process)) {
-            seat.ticket = ticket;
+        let place = usize::from(process);
+        if place < self.seats.len() {
+            let awaits = self.seats[place].awaits;
+            self.seats[place] = Seat { ticket, awaits };
         }
     }
 
     /// A process has a ticket, and awaits those that are in their doorways now.
     fn begin_wait(&mut self, process: u8, ticket: u32)
-        ensures stages { self.new.stages ≡ self.old.stages }
-        ensures processes { self.new.processes ≡ self.old.processes }
+        ensures { self.new ≡ record self.old { seats = set self.old.seats process (record { ticket = ticket; awaits = map is_in_doorway self.old.stages }) } }
     {
         let awaits = self.in_doorways();
-        if let Some(seat) = self.seats.get_mut(usize::from(process)) {
-            *seat = Seat { ticket, awaits };
+        let place = usize::from(process);
+        if place < self.seats.len() {
+            self.seats[place] = Seat { ticket, awaits };
         }
     }
 
     /// Which processes are in their doorways.
-    fn in_doorways(&self) -> [bool; 16] {
+    fn in_doorways(&self) -> [bool; 16]
+        ensures { result ≡ map is_in_doorway self.now.stages }
+    {
         let mut are = [false; 16];
-        for (is, stage) in are.iter_mut().zip(self.stages.iter()) {
-            *is = *stage == Stage::Doorway;
+        for place in 0..16usize {
+            are[place] = matches!(self.stages[place], Stage::Doorway);
         }
         are
+    }
+}
+
+/// What the bar of a process says that waits: behind whom, or else whom it awaits.
+fn waiting_word(behind: Group, awaits: Group) -> Word
+    ensures { (before awaited : List ℕ) → behind ≡ group_of before → awaits ≡ group_of awaited → result ≡ word_of_waiting before awaited }
+{
+    if behind.count > 0 {
+        Word::Behind(behind)
+    } else if awaits.count > 0 {
+        Word::Awaits(awaits)
+    } else {
+        Word::Is(Stage::Waiting)
+    }
+}
+
+/// Whether a mark takes its process on to another stage.
+fn leads_on(mark: &Mark) -> bool
+    ensures { result ≡ goes_on mark.now }
+{
+    !matches!(mark, Mark::Taken(_, _) | Mark::Settled(_))
+}
+
+/// Who is inside after a mark of a process.
+fn inside_after(inside: Option<u8>, process: u8, mark: &Mark) -> Option<u8>
+    ensures { result ≡ inside_marked inside process mark.now }
+{
+    match mark {
+        Mark::Entered => Some(process),
+        Mark::Left => None,
+        _ => inside,
+    }
+}
+
+/// How many places there were after a mark.
+fn places_after(places: u64, mark: &Mark) -> u64
+    ensures { result ≡ places_marked places mark.now }
+{
+    match mark {
+        Mark::Taken(_, _) => places.saturating_add(1),
+        _ => places,
     }
 }
 
@@ -292,11 +349,51 @@ fn stage_after(stage: Stage, mark: &Mark) -> Stage
     }
 }
 
-/// Nobody awaits a process any more.
-fn forget(seats: &mut [Seat], process: u8) {
-    for seat in seats.iter_mut() {
-        if let Some(awaited) = seat.awaits.get_mut(usize::from(process)) {
-            *awaited = false;
+/// The first three of some processes, once one stands at this place of theirs.
+fn with_at(first: [u8; 3], place: u8, process: u8) -> [u8; 3]
+    ensures { result ≡ set first place process }
+{
+    let mut first = first;
+    let place = usize::from(place);
+    if place < first.len() {
+        first[place] = process;
+    }
+    first
+}
+
+/// Those before a process in a line.
+fn group_before(queue: &[u8], process: u8) -> Group
+    ensures { result ≡ group_of (before_in process queue.now) }
+{
+    let mut group = Group::nobody();
+    for other in queue {
+        if *other == process {
+            return group;
+        }
+        group = group.with(*other);
+    }
+    group
+}
+
+/// The place behind a process in a line.
+fn place_behind(queue: &[u8], process: u8) -> usize
+    ensures { drop result queue.now ≡ behind_in process queue.now }
+{
+    for (place, other) in queue.iter().enumerate() {
+        if *other == process {
+            return place + 1;
         }
     }
+    queue.len()
+}
+
+/// The processes of which this says so.
+fn places_said(said: [bool; 16]) -> Group
+    ensures { result ≡ group_of (places_from 0 said) }
+{
+    let mut group = Group::nobody();
+    for place in 0u8..16 {
+        group = group.with_if(place, said[usize::from(place)]);
+    }
+    group
 }

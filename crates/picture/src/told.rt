@@ -1,9 +1,9 @@
 //! A line of a run's text, as a value.
-ghost use Rattle.std.specs.Prelude.{◌≡◌, ◌++◌, codes, IfOk};
+ghost use Rattle.std.specs.Prelude.{◌≡◌, ◌++◌, codes, IfOk, option_copied};
 ghost use Rattle.std.specs.Fmt.{decimal};
 ghost use Rattle.std.specs.String.{string_bytes};
 ghost use Rattle.record.specs.Shown.{mark_text, refusal_text};
-ghost use Rattle.picture.specs.Told.{text_of};
+ghost use Rattle.picture.specs.Told.{change_told, event_told, mark_told, place_told, process_told, tells_refusal, text_of};
 
 use record::{Mark, Refusal};
 use std::alloc::{AllocError, Global};
@@ -55,7 +55,9 @@ pub struct Line {
 
 impl Line {
     /// The process that it tells of.
-    pub fn process(&self) -> Option<u8> {
+    pub fn process(&self) -> Option<u8>
+        ensures { result ≡ process_told self.now.saying }
+    {
         match &self.saying {
             Saying::Marked { process, .. } => Some(*process),
             Saying::Refused { process, .. } => Some(*process),
@@ -65,7 +67,9 @@ impl Line {
     }
 
     /// The number of its event, of a mark.
-    pub fn event(&self) -> Option<u64> {
+    pub fn event(&self) -> Option<u64>
+        ensures { result ≡ event_told self.now }
+    {
         match &self.saying {
             Saying::Marked { .. } => Some(self.at),
             _ => None,
@@ -73,7 +77,9 @@ impl Line {
     }
 
     /// The mark that it tells.
-    pub fn mark(&self) -> Option<Mark> {
+    pub fn mark(&self) -> Option<Mark>
+        ensures { result ≡ mark_told self.now.saying }
+    {
         match &self.saying {
             Saying::Marked { mark, .. } => Some(*mark),
             _ => None,
@@ -81,7 +87,9 @@ impl Line {
     }
 
     /// What its command changed.
-    pub fn change(&self) -> Option<&Change> {
+    pub fn change(&self) -> Option<&Change>
+        ensures { option_copied result ≡ change_told self.now.saying }
+    {
         match &self.saying {
             Saying::Marked { change, .. } => change.as_ref(),
             _ => None,
@@ -89,7 +97,9 @@ impl Line {
     }
 
     /// The place in the history that it tells.
-    pub fn place(&self) -> Option<u64> {
+    pub fn place(&self) -> Option<u64>
+        ensures { result ≡ place_told self.now.saying }
+    {
         match &self.saying {
             Saying::Marked {
                 mark: Mark::Taken(place, _),
@@ -100,7 +110,9 @@ impl Line {
     }
 
     /// Whether it tells a refusal.
-    pub fn is_refusal(&self) -> bool {
+    pub fn is_refusal(&self) -> bool
+        ensures { result ≡ tells_refusal self.now.saying }
+    {
         matches!(&self.saying, Saying::Refused { .. })
     }
 

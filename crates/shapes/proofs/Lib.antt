@@ -1,3 +1,7 @@
 pub mod Escapes
+pub mod KindsOfTags
 pub mod Lines
+pub mod Readings
+pub mod Stacks
 pub mod Tags
+mod Runs

@@ -21,7 +21,6 @@ tag_name tag.Title = codes "title"
 tag_name tag.Desc = codes "desc"
 tag_name tag.Heading = codes "h1"
 tag_name tag.Item = codes "li"
-tag_name tag.Input = codes "input"
 
 -- the name of an attribute
 abbrev pub key_name : Key → List ℕ
@@ -55,38 +54,71 @@ abbrev pub meant : Meaning → List ℕ
 meant (meaning.Words words) = words.now
 meant (meaning.Number n) = decimal n
 
--- an attribute within a tag
-abbrev pub attribute_text : Attribute → List ℕ
-attribute_text attribute = codes " " ++ key_name attribute.key ++ codes "=\"" ++ escaped (meant attribute.meaning) ++ codes "\""
+-- an attribute, and what it says
+abbrev pub Said : Type 0
+Said = Key × List ℕ
 
--- a tag without its end
+-- it within a tag
+abbrev pub said_text : Said → List ℕ
+said_text said = codes " " ++ key_name said.0 ++ codes "=\"" ++ escaped said.1 ++ codes "\""
+
+abbrev pub attribute_text : Attribute → List ℕ
+attribute_text attribute = said_text (attribute.key, meant attribute.meaning)
+
+-- a tag with these attributes, without its end
+abbrev pub front_by : Tag → List ℕ → List ℕ
+front_by tag attributes = codes "<" ++ tag_name tag ++ attributes
+
 abbrev pub tag_front : Tag → List Attribute → List ℕ
-tag_front tag attributes = codes "<" ++ tag_name tag ++ flat_map attribute_text attributes
+tag_front tag attributes = front_by tag (flat_map attribute_text attributes)
 
 -- the tag that ends another
 abbrev pub tag_end : Tag → List ℕ
 tag_end tag = codes "</" ++ tag_name tag ++ codes ">"
 
 -- a tag with nothing in it, and the end of its line
+abbrev pub standing_by : Tag → List ℕ → List ℕ
+standing_by tag attributes = front_by tag attributes ++ codes "/>\n"
+
 abbrev pub standing : Tag → List Attribute → List ℕ
-standing tag attributes = tag_front tag attributes ++ codes "/>\n"
+standing tag attributes = standing_by tag (flat_map attribute_text attributes)
 
 -- a tag whose content follows
+abbrev pub entering_by : Tag → List ℕ → List ℕ
+entering_by tag attributes = front_by tag attributes ++ codes ">"
+
 abbrev pub entering : Tag → List Attribute → List ℕ
-entering tag attributes = tag_front tag attributes ++ codes ">"
+entering tag attributes = entering_by tag (flat_map attribute_text attributes)
 
 -- a tag around a text
+abbrev pub telling_by : Tag → List ℕ → List ℕ → List ℕ
+telling_by tag attributes text = entering_by tag attributes ++ escaped text ++ tag_end tag
+
 abbrev pub telling : Tag → List Attribute → List ℕ → List ℕ
-telling tag attributes text = entering tag attributes ++ escaped text ++ tag_end tag
+telling tag attributes = telling_by tag (flat_map attribute_text attributes)
 
 -- the tag of a mark
+abbrev pub mark_front_by : List ℕ → List ℕ
+mark_front_by attributes = codes "<g class=\"m\" role=\"img\"" ++ attributes ++ codes ">"
+
 abbrev pub mark_front : List Attribute → List ℕ
-mark_front attributes = codes "<g class=\"m\" role=\"img\"" ++ flat_map attribute_text attributes ++ codes ">"
+mark_front attributes = mark_front_by (flat_map attribute_text attributes)
 
 -- a mark and its title, and the end of their line: the mark is still to be ended
+abbrev pub marking_by : List ℕ → List ℕ → List ℕ
+marking_by attributes title = mark_front_by attributes ++ telling tag.Title [] title ++ codes "\n"
+
 abbrev pub marking : List Attribute → List ℕ → List ℕ
-marking attributes title = mark_front attributes ++ telling tag.Title [] title ++ codes "\n"
+marking attributes = marking_by (flat_map attribute_text attributes)
 
 -- a group that is no mark and its title, and the end of their line: the group is still to be ended
 abbrev pub noting : List ℕ → List ℕ
 noting title = codes "<g class=\"r\">" ++ telling tag.Title [] title ++ codes "\n"
+
+-- a field for input, which has no content
+abbrev pub input_field : List Attribute → List ℕ
+input_field attributes = codes "<input" ++ flat_map attribute_text attributes ++ codes ">"
+
+-- a group whose shapes stand so far below their places: it is still to be ended
+abbrev pub lowering : ℕ → List ℕ
+lowering by = codes "<g transform=\"translate(0," ++ escaped (decimal by) ++ codes ")\">\n"

@@ -1,5 +1,6 @@
 -- The titles of marks, read back from markup.
 use Rattle.std.specs.Prelude.{ℕ, Bool, true, false, ◌==◌, not, ◌&&◌, if◌then◌else◌, cond, is_some, List, [], ◌∷◌, ◌++◌, codes, Option, None, Some}
+use Rattle.std.specs.Option.{option_map}
 use Rattle.shapes.specs.Escaping.{behind, unescaped}
 
 -- markup that begins with a byte, where what follows the byte is cut already
@@ -14,6 +15,11 @@ cut (b ∷ markup) = cut_at b (cut markup)
 -- what follows each `<`, up to the next
 abbrev pub tags_of : List ℕ → List (List ℕ)
 tags_of markup = (cut markup).1
+
+-- what stands in a tag up to its `>`, if it has one
+abbrev pub inner : List ℕ → Option (List ℕ)
+inner [] = None
+inner (b ∷ tag) = if b == 62 then Some [] else option_map (λ rest. b ∷ rest) (inner tag)
 
 -- whether a tag is that of a mark
 abbrev pub is_mark : List ℕ → Bool
@@ -39,11 +45,15 @@ abbrev pub lines_in : List ℕ → List (List ℕ)
 lines_in markup = titles (tags_of markup)
 
 -- whether a tag, however it goes on, is neither that of a mark nor a title
-abbrev pub is_settled : List ℕ → Bool
-is_settled (a ∷ b ∷ c ∷ tag) = not (a == 116) && not ((a == 103) && (c == 99))
-is_settled _ = false
+abbrev pub is_no_mark : List ℕ → Bool
+is_no_mark (a ∷ b ∷ c ∷ tag) = not (a == 116) && not ((a == 103) && (c == 99))
+is_no_mark _ = false
 
--- whether markup may go on in any way, and its lines stay as they are
+-- whether a tag is whole, and neither that of a mark nor a title: however it goes on, it is read as it is
+abbrev pub is_settled : List ℕ → Bool
+is_settled tag = is_no_mark tag && is_some (inner tag)
+
+-- whether markup may go on in any way, and what was read of it stays as it is
 abbrev pub is_at_rest : List (List ℕ) → Bool
 is_at_rest [] = true
 is_at_rest (tag ∷ []) = is_settled tag

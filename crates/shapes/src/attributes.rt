@@ -1,7 +1,9 @@
 //! Attributes, and tags with them, as bytes.
 ghost use Rattle.std.specs.Prelude.{◌≡◌, ◌++◌, [], flat_map, IfOk, OnOk};
 ghost use Rattle.shapes.specs.Escaping.{escaped};
-ghost use Rattle.shapes.specs.Markup.{attribute_text, entering, marking, meant, noting, standing, tag_front, telling};
+ghost use Rattle.shapes.specs.Markup.{attribute_text, entering, input_field, lowering, marking, meant, noting, said_text, standing, tag_front, telling};
+ghost use Rattle.std.specs.Fmt.{decimal};
+ghost use Rattle.shapes.specs.declared.names.Key.TheVariants as key_variants;
 
 use crate::escaping::push_escaped;
 use crate::names::{Key, Tag};
@@ -22,7 +24,9 @@ pub struct Attribute<'a> {
 }
 
 /// An attribute that says these words.
-pub fn words<'a>(key: Key, words: &'a [u8]) -> Attribute<'a> {
+pub fn words<'a>(key: Key, words: &'a [u8]) -> Attribute<'a>
+    ensures { attribute_text result ≡ said_text (key, words.now) }
+{
     Attribute {
         key,
         meaning: Meaning::Words(words),
@@ -30,7 +34,9 @@ pub fn words<'a>(key: Key, words: &'a [u8]) -> Attribute<'a> {
 }
 
 /// An attribute that says a number.
-pub fn number<'a>(key: Key, number: u64) -> Attribute<'a> {
+pub fn number<'a>(key: Key, number: u64) -> Attribute<'a>
+    ensures { attribute_text result ≡ said_text (key, decimal number) }
+{
     Attribute {
         key,
         meaning: Meaning::Number(number),
@@ -38,7 +44,9 @@ pub fn number<'a>(key: Key, number: u64) -> Attribute<'a> {
 }
 
 /// The attribute by which a style is chosen.
-pub fn class<'a>(style: &'a str) -> Attribute<'a> {
+pub fn class<'a>(style: &'a str) -> Attribute<'a>
+    ensures { attribute_text result ≡ said_text (key_variants.Class, style.now) }
+{
     words(Key::Class, style.as_bytes())
 }
 
@@ -164,5 +172,27 @@ pub(crate) fn noting_tags(alloc: Global, title: &[u8]) -> Result<Vec<u8>, AllocE
     bytes.extend_from_slice(b"<g class=\"r\">")?;
     bytes.extend_from_slice(titled.as_slice())?;
     bytes.extend_from_slice(b"\n")?;
+    Ok(bytes)
+}
+
+/// A field for input, which has no content.
+pub(crate) fn input_tag(alloc: Global, attributes: &[Attribute]) -> Result<Vec<u8>, AllocError>
+    ensures { IfOk result (λ bytes. bytes.items ≡ input_field attributes.now) }
+{
+    let mut bytes = Vec::new(alloc);
+    bytes.extend_from_slice(b"<input")?;
+    push_attributes(alloc, &mut bytes, attributes)?;
+    bytes.extend_from_slice(b">")?;
+    Ok(bytes)
+}
+
+/// The tag of a group so far below, and the end of its line.
+pub(crate) fn lowering_tag(alloc: Global, by: u64) -> Result<Vec<u8>, AllocError>
+    ensures { IfOk result (λ bytes. bytes.items ≡ lowering by) }
+{
+    let mut bytes = Vec::new(alloc);
+    bytes.extend_from_slice(b"<g transform=\"translate(0,")?;
+    push_meaning(alloc, &mut bytes, &Meaning::Number(by))?;
+    bytes.extend_from_slice(b")\">\n")?;
     Ok(bytes)
 }

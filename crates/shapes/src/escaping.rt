@@ -1,9 +1,9 @@
 //! Texts within markup.
-ghost use Rattle.std.specs.Prelude.{◌≡◌, ◌++◌, ℕ, List, true, IfOk, OnOk};
+ghost use Rattle.std.specs.Prelude.{◌≡◌, ◌++◌, ℕ, List, true, OnOk};
 ghost use Rattle.std.specs.List.{list_all};
 ghost use Rattle.shapes.specs.Escaping.{escaped, escaped_by, is_plain, names, unescaped};
 
-use std::alloc::{AllocError, Global};
+use std::alloc::AllocError;
 
 /// Adds a text to markup, in which `&`, `<`, `>` and `"` stand by their names.
 pub(crate) fn push_escaped(markup: &mut Vec<u8>, text: &[u8]) -> Result<(), AllocError>
@@ -13,15 +13,6 @@ pub(crate) fn push_escaped(markup: &mut Vec<u8>, text: &[u8]) -> Result<(), Allo
         push_byte(markup, *byte)?;
     }
     Ok(())
-}
-
-/// A text as it stands in markup.
-pub(crate) fn escaped_bytes(alloc: Global, text: &[u8]) -> Result<Vec<u8>, AllocError>
-    ensures { IfOk result (λ bytes. bytes.items ≡ escaped text.now) }
-{
-    let mut bytes = Vec::new(alloc);
-    push_escaped(&mut bytes, text)?;
-    Ok(bytes)
 }
 
 /// Adds a byte of a text.

@@ -1,6 +1,8 @@
 //! Lines, boxes, paths and words, each on a line of its own.
-ghost use Rattle.std.specs.Prelude.{◌≡◌, OnOk};
-ghost use Rattle.shapes.specs.Titles.{lines_in};
+ghost use Rattle.std.specs.Prelude.{◌≡◌, ◌++◌, OnOk};
+ghost use Rattle.std.specs.Fmt.{decimal};
+ghost use Rattle.shapes.specs.Figures.{Block, Label, Pill, Ring, drawn, line_from, path_from};
+ghost use Rattle.shapes.specs.Readings.{reading};
 
 use crate::attributes::{class, number, words};
 use crate::markup::Markup;
@@ -25,8 +27,10 @@ impl Point {
 
 impl Markup {
     /// A line from one place to another.
+    #[tactic(auto, using(crate::proofs::Runs::line_is), unfolding(crate::specs::Figures::line_from))]
     pub fn line(&mut self, style: &str, from: Point, to: Point) -> Result<(), AllocError>
-        ensures { OnOk result (lines_in self.new ≡ lines_in self.old) }
+        ensures draws { OnOk result (self.new ≡ self.old ++ drawn (line_from style.now from to)) }
+        ensures read { OnOk result (reading self.new ≡ reading self.old) }
     {
         let Point { x, y } = to;
         let rest = format!(in self.alloc(); "L{x} {y}")?;
@@ -34,8 +38,10 @@ impl Markup {
     }
 
     /// A path from a place on, by what follows the place in its description.
+    #[tactic(auto, using(crate::proofs::Runs::path_is), unfolding(crate::specs::Figures::drawn, crate::specs::Figures::path_from))]
     pub fn path(&mut self, style: &str, from: Point, rest: &str) -> Result<(), AllocError>
-        ensures { OnOk result (lines_in self.new ≡ lines_in self.old) }
+        ensures draws { OnOk result (self.new ≡ self.old ++ drawn (path_from style.now from rest.now)) }
+        ensures read { OnOk result (reading self.new ≡ reading self.old) }
     {
         let Point { x, y } = from;
         let path = format!(in self.alloc(); "M{x} {y}{rest}")?;
@@ -46,6 +52,7 @@ impl Markup {
     }
 
     /// A box, by its left upper corner.
+    #[tactic(auto, unfolding(crate::specs::Figures::drawn))]
     pub fn block(
         &mut self,
         style: &str,
@@ -53,7 +60,8 @@ impl Markup {
         width: u32,
         height: u32,
     ) -> Result<(), AllocError>
-        ensures { OnOk result (lines_in self.new ≡ lines_in self.old) }
+        ensures draws { OnOk result (self.new ≡ self.old ++ drawn (Block style.now corner width height)) }
+        ensures read { OnOk result (reading self.new ≡ reading self.old) }
     {
         self.stand(
             Tag::Rect,
@@ -68,8 +76,10 @@ impl Markup {
     }
 
     /// A box 16 pixels high with round ends.
+    #[tactic(auto, unfolding(crate::specs::Figures::drawn))]
     pub fn pill(&mut self, style: &str, corner: Point, width: u32) -> Result<(), AllocError>
-        ensures { OnOk result (lines_in self.new ≡ lines_in self.old) }
+        ensures draws { OnOk result (self.new ≡ self.old ++ drawn (Pill style.now corner width)) }
+        ensures read { OnOk result (reading self.new ≡ reading self.old) }
     {
         self.stand(
             Tag::Rect,
@@ -85,8 +95,10 @@ impl Markup {
     }
 
     /// A ring of 5 pixels round a place.
+    #[tactic(auto, unfolding(crate::specs::Figures::drawn))]
     pub fn ring(&mut self, style: &str, middle: Point) -> Result<(), AllocError>
-        ensures { OnOk result (lines_in self.new ≡ lines_in self.old) }
+        ensures draws { OnOk result (self.new ≡ self.old ++ drawn (Ring style.now middle)) }
+        ensures read { OnOk result (reading self.new ≡ reading self.old) }
     {
         self.stand(
             Tag::Circle,
@@ -100,8 +112,10 @@ impl Markup {
     }
 
     /// Words that begin at a place.
+    #[tactic(auto, unfolding(crate::specs::Figures::drawn))]
     pub fn label(&mut self, style: &str, at: Point, text: &[u8]) -> Result<(), AllocError>
-        ensures { OnOk result (lines_in self.new ≡ lines_in self.old) }
+        ensures draws { OnOk result (self.new ≡ self.old ++ drawn (Label style.now at text.now)) }
+        ensures read { OnOk result (reading self.new ≡ reading self.old) }
     {
         let attributes = [
             class(style),
@@ -114,7 +128,8 @@ impl Markup {
 
     /// A number that begins at a place.
     pub fn numeral(&mut self, style: &str, at: Point, numeral: u64) -> Result<(), AllocError>
-        ensures { OnOk result (lines_in self.new ≡ lines_in self.old) }
+        ensures draws { OnOk result (self.new ≡ self.old ++ drawn (Label style.now at (decimal numeral))) }
+        ensures read { OnOk result (reading self.new ≡ reading self.old) }
     {
         let digits = numeral.to_string(self.alloc())?;
         self.label(style, at, digits.as_bytes())

@@ -14,7 +14,6 @@ pub enum Tag {
     Desc,
     Heading,
     Item,
-    Input,
 }
 
 /// An attribute of a tag.
@@ -66,7 +65,6 @@ impl Tag {
             Tag::Desc => "desc",
             Tag::Heading => "h1",
             Tag::Item => "li",
-            Tag::Input => "input",
         }
     }
 }

@@ -1,4 +1,4 @@
-use Rattle.shapes.specs.Titles.{lines_in}
+use Rattle.picture.specs.Pages.{picture_names}
 use Rattle.scenario.specs.Reads.{script}
 use Rattle.replayer.specs.Texts.{replayed}
 use Rattle.drawer.proofs.Drawn.{draws_framed}
@@ -7,5 +7,5 @@ use Rattle.drawer.proofs.engines.draw_picture.Goals as goal
 pub returns-clause-ok : goal.returns-clause-ok
 returns-clause-ok g c =
     draws_framed (g.W.Sink.taken c.args.output.now) (g.W.Sink.taken c.write_markup.new.output) (g.W.Sink.taken c.draw_bands-2.new.output) (g.W.Sink.taken c.write_markup-2.new.output)
-    (lines_in c.in_ok-head.head) (lines_in c.in_ok-end.end) (replayed (script c.args.scenario.now)) c.in_ok-head.ensures c.in_ok-end.ensures
-    c.in_ok-write_markup.ensures.ok c.in_ok-summary.ensures.ok c.in_ok-write_markup-2.ensures.ok
+    c.in_ok-head.head c.in_ok-end.end picture_names (replayed (script c.args.scenario.now)) c.in_ok-head.ensures.lines c.in_ok-head.ensures.elements c.in_ok-end.ensures.lines c.in_ok-end.ensures.elements
+    c.in_ok-write_markup.ensures.written c.in_ok-summary.ensures.ok c.in_ok-write_markup-2.ensures.written

@@ -1,7 +1,13 @@
-use Rattle.std.proofs.Common.{◌≡◌}
-use Rattle.shapes.specs.Titles.{lines_in}
+use Rattle.std.proofs.Common.{◌≡◌, ◌++◌, drop, map}
+use Rattle.shapes.specs.Figures.{drawings}
+use Rattle.shapes.specs.Readings.{reading}
+use Rattle.picture.specs.Columns.{wording}
+use Rattle.picture.specs.Drawings.{rows_shapes}
 use Rattle.picture.proofs.marks.draw_rows.Given as goal
 
--- no line more
+-- no line more, and what is drawn so far and what is drawn of those to come is all that is drawn
 abbrev pub invariant-loop-number : goal.invariant-loop-number
-invariant-loop-number l = lines_in l.markup ≡ lines_in l.fn.markup
+invariant-loop-number l = record {
+  read : reading l.markup ≡ reading l.fn.markup;
+  draws : l.markup ++ drawings (rows_shapes l.is_alone l.place l.is_refusal l.at l.number (map wording (drop l.number l.column.rows.items))) ≡ l.fn.markup ++ drawings (rows_shapes l.is_alone l.place l.is_refusal l.at 0 (map wording l.column.rows.items));
+}

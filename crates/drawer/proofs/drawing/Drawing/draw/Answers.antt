@@ -12,5 +12,5 @@ returns-clause-ok g c =
     ok_then c.write_band.result
     (λ wrote. draws_on_same _ _ _ _ (told c.draw_reads.new.self.summary) (told c.args.self.now.summary) (ap told c.in_ok-draw_reads.ensures.summary)
     (draws_on_both _ _ _ _ _ _ [] (told c.draw_reads.new.self.summary) c.in_ok-draw_reads.ensures.ok
-    (draws_on_line (held c.draw_reads.new.self.page) (lines_of_band c.in_ok-full.full) (held c.take.new.self) (saying_text c.draw_reads.new.self.summary.events c.args.saying) (g.W.Sink.taken c.draw_reads.new.output) (g.W.Sink.taken c.write_band.new.output) c.in_ok-full.ensures.lines wrote)))
+    (draws_on_line (held c.draw_reads.new.self.page) (lines_of_band c.in_ok-full.full) (held c.take.new.self) (saying_text c.draw_reads.new.self.summary.events c.args.saying) (g.W.Sink.taken c.draw_reads.new.output) (g.W.Sink.taken c.write_band.new.output) c.in_ok-full.ensures.lines (wrote c.in_ok-full.ensures.ended))))
     c.write_band.ensures.ok

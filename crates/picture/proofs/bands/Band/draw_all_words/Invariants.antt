@@ -1,7 +1,12 @@
-use Rattle.std.proofs.Common.{◌≡◌}
-use Rattle.shapes.specs.Titles.{lines_in}
+use Rattle.std.proofs.Common.{◌≡◌, ◌++◌}
+use Rattle.shapes.specs.Figures.{drawings}
+use Rattle.shapes.specs.Readings.{reading}
+use Rattle.picture.specs.Drawings.{for_each, lane_words, seen_band}
 use Rattle.picture.proofs.bands.Band.draw_all_words.Given as goal
 
--- no line more
+-- no line more, and what is drawn of the processes before the present one
 abbrev pub invariant-loop-process : goal.invariant-loop-process
-invariant-loop-process l = lines_in l.markup ≡ lines_in l.fn.markup
+invariant-loop-process l = record {
+  read : reading l.markup ≡ reading l.fn.markup;
+  draws : l.markup ≡ l.fn.markup ++ drawings (for_each (lane_words (seen_band l.self)) l.process);
+}

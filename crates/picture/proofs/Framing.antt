@@ -1,0 +1,71 @@
+-- What stands before and behind the bands begins elements, and ends them.
+use Rattle.std.proofs.Common.{◌≡◌, ℕ, List, [], ◌∷◌, codes, Some, refl, ap, ◌∙◌}
+use Rattle.shapes.specs.Elements.{opens_in}
+use Rattle.shapes.specs.Readings.{Reading, group, reading, with_begun, with_tags}
+use Rattle.picture.specs.Pages.{page_names, picture_names}
+
+-- the lines and the open elements of a part
+abbrev Leaves : Reading → List (List ℕ) → List (List ℕ) → Type 0
+Leaves read before after = (read.lines ≡ []) × (read.opens (Some before) ≡ Some after)
+
+leaves : (read other : Reading) (before after : List (List ℕ)) → read ≡ other → Leaves other before after → Leaves read before after
+leaves read other before after is so = (ap (λ (r : Reading). r.lines) is ∙ so.0, ap (λ (r : Reading). r.opens (Some before)) is ∙ so.1)
+
+abbrev pub opening_text : List ℕ
+opening_text = codes "<!doctype html>\n<html lang=\"en\"><head><meta charset=\"utf-8\">\n"
+
+abbrev pub style_text : List ℕ
+style_text = codes "\n<style>\n"
+
+abbrev pub body_text : List ℕ
+body_text = codes "</style></head><body>\n"
+
+abbrev pub list_text : List ℕ
+list_text = codes "</svg>\n<details open><summary>The scenario</summary><ol>\n"
+
+abbrev pub list_end_text : List ℕ
+list_end_text = codes "</ol></details>\n"
+
+pub page_head_read : (begun titled styled bodied shown listed ended : Reading) →
+    begun ≡ reading [] → titled ≡ with_tags (opens_in opening_text) begun → styled ≡ with_tags (opens_in style_text) titled → bodied ≡ with_tags (opens_in body_text) styled →
+    shown ≡ with_begun (codes "svg") bodied → listed ≡ with_tags (opens_in list_text) shown → ended ≡ with_tags (opens_in list_end_text) listed → Leaves ended [] page_names
+page_head_read begun titled styled bodied shown listed ended p q r s t u v =
+    leaves ended (with_tags (opens_in list_end_text) (with_tags (opens_in list_text) (with_begun (codes "svg") (with_tags (opens_in body_text) (with_tags (opens_in style_text) (with_tags (opens_in opening_text) (reading []))))))) [] page_names
+    (v ∙ ap (with_tags (opens_in list_end_text)) (u ∙ ap (with_tags (opens_in list_text)) (t ∙ ap (with_begun (codes "svg")) (s ∙ ap (with_tags (opens_in body_text)) (r ∙ ap (with_tags (opens_in style_text)) (q ∙ ap (with_tags (opens_in opening_text)) p))))))
+    (refl, refl)
+
+abbrev pub slider_text : List ℕ
+slider_text = codes "<div id=\"now\"><div>"
+
+abbrev pub script_text : List ℕ
+script_text = codes "<output id=\"said\" for=\"at\"></output></div></div>\n<script>"
+
+abbrev pub ending_text : List ℕ
+ending_text = codes "</script>\n</body></html>\n"
+
+pub page_end_read : (script : List ℕ) (begun asked named scripted ended : Reading) →
+    opens_in script (Some (codes "script" ∷ page_names)) ≡ Some (codes "script" ∷ page_names) →
+    begun ≡ reading [] → asked ≡ with_tags (opens_in slider_text) begun → named ≡ with_tags (opens_in script_text) asked → scripted ≡ with_tags (opens_in script) named → ended ≡ with_tags (opens_in ending_text) scripted → Leaves ended page_names []
+page_end_read script begun asked named scripted ended same p q r s t =
+    leaves ended (with_tags (opens_in ending_text) (with_tags (opens_in script) (with_tags (opens_in script_text) (with_tags (opens_in slider_text) (reading []))))) page_names []
+    (t ∙ ap (with_tags (opens_in ending_text)) (s ∙ ap (with_tags (opens_in script)) (r ∙ ap (with_tags (opens_in script_text)) (q ∙ ap (with_tags (opens_in slider_text)) p))))
+    (refl, ap (opens_in ending_text) same)
+
+abbrev pub style_end_text : List ℕ
+style_end_text = codes "\n</style>\n"
+
+pub picture_head_read : (begun entered styled ended : Reading) →
+    begun ≡ reading [] → entered ≡ with_begun (codes "svg") begun → styled ≡ with_tags (opens_in style_text) entered → ended ≡ with_tags (opens_in style_end_text) styled → Leaves ended [] picture_names
+picture_head_read begun entered styled ended p q r s =
+    leaves ended (with_tags (opens_in style_end_text) (with_tags (opens_in style_text) (with_begun (codes "svg") (reading [])))) [] picture_names
+    (s ∙ ap (with_tags (opens_in style_end_text)) (r ∙ ap (with_tags (opens_in style_text)) (q ∙ ap (with_begun (codes "svg")) p)))
+    (refl, refl)
+
+abbrev pub picture_end_text : List ℕ
+picture_end_text = codes "</g></svg>\n"
+
+pub picture_end_read : (begun lowered ended : Reading) → begun ≡ reading [] → lowered ≡ with_begun group begun → ended ≡ with_tags (opens_in picture_end_text) lowered → Leaves ended picture_names []
+picture_end_read begun lowered ended p q r =
+    leaves ended (with_tags (opens_in picture_end_text) (with_begun group (reading []))) picture_names []
+    (r ∙ ap (with_tags (opens_in picture_end_text)) (q ∙ ap (with_begun group) p))
+    (refl, refl)

@@ -1,0 +1,34 @@
+use Rattle.std.proofs.Common.{ℕ, List, ◌++◌, ◌∙◌, ap, flat_map}
+use Rattle.shapes.specs.Figures.{Shape}
+use Rattle.shapes.specs.Readings.{with_lines}
+use Rattle.picture.specs.Drawings.{SeenBand, axis, chain_shapes, column_shapes, first_inside, for_each, lane_shapes, lane_words, links, seen_band, shades}
+use Rattle.picture.specs.Told.{told_in}
+use Rattle.picture.proofs.Drawn.{ends_drawn, then_drawn}
+use Rattle.picture.proofs.Tellings.{then_same}
+use Rattle.picture.proofs.bands.Band.draw.Goals as goal
+
+pub returns-clause-draws : goal.returns-clause-draws
+returns-clause-draws c =
+    let band : SeenBand = seen_band c.args.self.now in
+    let old : List ℕ = c.args.markup.now in
+    let one : List Shape = shades band.layout.chain band.layout.end (first_inside band.before) band.columns in
+    let two : List Shape = axis band.layout.end 52 band.columns in
+    let three : List Shape = for_each (lane_shapes band) band.before.processes in
+    let four : List Shape = chain_shapes band in
+    let five : List Shape = flat_map (links band) band.columns in
+    let six : List Shape = for_each (lane_words band) band.before.processes in
+    let seven : List Shape = flat_map (column_shapes band) band.columns in
+    ends_drawn c.draw_columns.result old _ _ (one ++ two ++ three ++ four ++ five ++ six) seven
+    (then_drawn old _ _ (one ++ two ++ three ++ four ++ five) six
+    (then_drawn old _ _ (one ++ two ++ three ++ four) five
+    (then_drawn old _ _ (one ++ two ++ three) four
+    (then_drawn old _ _ (one ++ two) three
+    (then_drawn old _ _ one two c.in_ok-draw_shades.ensures.draws c.in_ok-draw_axis.ensures.draws)
+    c.in_ok-draw_lanes.ensures.draws) c.in_ok-draw_chain.ensures.draws) c.in_ok-draw_all_links.ensures.draws) c.in_ok-draw_all_words.ensures.draws)
+    c.draw_columns.ensures.draws
+
+pub returns-clause-read : goal.returns-clause-read
+returns-clause-read c =
+    then_same c.draw_columns.result _ _ _ c.draw_columns.ensures.read
+    (ap (with_lines (flat_map told_in c.args.self.now.columns.items))
+    (c.in_ok-draw_all_words.ensures.read ∙ c.in_ok-draw_all_links.ensures.read ∙ c.in_ok-draw_chain.ensures.read ∙ c.in_ok-draw_lanes.ensures.read ∙ c.in_ok-draw_axis.ensures.read ∙ c.in_ok-draw_shades.ensures.read))

@@ -1,0 +1,14 @@
+use Rattle.std.proofs.Common.{ℕ, List, ◌∙◌, refl}
+use Rattle.shapes.specs.Figures.{Shape}
+use Rattle.picture.specs.Drawings.{lane_shapes, seen_band}
+use Rattle.picture.proofs.Steps.{process_next}
+use Rattle.picture.proofs.bands.Band.draw_lanes.Goals as goal
+
+pub loop-process-preserved : goal.loop-process-preserved
+loop-process-preserved c =
+    let shapes : ℕ → List Shape = lane_shapes (seen_band c.args.self.now) in
+    let p : ℕ = c.loop-process.process in
+    record {
+      read = c.in_ok-draw_lane.ensures.read ∙ c.loop-process.invariant.read;
+      draws = process_next shapes p c.args.markup.now c.loop-process.markup c.loop-process.invariant.draws c.draw_lane.new.markup (shapes p) refl c.in_ok-draw_lane.ensures.draws;
+    }

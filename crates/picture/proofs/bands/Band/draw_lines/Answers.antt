@@ -1,0 +1,23 @@
+use Rattle.std.proofs.Common.{ℕ, ◌+◌, List, arith, drop, refl}
+use Rattle.shapes.specs.Readings.{reading}
+use Rattle.picture.specs.Columns.{seen}
+use Rattle.picture.specs.Drawings.{SeenBand, line_shapes, lines_shapes, seen_band}
+use Rattle.picture.specs.declared.told.Line.{Line}
+use Rattle.picture.proofs.Drawn.{drawn_on}
+use Rattle.picture.proofs.Steps.{lines_next}
+use Rattle.picture.proofs.Tellings.{line_more, none_more}
+use Rattle.picture.proofs.bands.Band.draw_lines.Goals as goal
+
+pub loop-place-init : goal.loop-place-init
+loop-place-init c = record { read = none_more (reading c.args.markup.now) c.args.markup.now refl; draws = refl }
+
+pub loop-place-preserved : goal.loop-place-preserved
+loop-place-preserved c =
+    let lines : List Line = c.args.column.now.lines.items in
+    let k : ℕ = c.loop-place.place in
+    let band : SeenBand = seen_band c.args.self.now in
+    record {
+      read = line_more (reading c.args.markup.now) (reading c.loop-place.markup) (reading c.draw_line.new.markup) lines k c.line-item.result (omega arith) (rw c.deref-line-items.ensures.value at c.line-item.is) c.loop-place.invariant.read c.in_ok-draw_line.ensures.read;
+      draws = drawn_on c.loop-place.markup c.draw_line.new.markup _ (lines_shapes band (seen c.args.column.now) c.args.head c.args.foot k (drop k lines)) (line_shapes band (seen c.args.column.now) c.args.head c.args.foot k c.line-item.result)
+          (lines_shapes band (seen c.args.column.now) c.args.head c.args.foot (k + 1) (drop (k + 1) lines)) (lines_next lines k c.line-item.result (omega arith) (rw c.deref-line-items.ensures.value at c.line-item.is) band (seen c.args.column.now) c.args.head c.args.foot) c.loop-place.invariant.draws c.in_ok-draw_line.ensures.draws;
+    }

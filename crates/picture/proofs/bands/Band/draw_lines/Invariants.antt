@@ -1,0 +1,14 @@
+use Rattle.std.proofs.Common.{◌≡◌, ◌++◌, drop, take}
+use Rattle.shapes.specs.Figures.{drawings}
+use Rattle.shapes.specs.Readings.{reading, with_lines}
+use Rattle.picture.specs.Columns.{seen}
+use Rattle.picture.specs.Drawings.{lines_shapes, seen_band}
+use Rattle.picture.specs.Told.{texts}
+use Rattle.picture.proofs.bands.Band.draw_lines.Given as goal
+
+-- the lines before the present one; and what is drawn so far and what is drawn of those to come is all that is drawn
+abbrev pub invariant-loop-place : goal.invariant-loop-place
+invariant-loop-place l = record {
+  read : reading l.markup ≡ with_lines (texts (take l.place l.column.lines.items)) (reading l.fn.markup);
+  draws : l.markup ++ drawings (lines_shapes (seen_band l.self) (seen l.column) l.head l.foot l.place (drop l.place l.column.lines.items)) ≡ l.fn.markup ++ drawings (lines_shapes (seen_band l.self) (seen l.column) l.head l.foot 0 l.column.lines.items);
+}

@@ -1,0 +1,11 @@
+use Rattle.std.proofs.Common.{◌∙◌, ap}
+use Rattle.shapes.specs.Elements.{opens_in}
+use Rattle.shapes.specs.Readings.{reading, with_tags}
+use Rattle.picture.proofs.Framing.{picture_end_read, picture_end_text}
+use Rattle.picture.proofs.sheets.picture_end.Goals as goal
+
+pub returns-clause-lines : goal.returns-clause-lines
+returns-clause-lines c = (picture_end_read _ _ _ (ap reading c.new-markup.ensures) c.in_ok-lower.ensures.read (c.in_ok-frame.ensures.read ∙ ap (with_tags (opens_in picture_end_text)) c.in_ok-add_legend.ensures)).0
+
+pub returns-clause-elements : goal.returns-clause-elements
+returns-clause-elements c = (picture_end_read _ _ _ (ap reading c.new-markup.ensures) c.in_ok-lower.ensures.read (c.in_ok-frame.ensures.read ∙ ap (with_tags (opens_in picture_end_text)) c.in_ok-add_legend.ensures)).1

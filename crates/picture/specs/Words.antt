@@ -1,0 +1,78 @@
+-- The words in the bars of a lane, who stands in line, and how far what stands at the foot of a column reaches.
+use Rattle.std.specs.Prelude.{ℕ, ◌+◌, ◌*◌, max, Bool, cond, nat_lt, List, [], ◌∷◌, ◌++◌, codes, length, take, Option, None, Some}
+use Rattle.std.specs.Fmt.{decimal}
+use Rattle.std.specs.List.{join_by}
+use Rattle.record.specs.declared.marks.Mark.{Mark}
+use Rattle.record.specs.declared.marks.Mark.TheVariants as mark
+use Rattle.record.specs.declared.stages.Stage.{Stage}
+use Rattle.record.specs.declared.stages.Stage.TheVariants as stage
+use Rattle.picture.specs.Columns.{Seen, capped, settles_and_takes_in}
+use Rattle.picture.specs.States.{queue_of}
+use Rattle.picture.specs.Told.{mark_told}
+use Rattle.picture.specs.declared.state.Group.{Group}
+use Rattle.picture.specs.declared.state.State.{State}
+use Rattle.picture.specs.declared.state.Word.{Word}
+use Rattle.picture.specs.declared.state.Word.TheVariants as word
+use Rattle.picture.specs.declared.told.Line.{Line}
+
+-- how a stage is called
+abbrev pub stage_text : Stage → List ℕ
+stage_text stage.Idle = codes "idle"
+stage_text stage.Doorway = codes "doorway"
+stage_text stage.Waiting = codes "waiting"
+stage_text stage.Inside = codes "inside"
+stage_text stage.Leaving = codes "leaving"
+stage_text stage.Settling = codes "settling"
+stage_text stage.Down = codes "down"
+
+-- numbers, with these bytes between each two
+abbrev pub listed_with : List ℕ → List ℕ → List ℕ
+listed_with = join_by decimal
+
+-- some processes: up to three by their numbers, and more by how many there are
+abbrev pub group_text : List ℕ → Group → List ℕ
+group_text others group = cond (nat_lt 3 group.count) (decimal group.count ++ others) (listed_with (codes ",") (take group.count group.first))
+
+-- what the bar of a process says, if it says anything
+abbrev pub word_text : Word → Option (List ℕ)
+word_text word.Nothing = None
+word_text (word.Is stage) = Some (stage_text stage)
+word_text (word.Behind group) = Some (codes "behind " ++ group_text (codes " others") group)
+word_text (word.Awaits group) = Some (group_text [] group ++ codes " choosing")
+
+-- who stands in line, with single spaces
+abbrev pub queue_text : State → List ℕ
+queue_text state = listed_with (codes " ") (queue_of state)
+
+-- the style of a row, which a refusal has otherwise
+abbrev pub row_class : Bool → Bool → List ℕ
+row_class is_verb is_refusal = cond is_verb (codes "verb") (codes "rest") ++ cond is_refusal (codes " no") []
+
+-- how far the sign of a mark reaches to its right
+abbrev pub mark_reach : Mark → ℕ
+mark_reach (mark.Called command) = 8
+mark_reach (mark.Answered answer) = 4
+mark_reach mark.Failed = 6
+mark_reach (mark.Settled value) = 9
+mark_reach mark.Down = 2
+mark_reach mark.Restarted = 5
+mark_reach mark.Withdrew = 5
+mark_reach (mark.Taken place reply) = capped (5 + 3 * length (decimal place))
+mark_reach _ = 1
+
+-- the same for a line, which has another sign if it tells no mark
+abbrev pub reach_by : Option Mark → ℕ
+reach_by None = 6
+reach_by (Some mark) = mark_reach mark
+
+-- how far what stands at the foot of a column reaches to its right
+abbrev pub lines_reach : List Line → ℕ
+lines_reach [] = 1
+lines_reach (line ∷ lines) = max (reach_by (mark_told line.saying)) (lines_reach lines)
+
+abbrev pub right_reach_of : Seen → ℕ
+right_reach_of column = lines_reach column.lines
+
+-- and to its left
+abbrev pub left_reach_of : Seen → ℕ
+left_reach_of column = cond (settles_and_takes_in column) 24 (right_reach_of column)
