@@ -2,8 +2,8 @@
 """Drives ports on threads, cuts their calls by failures at random turns, and judges what each round leaves.
 
 tests/soak_board.py [--rounds N] [--first K] [--keep FOLDER]: so many rounds, 2,000 if not said, from the one of number K
-on, 1 if not said. A round is drawn from its number; how its threads meet is not. The rounds are played by the program
-`board_soak`, which `rt ci` or `rt run` leaves, each in a run of its own; the judge is `weighing`, a second reading of what
+on, 1 if not said. A round is drawn from its number; how its threads meet is not. The rounds are played by the part
+`rounds` of the program `workloads`, which `rt ci` or `rt run` leaves, each in a run of its own; the judge is `weighing`, a second reading of what
 lists of finished calls and an image are to be, which shares nothing with it. Of each good round it judges copies too in
 which a reply or the image is another one, and has to find these bad. The output of a round that is not good is kept in the
 folder, `soak` if none is named. By hand: the rounds take some minutes, on all cores.
@@ -18,7 +18,7 @@ import sys
 
 from weighing import OTHER_ANSWERS, Call, Left, Store, changed, verdict
 
-PROGRAM = pathlib.Path(__file__).resolve().parent.parent / "crates" / "board_soak" / "out" / "board_soak"
+PROGRAM = pathlib.Path(__file__).resolve().parent.parent / "crates" / "workloads" / "out" / "workloads"
 SETUP = re.compile(r"version (\d+) processes (\d+) tickets (\d+) stamps (\d+) slots (\d+)")
 CALL = re.compile(r"(\d+) (\d+|-) (.*) = (.*)")
 FIGURES = ["calls", "replies", "failures", "cut and taken", "cut and not taken", *OTHER_ANSWERS, "changed copies found bad"]
@@ -55,7 +55,7 @@ def count(told, figures):
 
 def play(number):
     """The lines of a round, and what it leaves, if it came to its end."""
-    ran = subprocess.run([PROGRAM, str(number)], capture_output=True, text=True)
+    ran = subprocess.run([PROGRAM, "rounds", str(number)], capture_output=True, text=True)
     lines = ran.stdout.splitlines()
     if ran.returncode != 0 or lines[:1] != [f"round {number}"] or not lines[-1].startswith("image "):
         return ran.stdout + ran.stderr, None

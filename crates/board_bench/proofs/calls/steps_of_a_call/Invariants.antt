@@ -1,5 +1,0 @@
-use Rattle.board.specs.Boards.{IsOf}
-use Rattle.board_bench.proofs.calls.steps_of_a_call.Given as goal
-
-abbrev pub invariant-loop-before : goal.invariant-loop-before
-invariant-loop-before l = IsOf l.board l.port

@@ -1,8 +1,0 @@
-use Rattle.std.proofs.Common.{◌≤◌, ℕ, Bool}
-use Rattle.reader_copies.specs.Row.{IsRow}
-use Rattle.reader_copies.specs.Written.{IsWritten}
-use Rattle.register_drive.specs.Idle.{IsIdle}
-use Rattle.register_bench.proofs.times.read_times.Given as goal
-
-abbrev pub invariant-loop : goal.invariant-loop
-invariant-loop l = IsRow l.register 1728 × ((old : ℕ → Bool) × IsWritten l.register old) × IsIdle l.register 0 × (1728 ≤ l.run.room)

@@ -1,0 +1,5 @@
+use Rattle.board.specs.Boards.{IsOf}
+use Rattle.workloads.proofs.boards.calls.calls_again.Given as goal
+
+abbrev pub invariant-loop : goal.invariant-loop
+invariant-loop l = IsOf l.board l.port

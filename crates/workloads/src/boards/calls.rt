@@ -1,0 +1,110 @@
+//! Calls of one port, and what ports do on threads.
+ghost use Rattle.std.specs.Prelude.{◌≡◌, ℕ, Ok, IfOk, Some, slice_get};
+ghost use Rattle.plain_store.specs.Setups.{checked};
+ghost use Rattle.board.specs.Boards.{IsOf};
+ghost use Rattle.board.specs.Ports.{PortState, SamePort};
+
+use crate::counters::{counter, counting};
+use anyhow::Result;
+use board::{Board, Driven, Port};
+use flicks::Flicks;
+use plain_store::{Command, Setup};
+use record::Refusal;
+use std::alloc::AllocError;
+use std::thread::{self, Threads};
+
+/// The most word steps of a call that waits for nobody, and some more.
+const STEPS: u64 = 65_536;
+
+/// How many turns a port on a thread is given at a time.
+const TURNS: u32 = 100;
+
+/// A setup of the most ticket and stamp bits, whose store opens with the counter, and a command that adds 1 to that.
+pub fn adding(processes: u8, slots: u8) -> Result<(Setup, Command)>
+    ensures { IfOk result (λ made. checked made.0 ≡ Ok tt) }
+{
+    Ok((counting(processes, 32, slots)?, Command::Add(counter()?, 1)))
+}
+
+/// How many word steps a call of this port takes, which meets nobody. Each such call takes as many.
+pub fn steps_of_a_call(board: &Board, port: &mut Port, command: &Command) -> Option<u64>
+    requires { IsOf board.now port.old }
+    ensures { IsOf board.now port.new }
+{
+    if port.begin(board, *command).is_err() {
+        return None;
+    }
+    let mut flicks = Flicks::constant(false);
+    for before in 0..STEPS {
+        match port.drive(board, 1, &mut flicks) {
+            Driven::Turns => {}
+            Driven::Answered(_) => return Some(before + 1),
+            Driven::Down | Driven::Idle => return None,
+        }
+    }
+    None
+}
+
+/// So many calls of a port, one after another, each of which takes just so many word steps. Whether they do.
+pub fn calls_alone(
+    board: &Board,
+    port: &mut Port,
+    command: &Command,
+    steps: u64,
+    calls: u16,
+) -> bool
+    requires { IsOf board.now port.old }
+    ensures { SamePort port.old port.new }
+{
+    let mut flicks = Flicks::constant(false);
+    for _ in 0..calls {
+        if port.begin(board, *command).is_err()
+            || port.drive(board, steps.saturating_sub(1), &mut flicks) != Driven::Turns
+            || !matches!(port.drive(board, 1, &mut flicks), Driven::Answered(_))
+        {
+            return false;
+        }
+    }
+    true
+}
+
+/// So many times some turns of a port, which calls again and again. Answers how many word steps were made at least: of
+/// the turns in which a call is answered one is counted.
+fn calls_again(board: &Board, mut port: Port, command: &Command, times: u32) -> u64
+    requires { IsOf board.now port }
+{
+    let mut flicks = Flicks::constant(false);
+    let mut steps: u64 = 0;
+    for _ in 0..times {
+        let made = match port.drive(board, u64::from(TURNS), &mut flicks) {
+            Driven::Turns => u64::from(TURNS),
+            Driven::Answered(_) => 1,
+            Driven::Down => 0,
+            Driven::Idle => {
+                let _begun: Result<(), Refusal> = port.begin(board, *command);
+                0
+            }
+        };
+        steps = steps.saturating_add(made);
+    }
+    steps
+}
+
+/// The same of each of these ports, each on a thread of its own.
+pub fn all_call<R: Threads + Sync>(
+    rt: &R,
+    board: &Board,
+    ports: Vec<Port>,
+    command: &Command,
+    times: u32,
+) -> Result<Vec<u64>, AllocError>
+    requires { (k : ℕ) (port : PortState) → slice_get ports.items k ≡ Some port → IsOf board.now port }
+{
+    thread::map_vec(
+        rt,
+        ports,
+        &|port: Port| -> u64
+            requires { IsOf board.now port }
+        { calls_again(board, port, command, times) },
+    )
+}

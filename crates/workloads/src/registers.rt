@@ -1,0 +1,70 @@
+//! How long a step of a register takes, of 1728 bits and with 16 readers.
+ghost use Rattle.std.specs.Prelude.{◌≡◌, ℕ, Bool, ◌≤◌, ◌*◌, length, OnSome};
+ghost use Rattle.reader_copies.specs.Row.{IsRow};
+ghost use Rattle.reader_copies.specs.Written.{IsWritten};
+ghost use Rattle.register_drive.specs.Idle.{IsIdle};
+
+use anyhow::{Result, bail};
+use register_drive::{read_all, write_all};
+use safe_number::{ReadRun, Register};
+use std::rt::Clock;
+use std::time::Instant;
+
+/// Makes so many whole writes and then so many whole reads, and prints how many steps these are.
+pub fn times<T: Print + Eprint + Clock + AllocGlobal>(rt: &T, times: u32) -> Result<()> {
+    let mut register = Register::new(rt.alloc(), 1728, 16)?;
+    let mut run = ReadRun::new(rt.alloc(), 1728)?;
+    let start = Instant::now(rt)?;
+    let Some(writes) = write_times(&mut register, &[0x5a; 216], times) else {
+        bail!("a write does not end");
+    };
+    let written = start.elapsed(rt)?;
+    let start = Instant::now(rt)?;
+    let Some(reads) = read_times(&mut register, &mut run, times) else {
+        bail!("a read does not end");
+    };
+    let read = start.elapsed(rt)?;
+    println!(rt; "{writes} write steps")?;
+    println!(rt; "{reads} read steps")?;
+    eprintln!(rt; "write_step {writes} {}", written.as_nanos())?;
+    eprintln!(rt; "read_step {reads} {}", read.as_nanos())?;
+    Ok(())
+}
+
+/// Writes a value again and again, and answers how many accesses that took.
+fn write_times(register: &mut Register, value: &[u8], times: u32) -> Option<u64>
+    requires shape { IsRow register.old 1728 }
+    requires value { 1728 ≤ 8 * length value.now }
+    requires written { (old : ℕ → Bool) × IsWritten register.old old }
+    requires idle { IsIdle register.old 0 }
+    ensures shape { IsRow register.new 1728 }
+    ensures readers { length register.new ≡ length register.old }
+    ensures written { OnSome result ((old : ℕ → Bool) × IsWritten register.new old) }
+    ensures idle { IsIdle register.new 0 }
+{
+    let mut total: u64 = 0;
+    for _ in 0..times {
+        let Some(steps) = write_all(register, 1728, value, 0) else {
+            return None;
+        };
+        total = total.wrapping_add(steps);
+    }
+    Some(total)
+}
+
+/// Reads a value again and again, and answers how many accesses that took.
+fn read_times(register: &mut Register, run: &mut ReadRun, times: u32) -> Option<u64>
+    requires shape { IsRow register.old 1728 }
+    requires room { 1728 ≤ run.old.room }
+    requires written { (old : ℕ → Bool) × IsWritten register.old old }
+    requires idle { IsIdle register.old 0 }
+{
+    let mut total: u64 = 0;
+    for _ in 0..times {
+        let Some(steps) = read_all(register, 1728, 0, run) else {
+            return None;
+        };
+        total = total.wrapping_add(steps);
+    }
+    Some(total)
+}
