@@ -8,9 +8,7 @@ use safe_number::Access;
 use smallvec::SmallVec;
 use std::alloc::{AllocError, Global};
 use std::test::Fail;
-use worked_runs::scenarios::{
-    LONE_WRITE, SCENARIOS, TICKETS_FULL, TIE_OF_TICKETS, TWO_PROCESSES_WANDER,
-};
+use worked_runs::scenarios::{LONE_WRITE, SCENARIOS, TICKETS_FULL, TIE_OF_TICKETS};
 
 /// How many entries the records of the worked runs have, in the order of the runs.
 const ENTRIES: [usize; 27] = [
@@ -34,20 +32,6 @@ fn true_records_are_good(rt: HostRuntime) -> Result<(), Fail> {
         let said = verdict_on_file(rt.alloc(), file)?;
         assert_eq!(rt; said, (Verdict::Good, entries), "{file}");
     }
-    Ok(())
-}
-
-#[test]
-fn judges_the_lone_write(rt: HostRuntime) -> Result<(), Fail> {
-    let said = verdict_on_file(rt.alloc(), LONE_WRITE)?;
-    assert_eq!(rt; said, (Verdict::Good, 761));
-    Ok(())
-}
-
-#[test]
-fn judges_two_calls_under_a_seed(rt: HostRuntime) -> Result<(), Fail> {
-    let said = verdict_on_file(rt.alloc(), TWO_PROCESSES_WANDER)?;
-    assert_eq!(rt; said, (Verdict::Good, 3_620));
     Ok(())
 }
 

@@ -17,6 +17,9 @@ const ONE: Move = Move::EndRead(true);
 
 const ZERO: Move = Move::EndRead(false);
 
+/// A move on one bit, and what the watch says of it: whether it keeps the law, or whether it ends an overlapped read.
+type Heard = (Move, bool);
+
 /// A move on bit 1 of the ticket that process 0 has for process 1.
 fn on_ticket(how: Move) -> Access {
     Access {
@@ -50,7 +53,7 @@ fn first_otherwise(
 }
 
 /// The same of moves on one bit that opens at 0.
-fn first_other_move(alloc: Global, heard: &[(Move, bool)]) -> Result<Option<usize>, AllocError> {
+fn first_other_move(alloc: Global, heard: &[Heard]) -> Result<Option<usize>, AllocError> {
     let mut accesses = Vec::new(alloc);
     for (how, keeps) in heard {
         accesses.push((on_ticket(*how), *keeps))?;
@@ -58,65 +61,68 @@ fn first_other_move(alloc: Global, heard: &[(Move, bool)]) -> Result<Option<usiz
     first_otherwise(alloc, &Setup::one(2, 2, 2, 1), &accesses)
 }
 
+const READ_ALONE: [Heard; 8] = [
+    (BEGIN_READ, true),
+    (ONE, false),
+    (ZERO, true),
+    (Move::BeginWrite(true), true),
+    (Move::EndWrite, true),
+    (BEGIN_READ, true),
+    (ZERO, false),
+    (ONE, true),
+];
+
 #[test]
 fn a_read_alone_gives_what_was_written(rt: HostRuntime) -> Result<(), Fail> {
-    let heard = [
-        (BEGIN_READ, true),
-        (ONE, false),
-        (ZERO, true),
-        (Move::BeginWrite(true), true),
-        (Move::EndWrite, true),
-        (BEGIN_READ, true),
-        (ZERO, false),
-        (ONE, true),
-    ];
-    assert_eq!(rt; first_other_move(rt.alloc(), &heard)?, None);
+    assert_eq!(rt; first_other_move(rt.alloc(), &READ_ALONE)?, None);
     Ok(())
 }
+
+const OVERLAPPED: [Heard; 14] = [
+    // It begins during a write.
+    (Move::BeginWrite(true), true),
+    (BEGIN_READ, true),
+    (ZERO, true),
+    (ONE, true),
+    // The write has ended in between.
+    (Move::EndWrite, true),
+    (ZERO, true),
+    // A write begins and ends during it.
+    (BEGIN_READ, true),
+    (ZERO, false),
+    (Move::BeginWrite(false), true),
+    (Move::EndWrite, true),
+    (ONE, true),
+    (ZERO, true),
+    // The next one is bound again.
+    (BEGIN_READ, true),
+    (ONE, false),
+];
 
 #[test]
 fn an_overlapped_read_gives_anything(rt: HostRuntime) -> Result<(), Fail> {
-    let heard = [
-        // It begins during a write.
-        (Move::BeginWrite(true), true),
-        (BEGIN_READ, true),
-        (ZERO, true),
-        (ONE, true),
-        // The write has ended in between.
-        (Move::EndWrite, true),
-        (ZERO, true),
-        // A write begins and ends during it.
-        (BEGIN_READ, true),
-        (ZERO, false),
-        (Move::BeginWrite(false), true),
-        (Move::EndWrite, true),
-        (ONE, true),
-        (ZERO, true),
-        // The next one is bound again.
-        (BEGIN_READ, true),
-        (ONE, false),
-    ];
-    assert_eq!(rt; first_other_move(rt.alloc(), &heard)?, None);
+    assert_eq!(rt; first_other_move(rt.alloc(), &OVERLAPPED)?, None);
     Ok(())
 }
 
+const SETTLED: [Heard; 7] = [
+    (Move::BeginWrite(false), true),
+    (BEGIN_READ, true),
+    (Move::Settle(true), true),
+    (ZERO, true),
+    (BEGIN_READ, true),
+    (ZERO, false),
+    (ONE, true),
+];
+
 #[test]
 fn a_settled_bit_has_the_value_that_it_was_settled_at(rt: HostRuntime) -> Result<(), Fail> {
-    let heard = [
-        (Move::BeginWrite(false), true),
-        (BEGIN_READ, true),
-        (Move::Settle(true), true),
-        (ZERO, true),
-        (BEGIN_READ, true),
-        (ZERO, false),
-        (ONE, true),
-    ];
-    assert_eq!(rt; first_other_move(rt.alloc(), &heard)?, None);
+    assert_eq!(rt; first_other_move(rt.alloc(), &SETTLED)?, None);
     Ok(())
 }
 
 /// The number of the first move on one bit that the watch does not say so of: whether it ends an overlapped read.
-fn first_other_overlap(alloc: Global, heard: &[(Move, bool)]) -> Result<Option<usize>, AllocError> {
+fn first_other_overlap(alloc: Global, heard: &[Heard]) -> Result<Option<usize>, AllocError> {
     let mut watch = Watch::new(alloc, &Setup::one(2, 2, 2, 1))?;
     for (number, (how, overlaps)) in heard.iter().enumerate() {
         let access = on_ticket(*how);
@@ -132,28 +138,29 @@ fn first_other_overlap(alloc: Global, heard: &[(Move, bool)]) -> Result<Option<u
     Ok(None)
 }
 
+const ENDS_OF_OVERLAPPED: [Heard; 16] = [
+    (BEGIN_READ, false),
+    (ZERO, false),
+    (Move::BeginWrite(true), false),
+    (BEGIN_READ, false),
+    (ZERO, true),
+    (BEGIN_READ, false),
+    (Move::EndWrite, false),
+    (ONE, true),
+    (BEGIN_READ, false),
+    (ONE, false),
+    (BEGIN_READ, false),
+    (Move::BeginWrite(false), false),
+    (Move::Settle(true), false),
+    (ONE, true),
+    (BEGIN_READ, false),
+    (ONE, false),
+];
+
 // A write overlaps a read if it was open as the read began, or began before the read ended.
 #[test]
 fn the_end_of_an_overlapped_read_is_told(rt: HostRuntime) -> Result<(), Fail> {
-    let heard = [
-        (BEGIN_READ, false),
-        (ZERO, false),
-        (Move::BeginWrite(true), false),
-        (BEGIN_READ, false),
-        (ZERO, true),
-        (BEGIN_READ, false),
-        (Move::EndWrite, false),
-        (ONE, true),
-        (BEGIN_READ, false),
-        (ONE, false),
-        (BEGIN_READ, false),
-        (Move::BeginWrite(false), false),
-        (Move::Settle(true), false),
-        (ONE, true),
-        (BEGIN_READ, false),
-        (ONE, false),
-    ];
-    assert_eq!(rt; first_other_overlap(rt.alloc(), &heard)?, None);
+    assert_eq!(rt; first_other_overlap(rt.alloc(), &ENDS_OF_OVERLAPPED)?, None);
     Ok(())
 }
 
@@ -187,36 +194,38 @@ fn a_write_overlaps_reads_of_its_bit_alone(rt: HostRuntime) -> Result<(), Fail> 
     Ok(())
 }
 
+const WITHOUT_BEGIN: [Heard; 5] = [
+    (ONE, true),
+    (ZERO, true),
+    (Move::BeginWrite(true), true),
+    (Move::EndWrite, true),
+    (ZERO, true),
+];
+
 // No read began that this could be the end of, so the law says nothing.
 #[test]
 fn an_end_without_a_begin_keeps_the_law(rt: HostRuntime) -> Result<(), Fail> {
-    let heard = [
-        (ONE, true),
-        (ZERO, true),
-        (Move::BeginWrite(true), true),
-        (Move::EndWrite, true),
-        (ZERO, true),
-    ];
-    assert_eq!(rt; first_other_move(rt.alloc(), &heard)?, None);
+    assert_eq!(rt; first_other_move(rt.alloc(), &WITHOUT_BEGIN)?, None);
     Ok(())
 }
+
+const OUT_OF_TURN: [Heard; 9] = [
+    (Move::BeginWrite(true), true),
+    (Move::Settle(false), true),
+    (BEGIN_READ, true),
+    (Move::EndWrite, true),
+    (ONE, false),
+    (ZERO, true),
+    (BEGIN_READ, true),
+    (ZERO, false),
+    (ONE, true),
+];
 
 // A write that ends twice ends with what it began with; and a read has what was there before it, though a write ends in
 // it that never began.
 #[test]
 fn moves_out_of_turn_are_looked_up(rt: HostRuntime) -> Result<(), Fail> {
-    let heard = [
-        (Move::BeginWrite(true), true),
-        (Move::Settle(false), true),
-        (BEGIN_READ, true),
-        (Move::EndWrite, true),
-        (ONE, false),
-        (ZERO, true),
-        (BEGIN_READ, true),
-        (ZERO, false),
-        (ONE, true),
-    ];
-    assert_eq!(rt; first_other_move(rt.alloc(), &heard)?, None);
+    assert_eq!(rt; first_other_move(rt.alloc(), &OUT_OF_TURN)?, None);
     Ok(())
 }
 

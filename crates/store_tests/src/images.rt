@@ -13,63 +13,87 @@ const COUNTER: [u8; 23] = [
     1, 1, 0x61, 0, 0, 0, 0, 0, 0, 0, 8, 0, 0, 0, 0, 0, 0, 0, 5, 0, 0, 0, 0,
 ];
 
+/// The same with one caller, whose last change has the number 1.
+const COUNTER_OF_ONE_CALLER: [u8; 25] = [
+    1, 1, 0x61, 0, 0, 0, 0, 0, 0, 0, 8, 0, 0, 0, 0, 0, 0, 0, 5, 0, 0, 0, 0, 0, 1,
+];
+
 fn counter() -> Result<(Name, Value), Fail> {
     Ok((Name::new(b"a")?, Value::Count(5)))
 }
 
-#[test]
-fn images_have_the_bytes_of_the_format(rt: HostRuntime) -> Result<(), Fail> {
+/// The image of a store of one slot in which the counter was written, by process 0 as its first call.
+fn with_counter(rt: &impl Abort, callers: u8) -> Result<Image, Fail>
+    requires { callers ≤ 16 }
+{
     let (name, value) = counter()?;
-    let mut image = Image::empty(1, 0);
-    assert_eq!(rt; image.bytes(), [0; 23].as_slice());
+    let mut image = Image::empty(1, callers);
     let caller = Caller {
         process: 0,
         number: 1,
     };
-    assert_eq!(rt;
-        image.apply(&Command::Write(name, value), caller)?,
-        Reply::Done
-    );
-    assert_eq!(rt; image.bytes(), COUNTER.as_slice());
-    assert!(rt; image == Image::read(&COUNTER, 0)?);
+    let reply = image.apply(&Command::Write(name, value), caller)?;
+    assert_eq!(rt; reply, Reply::Done);
+    Ok(image)
+}
 
-    let mut of_one_caller = Image::empty(1, 1);
-    assert!(rt; of_one_caller != Image::empty(1, 0));
+#[test]
+fn images_have_the_bytes_of_the_format(rt: HostRuntime) -> Result<(), Fail> {
+    assert_eq!(rt; Image::empty(1, 0).bytes(), [0; 23].as_slice());
+    assert_eq!(rt; with_counter(&rt, 0)?.bytes(), COUNTER.as_slice());
     assert_eq!(rt;
-        of_one_caller.apply(&Command::Write(name, value), caller)?,
-        Reply::Done
+        with_counter(&rt, 1)?.bytes(),
+        COUNTER_OF_ONE_CALLER.as_slice()
     );
-    assert_eq!(rt; of_one_caller.bytes().len(), 25);
-    assert_eq!(rt; of_one_caller.bytes().first_chunk::<23>(), Some(&COUNTER));
-    assert_eq!(rt; of_one_caller.bytes().last_chunk::<2>(), Some(&[0, 1]));
     Ok(())
 }
 
 #[test]
-fn readers_refuse_what_is_no_image(rt: HostRuntime) -> Result<(), Fail> {
+fn images_are_told_apart(rt: HostRuntime) -> Result<(), Fail> {
+    assert!(rt; with_counter(&rt, 0)? == Image::read(&COUNTER, 0)?);
+    assert!(rt; Image::empty(1, 1) != Image::empty(1, 0));
+    Ok(())
+}
+
+#[test]
+fn readers_take_images(rt: HostRuntime) -> Result<(), Fail> {
     assert_eq!(rt; Image::read(&[0; 23], 0)?.len(), 0);
     assert_eq!(rt; Image::read(&COUNTER, 0)?.entry(0), Some(counter()?));
+    Ok(())
+}
+
+#[test]
+fn readers_refuse_other_lengths(rt: HostRuntime) {
+    let cases: [(&[u8], u8); 5] = [
+        (&COUNTER[..22], 0),
+        (&[], 0),
+        (&[0; 31], 16),
+        (&[0; 32], 16),
+        (&[0; 207], 0),
+    ];
+    for (bytes, callers) in cases {
+        assert_eq!(rt; Image::read(bytes, callers).err(), Some(BadImage::Length));
+    }
+}
+
+/// The image of two slots.
+fn of_two(first: &[u8; 23], second: &[u8; 23]) -> [u8; 46] {
+    let mut bytes = [0; 46];
+    bytes[..23].copy_from_slice(first);
+    bytes[23..].copy_from_slice(second);
+    bytes
+}
+
+#[test]
+fn readers_refuse_bad_slots(rt: HostRuntime) {
     let mut unclean = COUNTER;
     unclean[22] = 1;
-    let mut behind_unused = [0; 46];
-    behind_unused[23..].copy_from_slice(&COUNTER);
-    let mut twice = [0; 46];
-    twice[..23].copy_from_slice(&COUNTER);
-    twice[23..].copy_from_slice(&COUNTER);
-    let cases: [(&[u8], u8, BadImage); 8] = [
-        (&unclean, 0, BadImage::Slot(0)),
-        (&COUNTER[..22], 0, BadImage::Length),
-        (&behind_unused, 0, BadImage::Slot(1)),
-        (&twice, 0, BadImage::Slot(1)),
-        (&[], 0, BadImage::Length),
-        (&[0; 31], 16, BadImage::Length),
-        (&[0; 32], 16, BadImage::Length),
-        (&[0; 207], 0, BadImage::Length),
-    ];
-    for (bytes, callers, fault) in cases {
-        assert_eq!(rt; Image::read(bytes, callers).err(), Some(fault));
+    assert_eq!(rt; Image::read(&unclean, 0).err(), Some(BadImage::Slot(0)));
+    // An image of two slots that has the counter behind an unused slot, and one that has it twice.
+    for first in [[0; 23], COUNTER] {
+        let bytes = of_two(&first, &COUNTER);
+        assert_eq!(rt; Image::read(&bytes, 0).err(), Some(BadImage::Slot(1)));
     }
-    Ok(())
 }
 
 /// The calls of a store of one slot, with the reply to each, and whether it changes the pairs.
@@ -94,35 +118,52 @@ fn calls() -> Result<[(Command, Reply, bool); 10], Fail> {
     ])
 }
 
-/// Makes the calls, numbered from 1, by process 1, whose last change then has this number.
+/// Makes a call of process 1, which has this reply.
+fn replies<S: Store>(
+    rt: &impl Abort,
+    store: &mut S,
+    number: u16,
+    call: &(Command, Reply, bool),
+) -> Result<(), Fail> {
+    let (command, reply, changes) = call;
+    let caller = Caller { process: 1, number };
+    assert_eq!(rt; store.would_change(command), *changes, "call {number}");
+    assert_eq!(rt; store.apply(command, caller)?, *reply, "call {number}");
+    Ok(())
+}
+
+/// Makes the calls, numbered from 1, and then asks for the last change, which has this number.
 fn replies_are_right<S: Store>(rt: &impl Abort, store: &mut S, last: u16) -> Result<(), Fail> {
+    let calls = calls()?;
     let mut number = 0u16;
-    for (command, reply, changes) in calls()? {
+    for call in &calls {
         number = number.wrapping_add(1);
-        let caller = Caller { process: 1, number };
-        assert_eq!(rt; store.would_change(&command), changes, "call {number}");
-        assert_eq!(rt; store.apply(&command, caller)?, reply, "call {number}");
+        replies(rt, store, number, call)?;
     }
-    let asked = Caller {
-        process: 1,
-        number: 11,
-    };
-    assert_eq!(rt; store.apply(&Command::Ask, asked)?, Reply::Last(last));
+    replies(rt, store, 11, &(Command::Ask, Reply::Last(last), false))
+}
+
+/// Whether a store is as the calls leave it, of which the last change has this number.
+fn ends_right<S: Store>(rt: &impl Abort, store: &S, last: u16) -> Result<(), Fail> {
     let hi = Value::Text(Text::new(b"hi")?);
     assert_eq!(rt; store.len(), 1);
     assert_eq!(rt; store.entry(0), Some((Name::new(b"a")?, hi)));
     assert_eq!(rt; store.entry(1), None);
-    for (process, number) in [(0, 0), (1, last), (2, 0)] {
-        assert_eq!(rt; store.last(process), number, "process {process}");
-    }
+    let lasts = [store.last(0), store.last(1), store.last(2)];
+    assert_eq!(rt; lasts, [0, last, 0]);
     Ok(())
+}
+
+fn is_right<S: Store>(rt: &impl Abort, store: &mut S, last: u16) -> Result<(), Fail> {
+    replies_are_right(rt, store, last)?;
+    ends_right(rt, store, last)
 }
 
 #[test]
 fn both_stores_reply_alike(rt: HostRuntime) -> Result<(), Fail> {
     for (callers, last) in [(0, 0), (2, 9)] {
-        replies_are_right(&rt, &mut PlainStore::new(rt.alloc(), 1, callers), last)?;
-        replies_are_right(&rt, &mut Image::empty(1, callers), last)?;
+        is_right(&rt, &mut PlainStore::new(rt.alloc(), 1, callers), last)?;
+        is_right(&rt, &mut Image::empty(1, callers), last)?;
     }
     Ok(())
 }
@@ -162,10 +203,10 @@ fn table(slot: &[u8]) -> Option<Option<&[u8]>> {
     }
 }
 
-/// The first slot that the table, or a slot before it, makes bad.
-fn first_fault(slots: &[u8]) -> Option<usize> {
+/// The first of so many slots that the table, or a slot before it, makes bad.
+fn first_fault(bytes: &[u8], slots: usize) -> Option<usize> {
     let mut unused_before = false;
-    for (place, slot) in slots.chunks_exact(23).enumerate() {
+    for (place, slot) in bytes.chunks_exact(23).take(slots).enumerate() {
         let Some(name) = table(slot) else {
             return Some(place);
         };
@@ -173,7 +214,7 @@ fn first_fault(slots: &[u8]) -> Option<usize> {
             unused_before = true;
             continue;
         }
-        let twice = slots
+        let twice = bytes
             .chunks_exact(23)
             .take(place)
             .any(|earlier| table(earlier) == Some(name));
@@ -184,26 +225,38 @@ fn first_fault(slots: &[u8]) -> Option<usize> {
     None
 }
 
+/// Has these bytes read, and what is read compared with the table's. They were changed at a place.
+fn is_read_by_the_table(
+    rt: &impl Abort,
+    bytes: &[u8],
+    slots: usize,
+    callers: u8,
+    at: usize,
+) -> Result<(), Fail>
+    requires { callers ≤ 16 }
+{
+    let read = Image::read(bytes, callers);
+    match first_fault(bytes, slots) {
+        Some(place) => assert_eq!(rt; read.err(), Some(BadImage::Slot(place)), "changed at {at}"),
+        None => assert_eq!(rt; read?.bytes(), bytes, "changed at {at}"),
+    }
+    Ok(())
+}
+
 /// Changes each byte of an image to some others, and has each outcome compared with the table's.
-fn each_byte_counts(rt: &impl Abort, image: Image, slots: u8, callers: u8) -> Result<(), Fail>
+fn each_byte_counts(rt: &impl Abort, image: &Image, slots: u8, callers: u8) -> Result<(), Fail>
     requires { callers ≤ 16 }
 {
     let mut bytes = [0; MOST_BYTES];
     let length = image.bytes().len();
-    let slots_length = usize::from(slots) * 23;
-    assert!(rt; length <= MOST_BYTES && slots_length <= length);
+    let slots = usize::from(slots);
+    assert!(rt; slots * 23 <= length && length <= MOST_BYTES);
     bytes[..length].copy_from_slice(image.bytes());
     for at in 0..length {
         let kept = bytes[at];
         for other in [0, 1, 2, kept.wrapping_add(1), 0x20, b'a', 0x80, 0xff] {
             bytes[at] = other;
-            let read = Image::read(&bytes[..length], callers);
-            match first_fault(&bytes[..slots_length]) {
-                Some(place) => {
-                    assert_eq!(rt; read.err(), Some(BadImage::Slot(place)), "{other} at {at}")
-                }
-                None => assert_eq!(rt; read?.bytes(), &bytes[..length], "{other} at {at}"),
-            }
+            is_read_by_the_table(rt, &bytes[..length], slots, callers, at)?;
         }
         bytes[at] = kept;
     }
@@ -228,13 +281,21 @@ fn written(slots: u8, callers: u8, pairs: &[(&[u8], Value)]) -> Result<Image, Fa
 }
 
 #[test]
-fn changed_images_are_read_by_the_table(rt: HostRuntime) -> Result<(), Fail> {
-    let short = Value::Text(Text::new(b"!~")?);
+fn changed_names_are_read_by_the_table(rt: HostRuntime) -> Result<(), Fail> {
     let long = Value::Text(Text::new(b"Twelve_bytes")?);
+    let image = written(3, 0, &[(b"a", Value::Count(5)), (b"b", long)])?;
+    each_byte_counts(&rt, &image, 3, 0)
+}
+
+#[test]
+fn changed_lengths_are_read_by_the_table(rt: HostRuntime) -> Result<(), Fail> {
+    let short = Value::Text(Text::new(b"!~")?);
     let least = Value::Count(i64::MIN);
-    let names = written(3, 0, &[(b"a", Value::Count(5)), (b"b", long)])?;
-    let lengths = written(4, 2, &[(b"y_456789", short), (b"y_45678", least)])?;
-    each_byte_counts(&rt, names, 3, 0)?;
-    each_byte_counts(&rt, lengths, 4, 2)?;
-    each_byte_counts(&rt, written(8, 16, &[])?, 8, 16)
+    let image = written(4, 2, &[(b"y_456789", short), (b"y_45678", least)])?;
+    each_byte_counts(&rt, &image, 4, 2)
+}
+
+#[test]
+fn changed_zeros_are_read_by_the_table(rt: HostRuntime) -> Result<(), Fail> {
+    each_byte_counts(&rt, &Image::empty(8, 16), 8, 16)
 }

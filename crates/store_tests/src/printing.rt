@@ -1,8 +1,6 @@
-use super::scenarios::fault_of;
-use scenario::FaultKind::{BadValue, NotFirst, Number, TooLong, Unknown, Words};
-use scenario::{BitLine, FaultKind, print_scenario, read_bits, read_scenario};
+use scenario::FaultKind::{NotFirst, Number, TooLong, Unknown, Words};
+use scenario::{BitLine, print_scenario, read_bits, read_scenario};
 use std::alloc::Global;
-use std::process::Abort;
 use std::test::Fail;
 
 /// What a scenario file prints as, or the fault of a line.
@@ -10,112 +8,50 @@ fn printed(alloc: Global, text: &[u8]) -> Result<Vec<u8>, Fail> {
     Ok(print_scenario(alloc, &read_scenario(alloc, text)?)?)
 }
 
-fn prints_as(rt: &(impl Abort + AllocGlobal), text: &str, prints: &str) -> Result<(), Fail> {
-    let printed = printed(rt.alloc(), text.as_bytes())?;
-    assert_eq!(rt; printed.as_slice(), prints.as_bytes());
-    Ok(())
-}
-
-// The worked examples of printing, and a file that has each kind of line, which prints as itself.
-#[test]
-fn prints_headings_and_single_spaces(rt: HostRuntime) -> Result<(), Fail> {
-    prints_as(
-        &rt,
+// Worked examples, and what they print as: all headings, and single spaces.
+const PRINTED: [(&str, &str); 4] = [
+    (
         "bakery 1\n# x\nslots 2\n  call 0  add a -3\n",
         "bakery 1\nprocesses 2\ntickets 4\nstamps 4\nslots 2\ncall 0 add a -3\n",
-    )
-}
-
-#[test]
-fn prints_a_lone_write(rt: HostRuntime) -> Result<(), Fail> {
-    prints_as(
-        &rt,
+    ),
+    (
         "bakery 1\nprocesses 1\ntickets 2\nstamps 2\ncall 0 write a c:5\ngo 0 idle\nshow\n",
         "bakery 1\nprocesses 1\ntickets 2\nstamps 2\nslots 1\ncall 0 write a c:5\ngo 0 idle\nshow\n",
-    )
-}
-
-const TORN_COMMIT: &str =
-    "bakery 1\ntickets 2\nstamps 2\ncall 0 write a c:5\nstep 0 1152\nfail 0\nflick 1\n\
-    go 0 down\ncall 1 read a\ngo 1 idle\n";
-
-#[test]
-fn prints_a_torn_commit(rt: HostRuntime) -> Result<(), Fail> {
-    prints_as(
-        &rt,
-        TORN_COMMIT,
+    ),
+    (
+        "bakery 1\ntickets 2\nstamps 2\ncall 0 write a c:5\nstep 0 1152\nfail 0\nflick 1\n\
+            go 0 down\ncall 1 read a\ngo 1 idle\n",
         "bakery 1\nprocesses 2\ntickets 2\nstamps 2\nslots 1\ncall 0 write a c:5\nstep 0 1152\nfail 0\nflick 1\n\
             go 0 down\ncall 1 read a\ngo 1 idle\n",
-    )
-}
-
-#[test]
-fn prints_a_withdrawal(rt: HostRuntime) -> Result<(), Fail> {
-    prints_as(
-        &rt,
+    ),
+    (
         "bakery 1\ntickets 2\nstamps 2\ncall 0 read a\ngo 0 wait\ncall 1 read a\ngo 1 wait\nstep 0 1\n\
             withdraw 0\ngo 0 idle\ngo 1 inside\nwithdraw 1\n",
         "bakery 1\nprocesses 2\ntickets 2\nstamps 2\nslots 1\ncall 0 read a\ngo 0 wait\ncall 1 read a\ngo 1 wait\n\
             step 0 1\nwithdraw 0\ngo 0 idle\ngo 1 inside\nwithdraw 1\n",
-    )
+    ),
+];
+
+// A file that has each kind of line prints as itself.
+const EACH: &str = "bakery 2\nprocesses 3\ntickets 32\nstamps 1\nslots 2\nopen a c:-1\nopen b t:\n\
+    call 0 read a\ncall 1 write b t:x\ncall 2 add a -9223372036854775808\n\
+    call 0 cas a c:5 t:~\ncall 255 ask\nstep 9 100000\ngo 0 wait\ngo 1 inside\ngo 2 idle\n\
+    go 0 down\nfail 0\nwithdraw 1\nrestart 0\nflick 0\nflick 1\n\
+    flick pcg 18446744073709551615\nwander 0\nshow\n";
+
+#[test]
+fn prints_scenarios(rt: HostRuntime) -> Result<(), Fail> {
+    for (text, prints) in PRINTED {
+        let printed = printed(rt.alloc(), text.as_bytes())?;
+        assert_eq!(rt; printed.as_slice(), prints.as_bytes());
+    }
+    Ok(())
 }
 
 #[test]
 fn prints_each_kind_of_line(rt: HostRuntime) -> Result<(), Fail> {
-    let each = "bakery 2\nprocesses 3\ntickets 32\nstamps 1\nslots 2\nopen a c:-1\nopen b t:\n\
-        call 0 read a\ncall 1 write b t:x\ncall 2 add a -9223372036854775808\n\
-        call 0 cas a c:5 t:~\ncall 255 ask\nstep 9 100000\ngo 0 wait\ngo 1 inside\ngo 2 idle\n\
-        go 0 down\nfail 0\nwithdraw 1\nrestart 0\nflick 0\nflick 1\n\
-        flick pcg 18446744073709551615\nwander 0\nshow\n";
-    prints_as(&rt, each, each)
-}
-
-// Each line of a file, with its number, and what a cut within it tells: at less than so many bytes of the line
-// this kind.
-const CUTS: [(u64, &str, &[(usize, FaultKind)]); 10] = [
-    (1, "bakery 1", &[(8, NotFirst)]),
-    (2, "tickets 2", &[(7, Unknown), (9, Words)]),
-    (3, "stamps 2", &[(6, Unknown), (8, Words)]),
-    (
-        4,
-        "call 0 write a c:5",
-        &[
-            (4, Unknown),
-            (8, Words),
-            (12, Unknown),
-            (16, Words),
-            (18, BadValue),
-        ],
-    ),
-    (5, "step 0 1152", &[(4, Unknown), (8, Words)]),
-    (6, "fail 0", &[(4, Unknown), (6, Words)]),
-    (7, "flick 1", &[(5, Unknown), (7, Words)]),
-    (8, "go 0 down", &[(2, Unknown), (6, Words), (9, Unknown)]),
-    (
-        9,
-        "call 1 read a",
-        &[(4, Unknown), (8, Words), (11, Unknown), (13, Words)],
-    ),
-    (10, "go 1 idle", &[(2, Unknown), (6, Words), (9, Unknown)]),
-];
-
-// A file that is cut after any of its bytes has the fault of its last line, or it says the lines before the cut.
-#[test]
-fn reads_cut_files(rt: HostRuntime) -> Result<(), Fail> {
-    let mut cut = Vec::new(rt.alloc());
-    for (number, line, faults) in CUTS {
-        let mut begun = Vec::new(rt.alloc());
-        for byte in line.as_bytes() {
-            cut.push(*byte)?;
-            begun.push(*byte)?;
-            let fault = faults.iter().find(|fault| begun.len() < fault.0);
-            let told = fault_of(rt.alloc(), cut.as_slice());
-            assert!(rt; told == fault.map(|fault| (number, fault.1)), "{line}");
-        }
-        cut.push(b'\n')?;
-        assert!(rt; fault_of(rt.alloc(), cut.as_slice()).is_none(), "{line}");
-    }
-    assert_eq!(rt; cut.as_slice(), TORN_COMMIT.as_bytes());
+    let printed = printed(rt.alloc(), EACH.as_bytes())?;
+    assert_eq!(rt; printed.as_slice(), EACH.as_bytes());
     Ok(())
 }
 

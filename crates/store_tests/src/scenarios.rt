@@ -16,108 +16,77 @@ pub fn fault_of(alloc: Global, text: &[u8]) -> Option<(u64, FaultKind)> {
     }
 }
 
-// The worked tables of faults, and the numbers at the ends of their ranges.
+/// The numbers at the ends of their ranges, and beyond. Each kind of fault stands in the worked examples.
+const NUMBERS: [(&str, Option<(u64, FaultKind)>); 13] = [
+    (
+        "bakery 2\nprocesses 16\ntickets 32\nstamps 32\nslots 8\n",
+        None,
+    ),
+    (
+        "bakery 1\nprocesses 8\ntickets 16\nstamps 16\nslots 8\n",
+        None,
+    ),
+    ("bakery 1\nslots 9\n", Some((2, BadSetup))),
+    ("bakery 1\nstep 255 100000\nwander 100000\n", None),
+    ("bakery 1\nwander 100001\n", Some((2, Number))),
+    ("bakery 1\ncall 0 add a 9223372036854775807\n", None),
+    (
+        "bakery 1\ncall 0 add a 9223372036854775808\n",
+        Some((2, Number)),
+    ),
+    ("bakery 1\ncall 0 add a -9223372036854775808\n", None),
+    (
+        "bakery 1\ncall 0 add a -9223372036854775809\n",
+        Some((2, Number)),
+    ),
+    ("bakery 1\ncall 0 add a +1\n", Some((2, Number))),
+    ("bakery 1\nflick pcg 18446744073709551615\n", None),
+    ("bakery 1\ncall 0 write a c:01\n", Some((2, BadValue))),
+    ("bakery 1\ncall 0 ask\n", Some((2, Unknown))),
+];
+
 #[test]
-fn tells_the_worked_faults(rt: HostRuntime) {
-    for (text, fault) in [
-        ("", Some((1, NotFirst))),
-        ("bakery 1\nprocesses 0\n", Some((2, BadSetup))),
-        ("bakery 1\nstep 9 1\n", None),
-        ("bakery 1\nshow", None),
-        ("bakery 1\nfrob 1\n", Some((2, Unknown))),
-        ("bakery 1\ncall 0 frob a\n", Some((2, Unknown))),
-        ("bakery 1\nflick 2\n", Some((2, Unknown))),
-        ("bakery 1\ngo 0\n", Some((2, Words))),
-        ("bakery 1\ncall 0 read\n", Some((2, Words))),
-        ("bakery 1\nflick 0 1\n", Some((2, Words))),
-        ("bakery 1\ncall 256 read a\n", Some((2, Number))),
-        ("bakery 1\ncall 0 add a 01\n", Some((2, Number))),
-        ("bakery 1\ncall 0 add a -0\n", Some((2, Number))),
-        ("bakery 1\nstep 0 100001\n", Some((2, Number))),
-        ("bakery 1\nprocesses 300\n", Some((2, Number))),
-        (
-            "bakery 1\nflick pcg 18446744073709551616\n",
-            Some((2, Number)),
-        ),
-        ("bakery 1\ncall 0 read A\n", Some((2, BadName))),
-        ("bakery 1\ncall 0 write a 5\n", Some((2, BadValue))),
-        (
-            "bakery 1\ncall 0 write a t:xxxxxxxxxxxxx\n",
-            Some((2, BadValue)),
-        ),
-        ("bakery 1\ntickets 17\n", Some((2, BadSetup))),
-        ("bakery 1\nbakery 1\n", Some((2, NotFirst))),
-        ("bakery 1\nshow\nslots 2\n", Some((3, NotFirst))),
-        ("bakery 3\n", Some((1, NotFirst))),
-        ("bakery 1\nopen a c:1\n", Some((2, Unknown))),
-        ("bakery 2\ncall 0 ask a\n", Some((2, Words))),
-        ("bakery 2\nopen a c:1\nopen a c:2\n", Some((3, BadSetup))),
-        ("bakery 2\nopen a c:1\nopen b c:1\n", Some((3, BadSetup))),
-        ("bakery 2\nopen a c:1\nslots 2\n", Some((3, NotFirst))),
-        ("bakery 2\nprocesses 17\n", Some((2, BadSetup))),
-        ("bakery 2\ntickets 33\n", Some((2, BadSetup))),
-        ("bakery 1\nprocesses 9\n", Some((2, BadSetup))),
-        (
-            "bakery 2\nprocesses 16\ntickets 32\nstamps 32\nslots 8\n",
-            None,
-        ),
-        (
-            "bakery 1\nprocesses 8\ntickets 16\nstamps 16\nslots 8\n",
-            None,
-        ),
-        ("bakery 1\nslots 9\n", Some((2, BadSetup))),
-        ("bakery 1\nstep 255 100000\nwander 100000\n", None),
-        ("bakery 1\nwander 100001\n", Some((2, Number))),
-        ("bakery 1\ncall 0 add a 9223372036854775807\n", None),
-        (
-            "bakery 1\ncall 0 add a 9223372036854775808\n",
-            Some((2, Number)),
-        ),
-        ("bakery 1\ncall 0 add a -9223372036854775808\n", None),
-        (
-            "bakery 1\ncall 0 add a -9223372036854775809\n",
-            Some((2, Number)),
-        ),
-        ("bakery 1\ncall 0 add a +1\n", Some((2, Number))),
-        ("bakery 1\nflick pcg 18446744073709551615\n", None),
-        ("bakery 1\ncall 0 write a c:01\n", Some((2, BadValue))),
-        ("bakery 1\ncall 0 ask\n", Some((2, Unknown))),
-    ] {
+fn tells_faults_of_numbers(rt: HostRuntime) {
+    for (text, fault) in NUMBERS {
         assert_eq!(rt; fault_of(rt.alloc(), text.as_bytes()), fault, "{text}");
     }
 }
 
-// Where a line has several faults, the first in their order is told; and lines end as they should.
+/// Where a line has several faults, the first in their order is told; and lines end as they should.
+const ORDERED: [(&str, Option<(u64, FaultKind)>); 28] = [
+    ("bakery 3\nfrob\n", Some((1, NotFirst))),
+    ("frob\n", Some((1, NotFirst))),
+    ("bakery 1\nshow\nopen A\n", Some((3, Unknown))),
+    ("bakery 1\nshow x\nfrob\n", Some((2, Words))),
+    ("bakery 1\nbakery\n", Some((2, NotFirst))),
+    ("bakery 1\nshow\nslots\n", Some((3, NotFirst))),
+    ("bakery 1\nshow\nprocesses 2\n", Some((3, NotFirst))),
+    ("bakery 1\ncall 0 read a\ngo 0\n", Some((3, Words))),
+    ("bakery 1\nslots 2\nslots 9 9\n", Some((3, NotFirst))),
+    ("bakery 2\nshow\nopen A\n", Some((3, NotFirst))),
+    ("bakery 1\ncall 300 frob\n", Some((2, Unknown))),
+    ("bakery 1\ngo 300 far off\n", Some((2, Unknown))),
+    ("bakery 1\ncall 300 read\n", Some((2, Words))),
+    ("bakery 1\nstep 300\n", Some((2, Words))),
+    ("bakery 1\ncall\n", Some((2, Words))),
+    ("bakery 1\nflick\n", Some((2, Words))),
+    ("bakery 1\ncall 300 read A\n", Some((2, Number))),
+    ("bakery 1\ncall 0 add A 01\n", Some((2, BadName))),
+    ("bakery 1\ncall 0 cas A 5 c:1\n", Some((2, BadName))),
+    ("bakery 1\ncall 0 cas a 5 c:1\n", Some((2, BadValue))),
+    ("bakery 2\nopen A 5\n", Some((2, BadName))),
+    ("bakery 2\nopen a c:1\nopen a 5\n", Some((3, BadValue))),
+    ("bakery 2\nopen a c:1\nopen A c:1\n", Some((3, BadName))),
+    ("#\r\n\n \t\n\tbakery \t1 \r\n#\nshow\r\n", None),
+    ("bakery 1\nshow\r", Some((2, Unknown))),
+    ("bakery 1\nshow\r\r\n", Some((2, Unknown))),
+    ("\n\n#", Some((4, NotFirst))),
+    ("\n\n#\n", Some((4, NotFirst))),
+];
+
 #[test]
 fn tells_faults_in_their_order(rt: HostRuntime) {
-    for (text, fault) in [
-        ("bakery 3\nfrob\n", Some((1, NotFirst))),
-        ("frob\n", Some((1, NotFirst))),
-        ("bakery 1\nshow\nopen A\n", Some((3, Unknown))),
-        ("bakery 1\nshow x\nfrob\n", Some((2, Words))),
-        ("bakery 1\nbakery\n", Some((2, NotFirst))),
-        ("bakery 1\nshow\nslots\n", Some((3, NotFirst))),
-        ("bakery 1\nslots 2\nslots 9 9\n", Some((3, NotFirst))),
-        ("bakery 2\nshow\nopen A\n", Some((3, NotFirst))),
-        ("bakery 1\ncall 300 frob\n", Some((2, Unknown))),
-        ("bakery 1\ngo 300 far off\n", Some((2, Unknown))),
-        ("bakery 1\ncall 300 read\n", Some((2, Words))),
-        ("bakery 1\nstep 300\n", Some((2, Words))),
-        ("bakery 1\ncall\n", Some((2, Words))),
-        ("bakery 1\nflick\n", Some((2, Words))),
-        ("bakery 1\ncall 300 read A\n", Some((2, Number))),
-        ("bakery 1\ncall 0 add A 01\n", Some((2, BadName))),
-        ("bakery 1\ncall 0 cas A 5 c:1\n", Some((2, BadName))),
-        ("bakery 1\ncall 0 cas a 5 c:1\n", Some((2, BadValue))),
-        ("bakery 2\nopen A 5\n", Some((2, BadName))),
-        ("bakery 2\nopen a c:1\nopen a 5\n", Some((3, BadValue))),
-        ("bakery 2\nopen a c:1\nopen A c:1\n", Some((3, BadName))),
-        ("#\r\n\n \t\n\tbakery \t1 \r\n#\nshow\r\n", None),
-        ("bakery 1\nshow\r", Some((2, Unknown))),
-        ("bakery 1\nshow\r\r\n", Some((2, Unknown))),
-        ("\n\n#", Some((4, NotFirst))),
-        ("\n\n#\n", Some((4, NotFirst))),
-    ] {
+    for (text, fault) in ORDERED {
         assert_eq!(rt; fault_of(rt.alloc(), text.as_bytes()), fault, "{text}");
     }
 }
@@ -187,24 +156,33 @@ fn bounds_lines(rt: HostRuntime) -> Result<(), Fail> {
     Ok(())
 }
 
-// One line of each kind, and the setup.
-#[test]
-fn reads_a_scenario(rt: HostRuntime) -> Result<(), Fail> {
-    let text = b"bakery 2\r\n# all lines\nslots 2\nprocesses 3\nopen a c:5\nopen b t:\n\
+/// One line of each kind.
+const ALL_LINES: &[u8] = b"bakery 2\r\n# all lines\nslots 2\nprocesses 3\nopen a c:5\nopen b t:\n\
         call 0 read a\ncall 1 write b t:x=y\ncall 2 add a -3\ncall 0 cas a c:2 c:-7\ncall 0 ask\n\
         step 0 12\ngo 0 wait\ngo 1 inside\ngo 2 idle\ngo 3 down\nfail 0\nwithdraw 1\nrestart 2\n\
         flick 0\nflick 1\nflick pcg 7\nwander 9\nshow\n";
-    let a = Name::new(b"a").unwrap();
-    let b = Name::new(b"b").unwrap();
-    let empty = Value::Text(Text::new(b"").unwrap());
-    let written = Value::Text(Text::new(b"x=y").unwrap());
-    let scenario = read_scenario(rt.alloc(), text).map_err(Fault::Line)?;
-    let setup = scenario.setup;
+
+#[test]
+fn reads_a_setup(rt: HostRuntime) -> Result<(), Fail> {
+    let setup = read_scenario(rt.alloc(), ALL_LINES)?.setup;
     assert_eq!(rt; (setup.version, setup.processes, setup.slots), (2, 3, 2));
     assert_eq!(rt; (setup.ticket_bits, setup.stamp_bits), (4, 4));
-    assert_eq!(rt; setup.opening.entry(0), Some((a, Value::Count(5))));
-    assert_eq!(rt; setup.opening.entry(1), Some((b, empty)));
-    assert_eq!(rt; setup.opening.entry(2), None);
+    let empty = Value::Text(Text::new(b"")?);
+    let pairs = [
+        Some((Name::new(b"a")?, Value::Count(5))),
+        Some((Name::new(b"b")?, empty)),
+        None,
+    ];
+    for (place, pair) in pairs.iter().enumerate() {
+        assert_eq!(rt; setup.opening.entry(place), *pair);
+    }
+    Ok(())
+}
+
+#[test]
+fn reads_lines(rt: HostRuntime) -> Result<(), Fail> {
+    let (a, b) = (Name::new(b"a")?, Name::new(b"b")?);
+    let written = Value::Text(Text::new(b"x=y")?);
     let lines = [
         Line::Call(0, Command::Read(a)),
         Line::Call(1, Command::Write(b, written)),
@@ -225,6 +203,7 @@ fn reads_a_scenario(rt: HostRuntime) -> Result<(), Fail> {
         Line::Wander(9),
         Line::Show,
     ];
+    let scenario = read_scenario(rt.alloc(), ALL_LINES)?;
     assert_eq!(rt; scenario.lines.as_slice(), lines.as_slice());
     Ok(())
 }
@@ -271,7 +250,7 @@ impl Read for Failing {
     }
 }
 
-// All bytes are read, or a call fails; and of a long input only as many as the limit.
+// All bytes are read, or a call fails.
 #[test]
 fn reads_inputs(rt: HostRuntime) -> Result<(), Fail> {
     let bytes: &[u8] = b"show";
@@ -282,6 +261,12 @@ fn reads_inputs(rt: HostRuntime) -> Result<(), Fail> {
             Err(fault) => assert_eq!(rt; (fault, all), (Fault::Read, false)),
         }
     }
+    Ok(())
+}
+
+// Of a long input only as many bytes are read as the limit.
+#[test]
+fn stops_reading_at_the_limit(rt: HostRuntime) -> Result<(), Fail> {
     let long = repeated(rt.alloc(), "", "x", INPUT_LIMIT, "yz")?;
     let mut input = FromRead::new(long.as_slice());
     let read = read_input(rt.alloc(), &mut input)?;
@@ -351,10 +336,14 @@ fn writes_outputs(rt: HostRuntime) -> Result<(), Fail> {
         assert_eq!(rt; result, if ok { Ok(()) } else { Err(Fault::Write) });
         assert_eq!(rt; writer.taken.as_slice(), written.as_bytes());
     }
+    Ok(())
+}
+
+#[test]
+fn puts_bytes_into_a_writer(rt: HostRuntime) {
     let mut output = IntoWrite::new(Vec::new(rt.alloc()));
     assert_eq!(rt; output.put(b"show"), Ok(4));
     assert_eq!(rt; output.put(b""), Ok(0));
-    Ok(())
 }
 
 // The largest file is read from a reader, a byte a call.

@@ -60,14 +60,18 @@ fn tells_texts(rt: HostRuntime) {
 }
 
 #[test]
-fn checks_setups(rt: HostRuntime) -> Result<(), Fail> {
+fn takes_the_widest_setups(rt: HostRuntime) {
     let one = Setup::one(8, 16, 16, 8);
     let mut two = Setup::one(16, 32, 32, 8);
     two.version = 2;
-    assert_eq!(rt; one.check(), Ok(()));
-    assert_eq!(rt; two.check(), Ok(()));
-    assert_eq!(rt; two.callers(), 16);
-    assert_eq!(rt; one.callers(), 0);
+    for (setup, callers) in [(&one, 0), (&two, 16)] {
+        assert_eq!(rt; setup.check(), Ok(()));
+        assert_eq!(rt; setup.callers(), callers);
+    }
+}
+
+#[test]
+fn refuses_setups(rt: HostRuntime) {
     let bad = [
         (0, 1, 1, 1, 1, BadSetup::Version),
         (3, 0, 0, 0, 0, BadSetup::Version),
@@ -92,33 +96,44 @@ fn checks_setups(rt: HostRuntime) -> Result<(), Fail> {
         };
         assert_eq!(rt; setup.check(), Err(fault));
     }
-    Ok(())
 }
 
-#[test]
-fn adds_opening_pairs(rt: HostRuntime) -> Result<(), Fail> {
+/// A setup of eight slots with eight opening pairs.
+fn of_eight_pairs() -> Result<Setup, Fail> {
     let mut setup = Setup::one(2, 4, 4, 8);
     let names: [&[u8]; 8] = [b"a", b"b", b"c", b"d", b"e", b"f", b"g", b"h"];
     for bytes in names {
         setup.opening.add(name(bytes)?, Value::Count(1))?;
     }
-    let a = name(b"a")?;
-    assert_eq!(rt;
-        setup.opening.add(a, Value::Count(2)),
-        Err(OpenFault::Double)
-    );
-    assert_eq!(rt;
-        setup.opening.add(name(b"i")?, Value::Count(2)),
-        Err(OpenFault::Full)
-    );
-    assert_eq!(rt; setup.opening.len(), 8);
-    assert_eq!(rt; setup.opening.entry(0), Some((a, Value::Count(1))));
-    assert_eq!(rt; setup.opening.entry(8), None);
-    assert_eq!(rt; setup.check(), Err(BadSetup::Opening));
-    setup.version = 2;
-    assert_eq!(rt; setup.check(), Ok(()));
-    setup.slots = 7;
-    assert_eq!(rt; setup.check(), Err(BadSetup::Opening));
+    Ok(setup)
+}
+
+#[test]
+fn adds_opening_pairs(rt: HostRuntime) -> Result<(), Fail> {
+    let mut opening = of_eight_pairs()?.opening;
+    for (bytes, fault) in [(b"a", OpenFault::Double), (b"i", OpenFault::Full)] {
+        assert_eq!(rt; opening.add(name(bytes)?, Value::Count(2)), Err(fault));
+    }
+    assert_eq!(rt; opening.len(), 8);
+    for (place, pair) in [(0, Some((name(b"a")?, Value::Count(1)))), (8, None)] {
+        assert_eq!(rt; opening.entry(place), pair);
+    }
+    Ok(())
+}
+
+// Version 1 has no opening pairs, and no version more of them than slots.
+#[test]
+fn checks_opening_pairs(rt: HostRuntime) -> Result<(), Fail> {
+    let mut setup = of_eight_pairs()?;
+    for (version, slots, checked) in [
+        (1, 8, Err(BadSetup::Opening)),
+        (2, 8, Ok(())),
+        (2, 7, Err(BadSetup::Opening)),
+    ] {
+        setup.version = version;
+        setup.slots = slots;
+        assert_eq!(rt; setup.check(), checked);
+    }
     Ok(())
 }
 

@@ -1,5 +1,5 @@
-//! Weighing: each case of a bad call, and true lists of two ports with one thing changed.
-ghost use Rattle.std.specs.Prelude.{◌≡◌, ◌≤◌, ◌∷◌, [], IfOk};
+//! Weighing: the lists of two ports, in which each call goes by a name. All calls are of the value `a`.
+ghost use Rattle.std.specs.Prelude.{◌≡◌, ◌≤◌, ◌∷◌, [], length, IfOk};
 ghost use Rattle.weigh.specs.Weighing.{lists_of};
 
 use plain_store::{Answer, Caller, Command, Name, NestedTypes, Reply, Setup, Store, Value};
@@ -9,12 +9,89 @@ use std::test::Fail;
 use store_image::Image;
 use weigh::{Placed, Weighed, weigh};
 
-fn a() -> Name {
-    Name::new(b"a").unwrap()
+/// Calls of version 1.
+#[derive(Clone, Copy)]
+enum Made {
+    Write,
+    Read,
+    // The read with another place, reply or answer.
+    ReadLate,
+    ReadNever,
+    ReadNowhere,
+    ReadOther,
+    ReadNoName,
+    ReadWithdrawn,
+    // A read before the first change.
+    ReadNothing,
+    // The write, cut by a failure, with its place and without one.
+    CutWrite,
+    LostWrite,
+    // What comes behind the write and the read.
+    AddOne,
+    ReadSix,
+    Swap,
+    SwapNoName,
+    AddNothing,
 }
 
-fn five() -> Value {
-    Value::Count(5)
+use Made::{
+    AddNothing, AddOne, CutWrite, LostWrite, Read, ReadLate, ReadNever, ReadNoName, ReadNothing,
+    ReadNowhere, ReadOther, ReadSix, ReadWithdrawn, Swap, SwapNoName, Write,
+};
+
+/// The lists of two ports, and what they weigh.
+type Row = (&'static [Made], &'static [Made], Weighed);
+
+// Against the image after the write.
+const AT_FIVE: [Row; 14] = [
+    (&[Write], &[Read], Weighed::Good),
+    // The place is above that of the last store, and below one that no call can have.
+    (&[Write], &[ReadLate], Weighed::Bad(1, 0)),
+    (&[Write], &[ReadNever], Weighed::Bad(1, 0)),
+    // It is one of two that would change store 0.
+    (&[Write], &[Write], Weighed::Bad(0, 0)),
+    (&[ReadNothing], &[Write, Write], Weighed::Bad(1, 0)),
+    (&[ReadNothing, Write], &[Write, Write], Weighed::Bad(0, 1)),
+    // Its place is that of the change before it in its list; below that of the read before it.
+    (&[Write, ReadNothing], &[Read], Weighed::Bad(0, 1)),
+    (&[Write], &[Read, ReadNothing], Weighed::Bad(1, 1)),
+    (&[Write], &[ReadNothing, Read], Weighed::Good),
+    // Its reply is not that of its store.
+    (&[Write], &[ReadOther], Weighed::Bad(1, 0)),
+    // It has a reply and no place, another answer and a place.
+    (&[Write], &[ReadNowhere], Weighed::Bad(1, 0)),
+    (&[Write], &[ReadWithdrawn], Weighed::Bad(1, 0)),
+    // A cut call may have a place or none, and a taken one that changes counts.
+    (&[CutWrite, LostWrite], &[Read], Weighed::Good),
+    (&[LostWrite], &[], Weighed::BadEnd),
+];
+
+// Against the image of the empty store.
+const AT_NOTHING: [Row; 1] = [(&[Write], &[Read], Weighed::BadEnd)];
+
+/// A true run: 5 is written, read, and made 6 by an add; 6 is read, and made 7 by a compare and swap; an add of 0 tells
+/// 7. The changes are the write, the add of 1 and the swap, so that the stores are four.
+const FIRST: &[Made] = &[Write, ReadSix, Swap];
+
+const SECOND: &[Made] = &[Read, AddOne, AddNothing];
+
+// The true run, with two calls of a list in the other order; with the lists in the other order, which no store of version 1
+// tells; and with two bad calls, of which it is that of the lower port, though the other one comes sooner in its list.
+const AT_SEVEN: [Row; 6] = [
+    (&[ReadSix, Write, Swap], SECOND, Weighed::Bad(0, 1)),
+    (&[Write, Swap, ReadSix], SECOND, Weighed::Bad(0, 2)),
+    (FIRST, &[AddOne, Read, AddNothing], Weighed::Bad(1, 1)),
+    (FIRST, &[Read, AddNothing, AddOne], Weighed::Bad(1, 2)),
+    (SECOND, FIRST, Weighed::Good),
+    (
+        &[Write, ReadSix, SwapNoName],
+        &[ReadNoName, AddOne, AddNothing],
+        Weighed::Bad(0, 2),
+    ),
+];
+
+fn a() -> Name {
+    Name::new(b"a").unwrap()
 }
 
 fn replied(command: Command, reply: Reply, place: u32) -> Placed {
@@ -25,16 +102,58 @@ fn replied(command: Command, reply: Reply, place: u32) -> Placed {
     }
 }
 
-fn write() -> Placed {
-    replied(Command::Write(a(), five()), Reply::Done, 0)
+fn read(reply: Reply, place: u32) -> Placed {
+    replied(Command::Read(a()), reply, place)
 }
 
-fn read() -> Placed {
-    replied(Command::Read(a()), Reply::Value(five()), 1)
+fn write(answer: Option<Answer>, place: Option<u32>) -> Placed {
+    Placed {
+        command: Command::Write(a(), Value::Count(5)),
+        answer,
+        place,
+    }
 }
 
-/// The image after the write, by process 0 as its first call.
-fn written(callers: u8) -> Result<Image, AllocError>
+fn add(addend: i64, sum: i64, place: u32) -> Placed {
+    replied(Command::Add(a(), addend), Reply::Sum(sum), place)
+}
+
+fn swap(reply: Reply) -> Placed {
+    let swap = Command::Cas(a(), Value::Count(6), Value::Count(7));
+    replied(swap, reply, 2)
+}
+
+fn placed(made: Made) -> Placed {
+    let five = Reply::Value(Value::Count(5));
+    let six = Reply::Value(Value::Count(6));
+    match made {
+        Write => write(Some(Answer::Reply(Reply::Done)), Some(0)),
+        CutWrite => write(None, Some(0)),
+        LostWrite => write(None, None),
+        Read => read(five, 1),
+        ReadLate => read(five, 2),
+        ReadNever => read(five, u32::MAX),
+        ReadOther => read(six, 1),
+        ReadSix => read(six, 2),
+        ReadNothing => read(Reply::NoName, 0),
+        ReadNoName => read(Reply::NoName, 1),
+        ReadNowhere => Placed {
+            place: None,
+            ..read(five, 1)
+        },
+        ReadWithdrawn => Placed {
+            answer: Some(Answer::Withdrawn),
+            ..read(five, 1)
+        },
+        AddOne => add(1, 6, 1),
+        AddNothing => add(0, 7, 3),
+        Swap => swap(Reply::Swapped),
+        SwapNoName => swap(Reply::NoName),
+    }
+}
+
+/// The image of a store in which this was written, by process 0 as its first call.
+fn image(count: i64, callers: u8) -> Result<Image, AllocError>
     requires { callers ≤ 16 }
 {
     let mut image = Image::empty(1, callers);
@@ -42,199 +161,53 @@ fn written(callers: u8) -> Result<Image, AllocError>
         process: 0,
         number: u16::from(callers != 0),
     };
-    image.apply(&Command::Write(a(), five()), first)?;
+    image.apply(&Command::Write(a(), Value::Count(count)), first)?;
     Ok(image)
 }
 
-/// The lists of two ports.
-fn lists(alloc: Global, first: &[Placed], second: &[Placed]) -> Result<Vec<Vec<Placed>>, AllocError>
-    ensures { IfOk result (λ lists. lists_of lists.items ≡ first.now ∷ second.now ∷ []) }
-{
+fn list(alloc: Global, calls: &[Made]) -> Result<Vec<Placed>, AllocError> {
+    let _nested: NestedTypes = None;
+    let mut list = Vec::new(alloc);
+    for made in calls {
+        list.push(placed(*made))?;
+    }
+    Ok(list)
+}
+
+fn lists(alloc: Global, first: &[Made], second: &[Made]) -> Result<Vec<Vec<Placed>>, AllocError> {
     let _nested: NestedTypes = None;
     let mut lists = Vec::new(alloc);
-    lists.push(Vec::from_slice(alloc, first)?)?;
-    lists.push(Vec::from_slice(alloc, second)?)?;
+    lists.push(list(alloc, first)?)?;
+    lists.push(list(alloc, second)?)?;
     Ok(lists)
 }
 
-/// Weighs the lists of two ports of version 1 against the image after the write.
-fn weighed(alloc: Global, first: &[Placed], second: &[Placed]) -> Result<Weighed, AllocError> {
-    let both = lists(alloc, first, second)?;
-    weigh(alloc, &Setup::one(2, 2, 2, 1), &both, &written(0)?)
+/// Weighs the lists of two ports of version 1.
+fn weighed(alloc: Global, lists: &[Vec<Placed>], image: &Image) -> Result<Weighed, AllocError> {
+    weigh(alloc, &Setup::one(2, 2, 2, 1), lists, image)
 }
 
-fn cut(command: Command, place: Option<u32>) -> Placed {
-    Placed {
-        command,
-        answer: None,
-        place,
+fn weighs(rt: &(impl Abort + AllocGlobal), table: &[Row], image: &Image) -> Result<(), Fail> {
+    for (row, (first, second, verdict)) in table.iter().enumerate() {
+        let both = lists(rt.alloc(), first, second)?;
+        assert_eq!(rt; weighed(rt.alloc(), &both, image)?, *verdict, "row {row}");
     }
-}
-
-// Two ports: a write and a read after it.
-#[test]
-fn weighs_two_ports(rt: HostRuntime) -> Result<(), Fail> {
-    let alloc = rt.alloc();
-    let found = weighed(alloc, &[write()], &[read()])?;
-    assert_eq!(rt; found, Weighed::Good);
-    let both = lists(alloc, &[write()], &[read()])?;
-    let found = weigh(alloc, &Setup::one(2, 2, 2, 1), &both, &Image::empty(1, 0))?;
-    assert_eq!(rt; found, Weighed::BadEnd);
     Ok(())
 }
 
-// Each case of a bad call, one field changed.
 #[test]
-fn finds_bad_calls(rt: HostRuntime) -> Result<(), Fail> {
-    let alloc = rt.alloc();
-    let of_read = Weighed::Bad(1, 0);
-    // Its place is above that of the last store, and below one that no call can have.
-    let late = replied(Command::Read(a()), Reply::Value(five()), 2);
-    assert_eq!(rt; weighed(alloc, &[write()], &[late])?, of_read);
-    let never = replied(Command::Read(a()), Reply::Value(five()), u32::MAX);
-    assert_eq!(rt; weighed(alloc, &[write()], &[never])?, of_read);
-    // It is one of two that would change store 0.
-    assert_eq!(rt; weighed(alloc, &[write()], &[write()])?, Weighed::Bad(0, 0));
-    // Its place is that of the change before it in its list; below that of the read before it.
-    let early = replied(Command::Read(a()), Reply::NoName, 0);
-    assert_eq!(rt;
-        weighed(alloc, &[write(), early], &[read()])?,
-        Weighed::Bad(0, 1)
-    );
-    assert_eq!(rt;
-        weighed(alloc, &[write()], &[read(), early])?,
-        Weighed::Bad(1, 1)
-    );
-    assert_eq!(rt;
-        weighed(alloc, &[write()], &[early, read()])?,
-        Weighed::Good
-    );
-    // Its reply is not that of its store.
-    let other = replied(Command::Read(a()), Reply::Value(Value::Count(6)), 1);
-    assert_eq!(rt; weighed(alloc, &[write()], &[other])?, of_read);
-    // It has a reply and no place, another answer and a place.
-    let nowhere = Placed {
-        place: None,
-        ..read()
-    };
-    assert_eq!(rt; weighed(alloc, &[write()], &[nowhere])?, of_read);
-    let withdrawn = Placed {
-        answer: Some(Answer::Withdrawn),
-        ..read()
-    };
-    assert_eq!(rt; weighed(alloc, &[write()], &[withdrawn])?, of_read);
-    Ok(())
+fn weighs_a_write_and_a_read(rt: HostRuntime) -> Result<(), Fail> {
+    weighs(&rt, &AT_FIVE, &image(5, 0)?)
 }
 
-// A cut call may have a place or none, and a taken one that changes counts.
 #[test]
-fn weighs_cut_calls(rt: HostRuntime) -> Result<(), Fail> {
-    let alloc = rt.alloc();
-    let first = cut(Command::Write(a(), five()), Some(0));
-    let lost = cut(Command::Write(a(), five()), None);
-    assert_eq!(rt; weighed(alloc, &[first, lost], &[read()])?, Weighed::Good);
-    assert_eq!(rt; weighed(alloc, &[lost], &[])?, Weighed::BadEnd);
-    Ok(())
+fn weighs_against_an_empty_store(rt: HostRuntime) -> Result<(), Fail> {
+    weighs(&rt, &AT_NOTHING, &Image::empty(1, 0))
 }
 
-/// An `Ask` after the first change, which is told this number.
-fn ask(number: u16) -> Placed {
-    replied(Command::Ask, Reply::Last(number), 1)
-}
-
-/// An `Ask` that a failure cut before it was taken.
-fn lost() -> Placed {
-    cut(Command::Ask, None)
-}
-
-// Two ports, version 2: the asker is told the number of its write.
 #[test]
-fn weighs_version_two(rt: HostRuntime) -> Result<(), Fail> {
-    let alloc = rt.alloc();
-    let setup = Setup {
-        version: 2,
-        ..Setup::one(2, 2, 2, 1)
-    };
-    let both = lists(alloc, &[write(), ask(1)], &[])?;
-    let found = weigh(alloc, &setup, &both, &written(2)?)?;
-    assert_eq!(rt; found, Weighed::Good);
-    let found = weigh(alloc, &setup, &both, &Image::empty(1, 2))?;
-    assert_eq!(rt; found, Weighed::BadEnd);
-    Ok(())
-}
-
-// A cut call before the write makes it the second one of its process: the asker is told so.
-#[test]
-fn counts_a_call_that_was_cut(rt: HostRuntime) -> Result<(), Fail> {
-    let setup = Setup {
-        version: 2,
-        ..Setup::one(2, 2, 2, 1)
-    };
-    let both = lists(rt.alloc(), &[lost(), write(), ask(1)], &[])?;
-    let found = weigh(rt.alloc(), &setup, &both, &written(2)?)?;
-    assert_eq!(rt; found, Weighed::Bad(0, 2));
-    Ok(())
-}
-
-// Then the image has this number too.
-#[test]
-fn keeps_the_number_in_the_image(rt: HostRuntime) -> Result<(), Fail> {
-    let setup = Setup {
-        version: 2,
-        ..Setup::one(2, 2, 2, 1)
-    };
-    let both = lists(rt.alloc(), &[lost(), write(), ask(2)], &[])?;
-    let found = weigh(rt.alloc(), &setup, &both, &written(2)?)?;
-    assert_eq!(rt; found, Weighed::BadEnd);
-    Ok(())
-}
-
-// A true run of two ports in version 1: 5 is written, read, and made 6 by an add; 6 is read, and made 7 by a compare and
-// swap; an add of 0 tells 7. The changes are the write, the add of 1 and the swap, so that the stores are four.
-
-fn read_six() -> Placed {
-    replied(Command::Read(a()), Reply::Value(Value::Count(6)), 2)
-}
-
-fn swap_for_seven() -> Placed {
-    let swap = Command::Cas(a(), Value::Count(6), Value::Count(7));
-    replied(swap, Reply::Swapped, 2)
-}
-
-fn add_one() -> Placed {
-    replied(Command::Add(a(), 1), Reply::Sum(6), 1)
-}
-
-fn add_nothing() -> Placed {
-    replied(Command::Add(a(), 0), Reply::Sum(7), 3)
-}
-
-/// The image at the end of the true run.
-fn seven() -> Result<Image, AllocError> {
-    let nobody = Caller {
-        process: 0,
-        number: 0,
-    };
-    let mut image = Image::empty(1, 0);
-    image.apply(&Command::Write(a(), Value::Count(7)), nobody)?;
-    Ok(image)
-}
-
-fn weighed_at_seven(
-    alloc: Global,
-    first: &[Placed],
-    second: &[Placed],
-) -> Result<Weighed, AllocError> {
-    let both = lists(alloc, first, second)?;
-    weigh(alloc, &Setup::one(2, 2, 2, 1), &both, &seven()?)
-}
-
-fn true_lists(alloc: Global) -> Result<Vec<Vec<Placed>>, AllocError> {
-    lists(
-        alloc,
-        &[write(), read_six(), swap_for_seven()],
-        &[read(), add_one(), add_nothing()],
-    )
+fn weighs_other_orders(rt: HostRuntime) -> Result<(), Fail> {
+    weighs(&rt, &AT_SEVEN, &image(7, 0)?)
 }
 
 /// Weighs the true run, a call with another place.
@@ -244,13 +217,13 @@ fn with_place(
     index: usize,
     place: Option<u32>,
 ) -> Result<Weighed, AllocError> {
-    let mut both = true_lists(alloc)?;
+    let mut both = lists(alloc, FIRST, SECOND)?;
     if let Some(list) = both.get_mut(port)
         && let Some(call) = list.get_mut(index)
     {
         call.place = place;
     }
-    weigh(alloc, &Setup::one(2, 2, 2, 1), &both, &seven()?)
+    weighed(alloc, &both, &image(7, 0)?)
 }
 
 /// Weighs the true run, a call with another answer.
@@ -260,13 +233,13 @@ fn with_answer(
     index: usize,
     answer: Option<Answer>,
 ) -> Result<Weighed, AllocError> {
-    let mut both = true_lists(alloc)?;
+    let mut both = lists(alloc, FIRST, SECOND)?;
     if let Some(list) = both.get_mut(port)
         && let Some(call) = list.get_mut(index)
     {
         call.answer = answer;
     }
-    weigh(alloc, &Setup::one(2, 2, 2, 1), &both, &seven()?)
+    weighed(alloc, &both, &image(7, 0)?)
 }
 
 #[test]
@@ -305,7 +278,7 @@ fn weighs_other_places(rt: HostRuntime) -> Result<(), Fail> {
 fn weighs_other_answers(rt: HostRuntime) -> Result<(), Fail> {
     let table = [
         (0, 0, Answer::Reply(Reply::StoreFull)),
-        (0, 1, Answer::Reply(Reply::Value(five()))),
+        (0, 1, Answer::Reply(Reply::Value(Value::Count(5)))),
         (0, 2, Answer::Reply(Reply::Kept(Value::Count(6)))),
         (1, 0, Answer::Reply(Reply::NoName)),
         (1, 1, Answer::Reply(Reply::Sum(7))),
@@ -319,7 +292,12 @@ fn weighs_other_answers(rt: HostRuntime) -> Result<(), Fail> {
         let found = with_answer(rt.alloc(), port, index, Some(answer))?;
         assert_eq!(rt; found, Weighed::Bad(port, index));
     }
-    // Cut, and taken all the same.
+    Ok(())
+}
+
+// Cut, and taken all the same.
+#[test]
+fn weighs_calls_that_were_cut(rt: HostRuntime) -> Result<(), Fail> {
     for (port, index) in [(0, 0), (0, 1), (0, 2), (1, 0), (1, 1), (1, 2)] {
         let found = with_answer(rt.alloc(), port, index, None)?;
         assert_eq!(rt; found, Weighed::Good);
@@ -327,61 +305,61 @@ fn weighs_other_answers(rt: HostRuntime) -> Result<(), Fail> {
     Ok(())
 }
 
-// Of two bad calls it is that of the lower port, though the other one comes sooner in its list.
+/// An `Ask` after the first change, which is told this number.
+fn ask(number: u16) -> Placed {
+    replied(Command::Ask, Reply::Last(number), 1)
+}
+
+/// An `Ask` that a failure cut before it was taken.
+fn lost() -> Placed {
+    Placed {
+        command: Command::Ask,
+        answer: None,
+        place: None,
+    }
+}
+
+/// The lists of a port with these calls and of one without.
+fn of_one_port(alloc: Global, calls: &[Placed]) -> Result<Vec<Vec<Placed>>, AllocError>
+    ensures { IfOk result (λ lists. lists_of lists.items ≡ calls.now ∷ [] ∷ []) }
+{
+    let _nested: NestedTypes = None;
+    let mut lists = Vec::new(alloc);
+    lists.push(Vec::from_slice(alloc, calls)?)?;
+    lists.push(Vec::new(alloc))?;
+    Ok(lists)
+}
+
+/// Weighs these lists of version 2.
+fn weighed_in_two(alloc: Global, calls: &[Placed], image: &Image) -> Result<Weighed, AllocError>
+    requires { length calls.now ≤ 65535 }
+{
+    let setup = Setup {
+        version: 2,
+        ..Setup::one(2, 2, 2, 1)
+    };
+    weigh(alloc, &setup, &of_one_port(alloc, calls)?, image)
+}
+
+// The asker is told the number of its write.
 #[test]
-fn finds_the_lowest_port(rt: HostRuntime) -> Result<(), Fail> {
-    let mut both = true_lists(rt.alloc())?;
-    if let Some(list) = both.get_mut(0)
-        && let Some(call) = list.get_mut(2)
-    {
-        call.answer = Some(Answer::Reply(Reply::NoName));
-    }
-    if let Some(list) = both.get_mut(1)
-        && let Some(call) = list.get_mut(0)
-    {
-        call.answer = Some(Answer::Reply(Reply::NoName));
-    }
-    let found = weigh(rt.alloc(), &Setup::one(2, 2, 2, 1), &both, &seven()?)?;
-    assert_eq!(rt; found, Weighed::Bad(0, 2));
+fn weighs_version_two(rt: HostRuntime) -> Result<(), Fail> {
+    let calls = [placed(Write), ask(1)];
+    let found = weighed_in_two(rt.alloc(), &calls, &image(5, 2)?)?;
+    assert_eq!(rt; found, Weighed::Good);
+    let found = weighed_in_two(rt.alloc(), &calls, &Image::empty(1, 2))?;
+    assert_eq!(rt; found, Weighed::BadEnd);
     Ok(())
 }
 
-// Two calls of a list in the other order; the lists in the other order, which no store of version 1 tells.
+// A cut call before the write makes it the second one of its process: the asker is told so, and the image has this number.
 #[test]
-fn weighs_other_orders(rt: HostRuntime) -> Result<(), Fail> {
-    let alloc = rt.alloc();
-    let (first, second) = (
-        [write(), read_six(), swap_for_seven()],
-        [read(), add_one(), add_nothing()],
-    );
-    let found = weighed_at_seven(alloc, &[read_six(), write(), swap_for_seven()], &second)?;
-    assert_eq!(rt; found, Weighed::Bad(0, 1));
-    let found = weighed_at_seven(alloc, &[write(), swap_for_seven(), read_six()], &second)?;
-    assert_eq!(rt; found, Weighed::Bad(0, 2));
-    let found = weighed_at_seven(alloc, &first, &[add_one(), read(), add_nothing()])?;
-    assert_eq!(rt; found, Weighed::Bad(1, 1));
-    let found = weighed_at_seven(alloc, &first, &[read(), add_nothing(), add_one()])?;
-    assert_eq!(rt; found, Weighed::Bad(1, 2));
-    assert_eq!(rt; weighed_at_seven(alloc, &second, &first)?, Weighed::Good);
-    Ok(())
-}
-
-/// A read before the first change.
-fn read_nothing() -> Placed {
-    replied(Command::Read(a()), Reply::NoName, 0)
-}
-
-// Of the calls with the place of the last store those are bad that would change it, if there are several.
-#[test]
-fn finds_one_of_several(rt: HostRuntime) -> Result<(), Fail> {
-    let alloc = rt.alloc();
-    let both = [write(), write()];
-    assert_eq!(rt;
-        weighed(alloc, &[read_nothing()], &both)?,
-        Weighed::Bad(1, 0)
-    );
-    let other = [read_nothing(), write()];
-    assert_eq!(rt; weighed(alloc, &other, &both)?, Weighed::Bad(0, 1));
+fn counts_a_call_that_was_cut(rt: HostRuntime) -> Result<(), Fail> {
+    for (told, verdict) in [(1, Weighed::Bad(0, 2)), (2, Weighed::BadEnd)] {
+        let calls = [lost(), placed(Write), ask(told)];
+        let found = weighed_in_two(rt.alloc(), &calls, &image(5, 2)?)?;
+        assert_eq!(rt; found, verdict, "told {told}");
+    }
     Ok(())
 }
 

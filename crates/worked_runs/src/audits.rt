@@ -1,7 +1,7 @@
 //! Audits of scenarios, on streams that fail.
 use crate::scenarios::LONE_WRITE;
 use replayer::{Law, Verdict, run_audit, status_of};
-use scenario::{Fault, FaultKind, LineFault};
+use scenario::Fault;
 use std::test::Fail;
 use store_tests::{Paper, Tape};
 
@@ -27,22 +27,6 @@ fn audits_the_lone_write(rt: HostRuntime) -> Result<(), Fail> {
 fn gives_the_status_of_a_verdict(rt: HostRuntime) -> Result<(), Fail> {
     assert_eq!(rt; status_of(&Verdict::Good), 0);
     assert_eq!(rt; status_of(&Verdict::Bad(7, Law::Program)), 3);
-    Ok(())
-}
-
-#[test]
-fn tells_the_fault_of_a_line(rt: HostRuntime) -> Result<(), Fail> {
-    let file = "bakery 1\ncall 0 read a\ngo 0\n";
-    let fault = LineFault {
-        line: 3,
-        kind: FaultKind::Words,
-    };
-    let mut output = Paper::new(rt.alloc())?;
-    assert_eq!(rt;
-        run_audit(rt.alloc(), &mut Tape::new(file.as_bytes()), &mut output),
-        Err(Fault::Line(fault))
-    );
-    assert_eq!(rt; output.written.len(), 0);
     Ok(())
 }
 

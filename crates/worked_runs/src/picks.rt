@@ -32,6 +32,22 @@ fn picks_are_words_modulo_the_number_of_processes(rt: HostRuntime) {
     }
 }
 
+// The words of seed 7 are 2 modulo 3, then 14 modulo 16, then 0 modulo 5. A twin tells the first two, as a pick and a flick,
+// and both go on from the third. Of a constant flick no word is skipped: after the first word of seed 0 comes 0xfc843fd7.
+#[test]
+fn a_twin_tells_what_comes_and_a_skip_takes_it(rt: HostRuntime) {
+    let mut flicks = Flicks::pcg(7);
+    let mut twin = flicks.twin();
+    assert_eq!(rt; twin.pick(3), 2);
+    assert_eq!(rt; twin.flick(), false);
+    flicks.skip_step();
+    assert_eq!(rt; flicks.pick(5), 0);
+    assert_eq!(rt; twin.pick(5), 0);
+    let mut ones = Flicks::constant(true);
+    ones.skip_step();
+    assert_eq!(rt; ones.pick(0x1_0000_0000), 0xfc84_3fd7);
+}
+
 // A constant leaves the generator of seed 1, whose words begin 0x33a70be6, 0x7dbcf3ee, 0xcadf4751; the greatest
 // seed makes it anew, with the words 0x982f997e, 0x513da686, 0xe017d20c, 0xc8ade03d.
 #[test]

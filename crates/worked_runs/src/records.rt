@@ -2,7 +2,7 @@
 use crate::scenarios::{LONE_WRITE, SCENARIOS};
 use replayer::{run_audit, run_judge, run_record};
 use scenario::FaultKind::{NotFirst, TooLong, Unknown};
-use scenario::{Fault, LineFault};
+use scenario::{Fault, FaultKind, LineFault};
 use std::alloc::Global;
 use std::test::Fail;
 use store_tests::{Paper, Tape};
@@ -27,24 +27,27 @@ fn recorded(alloc: Global, scenario: &str) -> Result<Paper, Fail> {
     Ok(output)
 }
 
+/// Record files, with what is written for each and its status.
+const JUDGED: [(&str, &str, u8); 6] = [
+    ("record 1\n", "good 0\n", 0),
+    ("# x\r\n\n record  2\n0 : call ask", "good 1\n", 0),
+    (CUT, CUT_JUDGED, 0),
+    ("record 1\n0\n0 : call read a\n", "bad 0 program\n", 3),
+    (
+        "record 1\n0 : fail\n9 : fail\n0 : fail\n",
+        "bad 1 program\n",
+        3,
+    ),
+    (
+        "record 1\n0 : fail\n0 0.ticket.0.0 write 1\n",
+        "bad 1 unit\n",
+        3,
+    ),
+];
+
 #[test]
 fn judges_records(rt: HostRuntime) -> Result<(), Fail> {
-    for (file, told, status) in [
-        ("record 1\n", "good 0\n", 0),
-        ("# x\r\n\n record  2\n0 : call ask", "good 1\n", 0),
-        (CUT, CUT_JUDGED, 0),
-        ("record 1\n0\n0 : call read a\n", "bad 0 program\n", 3),
-        (
-            "record 1\n0 : fail\n9 : fail\n0 : fail\n",
-            "bad 1 program\n",
-            3,
-        ),
-        (
-            "record 1\n0 : fail\n0 0.ticket.0.0 write 1\n",
-            "bad 1 unit\n",
-            3,
-        ),
-    ] {
+    for (file, told, status) in JUDGED {
         let (output, answered) = judged(rt.alloc(), file.as_bytes())?;
         assert_eq!(rt; output.written.as_slice(), told.as_bytes(), "{file}");
         assert_eq!(rt; answered, status, "{file}");
@@ -74,15 +77,18 @@ fn judges_what_is_recorded(rt: HostRuntime) -> Result<(), Fail> {
     Ok(())
 }
 
+/// Record files, each with the first faulty line and its fault.
+const FAULTY: [(&str, u64, FaultKind); 4] = [
+    ("", 1, NotFirst),
+    ("#\n", 2, NotFirst),
+    ("record 1\n0 : enter\n0 : maybe\n", 3, Unknown),
+    ("record 1\n0 : fail\nslots 2\n", 3, NotFirst),
+];
+
 // The first faulty line is told, also behind an entry that is bad, and nothing is written.
 #[test]
 fn tells_the_fault_of_a_line(rt: HostRuntime) -> Result<(), Fail> {
-    for (file, line, kind) in [
-        ("", 1, NotFirst),
-        ("#\n", 2, NotFirst),
-        ("record 1\n0 : enter\n0 : maybe\n", 3, Unknown),
-        ("record 1\n0 : fail\nslots 2\n", 3, NotFirst),
-    ] {
+    for (file, line, kind) in FAULTY {
         let mut output = Paper::new(rt.alloc())?;
         assert_eq!(rt;
             run_judge(rt.alloc(), &mut Tape::new(file.as_bytes()), &mut output),
@@ -94,6 +100,17 @@ fn tells_the_fault_of_a_line(rt: HostRuntime) -> Result<(), Fail> {
     Ok(())
 }
 
+/// How many spaces there are behind a line of 8 bytes, how it ends, and whether it is short enough.
+const ENDS: [(u32, &str, bool); 7] = [
+    (120, "", true),
+    (120, "\n", true),
+    (120, "\r\n", true),
+    (120, "\r", false),
+    (121, "", false),
+    (121, "\r\n", false),
+    (300, "\n", false),
+];
+
 // A line of 128 bytes, with each end, and one byte more.
 #[test]
 fn bounds_the_bytes_of_a_line(rt: HostRuntime) -> Result<(), Fail> {
@@ -101,15 +118,7 @@ fn bounds_the_bytes_of_a_line(rt: HostRuntime) -> Result<(), Fail> {
         line: 2,
         kind: TooLong,
     };
-    for (spaces, end, is_good) in [
-        (120, "", true),
-        (120, "\n", true),
-        (120, "\r\n", true),
-        (120, "\r", false),
-        (121, "", false),
-        (121, "\r\n", false),
-        (300, "\n", false),
-    ] {
+    for (spaces, end, is_good) in ENDS {
         let mut file = format!(in rt.alloc(); "record 1\n0 : fail")?;
         for _ in 0..spaces {
             file.push(' ')?;
@@ -161,17 +170,20 @@ fn tells_a_writer_that_fails_for_a_verdict(rt: HostRuntime) -> Result<(), Fail> 
     Ok(())
 }
 
+/// After how many calls a writer fails, and what it took.
+const FRONTS: [(usize, &str); 3] = [
+    (0, ""),
+    (1, "record 1\nprocesses 1\ntickets 2\nstamps 2\nslots 1\n"),
+    (
+        2,
+        "record 1\nprocesses 1\ntickets 2\nstamps 2\nslots 1\n0 : call write a c:5\n",
+    ),
+];
+
 // The lines before the entries are written by one call, and each entry by one.
 #[test]
 fn tells_a_writer_that_fails_for_a_record(rt: HostRuntime) -> Result<(), Fail> {
-    for (fails_after, written) in [
-        (0, ""),
-        (1, "record 1\nprocesses 1\ntickets 2\nstamps 2\nslots 1\n"),
-        (
-            2,
-            "record 1\nprocesses 1\ntickets 2\nstamps 2\nslots 1\n0 : call write a c:5\n",
-        ),
-    ] {
+    for (fails_after, written) in FRONTS {
         let mut output = Paper::new(rt.alloc())?;
         output.fails_after = fails_after;
         let ran = run_record(

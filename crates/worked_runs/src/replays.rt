@@ -5,7 +5,7 @@ use crate::scenarios::{
 use crate::uses::printed_replies;
 use record::Mark;
 use replayer::{Summary, events_of, record_of, replay};
-use scenario::{Fault, FaultKind, LineFault, read_scenario};
+use scenario::{Fault, read_scenario};
 use std::test::Fail;
 use store_tests::{Paper, Tape};
 
@@ -35,25 +35,6 @@ fn prints_true_replies(rt: HostRuntime) -> Result<(), Fail> {
     )?;
     assert_eq!(rt; output.written.as_slice(), LONE_WRITE_PRINTS.as_bytes());
     assert_eq!(rt; (summary.events, summary.taken), (761, 1));
-    Ok(())
-}
-
-#[test]
-fn tells_the_fault_of_a_line(rt: HostRuntime) -> Result<(), Fail> {
-    let files = [
-        ("", 1, FaultKind::NotFirst),
-        ("bakery 1\nshow\nprocesses 2\n", 3, FaultKind::NotFirst),
-        ("bakery 1\ngo 0\n", 2, FaultKind::Words),
-        ("bakery 1\nstep 0 100001\n", 2, FaultKind::Number),
-    ];
-    for (file, line, kind) in files {
-        let mut output = Paper::new(rt.alloc())?;
-        assert_eq!(rt;
-            replay(rt.alloc(), &mut Tape::new(file.as_bytes()), &mut output),
-            Err(Fault::Line(LineFault { line, kind }))
-        );
-        assert_eq!(rt; output.written.len(), 0);
-    }
     Ok(())
 }
 
@@ -133,15 +114,17 @@ fn records_the_lone_write(rt: HostRuntime) -> Result<(), Fail> {
     Ok(())
 }
 
+/// Files, and how many events each has.
+const EVENTS: [(&str, usize); 3] = [
+    (FAILURE_COMMIT_SETTLED_NEW, 1_585),
+    (WITHDRAWAL, 58),
+    ("bakery 1\n# x\nslots 2\n  call 0  add a -3\n", 1),
+];
+
 // Each entry is of the process whose event it is.
 #[test]
 fn records_the_processes_of_the_events(rt: HostRuntime) -> Result<(), Fail> {
-    let files = [
-        (FAILURE_COMMIT_SETTLED_NEW, 1_585),
-        (WITHDRAWAL, 58),
-        ("bakery 1\n# x\nslots 2\n  call 0  add a -3\n", 1),
-    ];
-    for (file, count) in files {
+    for (file, count) in EVENTS {
         let scenario = read_scenario(rt.alloc(), file.as_bytes())?;
         let events = events_of(rt.alloc(), &scenario)?;
         assert_eq!(rt; events.len(), count);

@@ -1,11 +1,8 @@
 //! Sweeps over scenarios, also on streams that fail.
 use crate::scenarios::{LONE_WRITE, RESTART_OF_FAILED_PROCESS, TIE_OF_TICKETS};
 use plain_store::{Command, Name, Value};
-use replayer::{
-    BadRun, Law, Swept, Verdict, audit, events_of, record_of, run_audit, run_sweep,
-    status_of_sweep, sweep,
-};
-use scenario::{Fault, FaultKind, LineFault, read_scenario};
+use replayer::{BadRun, Law, Swept, events_of, run_sweep, status_of_sweep, sweep};
+use scenario::{Fault, read_scenario};
 use std::alloc::Global;
 use std::test::Fail;
 use store_tests::{Paper, Tape};
@@ -22,15 +19,17 @@ fn swept(alloc: Global, file: &str) -> Result<(Paper, u8), Fail> {
     Ok((output, status))
 }
 
+/// Files, and what a sweep counts of each.
+const COUNTED: [(&str, &str); 4] = [
+    (LONE_WRITE, "sweep runs 1522 good 1522 stuck 0\n"),
+    (RESTART_OF_FAILED_PROCESS, "sweep runs 4 good 4 stuck 0\n"),
+    (TIE_OF_TICKETS, "sweep runs 116 good 116 stuck 0\n"),
+    ("bakery 1\nfail 9\n", "sweep runs 0 good 0 stuck 0\n"),
+];
+
 #[test]
 fn counts_the_runs(rt: HostRuntime) -> Result<(), Fail> {
-    let files = [
-        (LONE_WRITE, "sweep runs 1522 good 1522 stuck 0\n"),
-        (RESTART_OF_FAILED_PROCESS, "sweep runs 4 good 4 stuck 0\n"),
-        (TIE_OF_TICKETS, "sweep runs 116 good 116 stuck 0\n"),
-        ("bakery 1\nfail 9\n", "sweep runs 0 good 0 stuck 0\n"),
-    ];
-    for (file, counts) in files {
+    for (file, counts) in COUNTED {
         let (output, status) = swept(rt.alloc(), file)?;
         assert_eq!(rt; output.written.as_slice(), counts.as_bytes());
         assert_eq!(rt; status, 0);
@@ -89,50 +88,20 @@ fn tells_that_no_run_is_bad(rt: HostRuntime) -> Result<(), Fail> {
     Ok(())
 }
 
-// The engines `audit` and `sweep`, and the calls that they are made of, on one file.
+// The call that the engine is made of, on the events of a file.
 #[test]
-fn verdicts_on_the_lone_write_agree(rt: HostRuntime) -> Result<(), Fail> {
+fn sweeps_the_events_of_the_lone_write(rt: HostRuntime) -> Result<(), Fail> {
     let scenario = read_scenario(rt.alloc(), LONE_WRITE.as_bytes())?;
     let events = events_of(rt.alloc(), &scenario)?;
-    assert_eq!(rt; events.len(), 761);
-    let record = record_of(rt.alloc(), &scenario.setup, &events)?;
-    assert_eq!(rt; record.entries.len(), 761);
-    assert_eq!(rt; audit(rt.alloc(), &scenario.setup, &record)?, Verdict::Good);
-    let mut audited = Paper::new(rt.alloc())?;
-    run_audit(
-        rt.alloc(),
-        &mut Tape::new(LONE_WRITE.as_bytes()),
-        &mut audited,
-    )?;
-    assert_eq!(rt; audited.written.as_slice(), "good 761\n".as_bytes());
-    let write = Command::Write(Name::new(b"a").unwrap(), Value::Count(5));
-    let found = sweep(rt.alloc(), &scenario.setup, &events, &[(0, write)])?;
+    let write = Command::Write(Name::new(b"a")?, Value::Count(5));
     let all_good = Swept {
         runs: 1_522,
         good: 1_522,
         stuck: 0,
         first_bad: None,
     };
+    let found = sweep(rt.alloc(), &scenario.setup, &events, &[(0, write)])?;
     assert_eq!(rt; found, all_good);
-    let (output, _) = swept(rt.alloc(), LONE_WRITE)?;
-    let line = format!(in rt.alloc(); "{found}\n")?;
-    assert_eq!(rt; output.written.as_slice(), line.as_bytes());
-    Ok(())
-}
-
-#[test]
-fn tells_the_fault_of_a_line(rt: HostRuntime) -> Result<(), Fail> {
-    let file = "bakery 1\ncall 0 read a\ngo 0\n";
-    let fault = LineFault {
-        line: 3,
-        kind: FaultKind::Words,
-    };
-    let mut output = Paper::new(rt.alloc())?;
-    assert_eq!(rt;
-        run_sweep(rt.alloc(), &mut Tape::new(file.as_bytes()), &mut output),
-        Err(Fault::Line(fault))
-    );
-    assert_eq!(rt; output.written.len(), 0);
     Ok(())
 }
 
