@@ -142,7 +142,7 @@ def shell(command):
 
 
 def words(counter, folder):
-    """Words that are refused say why, above the usage line; `--` ends the options; the version names the toolchain."""
+    """Words that are refused say why, above the usage line; `--` ends the options; the version names the logic."""
     for name in ["a file", "-x"]:
         (folder / name).write_text(SCENARIO)
     for asked, why in REFUSED:
@@ -157,11 +157,13 @@ def words(counter, folder):
     with open(os.fsencode(folder) + b"/\xff") as file:
         ran = subprocess.run([PROGRAM, "plain", "-"], stdin=file, capture_output=True, text=True)
     counter.compare("a file whose name is not UTF-8", (ran.returncode, ran.stdout), (0, PRINTED))
-    toolchain = subprocess.run(["rt", "version"], capture_output=True, text=True, check=True).stdout.strip()
-    named = re.search(r"^Proved with\n\n```\n(.*)\n```$", (TOP / "docs" / "CLAIMS.md").read_text(), re.M)
-    counter.compare("the toolchain that docs/CLAIMS.md names", named and named[1], toolchain)
+    toolchain = subprocess.run(["rt", "version"], capture_output=True, text=True, check=True).stdout
+    logic = re.search(r"logic ([0-9a-f]+)$", toolchain.strip()).group(1)
+    named = re.search(r"^Proved with\n\n```\n(.*?)\n```$", (TOP / "docs" / "CLAIMS.md").read_text(), re.M | re.S)
+    logics = {line.rpartition(" logic ")[2] for line in named[1].splitlines()} if named else None
+    counter.compare("the logic of the toolchains that docs/CLAIMS.md names", logics, {logic})
     version = run(["--version"])
-    counter.compare("the version, number left out", re.sub(r"\d+\.\d+\.\d+", "N", version.output), f"bakerystore N, proved with {toolchain}\n")
+    counter.compare("the version, number left out", re.sub(r"\d+\.\d+\.\d+", "N", version.output), f"bakerystore N, proved in Rattle's logic {logic}\n")
     counter.compare("its status", (version.status, version.errors), (0, ""))
 
 

@@ -27,8 +27,9 @@ fn text_of_command(engine: Engine) -> &'static str {
     }
 }
 
-/// The program's version, and the line by which the toolchain names itself.
-const VERSION: &str = "bakerystore 0.1.0, proved with rattle-kit-13b logic dac8208d650f15bf\n";
+/// The program's version, and the logic in which it was proved, as the toolchain names it. Builds of the toolchain
+/// whose logic is the same prove the same.
+const VERSION: &str = "bakerystore 0.1.0, proved in Rattle's logic dac8208d650f15bf\n";
 
 /// All words.
 const WORDS: &str = r"usage: bakerystore COMMAND FILE   (FILE - is standard input)
@@ -60,7 +61,7 @@ Commands, each with an example:
   help COMMAND, COMMAND --help   what a command reads and prints
   help faults                    the kinds of fault, with their causes
   help, --help, -h               this page
-  --version                      the version, and what it was proved with
+  --version                      the version, and the logic it was proved in
 
 Options:
 
