@@ -56,8 +56,8 @@ TEST_WANTS_MEMORY = re.compile(r"\b(AllocError|AllocFailed|Memory|Spawn|Held)\b"
 QUICK = ["picture_tests_tests", "record_tests_tests", "register_tests_tests", "store_tests_tests"]
 # tests whose assertions do not tell what they found; of these it is asked that they fail by an assertion, or pass
 TELLS_NOTHING = re.compile(
-    r"store_tests_tests (scenarios::writes_outputs|printing::"
-    r"(bounds_the_lines_of_bits_files|reads_cut_files|tells_faults_of_bits_files))"
+    r"store_tests_tests (scenarios::(puts_bytes_into_a_writer|writes_outputs)|printing::"
+    r"(bounds_the_lines_of_bits_files|tells_faults_of_bits_files))"
 )
 # the test whose writer grows, since records are longer than what it has room for: a growth refused to it is a failed write
 GROWING_WRITER, WRITER_FAILED = "worked_runs_tests records::judges_what_is_recorded", "error: Write\n"

@@ -1,7 +1,7 @@
 #!/usr/bin/env python3
 """Counts the lines of each layer, in hundreds, and compares the table of docs/HOW_IT_IS_PROVED.md with them.
 
-With the word `write` it writes the counts into the table. Blank lines and comments are counted too. Crates of tests, benches
+With the word `write` it writes the counts into the table. Blank lines and comments are counted too. Crates of tests, of loads
 and the tour are left out.
 """
 
@@ -12,7 +12,7 @@ import sys
 TOP = pathlib.Path(__file__).resolve().parent.parent
 PAGE = TOP / "docs" / "HOW_IT_IS_PROVED.md"
 ROW = re.compile(r"^\| ([^|]+) \| ([a-z_, ]+) \| [^|]* \| [^|]* \| [^|]* \| ([^|]*) \|$", re.M)
-APART = re.compile(r"_(tests|bench|soak|runs|drive)$|^tour$")
+APART = re.compile(r"_(tests|runs|drive)$|^(tour|workloads)$")
 
 
 def lines_in(crates, folder):

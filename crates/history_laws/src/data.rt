@@ -46,7 +46,7 @@ pub fn stamps_count_the_changes()
 {}
 
 /// `Ask` answers the number of the asker's latest call that changed the store before its place, or 0. So a
-/// process that was restarted learns whether its cut call was taken. (This project's own failure rule.)
+/// process that was restarted learns whether its cut call changed the store. (This project's own failure rule.)
 pub fn ask_tells_of_changes()
     ensures latest { AskAnswersTheLatestChange }
     ensures cut_calls { AskTellsOfCutCalls }

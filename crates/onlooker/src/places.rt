@@ -74,7 +74,8 @@ fn number_of(alloc: Global, text: &[u8], said: usize) -> u64 {
     number
 }
 
-/// Whether reading a file skips a line. A line of a file has at most 64 words, for which it takes no memory.
+/// Whether reading a file skips a line. Only a line of more than 8 words takes memory for them; without it the line counts
+/// as one that is not skipped.
 fn is_skipped(alloc: Global, line: &[u8]) -> bool {
     let mut read: Option<Nothing> = None;
     read_any_line(alloc, line, &mut read).is_ok()
