@@ -6,5 +6,8 @@ mod Tellings
 mod Held
 mod Stages
 mod Framing
+mod Pagings
+mod Standings
+mod Sheetings
 mod Lists
 mod Lines

@@ -1,11 +1,16 @@
 -- What a page holds back: the lines that were told and are not drawn yet; and what it keeps of all lines.
-use Rattle.std.specs.Prelude.{ℕ, List, [], ◌∷◌, ◌++◌, codes, flat_map, Option, None, Some}
+use Rattle.std.specs.Prelude.{◌≡◌, ℕ, Bool, List, [], ◌∷◌, ◌++◌, codes, flat_map, map, Option, None, Some, option_map}
 use Rattle.std.specs.Option.{option_to_list}
 use Rattle.record.specs.declared.stages.Stage.{Stage}
 use Rattle.shapes.specs.Titles.{lines_in}
+use Rattle.picture.specs.Bandings.{Bands, Item, Plan, band_bytes, bands_of, bands_told, before_band, columns_of, filled, full_bytes, full_told, heights, heights_told, newest, newest_at, number_of, older, opens_before, placing_in, state_after, with_put, with_room}
+use Rattle.picture.specs.Columns.{Seen, seen}
 use Rattle.picture.specs.Told.{told_in}
 use Rattle.picture.specs.declared.columns.Column.{Column}
+use Rattle.picture.specs.declared.page.Form.{Form}
 use Rattle.picture.specs.declared.page.Page.{Page}
+use Rattle.picture.specs.declared.placing.Placing.{Placing}
+use Rattle.picture.specs.declared.state.State.{State}
 
 -- the lines of these columns, and of one that is not placed yet
 abbrev pub lines_of : List Column → Option Column → List (List ℕ)
@@ -30,3 +35,92 @@ page_names = codes "body" ∷ codes "html" ∷ []
 
 abbrev pub picture_names : List (List ℕ)
 picture_names = codes "svg" ∷ []
+
+-- a page, with lists for what its fields hold
+pub record SeenPage : Type 0 where
+  pub form : Form
+  pub opens : List ℕ
+  pub state : State
+  pub before : State
+  pub before_at : ℕ
+  pub placing : Placing
+  pub columns : List Seen
+  pub pending : Option Seen
+  pub last_at : ℕ
+  pub bands : ℕ
+  pub height : ℕ
+
+abbrev pub seen_page : Page → SeenPage
+seen_page page = record {
+  form = page.form;
+  opens = page.opens.items;
+  state = page.state;
+  before = page.before;
+  before_at = page.before_at;
+  placing = page.placing;
+  columns = map seen page.columns.items;
+  pending = option_map seen page.pending;
+  last_at = page.last_at;
+  bands = page.bands;
+  height = page.height;
+}
+
+-- a page that holds these bands, and a column that is not placed yet, if there is one
+abbrev pub page_holding : Plan → State → Option Seen → ℕ → Bands → SeenPage
+page_holding plan state pending last_at bands = record {
+  form = plan.form;
+  opens = opens_before plan.opening bands.full;
+  state = state;
+  before = (before_band plan.processes bands.full).0;
+  before_at = (before_band plan.processes bands.full).1;
+  placing = placing_in plan.opening bands;
+  columns = bands.begun;
+  pending = pending;
+  last_at = last_at;
+  bands = number_of bands.full;
+  height = heights plan.processes bands.full;
+}
+
+-- a page with these columns, of which the newest is not placed yet
+abbrev pub page_by : Plan → State → List Seen → SeenPage
+page_by plan state columns = page_holding plan state (newest columns) (newest_at columns) (bands_of plan.opening (older columns))
+
+-- a page that has taken in these items
+abbrev pub page_of : Plan → List Item → SeenPage
+page_of plan items = page_by plan (state_after plan.processes items) (columns_of plan.processes items)
+
+-- what is written of a band, if there is one
+abbrev pub band_text : Option (List ℕ) → List ℕ
+band_text None = []
+band_text (Some band) = band
+
+-- A page takes in one item more, and gives the band that is full with what came before it, if one is.
+abbrev pub GoesOn : Item → SeenPage → Option (List ℕ) → SeenPage → Type 0
+GoesOn item old full new = (plan : Plan) (items : List Item) → old ≡ page_of plan items → (new ≡ page_of plan (item ∷ items)) × (full_told plan (item ∷ items) ≡ full_told plan items ++ band_text full)
+
+-- Once there are no more items, it gives the last bands.
+abbrev pub GivesRest : SeenPage → Option (List ℕ) → List ℕ → SeenPage → Type 0
+GivesRest old full last new = (plan : Plan) (items : List Item) → old ≡ page_of plan items → (bands_told plan items ≡ full_told plan items ++ band_text full ++ last) × (new.height ≡ heights_told plan items)
+
+-- The column that is not placed yet is put in its band, or in the next one.
+abbrev pub Places : SeenPage → Option (List ℕ) → SeenPage → Type 0
+Places old full new =
+    (plan : Plan) (state : State) (last_at : ℕ) (columns : List Seen) → state.processes ≡ plan.processes → old ≡ page_holding plan state (newest columns) last_at (bands_of plan.opening (older columns)) →
+    (new ≡ page_holding plan state None last_at (bands_of plan.opening columns)) × (full_bytes plan (bands_of plan.opening columns).full ≡ full_bytes plan (bands_of plan.opening (older columns)).full ++ band_text full)
+
+-- Another band begins where a column has no room.
+abbrev pub MakesRoom : Seen → SeenPage → Option (List ℕ) → SeenPage → Type 0
+MakesRoom column old full new =
+    (plan : Plan) (state : State) (pending : Option Seen) (last_at : ℕ) (bands : Bands) → state.processes ≡ plan.processes → old ≡ page_holding plan state pending last_at bands →
+    (new ≡ page_holding plan state pending last_at (with_room plan.opening column bands)) × (full_bytes plan (with_room plan.opening column bands).full ≡ full_bytes plan bands.full ++ band_text full)
+
+-- A column is put behind the others.
+abbrev pub Puts : Seen → SeenPage → SeenPage → Type 0
+Puts column old new =
+    (plan : Plan) (state : State) (pending : Option Seen) (last_at : ℕ) (bands : Bands) → old ≡ page_holding plan state pending last_at bands → new ≡ page_holding plan state pending last_at (with_put plan.opening column bands)
+
+-- The band that is begun is drawn, and another begins.
+abbrev pub DrawsBand : Bool → SeenPage → List ℕ → SeenPage → Type 0
+DrawsBand is_last old band new =
+    (plan : Plan) (state : State) (pending : Option Seen) (last_at : ℕ) (bands : Bands) → state.processes ≡ plan.processes → old ≡ page_holding plan state pending last_at bands →
+    (new ≡ page_holding plan state pending last_at (filled bands)) × (band ≡ band_bytes plan is_last bands.begun bands.full)

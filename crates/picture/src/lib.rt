@@ -22,7 +22,7 @@ mod state;
 mod told;
 mod words;
 
-pub use laws::stages_are_the_records;
+pub use laws::{bars_are_stages, stages_are_the_records};
 pub use page::{Form, Page};
 pub use reads::{OverlappedRead, Reads};
 pub use sheets::{FIRST_BAND, page_end, page_head, picture_end, picture_head};

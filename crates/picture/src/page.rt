@@ -1,8 +1,14 @@
 //! The bands of a page, from the lines of a run.
-ghost use Rattle.std.specs.Prelude.{◌≡◌, ◌++◌, [], ◌∷◌, flat_map, IfOk, IfSome, None, OnOk};
+ghost use Rattle.std.specs.Prelude.{◌≡◌, ◌++◌, [], ◌∷◌, codes, flat_map, map, IfOk, IfSome, None, OnOk};
 ghost use Rattle.shapes.specs.Elements.{EndsAll};
+ghost use Rattle.shapes.specs.Figures.{drawings};
+ghost use Rattle.shapes.specs.Readings.{reading, with_begun};
 ghost use Rattle.shapes.specs.Titles.{lines_in};
-ghost use Rattle.picture.specs.Pages.{held, lines_of_band, stages_kept};
+ghost use Rattle.picture.specs.Bandings.{Reads, Tells, band_tag, behind_columns, framed, opening_length, opens_with};
+ghost use Rattle.picture.specs.Columns.{seen};
+ghost use Rattle.picture.specs.Drawings.{band_shapes, seen_band};
+ghost use Rattle.picture.specs.Pages.{DrawsBand, GivesRest, GoesOn, MakesRoom, Places, Puts, held, lines_of_band, page_of, seen_page, stages_kept};
+ghost use Rattle.picture.specs.declared.page.Form.TheVariants as form_variants;
 ghost use Rattle.picture.specs.Stages.{nothing_told, stages_told};
 ghost use Rattle.picture.specs.Told.{text_of, told_in};
 
@@ -45,6 +51,7 @@ pub struct Page {
 impl Page {
     /// No line was told; `opening` is the opening store, if it is not empty.
     pub fn new(alloc: Global, form: Form, processes: u8, opening: &[u8]) -> Result<Page, AllocError>
+        ensures page { IfOk result (λ page. seen_page page ≡ page_of (record { form = form; processes = processes; opening = opening.now }) []) }
         ensures lines { IfOk result (λ page. held page ≡ []) }
         ensures stages { IfOk result (λ page. stages_kept page ≡ nothing_told) }
         ensures processes { IfOk result (λ page. page.state.processes ≡ processes) }
@@ -68,7 +75,9 @@ impl Page {
     }
 
     /// The heights of all bands so far, with 16 more for each.
-    pub fn height(&self) -> u64 {
+    pub fn height(&self) -> u64
+        ensures { result ≡ self.now.height }
+    {
         self.height
     }
 
@@ -76,6 +85,7 @@ impl Page {
     /// those that are held back, are those that were held back before, and this one; in the band each element that
     /// begins ends. The stages go on as the line tells.
     pub fn take(&mut self, line: Line) -> Result<Option<Markup>, AllocError>
+        ensures page { IfOk result (λ full. GoesOn (Tells line) (seen_page self.old) full (seen_page self.new)) }
         ensures lines { IfOk result (λ full. lines_of_band full ++ held self.new ≡ held self.old ++ text_of line ∷ []) }
         ensures ended { IfOk result (λ full. IfSome full EndsAll) }
         ensures stages { OnOk result (stages_kept self.new ≡ stages_told self.old.state.processes (stages_kept self.old) line.saying) }
@@ -98,6 +108,7 @@ impl Page {
     /// Takes in a read that a write overlapped; answers the band that is full with what came before it, if one is. It
     /// tells no line.
     pub fn take_read(&mut self, read: OverlappedRead) -> Result<Option<Markup>, AllocError>
+        ensures page { IfOk result (λ full. GoesOn (Reads read) (seen_page self.old) full (seen_page self.new)) }
         ensures lines { IfOk result (λ full. lines_of_band full ++ held self.new ≡ held self.old) }
         ensures ended { IfOk result (λ full. IfSome full EndsAll) }
         ensures stages { OnOk result (stages_kept self.new ≡ stages_kept self.old) }
@@ -112,6 +123,7 @@ impl Page {
 
     /// The last bands, once all lines were told: they tell the lines that were held back.
     pub fn end(&mut self) -> Result<(Option<Markup>, Markup), AllocError>
+        ensures page { IfOk result (λ bands. GivesRest (seen_page self.old) bands.0 bands.1 (seen_page self.new)) }
         ensures lines { IfOk result (λ bands. lines_of_band bands.0 ++ lines_in bands.1 ≡ held self.old) }
         ensures full { IfOk result (λ bands. IfSome bands.0 EndsAll) }
         ensures last { IfOk result (λ bands. EndsAll bands.1) }
@@ -123,6 +135,7 @@ impl Page {
 
     /// Places the column that no more line joins; answers the band before it, if it is full.
     fn place_pending(&mut self) -> Result<Option<Markup>, AllocError>
+        ensures page { IfOk result (λ full. Places (seen_page self.old) full (seen_page self.new)) }
         ensures placed { OnOk result (self.new.pending ≡ None) }
         ensures state { self.new.state ≡ self.old.state }
         ensures lines { IfOk result (λ full. lines_of_band full ++ flat_map told_in self.new.columns.items ≡ held self.old) }
@@ -138,6 +151,7 @@ impl Page {
 
     /// Draws the band, and begins another, where a column has no room in it.
     fn make_room(&mut self, column: &Column) -> Result<Option<Markup>, AllocError>
+        ensures page { IfOk result (λ full. MakesRoom (seen column.now) (seen_page self.old) full (seen_page self.new)) }
         ensures pending { OnOk result (self.new.pending ≡ self.old.pending) }
         ensures state { self.new.state ≡ self.old.state }
         ensures lines { IfOk result (λ full. lines_of_band full ++ flat_map told_in self.new.columns.items ≡ flat_map told_in self.old.columns.items) }
@@ -147,14 +161,13 @@ impl Page {
         if self.placing.has_room(place) {
             return Ok(None);
         }
-        let full = self.draw_band(false)?;
-        self.placing = Placing::new(0);
-        Ok(Some(full))
+        Ok(Some(self.draw_band(false)?))
     }
 
     /// Puts a column behind the others of the band.
     #[tactic(auto, using(crate::proofs::Held::put_last))]
     fn put(&mut self, column: Column) -> Result<(), AllocError>
+        ensures page { OnOk result (Puts (seen column) (seen_page self.old) (seen_page self.new)) }
         ensures pending { OnOk result (self.new.pending ≡ self.old.pending) }
         ensures state { self.new.state ≡ self.old.state }
         ensures lines { OnOk result (flat_map told_in self.new.columns.items ≡ flat_map told_in self.old.columns.items ++ told_in column) }
@@ -167,6 +180,7 @@ impl Page {
 
     /// Draws the columns of the band, and begins another.
     fn draw_band(&mut self, is_last: bool) -> Result<Markup, AllocError>
+        ensures page { IfOk result (λ band. DrawsBand is_last (seen_page self.old) band (seen_page self.new)) }
         ensures pending { OnOk result (self.new.pending ≡ self.old.pending) }
         ensures state { self.new.state ≡ self.old.state }
         ensures begun { OnOk result (self.new.columns.items ≡ []) }
@@ -174,14 +188,14 @@ impl Page {
         ensures ended { IfOk result EndsAll }
     {
         let mut columns = std::mem::replace(&mut self.columns, Vec::new(self.alloc));
-        stretch(self.alloc, columns.as_mut_slice())?;
-        let layout = Layout::new(self.state.processes, columns.as_slice(), is_last);
         let before = self.before;
         let before_at = self.before_at;
-        if let Some(column) = columns.last() {
-            self.before = column.after;
-            self.before_at = column.at;
-        }
+        let (behind, behind_at) = behind(columns.as_slice(), before, before_at);
+        self.before = behind;
+        self.before_at = behind_at;
+        self.placing = Placing::new(0);
+        stretch(self.alloc, columns.as_mut_slice())?;
+        let layout = Layout::new(self.state.processes, columns.as_slice(), is_last);
         let band = Band {
             columns,
             before,
@@ -198,6 +212,7 @@ impl Page {
 
     /// The picture or the group of a band.
     fn markup_of(&self, band: &Band) -> Result<Markup, AllocError>
+        ensures draws { IfOk result (λ markup. markup ≡ framed self.now.form self.now.bands self.now.height band.now.layout.height (drawings (band_shapes (seen_band band.now)))) }
         ensures lines { IfOk result (λ markup. lines_in markup ≡ flat_map told_in band.now.columns.items) }
         ensures ended { IfOk result EndsAll }
     {
@@ -209,21 +224,12 @@ impl Page {
 
     /// A band as a picture of its own.
     fn picture_of(&self, band: &Band) -> Result<Markup, AllocError>
+        ensures draws { IfOk result (λ markup. markup ≡ framed form_variants.Page self.now.bands self.now.height band.now.layout.height (drawings (band_shapes (seen_band band.now)))) }
         ensures lines { IfOk result (λ markup. lines_in markup ≡ flat_map told_in band.now.columns.items) }
         ensures ended { IfOk result EndsAll }
     {
-        let height = band.layout.height;
-        let bands = self.bands;
-        let view = format!(in self.alloc; "0 0 1200 {height}")?;
-        let label = format!(in self.alloc; "Part {bands} of the run")?;
-        let attributes = [
-            class("band"),
-            words(Key::ViewBox, view.as_bytes()),
-            words(Key::Role, b"group"),
-            words(Key::Label, label.as_bytes()),
-        ];
         let mut markup = Markup::new(self.alloc);
-        markup.enter(Tag::Svg, &attributes)?;
+        enter_band(self.bands, band.layout.height, &mut markup)?;
         markup.constant("\n")?;
         band.draw(self.alloc, &mut markup)?;
         markup.frame("</svg>\n")?;
@@ -232,6 +238,7 @@ impl Page {
 
     /// A band as a group of one picture, whose bands begin at this height.
     fn group_of(&self, band: &Band, top: u64) -> Result<Markup, AllocError>
+        ensures draws { IfOk result (λ markup. markup ≡ framed (form_variants.Picture top) self.now.bands self.now.height band.now.layout.height (drawings (band_shapes (seen_band band.now)))) }
         ensures lines { IfOk result (λ markup. lines_in markup ≡ flat_map told_in band.now.columns.items) }
         ensures ended { IfOk result EndsAll }
     {
@@ -243,8 +250,38 @@ impl Page {
     }
 }
 
+/// The tag of a band's own picture: the part of this number, so high.
+fn enter_band(number: u64, height: u16, markup: &mut Markup) -> Result<(), AllocError>
+    ensures draws { OnOk result (markup.new ≡ markup.old ++ band_tag number height) }
+    ensures read { OnOk result (reading markup.new ≡ with_begun (codes "svg") (reading markup.old)) }
+{
+    let view = format!(in markup.alloc(); "0 0 1200 {height}")?;
+    let label = format!(in markup.alloc(); "Part {number} of the run")?;
+    markup.enter(
+        Tag::Svg,
+        &[
+            class("band"),
+            words(Key::ViewBox, view.as_bytes()),
+            words(Key::Role, b"group"),
+            words(Key::Label, label.as_bytes()),
+        ],
+    )
+}
+
+/// What stands behind columns, by what stood before them: what was told, and how many events were accepted.
+fn behind(columns: &[Column], before: State, before_at: u64) -> (State, u64)
+    ensures { result ≡ behind_columns (map seen columns.now) (before, before_at) }
+{
+    match columns.last() {
+        Some(column) => (column.after, column.at),
+        None => (before, before_at),
+    }
+}
+
 /// What stands at the beginning of the history.
-fn opening_words(alloc: Global, opening: &[u8]) -> Result<Vec<u8>, AllocError> {
+fn opening_words(alloc: Global, opening: &[u8]) -> Result<Vec<u8>, AllocError>
+    ensures { IfOk result (λ words. words.items ≡ opens_with opening.now) }
+{
     if opening.is_empty() {
         return Ok(Vec::new(alloc));
     }
@@ -255,7 +292,9 @@ fn opening_words(alloc: Global, opening: &[u8]) -> Result<Vec<u8>, AllocError> {
 }
 
 /// How many characters stand there.
-fn characters(opening: &[u8]) -> usize {
+fn characters(opening: &[u8]) -> usize
+    ensures { result ≡ opening_length opening.now }
+{
     if opening.is_empty() {
         return 0;
     }

@@ -1,9 +1,11 @@
 //! What stands around the bands: the heading, the styles, the legend, the scenario and the slider.
-ghost use Rattle.std.specs.Prelude.{◌≡◌, [], codes, IfOk, OnOk, Some};
+ghost use Rattle.std.specs.Prelude.{◌≡◌, [], ◌++◌, codes, IfOk, OnOk, Some};
+ghost use Rattle.std.specs.String.{string_bytes};
 ghost use Rattle.shapes.specs.Elements.{opens_in};
 ghost use Rattle.shapes.specs.Readings.{reading, with_begun};
 ghost use Rattle.shapes.specs.Titles.{lines_in};
 ghost use Rattle.picture.specs.Pages.{page_names, picture_names};
+ghost use Rattle.picture.specs.Sheets.{description_tag, ground_of, ground_tag, heading_of, heading_tag, height_of_legend, legend_front, legend_of, legend_tag, list_of, page_back, page_front, paper_of, picture_back, picture_front, plural_of, slider_of, svg_front, svg_tag, title_tag, titles_of};
 
 use crate::constants::{LEGEND, PAGE_STYLE, PATTERNS, READS_LEGEND, SCRIPT, STYLE};
 use crate::reads::Reads;
@@ -22,6 +24,7 @@ pub fn page_head(
     printed: &[u8],
     reads: Reads,
 ) -> Result<Markup, AllocError>
+    ensures draws { IfOk result (λ markup. markup ≡ page_front setup.now printed.now reads) }
     ensures lines { IfOk result (λ markup. lines_in markup ≡ []) }
     ensures elements { IfOk result (λ markup. opens_in markup (Some []) ≡ Some page_names) }
 {
@@ -42,6 +45,7 @@ pub fn page_head(
     markup.constant(PATTERNS)?;
     markup.constant("\n")?;
     add_legend(reads, &mut markup)?;
+    markup.constant("\n")?;
     markup.frame("</svg>\n<details open><summary>The scenario</summary><ol>\n")?;
     list_lines(printed, &mut markup)?;
     markup.frame("</ol></details>\n")?;
@@ -50,7 +54,8 @@ pub fn page_head(
 
 /// How the page lies where it is printed.
 fn add_paper(processes: u8, markup: &mut Markup) -> Result<(), AllocError>
-    ensures { OnOk result (reading markup.new ≡ reading markup.old) }
+    ensures draws { OnOk result (markup.new ≡ markup.old ++ paper_of processes) }
+    ensures read { OnOk result (reading markup.new ≡ reading markup.old) }
 {
     if processes > 10 {
         markup.constant("\n@page{size:A4 portrait;margin:10mm}\n")
@@ -61,11 +66,21 @@ fn add_paper(processes: u8, markup: &mut Markup) -> Result<(), AllocError>
 
 /// Begins the picture of the legend in a page.
 fn begin_legend(reads: Reads, markup: &mut Markup) -> Result<(), AllocError>
-    ensures { OnOk result (reading markup.new ≡ with_begun (codes "svg") (reading markup.old)) }
+    ensures draws { OnOk result (markup.new ≡ markup.old ++ legend_front reads) }
+    ensures read { OnOk result (reading markup.new ≡ with_begun (codes "svg") (reading markup.old)) }
+{
+    markup.constant("\n")?;
+    enter_legend(reads, markup)?;
+    markup.constant("\n")
+}
+
+/// The tag of that picture.
+fn enter_legend(reads: Reads, markup: &mut Markup) -> Result<(), AllocError>
+    ensures draws { OnOk result (markup.new ≡ markup.old ++ legend_tag reads) }
+    ensures read { OnOk result (reading markup.new ≡ with_begun (codes "svg") (reading markup.old)) }
 {
     let height = legend_height(reads);
     let view = format!(in markup.alloc(); "0 0 1200 {height}")?;
-    markup.constant("\n")?;
     markup.enter(
         Tag::Svg,
         &[
@@ -73,23 +88,24 @@ fn begin_legend(reads: Reads, markup: &mut Markup) -> Result<(), AllocError>
             words(Key::Role, b"img"),
             words(Key::Label, b"Legend"),
         ],
-    )?;
-    markup.constant("\n")
+    )
 }
 
 /// What signs, bars and words mean.
 fn add_legend(reads: Reads, markup: &mut Markup) -> Result<(), AllocError>
-    ensures { OnOk result (reading markup.new ≡ reading markup.old) }
+    ensures draws { OnOk result (markup.new ≡ markup.old ++ legend_of reads) }
+    ensures read { OnOk result (reading markup.new ≡ reading markup.old) }
 {
     match reads {
-        Reads::Hidden => markup.constant(LEGEND)?,
-        Reads::Shown => markup.constant(READS_LEGEND)?,
+        Reads::Hidden => markup.constant(LEGEND),
+        Reads::Shown => markup.constant(READS_LEGEND),
     }
-    markup.constant("\n")
 }
 
 /// The height of the legend.
-fn legend_height(reads: Reads) -> u64 {
+fn legend_height(reads: Reads) -> u64
+    ensures { result ≡ height_of_legend reads }
+{
     match reads {
         Reads::Hidden => 104,
         Reads::Shown => 122,
@@ -98,7 +114,8 @@ fn legend_height(reads: Reads) -> u64 {
 
 /// Lists the lines of the printed scenario, and its end.
 fn list_lines(printed: &[u8], markup: &mut Markup) -> Result<(), AllocError>
-    ensures { OnOk result (reading markup.new ≡ reading markup.old) }
+    ensures draws { OnOk result (markup.new ≡ markup.old ++ list_of printed.now) }
+    ensures read { OnOk result (reading markup.new ≡ reading markup.old) }
 {
     for line in printed.lines() {
         markup.tell(Tag::Item, &[], line)?;
@@ -110,11 +127,24 @@ fn list_lines(printed: &[u8], markup: &mut Markup) -> Result<(), AllocError>
 
 /// What a page has behind its bands; `opening`: the opening store.
 pub fn page_end(alloc: Global, opening: &[u8]) -> Result<Markup, AllocError>
+    ensures draws { IfOk result (λ markup. markup ≡ page_back opening.now) }
     ensures lines { IfOk result (λ markup. lines_in markup ≡ []) }
     ensures elements { IfOk result (λ markup. opens_in markup (Some page_names) ≡ Some []) }
 {
     let mut markup = Markup::new(alloc);
     markup.frame("<div id=\"now\"><div>")?;
+    add_slider(opening, &mut markup)?;
+    markup.frame("<output id=\"said\" for=\"at\"></output></div></div>\n<script>")?;
+    markup.frame(SCRIPT)?;
+    markup.frame("</script>\n</body></html>\n")?;
+    Ok(markup)
+}
+
+/// The slider, by which a line is chosen; `opening`: the opening store.
+fn add_slider(opening: &[u8], markup: &mut Markup) -> Result<(), AllocError>
+    ensures draws { OnOk result (markup.new ≡ markup.old ++ slider_of opening.now) }
+    ensures read { OnOk result (reading markup.new ≡ reading markup.old) }
+{
     markup.input(&[
         words(Key::Id, b"at"),
         words(Key::Type, b"range"),
@@ -122,11 +152,7 @@ pub fn page_end(alloc: Global, opening: &[u8]) -> Result<Markup, AllocError>
         words(Key::Value, b"0"),
         words(Key::Label, b"Line of the run"),
         words(Key::Store, opening),
-    ])?;
-    markup.frame("<output id=\"said\" for=\"at\"></output></div></div>\n<script>")?;
-    markup.frame(SCRIPT)?;
-    markup.frame("</script>\n</body></html>\n")?;
-    Ok(markup)
+    ])
 }
 
 /// What one picture has before its bands, whose heights come to so much.
@@ -136,6 +162,7 @@ pub fn picture_head(
     bands: u64,
     reads: Reads,
 ) -> Result<Markup, AllocError>
+    ensures draws { IfOk result (λ markup. markup ≡ picture_front setup.now bands reads) }
     ensures lines { IfOk result (λ markup. lines_in markup ≡ []) }
     ensures elements { IfOk result (λ markup. opens_in markup (Some []) ≡ Some picture_names) }
 {
@@ -144,9 +171,34 @@ pub fn picture_head(
     let height = bands
         .saturating_add(legend_height(reads))
         .saturating_add(FIRST_BAND + 8);
-    let view = format!(in alloc; "0 0 1200 {height}")?;
     let mut markup = Markup::new(alloc);
+    begin_picture(height, &mut markup)?;
+    add_titles(heading, &mut markup)?;
+    markup.frame("\n<style>\n")?;
+    markup.constant(STYLE)?;
+    markup.frame("\n</style>\n")?;
+    markup.constant(PATTERNS)?;
+    markup.constant("\n")?;
+    add_ground(height, heading, &mut markup)?;
+    Ok(markup)
+}
+
+/// Begins one picture of this height.
+fn begin_picture(height: u64, markup: &mut Markup) -> Result<(), AllocError>
+    ensures draws { OnOk result (markup.new ≡ markup.old ++ svg_front height) }
+    ensures read { OnOk result (reading markup.new ≡ with_begun (codes "svg") (reading markup.old)) }
+{
     markup.constant("<?xml version=\"1.0\" encoding=\"UTF-8\"?>\n")?;
+    enter_picture(height, markup)?;
+    markup.constant("\n")
+}
+
+/// The tag of one picture.
+fn enter_picture(height: u64, markup: &mut Markup) -> Result<(), AllocError>
+    ensures draws { OnOk result (markup.new ≡ markup.old ++ svg_tag height) }
+    ensures read { OnOk result (reading markup.new ≡ with_begun (codes "svg") (reading markup.old)) }
+{
+    let view = format!(in markup.alloc(); "0 0 1200 {height}")?;
     markup.enter(
         Tag::Svg,
         &[
@@ -157,16 +209,47 @@ pub fn picture_head(
             words(Key::Role, b"group"),
             words(Key::LabelledBy, b"t d"),
         ],
-    )?;
+    )
+}
+
+/// The title of one picture, and what it shows.
+fn add_titles(heading: &[u8], markup: &mut Markup) -> Result<(), AllocError>
+    ensures draws { OnOk result (markup.new ≡ markup.old ++ titles_of heading.now) }
+    ensures read { OnOk result (reading markup.new ≡ reading markup.old) }
+{
+    tell_title(heading, markup)?;
     markup.constant("\n")?;
-    markup.tell(Tag::Title, &[words(Key::Id, b"t")], heading)?;
-    markup.constant("\n")?;
-    markup.tell(Tag::Desc, &[words(Key::Id, b"d")], DESCRIPTION)?;
-    markup.frame("\n<style>\n")?;
-    markup.constant(STYLE)?;
-    markup.frame("\n</style>\n")?;
-    markup.constant(PATTERNS)?;
-    markup.constant("\n")?;
+    describe(markup)
+}
+
+fn tell_title(heading: &[u8], markup: &mut Markup) -> Result<(), AllocError>
+    ensures draws { OnOk result (markup.new ≡ markup.old ++ title_tag heading.now) }
+    ensures read { OnOk result (reading markup.new ≡ reading markup.old) }
+{
+    markup.tell(Tag::Title, &[words(Key::Id, b"t")], heading)
+}
+
+fn describe(markup: &mut Markup) -> Result<(), AllocError>
+    ensures draws { OnOk result (markup.new ≡ markup.old ++ description_tag) }
+    ensures read { OnOk result (reading markup.new ≡ reading markup.old) }
+{
+    markup.tell(Tag::Desc, &[words(Key::Id, b"d")], DESCRIPTION)
+}
+
+/// The ground of one picture of this height, and its heading.
+fn add_ground(height: u64, heading: &[u8], markup: &mut Markup) -> Result<(), AllocError>
+    ensures draws { OnOk result (markup.new ≡ markup.old ++ ground_of height heading.now) }
+    ensures read { OnOk result (reading markup.new ≡ reading markup.old) }
+{
+    fill_ground(height, markup)?;
+    head_picture(heading, markup)?;
+    markup.constant("\n")
+}
+
+fn fill_ground(height: u64, markup: &mut Markup) -> Result<(), AllocError>
+    ensures draws { OnOk result (markup.new ≡ markup.old ++ ground_tag height) }
+    ensures read { OnOk result (reading markup.new ≡ reading markup.old) }
+{
     markup.stand(
         Tag::Rect,
         &[
@@ -174,14 +257,18 @@ pub fn picture_head(
             number(Key::Height, height),
             words(Key::Fill, b"#fff"),
         ],
-    )?;
+    )
+}
+
+fn head_picture(heading: &[u8], markup: &mut Markup) -> Result<(), AllocError>
+    ensures draws { OnOk result (markup.new ≡ markup.old ++ heading_tag heading.now) }
+    ensures read { OnOk result (reading markup.new ≡ reading markup.old) }
+{
     markup.tell(
         Tag::Text,
         &[number(Key::X, 8), number(Key::Y, 20), class("lane")],
         heading,
-    )?;
-    markup.constant("\n")?;
-    Ok(markup)
+    )
 }
 
 /// What a picture shows.
@@ -190,6 +277,7 @@ const DESCRIPTION: &[u8] =
 
 /// What one picture has behind its bands, whose heights come to so much.
 pub fn picture_end(alloc: Global, bands: u64, reads: Reads) -> Result<Markup, AllocError>
+    ensures draws { IfOk result (λ markup. markup ≡ picture_back bands reads) }
     ensures lines { IfOk result (λ markup. lines_in markup ≡ []) }
     ensures elements { IfOk result (λ markup. opens_in markup (Some picture_names) ≡ Some []) }
 {
@@ -197,12 +285,23 @@ pub fn picture_end(alloc: Global, bands: u64, reads: Reads) -> Result<Markup, Al
     let mut markup = Markup::new(alloc);
     markup.lower(y)?;
     add_legend(reads, &mut markup)?;
+    markup.constant("\n")?;
     markup.frame("</g></svg>\n")?;
     Ok(markup)
 }
 
+/// What makes `process` many.
+fn plural(processes: u8) -> &'static str
+    ensures { result.now ≡ plural_of processes }
+{
+    if processes == 1 { "" } else { "es" }
+}
+
 /// The heading of both.
-fn heading(alloc: Global, setup: &Setup) -> Result<String, AllocError> {
+#[tactic(auto, using(crate::proofs::Sheetings::heading_is))]
+fn heading(alloc: Global, setup: &Setup) -> Result<String, AllocError>
+    ensures { IfOk result (λ heading. string_bytes heading ≡ heading_of setup.now) }
+{
     let Setup {
         version,
         processes,
@@ -211,7 +310,7 @@ fn heading(alloc: Global, setup: &Setup) -> Result<String, AllocError> {
         slots,
         ..
     } = *setup;
-    let many = if processes == 1 { "" } else { "es" };
+    let many = plural(processes);
     format!(in alloc;
         "Run of {processes} process{many} (bakery {version}, tickets {ticket_bits}, stamps {stamp_bits}, slots {slots})"
     )

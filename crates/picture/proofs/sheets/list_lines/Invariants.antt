@@ -1,7 +1,12 @@
-use Rattle.std.proofs.Common.{◌≡◌}
+use Rattle.std.proofs.Common.{◌≡◌, ◌++◌, flat_map, map}
+use Rattle.bstr.specs.Text.{lines_of, without_terminator}
 use Rattle.shapes.specs.Readings.{reading}
+use Rattle.picture.specs.Sheets.{item_of}
 use Rattle.picture.proofs.sheets.list_lines.Given as goal
 
--- no line more
+-- what is listed and the lines to come are all; and no line of a run more
 abbrev pub invariant-loop-line : goal.invariant-loop-line
-invariant-loop-line l = reading l.markup ≡ reading l.fn.markup
+invariant-loop-line l = record {
+  draws : l.markup ++ flat_map item_of l.line-iterator ≡ l.fn.markup ++ flat_map item_of (map without_terminator (lines_of l.fn.printed));
+  read : reading l.markup ≡ reading l.fn.markup;
+}

@@ -3,12 +3,18 @@ use Rattle.shapes.specs.Elements.{opens_in}
 use Rattle.shapes.specs.Readings.{reading, with_tags}
 use Rattle.picture.specs.declared.constants.TheConstants.{SCRIPT}
 use Rattle.picture.proofs.Framing.{page_end_read, script_text}
+use Rattle.picture.proofs.Sheetings.{adds}
 use Rattle.picture.proofs.sheets.page_end.Goals as goal
 
 pub returns-clause-lines : goal.returns-clause-lines
 returns-clause-lines c = (page_end_read SCRIPT.now _ _ _ _ _ refl (ap reading c.new-markup.ensures) c.in_ok-frame.ensures.read
-    (c.in_ok-frame-2.ensures.read ∙ ap (with_tags (opens_in script_text)) c.in_ok-input.ensures.read) c.in_ok-frame-3.ensures.read c.in_ok-frame-4.ensures.read).0
+    (c.in_ok-frame-2.ensures.read ∙ ap (with_tags (opens_in script_text)) c.in_ok-add_slider.ensures.read) c.in_ok-frame-3.ensures.read c.in_ok-frame-4.ensures.read).0
 
 pub returns-clause-elements : goal.returns-clause-elements
 returns-clause-elements c = (page_end_read SCRIPT.now _ _ _ _ _ refl (ap reading c.new-markup.ensures) c.in_ok-frame.ensures.read
-    (c.in_ok-frame-2.ensures.read ∙ ap (with_tags (opens_in script_text)) c.in_ok-input.ensures.read) c.in_ok-frame-3.ensures.read c.in_ok-frame-4.ensures.read).1
+    (c.in_ok-frame-2.ensures.read ∙ ap (with_tags (opens_in script_text)) c.in_ok-add_slider.ensures.read) c.in_ok-frame-3.ensures.read c.in_ok-frame-4.ensures.read).1
+
+pub returns-clause-draws : goal.returns-clause-draws
+returns-clause-draws c =
+    adds _ _ _ _ c.in_ok-frame-4.ensures.draws (adds _ _ _ _ c.in_ok-frame-3.ensures.draws (adds _ _ _ _ c.in_ok-frame-2.ensures.draws (adds _ _ _ _ c.in_ok-add_slider.ensures.draws
+    (adds _ _ _ _ c.in_ok-frame.ensures.draws c.new-markup.ensures))))

@@ -1,0 +1,258 @@
+-- A page from item to item.
+use Rattle.std.proofs.Common.{◌≡◌, ℕ, ◌+◌, ◌-◌, Bool, true, false, cond, nat_lt, zero, suc, ◌&&◌, length, map, take, drop, List, [], ◌∷◌, ◌++◌, slice_get, Option, None, Some, option_map, unwrap_or, refl, ap, sym, subst, ◌∙◌, append-nil}
+use Rattle.std.proofs.lemmas.Grind.{fold-append}
+use Rattle.std.proofs.Math.Seq.{take-append_seam}
+use Rattle.std.proofs.lemmas.List.{length-map}
+use Rattle.shapes.specs.Figures.{drawings}
+use Rattle.record.specs.declared.marks.Mark.{Mark}
+use Rattle.picture.specs.Bandings.{Bands, Item, Plan, Reads, Tells, bands_of, begun_by, behind_columns, columns_of, filled, framed, full_bytes, heights, last_in, layout_in, line_by, newest, newest_at, older, placing_before, placing_in, room_by, state_after, with_line, with_placed, with_put, with_room}
+use Rattle.picture.specs.Columns.{Seen, alone, column_of_read, joined, joins, seen}
+use Rattle.picture.specs.Drawings.{band_shapes}
+use Rattle.picture.specs.Pages.{DrawsBand, GivesRest, GoesOn, MakesRoom, Places, Puts, SeenPage, band_text, page_by, page_holding}
+use Rattle.picture.specs.Layouts.{layout_of}
+use Rattle.picture.specs.Placings.{drawn_apart, end_of_words, has_room_at, last_of, moved_to, place_of, placing_at_first, put_at, stretched_all, widened}
+use Rattle.picture.specs.Sheets.{held_in_64}
+use Rattle.picture.specs.States.{freed_by, state_marked, state_told}
+use Rattle.picture.specs.declared.columns.Column.{Column}
+use Rattle.picture.specs.declared.layout.Layout.{Layout}
+use Rattle.picture.specs.declared.placing.Placing.{Placing}
+use Rattle.picture.specs.declared.reads.OverlappedRead.{OverlappedRead}
+use Rattle.picture.specs.declared.state.State.{State}
+use Rattle.picture.specs.declared.told.Line.{Line}
+use Rattle.picture.specs.declared.told.Saying.{Saying}
+use Rattle.picture.specs.declared.told.Saying.TheVariants.{Ended, Marked, Refused, Shown, Tired}
+
+-- a column is put behind the others
+abbrev pub put_page : Seen → SeenPage → SeenPage
+put_page column page = record page { columns = page.columns ++ moved_to column (place_of page.placing column).x ∷ []; placing = put_at page.placing column (place_of page.placing column).x }
+
+put_placing : (opening : List ℕ) (column : Seen) (bands : Bands) → put_at (placing_in opening bands) column (place_of (placing_in opening bands) column).x ≡ placing_in opening (with_put opening column bands)
+put_placing opening column bands = sym (fold-append with_placed (placing_before opening bands.full) bands.begun (moved_to column (place_of (placing_in opening bands) column).x ∷ []))
+
+pub puts_column : (column : Seen) (old new : SeenPage) → new ≡ put_page column old → Puts column old new
+puts_column column old new is plan state pending last_at bands holds =
+    is ∙ ap (put_page column) holds ∙ (λ i. record (page_holding plan state pending last_at (with_put plan.opening column bands)) { placing = put_placing plan.opening column bands i })
+
+pub put_parts : (column placed : Seen) (x : ℕ) (old : SeenPage) (placing : Placing) (columns : List Seen) → columns ≡ old.columns ++ placed ∷ [] → placed ≡ moved_to column x → placing ≡ put_at old.placing column x → x ≡ (place_of old.placing column).x →
+    Puts column old (record old { columns = columns; placing = placing })
+put_parts column placed x old placing columns are stands put at = puts_column column old (record old { columns = columns; placing = placing })
+    ((λ i. record old { columns = (are ∙ ap (λ (c : Seen). old.columns ++ c ∷ []) stands) i; placing = put i })
+    ∙ ap (λ (x : ℕ). record old { columns = old.columns ++ moved_to column x ∷ []; placing = put_at old.placing column x }) at)
+
+-- the band that is begun is drawn
+abbrev pub filled_page : SeenPage → SeenPage
+filled_page page = record page {
+  opens = [];
+  before = (behind_columns page.columns (page.before, page.before_at)).0;
+  before_at = (behind_columns page.columns (page.before, page.before_at)).1;
+  placing = placing_at_first 0;
+  columns = [];
+  bands = held_in_64 (page.bands + 1);
+  height = held_in_64 (page.height + ((layout_in page.state.processes page.columns false).height + 16));
+}
+
+abbrev pub drawn_by : Bool → ℕ → SeenPage → List ℕ
+drawn_by is_last processes page =
+    framed page.form (held_in_64 (page.bands + 1)) page.height (layout_in processes page.columns is_last).height
+    (drawings (band_shapes (record {
+      columns = stretched_all page.columns;
+      before = page.before;
+      before_at = page.before_at;
+      layout = layout_in processes page.columns is_last;
+      is_last = is_last;
+      opens = page.opens;
+    })))
+
+pub draws_begun : (is_last : Bool) (old : SeenPage) (band : List ℕ) (new : SeenPage) → new ≡ filled_page old → band ≡ drawn_by is_last old.state.processes old → DrawsBand is_last old band new
+draws_begun is_last old band new is drawn plan state pending last_at bands same holds = (
+  is ∙ ap filled_page holds
+      ∙ (λ i. record (page_holding plan state pending last_at (filled bands)) { height = held_in_64 (heights plan.processes bands.full + ((layout_in (same i) bands.begun false).height + 16)) }),
+  drawn ∙ ap (λ (page : SeenPage). drawn_by is_last page.state.processes page) holds ∙ ap (λ (n : ℕ). drawn_by is_last n (page_holding plan state pending last_at bands)) same,
+)
+
+-- columns that are drawn apart are as many, and so fill the vector that lent them
+apart_length : (b : Bool) (columns : List Seen) (old new : ℕ) → length (elim b as (λ _. List Seen) [ true ↦ map (drawn_apart old new) columns | false ↦ columns ]) ≡ length columns
+apart_length true columns old new = length-map columns (drawn_apart old new)
+apart_length false columns old new = refl
+
+stretched_length : (columns : List Seen) → length (stretched_all columns) ≡ length columns
+stretched_length columns = apart_length (nat_lt 0 (last_of columns - 52) && nat_lt (last_of columns - 52) (widened (last_of columns) (end_of_words columns))) columns (last_of columns - 52) (widened (last_of columns) (end_of_words columns))
+
+pub stretched_within : (len : ℕ) (items now : List Column) → length items ≡ len → map seen now ≡ stretched_all (map seen items) → take len (now ++ drop (length now) items) ≡ now
+stretched_within len items now fits is =
+    let same : length now ≡ len = sym (length-map now seen) ∙ ap length is ∙ stretched_length (map seen items) ∙ length-map items seen ∙ fits in
+    ap (λ n. take n (now ++ drop (length now) items)) (sym same) ∙ take-append_seam now (drop (length now) items)
+
+-- and so by the parts of the page and of the band
+pub draws_parts : (is_last : Bool) (old : SeenPage) (opens shown : List ℕ) (behind : State × ℕ) (placing : Placing) (columns apart : List Seen) (layout : Layout) (bands height : ℕ) (markup : List ℕ) →
+    opens ≡ [] → shown ≡ old.opens → behind ≡ behind_columns old.columns (old.before, old.before_at) → placing ≡ placing_at_first 0 → columns ≡ [] → apart ≡ stretched_all old.columns → layout ≡ layout_of old.state.processes apart is_last →
+    bands ≡ held_in_64 (old.bands + 1) → height ≡ held_in_64 (old.height + (layout.height + 16)) →
+    markup ≡ framed old.form bands old.height layout.height (drawings (band_shapes (record { columns = apart; before = old.before; before_at = old.before_at; layout = layout; is_last = is_last; opens = shown }))) →
+    DrawsBand is_last old markup (record old { opens = opens; before = behind.0; before_at = behind.1; placing = placing; columns = columns; bands = bands; height = height })
+draws_parts is_last old opens shown behind placing columns apart layout bands height markup none same stands new empty stretched laid count high drawn =
+    let lies : layout ≡ layout_in old.state.processes old.columns is_last = laid ∙ ap (λ (c : List Seen). layout_of old.state.processes c is_last) stretched in
+    let higher : height ≡ held_in_64 (old.height + ((layout_in old.state.processes old.columns is_last).height + 16)) = high ∙ ap (λ (l : Layout). held_in_64 (old.height + (l.height + 16))) lies in
+    draws_begun is_last old markup (record old { opens = opens; before = behind.0; before_at = behind.1; placing = placing; columns = columns; bands = bands; height = height })
+    (λ i. record old { opens = none i; before = (stands i).0; before_at = (stands i).1; placing = new i; columns = empty i; bands = count i; height = higher i })
+    (drawn ∙ (λ i. framed old.form (count i) old.height (lies i).height (drawings (band_shapes (record { columns = stretched i; before = old.before; before_at = old.before_at; layout = lies i; is_last = is_last; opens = same i })))))
+
+-- the column has room, or another band begins
+abbrev pub has_room_in : Seen → SeenPage → Bool
+has_room_in column page = has_room_at page.placing (place_of page.placing column)
+
+pub stays_in : (column : Seen) (old new : SeenPage) → has_room_in column old ≡ true → new ≡ old → MakesRoom column old None new
+stays_in column old new room is plan state pending last_at bands same holds =
+    let has : has_room_in column (page_holding plan state pending last_at bands) ≡ true = ap (has_room_in column) (sym holds) ∙ room in (
+      is ∙ holds ∙ ap (λ (b : Bool). page_holding plan state pending last_at (room_by b bands)) (sym has),
+      ap (λ (b : Bool). full_bytes plan (room_by b bands).full) has ∙ sym (append-nil (full_bytes plan bands.full)),
+    )
+
+pub begins_next : (column : Seen) (old : SeenPage) (band : List ℕ) (new : SeenPage) → has_room_in column old ≡ false → DrawsBand false old band new → MakesRoom column old (Some band) new
+begins_next column old band new room draws plan state pending last_at bands same holds =
+    let has : has_room_in column (page_holding plan state pending last_at bands) ≡ false = ap (has_room_in column) (sym holds) ∙ room in
+    let drawn = draws plan state pending last_at bands same holds in (
+      drawn.0 ∙ ap (λ (b : Bool). page_holding plan state pending last_at (room_by b bands)) (sym has),
+      ap (λ (b : Bool). full_bytes plan (room_by b bands).full) has ∙ ap (λ l. full_bytes plan bands.full ++ l) (sym drawn.1),
+    )
+
+-- no column is to be placed
+none_newest : (column : Seen) (pending : Option Seen) → pending ≡ None → pending ≡ Some column → ⊥
+none_newest column pending none some = absurd (cc)
+
+pub places_none : (old new : SeenPage) → old.pending ≡ None → new ≡ old → Places old None new
+places_none old new none is plan state last_at [] same holds = (is ∙ holds, refl)
+places_none old new none is plan state last_at (column ∷ before) same holds = absurd (none_newest column old.pending none (ap (λ (p : SeenPage). p.pending) holds))
+
+-- one is
+abbrev pub without_pending : SeenPage → SeenPage
+without_pending page = record page { pending = None }
+
+same_column : (column other : Seen) (pending : Option Seen) → pending ≡ Some column → pending ≡ Some other → column ≡ other
+same_column column other pending one is = ap (λ (o : Option Seen). unwrap_or o column) (sym one ∙ is)
+
+pub places_one : (column : Seen) (old taken made new : SeenPage) (full : Option (List ℕ)) → old.pending ≡ Some column → taken ≡ without_pending old → MakesRoom column taken full made → Puts column made new → Places old full new
+places_one column old taken made new full one is makes puts plan state last_at [] same holds = absurd (none_newest column old.pending (ap (λ (p : SeenPage). p.pending) holds) one)
+places_one column old taken made new full one is makes puts plan state last_at (other ∷ before) same holds =
+    let room = makes plan state None last_at (bands_of plan.opening before) same (is ∙ ap without_pending holds) in
+    subst (λ (c : Seen). (new ≡ page_holding plan state None last_at (with_put plan.opening c (with_room plan.opening c (bands_of plan.opening before))))
+    × (full_bytes plan (with_room plan.opening c (bands_of plan.opening before)).full ≡ full_bytes plan (bands_of plan.opening before).full ++ band_text full))
+    (same_column column other old.pending one (ap (λ (p : SeenPage). p.pending) holds))
+    (puts plan state None last_at (with_room plan.opening column (bands_of plan.opening before)) room.0, room.1)
+
+-- as many processes as before
+marked_processes : (b : Bool) (state : State) (p : ℕ) (mark : Mark) → (let s : State = cond b (state_marked state p mark) state in s.processes) ≡ state.processes
+marked_processes true state p mark = refl
+marked_processes false state p mark = refl
+
+told_processes : (state : State) (saying : Saying) → (state_told state saying).processes ≡ state.processes
+told_processes state (Marked p mark change) = marked_processes (nat_lt p state.processes) state p mark
+told_processes state (Refused p refusal) = refl
+told_processes state (Tired p) = refl
+told_processes state (Shown words) = refl
+told_processes state (Ended events taken refused) = refl
+
+pub processes_after : (n : ℕ) (items : List Item) → (state_after n items).processes ≡ n
+processes_after n [] = refl
+processes_after n (Tells line ∷ before) = told_processes (state_after n before) line.saying ∙ processes_after n before
+processes_after n (Reads read ∷ before) = processes_after n before
+
+-- a line joins the column that is not placed yet
+abbrev pub joined_page : Line → Seen → SeenPage → SeenPage
+joined_page line column page = record page { state = state_told page.state line.saying; pending = Some (joined column line (freed_by page.state line.saying) (state_told page.state line.saying)) }
+
+-- it does not join one
+abbrev pub JoinsNone : Line → Option Seen → Type 0
+JoinsNone line pending = (column : Seen) → pending ≡ Some column → joins column line ≡ false
+
+-- it does not join a column, or there is none
+pub does_not_join : (line : Line) (column : Seen) (pending : Option Seen) → pending ≡ Some column → joins column line ≡ false → JoinsNone line pending
+does_not_join line column pending one does other is = ap (λ (c : Seen). joins c line) (same_column other column pending is one) ∙ does
+
+pub none_to_join : (line : Line) (pending : Option Seen) → pending ≡ None → JoinsNone line pending
+none_to_join line pending none column is = absurd (none_newest column pending none is)
+
+-- what a line does to a page with these columns
+abbrev OnwardBy : Plan → State → List Seen → Line → Option (List ℕ) → SeenPage → Type 0
+OnwardBy plan state columns line full new =
+    (new ≡ page_by plan (state_told state line.saying) (with_line line (freed_by state line.saying) (state_told state line.saying) columns))
+    × (full_bytes plan (bands_of plan.opening (older (with_line line (freed_by state line.saying) (state_told state line.saying) columns))).full ≡ full_bytes plan (bands_of plan.opening (older columns)).full ++ band_text full)
+
+joins_by : (line : Line) (column : Seen) (old new : SeenPage) (plan : Plan) (state : State) (columns : List Seen) → old.pending ≡ Some column → joins column line ≡ true → new ≡ joined_page line column old → old ≡ page_by plan state columns → OnwardBy plan state columns line None new
+joins_by line column old new plan state [] one joins is holds = absurd (none_newest column old.pending (ap (λ (p : SeenPage). p.pending) holds) one)
+joins_by line column old new plan state (other ∷ before) one does is holds =
+    let same : column ≡ other = same_column column other old.pending one (ap (λ (p : SeenPage). p.pending) holds) in
+    let has : joins other line ≡ true = ap (λ (c : Seen). joins c line) (sym same) ∙ does in (
+      is ∙ (λ i. joined_page line (same i) (holds i))
+          ∙ ap (λ (b : Bool). page_by plan (state_told state line.saying) (line_by b line (freed_by state line.saying) (state_told state line.saying) other before)) (sym has),
+      ap (λ (b : Bool). full_bytes plan (bands_of plan.opening (older (line_by b line (freed_by state line.saying) (state_told state line.saying) other before))).full) has
+          ∙ sym (append-nil (full_bytes plan (bands_of plan.opening before).full)),
+    )
+
+pub joins_pending : (line : Line) (column : Seen) (old new : SeenPage) → old.pending ≡ Some column → joins column line ≡ true → new ≡ joined_page line column old → GoesOn (Tells line) old None new
+joins_pending line column old new one does is plan items holds = joins_by line column old new plan (state_after plan.processes items) (columns_of plan.processes items) one does is holds
+
+-- or has a column of its own
+abbrev pub told_page : Line → SeenPage → SeenPage
+told_page line page = record page { state = state_told page.state line.saying }
+
+abbrev pub begun_page : Line → SeenPage → SeenPage → SeenPage
+begun_page line old placed = record placed { pending = Some (alone line (line.at - placed.last_at) (freed_by old.state line.saying) (state_told old.state line.saying)); last_at = line.at }
+
+begins_line : (line : Line) (frees : Option ℕ) (after : State) (columns : List Seen) → JoinsNone line (newest columns) → begun_by line frees after columns ≡ with_line line frees after columns
+begins_line line frees after [] other = refl
+begins_line line frees after (column ∷ before) other = ap (λ (b : Bool). line_by b line frees after column before) (sym (other column refl))
+
+pub begins_alone : (line : Line) (old told placed new : SeenPage) (full : Option (List ℕ)) → JoinsNone line old.pending → told ≡ told_page line old → Places told full placed → new ≡ begun_page line old placed → GoesOn (Tells line) old full new
+begins_alone line old told placed new full other says places is plan items holds =
+    let before : State = state_after plan.processes items in
+    let state : State = state_told before line.saying in
+    let frees : Option ℕ = freed_by before line.saying in
+    let columns : List Seen = columns_of plan.processes items in
+    let put = places plan state (newest_at columns) columns (told_processes before line.saying ∙ processes_after plan.processes items) (says ∙ ap (told_page line) holds) in
+    let begins : begun_by line frees state columns ≡ with_line line frees state columns = begins_line line frees state columns (subst (λ (p : SeenPage). JoinsNone line p.pending) holds other) in (
+      is ∙ (λ i. begun_page line (holds i) (put.0 i)) ∙ ap (page_by plan state) begins,
+      ap (λ (l : List Seen). full_bytes plan (bands_of plan.opening (older l)).full) (sym begins) ∙ put.1,
+    )
+
+pub begun_is : (line : Line) (old placed : SeenPage) (column : Seen) (gap : ℕ) (frees : Option ℕ) (after : State) → column ≡ alone line gap frees after → gap ≡ line.at - placed.last_at → frees ≡ freed_by old.state line.saying → after ≡ state_told old.state line.saying →
+    (let page : SeenPage = record placed { pending = Some column; last_at = line.at } in page) ≡ begun_page line old placed
+begun_is line old placed column gap frees after is far frees_is told =
+    ap (λ (c : Seen). (let page : SeenPage = record placed { pending = Some c; last_at = line.at } in page)) (is ∙ (λ i. alone line (far i) (frees_is i) (told i)))
+
+-- a read has one
+abbrev pub read_page : OverlappedRead → SeenPage → SeenPage
+read_page read placed = record placed { pending = Some (column_of_read read (read.end - placed.last_at) placed.state); last_at = read.end }
+
+pub read_is : (read : OverlappedRead) (placed : SeenPage) (column : Seen) (gap : ℕ) → column ≡ column_of_read read gap placed.state → gap ≡ read.end - placed.last_at →
+    (let page : SeenPage = record placed { pending = Some column; last_at = read.end } in page) ≡ read_page read placed
+read_is read placed column gap is far = ap (λ (c : Seen). (let page : SeenPage = record placed { pending = Some c; last_at = read.end } in page)) (is ∙ ap (λ (g : ℕ). column_of_read read g placed.state) far)
+
+pub begins_read : (read : OverlappedRead) (old placed new : SeenPage) (full : Option (List ℕ)) → Places old full placed → new ≡ read_page read placed → GoesOn (Reads read) old full new
+begins_read read old placed new full places is plan items holds =
+    let columns : List Seen = columns_of plan.processes items in
+    let put = places plan (state_after plan.processes items) (newest_at columns) columns (processes_after plan.processes items) holds in
+    (is ∙ ap (read_page read) put.0, put.1)
+
+-- the last bands
+pub gives_rest : (old placed new : SeenPage) (full : Option (List ℕ)) (last : List ℕ) → Places old full placed → DrawsBand true placed last new → GivesRest old full last new
+gives_rest old placed new full last places draws plan items holds =
+    let state : State = state_after plan.processes items in
+    let columns : List Seen = columns_of plan.processes items in
+    let same : state.processes ≡ plan.processes = processes_after plan.processes items in
+    let put = places plan state (newest_at columns) columns same holds in
+    let drawn = draws plan state None (newest_at columns) (bands_of plan.opening columns) same put.0 in (
+      (λ i. put.1 i ++ sym drawn.1 i),
+      ap (λ (p : SeenPage). p.height) drawn.0,
+    )
+
+-- the last of columns, as lists
+get_seen : (columns : List Column) (k : ℕ) → option_map seen (slice_get columns k) ≡ slice_get (map seen columns) k
+get_seen [] k = refl
+get_seen (column ∷ columns) zero = refl
+get_seen (column ∷ columns) (suc k) = get_seen columns k
+
+pub last_seen : (columns : List Column) (o : Option Column) → o ≡ slice_get columns (length columns - 1) → option_map seen o ≡ last_in (map seen columns)
+last_seen columns o is = ap (option_map seen) is ∙ get_seen columns (length columns - 1) ∙ ap (λ n. slice_get (map seen columns) (n - 1)) (sym (length-map columns seen))
+
+pub stands_behind : (columns : List Seen) (before result : State × ℕ) (o : Option Seen) → o ≡ last_in columns → result ≡ elim o as (λ _. State × ℕ) [ None ↦ before | Some column ↦ (column.after, column.at) ] → result ≡ behind_columns columns before
+stands_behind columns before result o is behind = behind ∙ ap (λ (o : Option Seen). elim o as (λ _. State × ℕ) [ None ↦ before | Some column ↦ (column.after, column.at) ]) is

@@ -1,0 +1,43 @@
+-- What stands around the bands, put together piece by piece.
+use Rattle.std.proofs.Common.{◌≡◌, ℕ, Result, Ok, Err, OnOk, List, [], ◌∷◌, ◌++◌, codes, flat_map, ap, ◌∙◌, append_assoc}
+use Rattle.shapes.specs.Markup.{Said, attribute_text, said_text, telling_by}
+use Rattle.shapes.specs.declared.attributes.Attribute.{Attribute}
+use Rattle.shapes.specs.declared.names.Tag.TheVariants as tag
+use Rattle.std.specs.Fmt.{decimal}
+use Rattle.picture.specs.Sheets.{item_of, plural_of, says}
+
+-- a line of the list more
+pub line_listed : (now told new : List ℕ) (line : List ℕ) (rest : List (List ℕ)) → told ≡ now ++ telling_by tag.Item [] line → new ≡ told ++ codes "\n" → new ++ flat_map item_of rest ≡ now ++ flat_map item_of (line ∷ rest)
+line_listed now told new line rest tells ends =
+    ap (λ l. l ++ flat_map item_of rest) (ends ∙ ap (λ l. l ++ codes "\n") tells ∙ append_assoc now (telling_by tag.Item [] line) (codes "\n"))
+    ∙ append_assoc now (item_of line) (flat_map item_of rest)
+
+-- one piece more
+pub adds : (old now new more : List ℕ) → new ≡ now ++ more → now ≡ old → new ≡ old ++ more
+adds old now new more is was = is ∙ ap (λ l. l ++ more) was
+
+pub adds_same : (old now new more other : List ℕ) → new ≡ now ++ more → more ≡ other → now ≡ old → new ≡ old ++ other
+adds_same old now new more other is same was = is ∙ (λ i. was i ++ same i)
+
+pub adds_on : (start some old new more : List ℕ) → new ≡ old ++ more → old ≡ start ++ some → new ≡ start ++ (some ++ more)
+adds_on start some old new more is was = is ∙ ap (λ l. l ++ more) was ∙ append_assoc start some more
+
+pub adds_last : {A E : Type 0} (r : Result A E) (start some old new more : List ℕ) → OnOk r (new ≡ old ++ more) → old ≡ start ++ some → OnOk r (new ≡ start ++ (some ++ more))
+adds_last (Ok done) start some old new more is was = adds_on start some old new more is was
+adds_last (Err e) start some old new more is was = tt
+
+-- the heading, as `format!` puts it together
+pub heading_is : (processes version tickets stamps slots : ℕ) (many : List ℕ) → many ≡ plural_of processes →
+    (codes "Run of " ++ (decimal processes ++ (codes " process" ++ (many ++ (codes " (bakery " ++ (decimal version ++ (codes ", tickets " ++ (decimal tickets ++ (codes ", stamps " ++ (decimal stamps ++ (codes ", slots " ++ decimal slots))))))))))) ++ codes ")"
+    ≡ codes "Run of " ++ decimal processes ++ codes " process" ++ plural_of processes ++ codes " (bakery " ++ decimal version ++ codes ", tickets " ++ decimal tickets ++ codes ", stamps " ++ decimal stamps ++ codes ", slots " ++ decimal slots ++ codes ")"
+heading_is processes version tickets stamps slots many is =
+    ap (λ many. (codes "Run of " ++ (decimal processes ++ (codes " process" ++ (many ++ (codes " (bakery " ++ (decimal version ++ (codes ", tickets " ++ (decimal tickets ++ (codes ", stamps " ++ (decimal stamps ++ (codes ", slots " ++ decimal slots))))))))))) ++ codes ")") is
+    ∙ simp append_assoc
+
+-- a tag with four attributes
+pub four_said : (a b c d : Attribute) (x y z w : Said) → attribute_text a ≡ said_text x → attribute_text b ≡ said_text y → attribute_text c ≡ said_text z → attribute_text d ≡ said_text w → flat_map attribute_text (a ∷ b ∷ c ∷ d ∷ []) ≡ says (x ∷ y ∷ z ∷ w ∷ [])
+four_said a b c d x y z w one two three four = λ i. one i ++ (two i ++ (three i ++ (four i ++ [])))
+
+pub adds_other : {A E : Type 0} (r : Result A E) (old new more other : List ℕ) → OnOk r (new ≡ old ++ more) → more ≡ other → OnOk r (new ≡ old ++ other)
+adds_other (Ok done) old new more other is same = is ∙ ap (λ l. old ++ l) same
+adds_other (Err e) old new more other is same = tt

@@ -1,0 +1,5 @@
+use Rattle.picture.proofs.Standings.{bars_are}
+use Rattle.picture.proofs.laws.bars_are_stages.Goals as goal
+
+pub returns : goal.returns
+returns c = bars_are

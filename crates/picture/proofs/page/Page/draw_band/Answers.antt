@@ -1,0 +1,44 @@
+use Rattle.std.proofs.Common.{◌≡◌, ℕ, ◌+◌, List, [], ◌++◌, ap, drop, length, map, sym, take, ◌∙◌}
+use Rattle.std.specs.declared.alloc.Global.{Global}
+use Rattle.std.specs.declared.vec.Vec.{Vec}
+use Rattle.shapes.specs.Figures.{drawings}
+use Rattle.picture.specs.Bandings.{behind_columns, framed}
+use Rattle.picture.specs.Columns.{seen}
+use Rattle.picture.specs.Drawings.{band_shapes}
+use Rattle.picture.specs.Layouts.{layout_of}
+use Rattle.picture.specs.Pages.{seen_page}
+use Rattle.picture.specs.Placings.{stretched_all}
+use Rattle.picture.specs.Sheets.{held_in_64}
+use Rattle.picture.specs.declared.columns.Column.{Column}
+use Rattle.picture.proofs.Pagings.{draws_parts, stretched_within}
+use Rattle.picture.proofs.page.Page.draw_band.Goals as goal
+
+pub returns-clause-page : goal.returns-clause-page
+returns-clause-page c =
+    draws_parts c.args.is_last (seen_page c.args.self.now) c.replace.new.dest.items c.replace.result.items c.behind-behind_at.result c.new-self.result (map seen c.replace-columns.new.dest.items) (map seen c.stretch.new.columns) c.new-layout.result c.saturating_add-self.result c.saturating_add-self-2.result c.in_ok-markup.markup
+    closed opened (c.behind-behind_at.ensures ∙ ap (λ (l : List Column). behind_columns (map seen l) (c.args.self.now.before, c.args.self.now.before_at)) (c.as_slice.ensures.value ∙ took)) c.new-self.ensures (ap (map seen) left)
+    (apart ∙ ap (λ (l : List Column). stretched_all (map seen l)) took)
+    (c.new-layout.ensures ∙ ap (λ (l : List Column). layout_of c.args.self.now.state.processes (map seen l) c.args.is_last) (c.as_slice-2.ensures.value ∙ within))
+    c.saturating_add-self.ensures
+    (c.saturating_add-self-2.ensures ∙ ap (λ (n : ℕ). held_in_64 (c.args.self.now.height + (n + 16))) c.from.ensures)
+    (c.in_ok-markup.ensures.draws
+    ∙ ap (λ (l : List Column). framed c.args.self.now.form c.saturating_add-self.result c.args.self.now.height c.new-layout.result.height
+    (drawings (band_shapes (record { columns = map seen l; before = c.args.self.now.before; before_at = c.args.self.now.before_at; layout = c.new-layout.result; is_last = c.args.is_last; opens = c.replace.result.items })))) within)
+  where
+    took : c.replace-columns.result.items ≡ c.args.self.now.columns.items
+    took = ap (λ (v : Vec Column Global). v.items) c.replace-columns.ensures.value
+
+    left : c.replace-columns.new.dest.items ≡ []
+    left = ap (λ (v : Vec Column Global). v.items) c.replace-columns.ensures.after ∙ c.new.ensures.items
+
+    opened : c.replace.result.items ≡ c.args.self.now.opens.items
+    opened = ap (λ (v : Vec ℕ Global). v.items) c.replace.ensures.value
+
+    closed : c.replace.new.dest.items ≡ []
+    closed = ap (λ (v : Vec ℕ Global). v.items) c.replace.ensures.after ∙ c.new-2.ensures.items
+
+    apart : map seen c.stretch.new.columns ≡ stretched_all (map seen c.replace-columns.result.items)
+    apart = c.in_ok-stretch.ensures.apart ∙ ap (λ (l : List Column). stretched_all (map seen l)) c.as_mut_slice.ensures.value
+
+    within : take c.replace-columns.result.len (c.stretch.new.columns ++ drop (length c.stretch.new.columns) c.replace-columns.result.items) ≡ c.stretch.new.columns
+    within = stretched_within c.replace-columns.result.len c.replace-columns.result.items c.stretch.new.columns (ap length (sym c.as_mut_slice.ensures.value) ∙ c.as_mut_slice.ensures.len) apart

@@ -1,0 +1,11 @@
+use Rattle.std.proofs.Common.{◌∙◌, ap, codes}
+use Rattle.shapes.specs.Readings.{with_begun}
+use Rattle.picture.proofs.Sheetings.{adds_last, adds_on}
+use Rattle.picture.proofs.Tellings.{then_same}
+use Rattle.picture.proofs.sheets.begin_picture.Goals as goal
+
+pub returns-clause-draws : goal.returns-clause-draws
+returns-clause-draws c = adds_last c.constant-2.result c.args.markup.now _ _ _ _ c.constant-2.ensures.draws (adds_on c.args.markup.now _ _ _ _ c.in_ok-enter_picture.ensures.draws c.in_ok-constant.ensures.draws)
+
+pub returns-clause-read : goal.returns-clause-read
+returns-clause-read c = then_same c.constant-2.result _ _ _ c.constant-2.ensures.read (c.in_ok-enter_picture.ensures.read ∙ ap (with_begun (codes "svg")) c.in_ok-constant.ensures.read)

@@ -1,0 +1,198 @@
+-- The bands of a picture, by what it is told. Of items, of columns and of full bands the newest stands first.
+use Rattle.std.specs.Prelude.{ℕ, ◌+◌, ◌-◌, min, Bool, true, false, List, [], ◌∷◌, ◌++◌, codes, fold, length, slice_get, Option, None, Some}
+use Rattle.std.specs.Fmt.{decimal}
+use Rattle.shapes.specs.Figures.{End, drawings, drawn}
+use Rattle.shapes.specs.Markup.{entering_by, lowering}
+use Rattle.shapes.specs.declared.names.Key.TheVariants as key
+use Rattle.shapes.specs.declared.names.Tag.TheVariants as tag
+use Rattle.picture.specs.Columns.{Seen, alone, column_of_read, joined, joins, shortened}
+use Rattle.picture.specs.Drawings.{band_shapes}
+use Rattle.picture.specs.Layouts.{layout_of}
+use Rattle.picture.specs.Placings.{has_room_at, moved_to, place_of, placing_at_first, put_at, stretched_all}
+use Rattle.picture.specs.Sheets.{held_in_64, says, view_of}
+use Rattle.picture.specs.States.{at_first, freed_by, state_told}
+use Rattle.picture.specs.declared.layout.Layout.{Layout}
+use Rattle.picture.specs.declared.page.Form.{Form}
+use Rattle.picture.specs.declared.page.Form.TheVariants as form
+use Rattle.picture.specs.declared.placing.Placing.{Placing}
+use Rattle.picture.specs.declared.reads.OverlappedRead.{OverlappedRead}
+use Rattle.picture.specs.declared.state.State.{State}
+use Rattle.picture.specs.declared.told.Line.{Line}
+
+-- what a picture is told
+pub data Item : Type 0 where
+  Tells : Line → Item  -- a line of the run
+  Reads : OverlappedRead → Item  -- a read that a write overlapped
+
+-- what is known of a picture from the start: what its bands stand in, how many processes there are, and the opening store, with no byte if it is empty
+pub record Plan : Type 0 where
+  pub form : Form
+  pub processes : ℕ
+  pub opening : List ℕ
+
+-- what has been told of all processes
+abbrev pub state_after : ℕ → List Item → State
+state_after processes [] = at_first processes
+state_after processes (Tells line ∷ before) = state_told (state_after processes before) line.saying
+state_after processes (Reads read ∷ before) = state_after processes before
+
+-- the newest column, and those before it
+abbrev pub newest : List Seen → Option Seen
+newest [] = None
+newest (column ∷ before) = Some column
+
+abbrev pub older : List Seen → List Seen
+older [] = []
+older (column ∷ before) = before
+
+-- how many events were accepted before the newest column
+abbrev pub newest_at : List Seen → ℕ
+newest_at [] = 0
+newest_at (column ∷ before) = column.at
+
+-- a column of its own
+abbrev pub begun_by : Line → Option ℕ → State → List Seen → List Seen
+begun_by line frees after columns = alone line (line.at - newest_at columns) frees after ∷ columns
+
+-- a line joins the newest column, if it is a mark of its event; else it begins one
+abbrev pub line_by : Bool → Line → Option ℕ → State → Seen → List Seen → List Seen
+line_by true line frees after column before = joined column line frees after ∷ before
+line_by false line frees after column before = begun_by line frees after (column ∷ before)
+
+abbrev pub with_line : Line → Option ℕ → State → List Seen → List Seen
+with_line line frees after [] = begun_by line frees after []
+with_line line frees after (column ∷ before) = line_by (joins column line) line frees after column before
+
+-- the columns of items
+abbrev pub columns_of : ℕ → List Item → List Seen
+columns_of processes [] = []
+columns_of processes (Tells line ∷ before) = with_line line (freed_by (state_after processes before) line.saying) (state_told (state_after processes before) line.saying) (columns_of processes before)
+columns_of processes (Reads read ∷ before) = column_of_read read (read.end - newest_at (columns_of processes before)) (state_after processes before) ∷ columns_of processes before
+
+-- the band that is begun, its columns in order, and the bands that are full
+pub record Bands : Type 0 where
+  pub begun : List Seen
+  pub full : List (List Seen)
+
+-- what stands at the beginning of the history, and how many characters it has
+abbrev pub opens_with : List ℕ → List ℕ
+opens_with [] = []
+opens_with (b ∷ opening) = shortened (codes "opens with " ++ b ∷ opening)
+
+abbrev pub opening_length : List ℕ → ℕ
+opening_length [] = 0
+opening_length (b ∷ opening) = min (length (b ∷ opening)) 33 + 11
+
+-- where words end before the first column of a band: in the first band what the store opens with stands in the lane of the history
+abbrev pub placing_before : List ℕ → List (List Seen) → Placing
+placing_before opening [] = placing_at_first (opening_length opening)
+placing_before opening (band ∷ full) = placing_at_first 0
+
+-- and behind columns
+abbrev pub with_placed : Placing → Seen → Placing
+with_placed placing column = put_at placing column column.x
+
+abbrev pub placing_behind : Placing → List Seen → Placing
+placing_behind = fold with_placed
+
+-- and behind those of the band that is begun
+abbrev pub placing_in : List ℕ → Bands → Placing
+placing_in opening bands = placing_behind (placing_before opening bands.full) bands.begun
+
+-- the band that is begun is full, and another begins
+abbrev pub filled : Bands → Bands
+filled bands = record { begun = []; full = bands.begun ∷ bands.full }
+
+-- where a column has no room, another band begins
+abbrev pub room_by : Bool → Bands → Bands
+room_by true bands = bands
+room_by false bands = filled bands
+
+abbrev pub with_room : List ℕ → Seen → Bands → Bands
+with_room opening column bands = room_by (has_room_at (placing_in opening bands) (place_of (placing_in opening bands) column)) bands
+
+-- a column behind the others of the band, at its place
+abbrev pub with_put : List ℕ → Seen → Bands → Bands
+with_put opening column bands = record { begun = bands.begun ++ moved_to column (place_of (placing_in opening bands) column).x ∷ []; full = bands.full }
+
+-- the bands of columns
+abbrev pub bands_of : List ℕ → List Seen → Bands
+bands_of opening [] = record { begun = []; full = [] }
+bands_of opening (column ∷ before) = with_put opening column (with_room opening column (bands_of opening before))
+
+-- the last column of a band
+abbrev pub last_in : List Seen → Option Seen
+last_in columns = slice_get columns (length columns - 1)
+
+-- what stands behind columns, by what stood before them: what was told up to the last one, and how many events were accepted before it
+abbrev pub behind_columns : List Seen → State × ℕ → State × ℕ
+behind_columns columns before = elim (last_in columns) [ None ↦ before | Some column ↦ (column.after, column.at) ]
+
+-- and what stood before a band
+abbrev pub before_band : ℕ → List (List Seen) → State × ℕ
+before_band processes [] = (at_first processes, 0)
+before_band processes (band ∷ full) = behind_columns band (before_band processes full)
+
+-- what the store opens with, in the first band alone
+abbrev pub opens_before : List ℕ → List (List Seen) → List ℕ
+opens_before opening [] = opens_with opening
+opens_before opening (band ∷ full) = []
+
+-- where the lanes of a band lie, once its columns are drawn apart
+abbrev pub layout_in : ℕ → List Seen → Bool → Layout
+layout_in processes band = layout_of processes (stretched_all band)
+
+-- how many bands are full
+abbrev pub number_of : List (List Seen) → ℕ
+number_of [] = 0
+number_of (band ∷ full) = held_in_64 (number_of full + 1)
+
+-- the heights of full bands, with 16 more for each
+abbrev pub heights : ℕ → List (List Seen) → ℕ
+heights processes [] = 0
+heights processes (band ∷ full) = held_in_64 (heights processes full + ((layout_in processes band false).height + 16))
+
+-- the tag of a band's own picture
+abbrev pub band_tag : ℕ → ℕ → List ℕ
+band_tag number height = entering_by tag.Svg (says ((key.Class, codes "band") ∷ (key.ViewBox, view_of height) ∷ (key.Role, codes "group") ∷ (key.Label, codes "Part " ++ (decimal number ++ codes " of the run")) ∷ []))
+
+-- a band in its frame: a picture of its own, the part of this number, or a group of one picture, below those before it
+abbrev pub framed : Form → ℕ → ℕ → ℕ → List ℕ → List ℕ
+framed form.Page number above height shapes = band_tag number height ++ codes "\n" ++ shapes ++ codes "</svg>\n"
+framed (form.Picture top) number above height shapes = lowering (held_in_64 (top + above)) ++ shapes ++ drawn End
+
+-- what is written of a band behind full ones
+abbrev pub band_bytes : Plan → Bool → List Seen → List (List Seen) → List ℕ
+band_bytes plan is_last band full =
+    framed plan.form (number_of (band ∷ full)) (heights plan.processes full) (layout_in plan.processes band is_last).height
+    (drawings (band_shapes (record {
+      columns = stretched_all band;
+      before = (before_band plan.processes full).0;
+      before_at = (before_band plan.processes full).1;
+      layout = layout_in plan.processes band is_last;
+      is_last = is_last;
+      opens = opens_before plan.opening full;
+    })))
+
+-- what is written of full bands
+abbrev pub full_bytes : Plan → List (List Seen) → List ℕ
+full_bytes plan [] = []
+full_bytes plan (band ∷ full) = full_bytes plan full ++ band_bytes plan false band full
+
+-- what is written of bands whose last column is the last of all
+abbrev pub whole_bytes : Plan → Bands → List ℕ
+whole_bytes plan bands = full_bytes plan bands.full ++ band_bytes plan true bands.begun bands.full
+
+-- what is written of items, up to where the bands are full that stand before the newest column
+abbrev pub full_told : Plan → List Item → List ℕ
+full_told plan items = full_bytes plan (bands_of plan.opening (older (columns_of plan.processes items))).full
+
+-- what is written of all items, once there are no more, and the heights of their bands
+abbrev pub bands_told : Plan → List Item → List ℕ
+bands_told plan items = whole_bytes plan (bands_of plan.opening (columns_of plan.processes items))
+
+abbrev pub heights_of : Plan → Bands → ℕ
+heights_of plan bands = heights plan.processes (filled bands).full
+
+abbrev pub heights_told : Plan → List Item → ℕ
+heights_told plan items = heights_of plan (bands_of plan.opening (columns_of plan.processes items))

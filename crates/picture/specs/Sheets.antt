@@ -1,0 +1,145 @@
+-- What stands around the bands, as bytes.
+use Rattle.std.specs.Prelude.{ℕ, ◌+◌, ◌-◌, ◌^◌, ◌==◌, cond, min, nat_lt, List, [], ◌∷◌, ◌++◌, codes, flat_map, map}
+use Rattle.std.specs.Fmt.{decimal}
+use Rattle.bstr.specs.Text.{lines_of, without_terminator}
+use Rattle.plain_store.specs.declared.setups.Setup.{Setup}
+use Rattle.shapes.specs.Markup.{Said, entering_by, lowering, said_text, standing_by, telling_by}
+use Rattle.shapes.specs.declared.names.Key.TheVariants as key
+use Rattle.shapes.specs.declared.names.Tag.TheVariants as tag
+use Rattle.picture.specs.declared.constants.TheConstants.{LEGEND, PAGE_STYLE, PATTERNS, READS_LEGEND, SCRIPT, STYLE}
+use Rattle.picture.specs.declared.reads.Reads.{Reads}
+use Rattle.picture.specs.declared.reads.Reads.TheVariants.{Hidden, Shown}
+use Rattle.picture.specs.declared.sheets.TheConstants.{DESCRIPTION}
+
+-- a number, of which what 64 bits do not hold is not told apart
+abbrev pub held_in_64 : ℕ → ℕ
+held_in_64 n = min n (2 ^ 64 - 1)
+
+-- attributes, one after the other
+abbrev pub says : List Said → List ℕ
+says = flat_map said_text
+
+-- the part of a picture's plane that is seen, from its left upper corner on
+abbrev pub view_of : ℕ → List ℕ
+view_of height = codes "0 0 1200 " ++ decimal height
+
+-- what makes `process` many
+abbrev pub plural_of : ℕ → List ℕ
+plural_of processes = cond (processes == 1) [] (codes "es")
+
+-- the heading of a page and of one picture
+abbrev pub heading_of : Setup → List ℕ
+heading_of s =
+    codes "Run of " ++ decimal s.processes ++ codes " process" ++ plural_of s.processes ++ codes " (bakery " ++ decimal s.version ++ codes ", tickets " ++ decimal s.ticket_bits
+    ++ codes ", stamps " ++ decimal s.stamp_bits ++ codes ", slots " ++ decimal s.slots ++ codes ")"
+
+-- how a page lies where it is printed: upright for more than ten processes
+abbrev pub paper_of : ℕ → List ℕ
+paper_of processes = cond (nat_lt 10 processes) (codes "\n@page{size:A4 portrait;margin:10mm}\n") (codes "\n@page{size:A4 landscape;margin:10mm}\n")
+
+-- the legend, and its height
+abbrev pub legend_of : Reads → List ℕ
+legend_of Hidden = LEGEND.now
+legend_of Shown = READS_LEGEND.now
+
+abbrev pub height_of_legend : Reads → ℕ
+height_of_legend Hidden = 104
+height_of_legend Shown = 122
+
+-- how the picture of the legend begins in a page
+abbrev pub legend_tag : Reads → List ℕ
+legend_tag reads = entering_by tag.Svg (says ((key.ViewBox, view_of (height_of_legend reads)) ∷ (key.Role, codes "img") ∷ (key.Label, codes "Legend") ∷ []))
+
+abbrev pub legend_front : Reads → List ℕ
+legend_front reads = codes "\n" ++ legend_tag reads ++ codes "\n"
+
+-- a line of the scenario in the list of them, and all of them with their end
+abbrev pub item_of : List ℕ → List ℕ
+item_of line = telling_by tag.Item [] line ++ codes "\n"
+
+abbrev pub list_of : List ℕ → List ℕ
+list_of printed = flat_map item_of (map without_terminator (lines_of printed)) ++ item_of (codes "(end)")
+
+-- what a page has before its bands
+abbrev pub page_front : Setup → List ℕ → Reads → List ℕ
+page_front s printed reads =
+    codes "<!doctype html>\n<html lang=\"en\"><head><meta charset=\"utf-8\">\n"
+    ++ codes "<meta name=\"viewport\" content=\"width=device-width\">\n"
+    ++ telling_by tag.Title [] (heading_of s)
+    ++ codes "\n<style>\n"
+    ++ STYLE.now
+    ++ codes "\n"
+    ++ PAGE_STYLE.now
+    ++ paper_of s.processes
+    ++ codes "</style></head><body>\n"
+    ++ telling_by tag.Heading [] (heading_of s)
+    ++ legend_front reads
+    ++ PATTERNS.now
+    ++ codes "\n"
+    ++ legend_of reads
+    ++ codes "\n"
+    ++ codes "</svg>\n<details open><summary>The scenario</summary><ol>\n"
+    ++ list_of printed
+    ++ codes "</ol></details>\n"
+
+-- the slider, which shows the opening store at first
+abbrev pub slider_of : List ℕ → List ℕ
+slider_of opening =
+    codes "<input" ++ says ((key.Id, codes "at") ∷ (key.Type, codes "range") ∷ (key.Least, codes "0") ∷ (key.Value, codes "0") ∷ (key.Label, codes "Line of the run") ∷ (key.Store, opening) ∷ []) ++ codes ">"
+
+-- what it has behind them, which begins with the slider
+abbrev pub page_back : List ℕ → List ℕ
+page_back opening =
+    codes "<div id=\"now\"><div>"
+    ++ slider_of opening
+    ++ codes "<output id=\"said\" for=\"at\"></output></div></div>\n<script>"
+    ++ SCRIPT.now
+    ++ codes "</script>\n</body></html>\n"
+
+-- how high one picture is, whose bands' heights come to so much
+abbrev pub picture_height : ℕ → Reads → ℕ
+picture_height bands reads = held_in_64 (held_in_64 (bands + height_of_legend reads) + 42)
+
+-- how one picture of this height begins
+abbrev pub svg_tag : ℕ → List ℕ
+svg_tag height = entering_by tag.Svg (says (
+    (key.Namespace, codes "http://www.w3.org/2000/svg") ∷ (key.Width, decimal 1200) ∷ (key.Height, decimal height) ∷ (key.ViewBox, view_of height) ∷ (key.Role, codes "group") ∷ (key.LabelledBy, codes "t d") ∷ []))
+
+abbrev pub svg_front : ℕ → List ℕ
+svg_front height = codes "<?xml version=\"1.0\" encoding=\"UTF-8\"?>\n" ++ svg_tag height ++ codes "\n"
+
+-- its title, and what it shows
+abbrev pub title_tag : List ℕ → List ℕ
+title_tag heading = telling_by tag.Title (says ((key.Id, codes "t") ∷ [])) heading
+
+abbrev pub description_tag : List ℕ
+description_tag = telling_by tag.Desc (says ((key.Id, codes "d") ∷ [])) DESCRIPTION.now
+
+abbrev pub titles_of : List ℕ → List ℕ
+titles_of heading = title_tag heading ++ codes "\n" ++ description_tag
+
+-- its ground, and its heading
+abbrev pub ground_tag : ℕ → List ℕ
+ground_tag height = standing_by tag.Rect (says ((key.Width, decimal 1200) ∷ (key.Height, decimal height) ∷ (key.Fill, codes "#fff") ∷ []))
+
+abbrev pub heading_tag : List ℕ → List ℕ
+heading_tag heading = telling_by tag.Text (says ((key.X, decimal 8) ∷ (key.Y, decimal 20) ∷ (key.Class, codes "lane") ∷ [])) heading
+
+abbrev pub ground_of : ℕ → List ℕ → List ℕ
+ground_of height heading = ground_tag height ++ heading_tag heading ++ codes "\n"
+
+-- what one picture has before its bands
+abbrev pub picture_front : Setup → ℕ → Reads → List ℕ
+picture_front s bands reads =
+    svg_front (picture_height bands reads)
+    ++ titles_of (heading_of s)
+    ++ codes "\n<style>\n"
+    ++ STYLE.now
+    ++ codes "\n</style>\n"
+    ++ PATTERNS.now
+    ++ codes "\n"
+    ++ ground_of (picture_height bands reads) (heading_of s)
+
+-- what it has behind them: the legend
+abbrev pub picture_back : ℕ → Reads → List ℕ
+picture_back bands reads = lowering (held_in_64 (bands + 34)) ++ legend_of reads ++ codes "\n" ++ codes "</g></svg>\n"
