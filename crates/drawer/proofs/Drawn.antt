@@ -1,106 +1,178 @@
--- Markup that is written piece by piece, and the lines that are held back.
-use Rattle.std.proofs.Common.{◌≡◌, ℕ, true, List, [], ◌∷◌, ◌++◌, codes, Option, Some, refl, ap, sym, ◌∙◌, append-nil, append_assoc}
+-- Markup that is written piece by piece, and what a page holds back.
+use Rattle.std.proofs.Common.{◌≡◌, ℕ, true, List, [], ◌∷◌, ◌++◌, codes, Option, Some, refl, ap, sym, subst, ◌∙◌, append-nil, append_assoc}
 use Rattle.std.proofs.lemmas.Grind.{flat_map-append}
 use Rattle.std.specs.Io.KnownBytes.{Appends}
 use Rattle.shapes.specs.Elements.{EndsAll, opens_in}
 use Rattle.shapes.specs.Titles.{is_at_rest, lines_in, tags_of}
 use Rattle.shapes.proofs.Lines.{lines_on, rests_on}
 use Rattle.shapes.proofs.Stacks.{opens_on}
+use Rattle.picture.specs.Bandings.{Item, Plan, Reads, Tells, bands_told, full_told}
+use Rattle.picture.specs.Pages.{GivesRest, GoesOn, SeenPage, band_text, lines_of_band, page_of}
+use Rattle.picture.specs.Told.{text_of}
+use Rattle.picture.specs.declared.page.Form.{Form}
+use Rattle.picture.specs.declared.reads.OverlappedRead.{OverlappedRead}
+use Rattle.picture.specs.declared.reads.Reads.{Reads as Mode}
+use Rattle.picture.specs.declared.told.Line.{Line}
+use Rattle.scenario.specs.Reading.{Script}
+use Rattle.replayer.specs.Texts.{replayed}
 use Rattle.replayer.proofs.Written.{appends_both, appends_none}
-use Rattle.drawer.specs.Drawings.{Draws, DrawsAll, DrawsOn, Writes, ended_lines}
+use Rattle.drawer.specs.Drawings.{Draws, DrawsAll, DrawsBands, DrawsOn, DrawsRest, Fills, Kept, Writes}
+use Rattle.drawer.specs.Pictures.{IsPictureOf, ended_lines, lines_told}
 
 -- lines, and then others
 pub ended-append : (xs ys : List (List ℕ)) → ended_lines (xs ++ ys) ≡ ended_lines xs ++ ended_lines ys
 ended-append xs ys = flat_map-append (λ (line : List ℕ). line ++ codes "\n") xs ys
 
+-- a line alone
+ended_line : (line : List ℕ) → ended_lines (line ∷ []) ≡ line ++ codes "\n"
+ended_line line = append-nil (line ++ codes "\n")
+
+-- items, and then others, which stand before them
+told_append : (more items : List Item) → lines_told (more ++ items) ≡ lines_told items ++ lines_told more
+told_append [] items = sym (append-nil (lines_told items))
+told_append (Tells line ∷ more) items = ap (λ l. l ++ text_of line ∷ []) (told_append more items) ∙ append_assoc (lines_told items) (lines_told more) (text_of line ∷ [])
+told_append (Reads read ∷ more) items = told_append more items
+
+pub both_told : (more items : List Item) (text then : List ℕ) → ended_lines (lines_told items) ≡ text → ended_lines (lines_told more) ≡ then → ended_lines (lines_told (more ++ items)) ≡ text ++ then
+both_told more items text then is next = ap ended_lines (told_append more items) ∙ ended-append (lines_told items) (lines_told more) ∙ (λ i. is i ++ next i)
+
 -- markup at rest
 pub writes_bytes : (a b : Option (List ℕ)) (bytes : List ℕ) → is_at_rest (tags_of bytes) ≡ true → Appends a b bytes → Writes a b bytes
 writes_bytes a b bytes rests taken = record { rests = rests; taken = taken }
 
-pub draws_bytes : (a b : Option (List ℕ)) (bytes : List ℕ) → is_at_rest (tags_of bytes) ≡ true → Appends a b bytes → EndsAll bytes → Draws a b (ended_lines (lines_in bytes))
-draws_bytes a b bytes rests taken ended = record { markup = bytes; ended = ended; read_back = refl; writes = writes_bytes a b bytes rests taken }
+pub draws_bytes : (a b : Option (List ℕ)) (bytes : List ℕ) → is_at_rest (tags_of bytes) ≡ true → Appends a b bytes → EndsAll bytes → Draws a b bytes (ended_lines (lines_in bytes))
+draws_bytes a b bytes rests taken ended = record { ended = ended; read_back = refl; writes = writes_bytes a b bytes rests taken }
 
 -- nothing
-pub draws_none : (a : Option (List ℕ)) → Draws a a []
-draws_none a = record { markup = []; ended = λ stack. refl; read_back = refl; writes = writes_bytes a a [] refl (appends_none a) }
+pub draws_none : (a : Option (List ℕ)) → Draws a a [] []
+draws_none a = record { ended = λ stack. refl; read_back = refl; writes = writes_bytes a a [] refl (appends_none a) }
 
-pub draws_no_band : (a : Option (List ℕ)) → Unit {0} → Draws a a []
+pub draws_no_band : (a : Option (List ℕ)) → Unit {0} → Draws a a [] []
 draws_no_band a none = draws_none a
 
 -- one piece, and then the next
 writes_both : (a b c : Option (List ℕ)) (bytes more : List ℕ) → Writes a b bytes → Writes b c more → Writes a c (bytes ++ more)
 writes_both a b c bytes more first next = record { rests = rests_on bytes more first.rests next.rests; taken = appends_both a b c bytes more first.taken next.taken }
 
-pub draws_both : (a b c : Option (List ℕ)) (text more : List ℕ) → Draws a b text → Draws b c more → Draws a c (text ++ more)
-draws_both a b c text more first next = record {
-  markup = first.markup ++ next.markup;
-  ended = λ stack. opens_on first.markup next.markup stack first.writes.rests ∙ ap (opens_in next.markup) (first.ended stack) ∙ next.ended stack;
-  read_back = ap ended_lines (lines_on first.markup next.markup first.writes.rests) ∙ ended-append (lines_in first.markup) (lines_in next.markup) ∙ (λ i. first.read_back i ++ next.read_back i);
-  writes = writes_both a b c first.markup next.markup first.writes next.writes;
+pub draws_both : (a b c : Option (List ℕ)) (markup then text more : List ℕ) → Draws a b markup text → Draws b c then more → Draws a c (markup ++ then) (text ++ more)
+draws_both a b c markup then text more first next = record {
+  ended = λ stack. opens_on markup then stack first.writes.rests ∙ ap (opens_in then) (first.ended stack) ∙ next.ended stack;
+  read_back = ap ended_lines (lines_on markup then first.writes.rests) ∙ ended-append (lines_in markup) (lines_in then) ∙ (λ i. first.read_back i ++ next.read_back i);
+  writes = writes_both a b c markup then first.writes next.writes;
 }
+
+-- a page takes in nothing, or some items and then others
+fills_none : (page : SeenPage) → Fills page page [] []
+fills_none page = record { items = []; lines = refl; goes_on = λ plan before is. (is, sym (append-nil (full_told plan before))) }
+
+fills_both : (old mid new : SeenPage) (markup then text more : List ℕ) → Fills old mid markup text → Fills mid new then more → Fills old new (markup ++ then) (text ++ more)
+fills_both old mid new markup then text more first next = record {
+  items = next.items ++ first.items;
+  lines = both_told next.items first.items text more first.lines next.lines;
+  goes_on = λ plan before is.
+      let one = first.goes_on plan before is in
+      let two = next.goes_on plan (first.items ++ before) one.0 in
+      let same : next.items ++ (first.items ++ before) ≡ (next.items ++ first.items) ++ before = sym (append_assoc next.items first.items before) in
+      (two.0 ∙ ap (page_of plan) same, ap (full_told plan) (sym same) ∙ two.1 ∙ ap (λ l. l ++ then) one.1 ∙ append_assoc (full_told plan before) markup then);
+}
+
+-- or one
+fills_one : (item : Item) (old new : SeenPage) (band : Option (List ℕ)) (text : List ℕ) → ended_lines (lines_told (item ∷ [])) ≡ text → GoesOn item old band new → Fills old new (band_text band) text
+fills_one item old new band text is goes = record { items = item ∷ []; lines = is; goes_on = λ plan before at. goes plan before at }
 
 -- nothing is drawn on
-pub draws_on_none : (had : List (List ℕ)) (a : Option (List ℕ)) → DrawsOn had had a a []
-draws_on_none had a = record { drawn = []; draws = draws_none a; goes_on = sym (append-nil (ended_lines had)) }
+pub draws_on_none : (has : Kept) (a : Option (List ℕ)) → DrawsOn has has a a []
+draws_on_none has a = record { markup = []; drawn = []; draws = draws_none a; goes_on = sym (append-nil (ended_lines has.lines)); fills = fills_none has.page }
 
--- one text, and then the next
-pub draws_on_both : (had held kept : List (List ℕ)) (a b c : Option (List ℕ)) (text more : List ℕ) → DrawsOn had held a b text → DrawsOn held kept b c more → DrawsOn had kept a c (text ++ more)
-draws_on_both had held kept a b c text more first next = record {
+pub draws_on_both : (had has now : Kept) (a b c : Option (List ℕ)) (text more : List ℕ) → DrawsOn had has a b text → DrawsOn has now b c more → DrawsOn had now a c (text ++ more)
+draws_on_both had has now a b c text more first next = record {
+  markup = first.markup ++ next.markup;
   drawn = first.drawn ++ next.drawn;
-  draws = draws_both a b c first.drawn next.drawn first.draws next.draws;
-  goes_on = append_assoc first.drawn next.drawn (ended_lines kept) ∙ ap (λ l. first.drawn ++ l) next.goes_on
-      ∙ sym (append_assoc first.drawn (ended_lines held) more) ∙ ap (λ l. l ++ more) first.goes_on ∙ append_assoc (ended_lines had) text more;
+  draws = draws_both a b c first.markup next.markup first.drawn next.drawn first.draws next.draws;
+  goes_on = append_assoc first.drawn next.drawn (ended_lines now.lines) ∙ ap (λ l. first.drawn ++ l) next.goes_on
+      ∙ sym (append_assoc first.drawn (ended_lines has.lines) more) ∙ ap (λ l. l ++ more) first.goes_on ∙ append_assoc (ended_lines had.lines) text more;
+  fills = fills_both had.page has.page now.page first.markup next.markup text more first.fills next.fills;
 }
 
--- a line, where the lines of a band are drawn and the others are held back
-pub draws_on_line : (had band held : List (List ℕ)) (line : List ℕ) (a b : Option (List ℕ)) → band ++ held ≡ had ++ line ∷ [] → Draws a b (ended_lines band) → DrawsOn had held a b (line ++ codes "\n")
-draws_on_line had band held line a b are draws = record {
-  drawn = ended_lines band;
+-- a line that was told, and the band that is full, if one is
+pub draws_on_line : (line : Line) (had has : Kept) (band : Option (List ℕ)) (a b : Option (List ℕ)) → lines_of_band band ++ has.lines ≡ had.lines ++ text_of line ∷ [] → GoesOn (Tells line) had.page band has.page →
+    Draws a b (band_text band) (ended_lines (lines_of_band band)) → DrawsOn had has a b (text_of line ++ codes "\n")
+draws_on_line line had has band a b is goes draws = record {
+  markup = band_text band;
+  drawn = ended_lines (lines_of_band band);
   draws = draws;
-  goes_on = sym (ended-append band held) ∙ ap ended_lines are ∙ ended-append had (line ∷ []) ∙ ap (λ l. ended_lines had ++ l) (append-nil (line ++ codes "\n"));
+  goes_on = sym (ended-append (lines_of_band band) has.lines) ∙ ap ended_lines is ∙ ended-append had.lines (text_of line ∷ []) ∙ ap (λ l. ended_lines had.lines ++ l) (ended_line (text_of line));
+  fills = fills_one (Tells line) had.page has.page band (text_of line ++ codes "\n") (ended_line (text_of line)) goes;
 }
 
--- no line, where the lines of a band are drawn and the others are held back
-pub draws_on_held : (had band held : List (List ℕ)) (a b : Option (List ℕ)) → band ++ held ≡ had → Draws a b (ended_lines band) → DrawsOn had held a b []
-draws_on_held had band held a b are draws = record {
-  drawn = ended_lines band;
+-- a read that was told, which is no line
+pub draws_on_read : (read : OverlappedRead) (had has : Kept) (band : Option (List ℕ)) (a b : Option (List ℕ)) → lines_of_band band ++ has.lines ≡ had.lines → GoesOn (Reads read) had.page band has.page →
+    Draws a b (band_text band) (ended_lines (lines_of_band band)) → DrawsOn had has a b []
+draws_on_read read had has band a b is goes draws = record {
+  markup = band_text band;
+  drawn = ended_lines (lines_of_band band);
   draws = draws;
-  goes_on = sym (ended-append band held) ∙ ap ended_lines are ∙ sym (append-nil (ended_lines had));
+  goes_on = sym (ended-append (lines_of_band band) has.lines) ∙ ap ended_lines is ∙ sym (append-nil (ended_lines had.lines));
+  fills = fills_one (Reads read) had.page has.page band [] refl goes;
 }
 
--- what was held back is drawn
-pub draws_on_rest : (had band last : List (List ℕ)) (a b c : Option (List ℕ)) → band ++ last ≡ had → Draws a b (ended_lines band) → Draws b c (ended_lines last) → DrawsOn had [] a c []
-draws_on_rest had band last a b c are first next = record {
-  drawn = ended_lines band ++ ended_lines last;
-  draws = draws_both a b c (ended_lines band) (ended_lines last) first next;
-  goes_on = ap (λ l. l ++ []) (sym (ended-append band last) ∙ ap ended_lines are);
-}
+-- the text is another one that is the same
+pub draws_on_same : (had has : Kept) (a b : Option (List ℕ)) (text other : List ℕ) → text ≡ other → DrawsOn had has a b text → DrawsOn had has a b other
+draws_on_same had has a b text other same on = subst (λ l. DrawsOn had has a b l) same on
 
--- a text that is the same as another
-pub draws_on_same : (had held : List (List ℕ)) (a b : Option (List ℕ)) (text other : List ℕ) → text ≡ other → DrawsOn had held a b text → DrawsOn had held a b other
-draws_on_same had held a b text other same on = record { drawn = on.drawn; draws = on.draws; goes_on = on.goes_on ∙ ap (λ l. ended_lines had ++ l) same }
+-- the last line, and then the bands that are left
+pub draws_on_rest : (had has : Kept) (new : SeenPage) (full : Option (List ℕ)) (last : List ℕ) (a b c d : Option (List ℕ)) (text : List ℕ) → DrawsOn had has a b text → lines_of_band full ++ lines_in last ≡ has.lines → GivesRest has.page full last new →
+    Draws b c (band_text full) (ended_lines (lines_of_band full)) → Draws c d last (ended_lines (lines_in last)) → DrawsRest had a d text new.height
+draws_on_rest had has new full last a b c d text on are gives band ending =
+    let rest : List ℕ = band_text full ++ last in
+    let held : ended_lines (lines_of_band full) ++ ended_lines (lines_in last) ≡ ended_lines has.lines = sym (ended-append (lines_of_band full) (lines_in last)) ∙ ap ended_lines are in
+    record {
+      markup = on.markup ++ rest;
+      draws = subst (λ l. Draws a d (on.markup ++ rest) l) (ap (λ l. on.drawn ++ l) held ∙ on.goes_on)
+          (draws_both a b d on.markup rest on.drawn (ended_lines (lines_of_band full) ++ ended_lines (lines_in last)) on.draws
+          (draws_both b c d (band_text full) last (ended_lines (lines_of_band full)) (ended_lines (lines_in last)) band ending));
+      items = on.fills.items;
+      lines = on.fills.lines;
+      ends = λ plan before is.
+          let one = on.fills.goes_on plan before is in
+          let two = gives plan (on.fills.items ++ before) one.0 in
+          (two.0 ∙ append_assoc (full_told plan (on.fills.items ++ before)) (band_text full) last ∙ ap (λ l. l ++ rest) one.1 ∙ append_assoc (full_told plan before) on.markup rest, two.1);
+    }
 
--- all that was told is drawn, where nothing was held back before and nothing is now
-pub draws_all : (a b : Option (List ℕ)) (text : List ℕ) → DrawsOn [] [] a b text → Draws a b text
-draws_all a b text on = record {
-  markup = on.draws.markup;
-  ended = on.draws.ended;
-  read_back = on.draws.read_back ∙ sym (append-nil on.drawn) ∙ on.goes_on;
-  writes = on.draws.writes;
-}
+-- their heights by another name
+pub rest_at : (had : Kept) (a b : Option (List ℕ)) (text : List ℕ) (height other : ℕ) → other ≡ height → DrawsRest had a b text height → DrawsRest had a b text other
+rest_at had a b text height other same rest = subst (λ h. DrawsRest had a b text h) (sym same) rest
+
+-- from the start on: all bands
+pub draws_bands : (plan : Plan) (first has : Kept) (a b c : Option (List ℕ)) (text ending : List ℕ) (height : ℕ) → first.lines ≡ [] → first.page ≡ page_of plan [] → DrawsOn first has a b text → DrawsRest has b c ending height → DrawsBands plan a c (text ++ ending) height
+draws_bands plan first has a b c text ending height none new on rest =
+    let items : List Item = on.fills.items ++ [] in
+    let one = on.fills.goes_on plan [] new in
+    let two = rest.ends plan items one.0 in
+    let all : bands_told plan (rest.items ++ items) ≡ on.markup ++ rest.markup = two.0 ∙ ap (λ l. l ++ rest.markup) one.1 in
+    let drawn : on.drawn ++ (ended_lines has.lines ++ ending) ≡ text ++ ending =
+    sym (append_assoc on.drawn (ended_lines has.lines) ending) ∙ ap (λ l. l ++ ending) (on.goes_on ∙ ap (λ l. ended_lines l ++ text) none) in
+    record {
+      items = rest.items ++ items;
+      lines = both_told rest.items items text ending (ap (λ l. ended_lines (lines_told l)) (append-nil on.fills.items) ∙ on.fills.lines) rest.lines;
+      draws = subst (λ l. Draws a c l (text ++ ending)) (sym all) (subst (λ l. Draws a c (on.markup ++ rest.markup) l) drawn
+          (draws_both a b c on.markup rest.markup on.drawn (ended_lines has.lines ++ ending) on.draws rest.draws));
+      heights = two.1;
+    }
 
 -- what stands before and behind tells nothing, and ends what it begins
-pub draws_framed : (a b c d : Option (List ℕ)) (head ending : List ℕ) (names : List (List ℕ)) (text : List ℕ) → lines_in head ≡ [] → opens_in head (Some []) ≡ Some names → lines_in ending ≡ [] → opens_in ending (Some names) ≡ Some [] →
-    Writes a b head → Draws b c text → Writes c d ending → DrawsAll a d text
-draws_framed a b c d head ending names text no_head begin no_ending end first bands last =
-    let front = writes_both a b c head bands.markup first bands.writes in
-    let whole = writes_both a c d (head ++ bands.markup) ending front last in
+pub draws_framed : (reads : Mode) (form : Form) (said : Script) (plan : Plan) (a b c d : Option (List ℕ)) (head ending : List ℕ) (names : List (List ℕ)) (height : ℕ) → lines_in head ≡ [] → opens_in head (Some []) ≡ Some names → lines_in ending ≡ [] → opens_in ending (Some names) ≡ Some [] →
+    Writes a b head → (bands : DrawsBands plan b c (replayed said) height) → Writes c d ending → IsPictureOf reads form said ((head ++ bands_told plan bands.items) ++ ending) → DrawsAll reads form said a d
+draws_framed reads form said plan a b c d head ending names height no_head begin no_ending end first bands last page =
+    let markup : List ℕ = bands_told plan bands.items in
+    let front = writes_both a b c head markup first bands.draws.writes in
     record {
-      markup = (head ++ bands.markup) ++ ending;
-      elements = opens_on (head ++ bands.markup) ending (Some []) front.rests
-          ∙ ap (opens_in ending) (opens_on head bands.markup (Some []) first.rests ∙ ap (opens_in bands.markup) begin ∙ bands.ended (Some names))
+      markup = (head ++ markup) ++ ending;
+      page = page;
+      elements = opens_on (head ++ markup) ending (Some []) front.rests
+          ∙ ap (opens_in ending) (opens_on head markup (Some []) first.rests ∙ ap (opens_in markup) begin ∙ bands.draws.ended (Some names))
           ∙ end;
-      read_back = ap ended_lines (lines_on (head ++ bands.markup) ending front.rests ∙ (λ i. lines_on head bands.markup first.rests i ++ no_ending i)
-          ∙ append-nil (lines_in head ++ lines_in bands.markup) ∙ ap (λ l. l ++ lines_in bands.markup) no_head) ∙ bands.read_back;
-      writes = whole;
+      read_back = ap ended_lines (lines_on (head ++ markup) ending front.rests ∙ (λ i. lines_on head markup first.rests i ++ no_ending i)
+          ∙ append-nil (lines_in head ++ lines_in markup) ∙ ap (λ l. l ++ lines_in markup) no_head) ∙ bands.draws.read_back;
+      writes = writes_both a c d (head ++ markup) ending front last;
     }

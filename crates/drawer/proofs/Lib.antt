@@ -2,5 +2,6 @@ pub mod Drawn
 pub mod Shown
 pub mod Drawings
 pub mod Ends
+pub mod Pictured
 pub mod Chains
 pub mod Insides

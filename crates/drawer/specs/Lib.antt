@@ -1,3 +1,4 @@
 pub mod Chains
 pub mod Drawings
 pub mod Insides
+pub mod Pictures

@@ -1,6 +1,7 @@
 //! What the commands taken change: the one-thread store beside a run.
 ghost use Rattle.std.specs.Prelude.{◌≡◌, ◌++◌, ℕ, List, codes, IfOk, Ok};
-ghost use Rattle.plain_store.specs.Setups.{checked};
+ghost use Rattle.plain_store.specs.Setups.{checked, opening_store};
+ghost use Rattle.drawer.specs.Pictures.{shown_words, store_words, words_by};
 
 use picture::Change;
 use plain_store::{
@@ -20,6 +21,7 @@ impl Changes {
     /// The opening store of a setup.
     pub fn new(alloc: Global, setup: &Setup) -> Result<Changes, AllocError>
         requires { checked setup.now ≡ Ok tt }
+        ensures { IfOk result (λ changes. changes.store ≡ opening_store setup.now) }
     {
         let empty = PlainStore::new(alloc, setup.slots, setup.callers());
         Ok(Changes {
@@ -74,14 +76,22 @@ impl Changes {
     }
 
     /// The store's pairs, with single spaces between them, or that it is empty.
-    pub fn store_words(&self) -> Result<Vec<u8>, AllocError> {
+    pub fn store_words(&self) -> Result<Vec<u8>, AllocError>
+        ensures { IfOk result (λ words. words.items ≡ store_words self.now.store) }
+    {
         let line = show_line(self.alloc, &self.store)?;
         words_shown(self.alloc, line.as_bytes())
     }
 
-    /// Whether the store has no pair.
-    pub fn is_empty(&self) -> bool {
-        self.store.len() == 0
+    /// The same, and nothing where it is empty.
+    #[tactic(auto, using(crate::proofs::Shown::words_none, crate::proofs::Shown::words_some))]
+    pub fn words_by_pairs(&self) -> Result<Vec<u8>, AllocError>
+        ensures { IfOk result (λ words. words.items ≡ words_by self.now.store.pairs) }
+    {
+        if self.store.len() == 0 {
+            return Ok(Vec::new(self.alloc));
+        }
+        self.store_words()
     }
 }
 
@@ -90,9 +100,10 @@ fn pair_words(alloc: Global, name: &Name, value: &Value) -> Result<String, Alloc
 }
 
 /// The words of a `show` line behind its first, without the line's end.
-#[tactic(auto, using(crate::proofs::Shown::words_of_shown))]
+#[tactic(auto, using(crate::proofs::Shown::words_of_shown, crate::proofs::Shown::short_shown))]
 pub(crate) fn words_shown(alloc: Global, line: &[u8]) -> Result<Vec<u8>, AllocError>
-    ensures { IfOk result (λ shown. (words : List ℕ) → line.now ≡ codes "show " ++ words ++ codes "\n" → shown.items ≡ words) }
+    ensures shown { IfOk result (λ shown. shown.items ≡ shown_words line.now) }
+    ensures words { IfOk result (λ shown. (words : List ℕ) → line.now ≡ codes "show " ++ words ++ codes "\n" → shown.items ≡ words) }
 {
     let mut shown = Vec::new(alloc);
     if line.len() >= 6 {

@@ -1,7 +1,7 @@
 //! A run told line by line to a picture, whose bands are written as they are full.
 ghost use Rattle.std.specs.Prelude.{◌≡◌, ◌+◌, ◌-◌, ◌^◌, ◌<◌, ◌≤◌, [], ◌++◌, codes, flat_map, IfErr, IfOk, IfSome, Ok, OnOk};
 ghost use Rattle.plain_store.specs.Setups.{checked};
-ghost use Rattle.picture.specs.Pages.{held};
+ghost use Rattle.picture.specs.Pages.{held, page_of, seen_page};
 ghost use Rattle.picture.specs.Told.{saying_text};
 ghost use Rattle.scenario.specs.Reads.{script};
 ghost use Rattle.replayer.specs.Courses.{Follows, MakesTurns};
@@ -11,7 +11,8 @@ ghost use Rattle.replayer.specs.Telling.{told_text};
 ghost use Rattle.replayer.specs.Texts.{end_line, mark_line, replayed};
 ghost use Rattle.replayer.specs.Turns.{turns_in};
 ghost use Rattle.replayer.specs.Writing.{IsWriteFault, failed_write};
-ghost use Rattle.drawer.specs.Drawings.{Draws, DrawsLine, DrawsOn, IsToldLine};
+ghost use Rattle.drawer.specs.Drawings.{DrawsBands, DrawsLine, DrawsOn, DrawsRest, IsToldLine, kept};
+ghost use Rattle.drawer.specs.Pictures.{plan_of};
 
 use crate::changes::{Changes, words_shown};
 use crate::overlaps::{Overlaps, hear, take_ended};
@@ -52,7 +53,7 @@ pub(crate) fn draw_bands<W: Sink, L: Onlooker>(
     onlooker: &mut L,
 ) -> Result<(Summary, u64), Fault>
     requires { W.failures output.old < 2 ^ 64 - 1 }
-    ensures ok { OnOk result (Draws (W.taken output.old) (W.taken output.new) (replayed (script scenario.now))) }
+    ensures ok { IfOk result (λ answer. DrawsBands (plan_of form scenario.now.setup) (W.taken output.old) (W.taken output.new) (replayed (script scenario.now)) answer.1) }
     ensures summary { IfOk result (λ answer. answer.0 ≡ summary_of scenario.now.setup (happenings (script scenario.now))) }
     ensures fault { IfErr result IsWriteFault }
     ensures failures { W.failures output.new ≡ W.failures output.old + failed_write result }
@@ -77,14 +78,12 @@ impl Drawing {
         ensures follows { IfOk result (λ drawing. Follows drawing.course run_at_start) }
         ensures summary { IfOk result (λ drawing. drawing.summary ≡ record { events = 0; taken = 0; refused = 0 }) }
         ensures held { IfOk result (λ drawing. held drawing.page ≡ []) }
+        ensures page { IfOk result (λ drawing. seen_page drawing.page ≡ page_of (plan_of form setup.now) []) }
         ensures fault { IfErr result IsWriteFault }
         ensures failures { failed_write result ≡ 0 }
     {
         let changes = Changes::new(alloc, setup)?;
-        let mut opening = Vec::new(alloc);
-        if !changes.is_empty() {
-            opening = changes.store_words()?;
-        }
+        let opening = changes.words_by_pairs()?;
         let page = Page::new(alloc, form, setup.processes, opening.as_slice())?;
         let course = Course::new(alloc, setup, false)?;
         let overlaps = Overlaps::new(alloc, setup, reads)?;
@@ -104,7 +103,7 @@ impl Drawing {
         requires writes { W.failures output.old < 2 ^ 64 - 1 }
         requires events { self.old.summary.events < 2 ^ 63 }
         requires refused { self.old.summary.refused < 2 ^ 63 }
-        ensures ok { OnOk result (DrawsLine line.now self.old.course self.new.course self.old.summary self.new.summary (held self.old.page) (held self.new.page) (W.taken output.old) (W.taken output.new)) }
+        ensures ok { OnOk result (DrawsLine line.now self.old.course self.new.course self.old.summary self.new.summary (kept self.old.page) (kept self.new.page) (W.taken output.old) (W.taken output.new)) }
         ensures events { OnOk result (self.new.summary.events < self.old.summary.events + 2 ^ 32) }
         ensures refused { OnOk result (self.new.summary.refused < self.old.summary.refused + 2 ^ 32) }
         ensures fault { IfErr result IsWriteFault }
@@ -126,7 +125,7 @@ impl Drawing {
         requires writes { W.failures output.old < 2 ^ 64 - 1 }
         requires events { self.old.summary.events < 2 ^ 64 - 1 }
         requires refused { self.old.summary.refused < 2 ^ 64 - 1 }
-        ensures ok { OnOk result (IsToldLine told.now → DrawsOn (held self.old.page) (held self.new.page) (W.taken output.old) (W.taken output.new) (told_text self.old.summary.events told.now)) }
+        ensures ok { OnOk result (IsToldLine told.now → DrawsOn (kept self.old.page) (kept self.new.page) (W.taken output.old) (W.taken output.new) (told_text self.old.summary.events told.now)) }
         ensures count { OnOk result (self.new.summary ≡ counted told.now self.old.summary) }
         ensures course { self.new.course ≡ self.old.course }
         ensures fault { IfErr result IsWriteFault }
@@ -140,7 +139,7 @@ impl Drawing {
     /// Draws what a turn tells.
     fn draw_told<W: Sink>(&mut self, told: &Told, output: &mut W) -> Result<(), Fault>
         requires { W.failures output.old < 2 ^ 64 - 1 }
-        ensures ok { OnOk result (IsToldLine told.now → DrawsOn (held self.old.page) (held self.new.page) (W.taken output.old) (W.taken output.new) (told_text self.old.summary.events told.now)) }
+        ensures ok { OnOk result (IsToldLine told.now → DrawsOn (kept self.old.page) (kept self.new.page) (W.taken output.old) (W.taken output.new) (told_text self.old.summary.events told.now)) }
         ensures summary { self.new.summary ≡ self.old.summary }
         ensures course { self.new.course ≡ self.old.course }
         ensures fault { IfErr result IsWriteFault }
@@ -176,7 +175,7 @@ impl Drawing {
         output: &mut W,
     ) -> Result<(), Fault>
         requires { W.failures output.old < 2 ^ 64 - 1 }
-        ensures ok { OnOk result (DrawsOn (held self.old.page) (held self.new.page) (W.taken output.old) (W.taken output.new) (flat_map (mark_line self.old.summary.events process) marks.now)) }
+        ensures ok { OnOk result (DrawsOn (kept self.old.page) (kept self.new.page) (W.taken output.old) (W.taken output.new) (flat_map (mark_line self.old.summary.events process) marks.now)) }
         ensures summary { self.new.summary ≡ self.old.summary }
         ensures course { self.new.course ≡ self.old.course }
         ensures fault { IfErr result IsWriteFault }
@@ -191,7 +190,7 @@ impl Drawing {
     /// Draws a mark of an event.
     fn draw_mark<W: Sink>(&mut self, process: u8, mark: &Mark, output: &mut W) -> Result<(), Fault>
         requires { W.failures output.old < 2 ^ 64 - 1 }
-        ensures ok { OnOk result (DrawsOn (held self.old.page) (held self.new.page) (W.taken output.old) (W.taken output.new) (mark_line self.old.summary.events process mark.now)) }
+        ensures ok { OnOk result (DrawsOn (kept self.old.page) (kept self.new.page) (W.taken output.old) (W.taken output.new) (mark_line self.old.summary.events process mark.now)) }
         ensures summary { self.new.summary ≡ self.old.summary }
         ensures course { self.new.course ≡ self.old.course }
         ensures fault { IfErr result IsWriteFault }
@@ -210,7 +209,7 @@ impl Drawing {
     /// Draws a line, and before it the reads that were overlapped since the line before; writes each band that is full.
     fn draw<W: Sink>(&mut self, saying: Saying, output: &mut W) -> Result<(), Fault>
         requires { W.failures output.old < 2 ^ 64 - 1 }
-        ensures ok { OnOk result (DrawsOn (held self.old.page) (held self.new.page) (W.taken output.old) (W.taken output.new) (saying_text self.old.summary.events saying ++ codes "\n")) }
+        ensures ok { OnOk result (DrawsOn (kept self.old.page) (kept self.new.page) (W.taken output.old) (W.taken output.new) (saying_text self.old.summary.events saying ++ codes "\n")) }
         ensures summary { self.new.summary ≡ self.old.summary }
         ensures course { self.new.course ≡ self.old.course }
         ensures fault { IfErr result IsWriteFault }
@@ -229,7 +228,7 @@ impl Drawing {
     /// Draws the reads that were overlapped since the last line, which are no lines of the run.
     fn draw_reads<W: Sink>(&mut self, output: &mut W) -> Result<(), Fault>
         requires { W.failures output.old < 2 ^ 64 - 1 }
-        ensures ok { OnOk result (DrawsOn (held self.old.page) (held self.new.page) (W.taken output.old) (W.taken output.new) []) }
+        ensures ok { OnOk result (DrawsOn (kept self.old.page) (kept self.new.page) (W.taken output.old) (W.taken output.new) []) }
         ensures summary { self.new.summary ≡ self.old.summary }
         ensures course { self.new.course ≡ self.old.course }
         ensures fault { IfErr result IsWriteFault }
@@ -245,7 +244,7 @@ impl Drawing {
     /// Draws a read, and writes the band that it does not fit into, if it does not.
     fn draw_read<W: Sink>(&mut self, read: &OverlappedRead, output: &mut W) -> Result<(), Fault>
         requires { W.failures output.old < 2 ^ 64 - 1 }
-        ensures ok { OnOk result (DrawsOn (held self.old.page) (held self.new.page) (W.taken output.old) (W.taken output.new) []) }
+        ensures ok { OnOk result (DrawsOn (kept self.old.page) (kept self.new.page) (W.taken output.old) (W.taken output.new) []) }
         ensures summary { self.new.summary ≡ self.old.summary }
         ensures course { self.new.course ≡ self.old.course }
         ensures fault { IfErr result IsWriteFault }
@@ -258,7 +257,7 @@ impl Drawing {
     /// Draws the last line, and writes what is held back.
     fn end<W: Sink>(&mut self, output: &mut W) -> Result<(), Fault>
         requires { W.failures output.old < 2 ^ 64 - 1 }
-        ensures ok { OnOk result (DrawsOn (held self.old.page) [] (W.taken output.old) (W.taken output.new) (end_line self.old.summary)) }
+        ensures ok { OnOk result (DrawsRest (kept self.old.page) (W.taken output.old) (W.taken output.new) (end_line self.old.summary) self.new.page.height) }
         ensures summary { self.new.summary ≡ self.old.summary }
         ensures fault { IfErr result IsWriteFault }
         ensures failures { W.failures output.new ≡ W.failures output.old + failed_write result }

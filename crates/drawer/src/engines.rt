@@ -5,8 +5,8 @@ ghost use Rattle.scenario.specs.Reads.{script};
 ghost use Rattle.replayer.specs.Replays.{IsSummaryOf, ended};
 ghost use Rattle.replayer.specs.Runs.{happenings};
 ghost use Rattle.replayer.specs.Summaries.{summary_of};
-ghost use Rattle.replayer.specs.Texts.{replayed};
 ghost use Rattle.replayer.specs.Writing.{IsWriteFault, failed_write};
+ghost use Rattle.picture.specs.declared.page.Form.TheVariants as form_variants;
 ghost use Rattle.drawer.specs.Drawings.{DrawsAll, Drew};
 
 use crate::changes::Changes;
@@ -20,8 +20,9 @@ use scenario::{Fault, Scenario, Sink, Source, print_scenario, read_input, read_s
 use std::alloc::Global;
 
 /// Reads a whole file, and writes the page of its run: a picture in bands, each written when it is full. Where it ends
-/// well, the titles of the marks, read back, are the lines that `replay` writes for the file, whether or not the page
-/// shows the reads that writes overlapped too; and its tags fit, and no element is open at its end.
+/// well, what was written is the page of items whose lines are those that `replay` writes for the file, and nothing
+/// else; the titles of the marks, read back, are these lines, whether or not the page shows the reads that writes
+/// overlapped too; and its tags fit, and no element is open at its end.
 pub fn draw<R: Source, W: Sink, L: Onlooker>(
     alloc: Global,
     reads: Reads,
@@ -31,7 +32,7 @@ pub fn draw<R: Source, W: Sink, L: Onlooker>(
 ) -> Result<Summary, Fault>
     requires reads { R.failures input.old < 2 ^ 64 - 1 }
     requires writes { W.failures output.old < 2 ^ 64 - 1 }
-    ensures drew { Drew (ended result)
+    ensures drew { Drew reads form_variants.Page (ended result)
         (record { to_come = R.to_come input.old; taken = W.taken output.old; read_failures = R.failures input.old; write_failures = W.failures output.old })
         (record { to_come = R.to_come input.new; taken = W.taken output.new; read_failures = R.failures input.new; write_failures = W.failures output.new }) }
     ensures input { ReadsFront (R.to_come input.old) (R.to_come input.new) }
@@ -52,7 +53,7 @@ fn draw_page<W: Sink, L: Onlooker>(
     onlooker: &mut L,
 ) -> Result<Summary, Fault>
     requires { W.failures output.old < 2 ^ 64 - 1 }
-    ensures ok { OnOk result (DrawsAll (W.taken output.old) (W.taken output.new) (replayed (script scenario.now))) }
+    ensures ok { OnOk result (DrawsAll reads form_variants.Page (script scenario.now) (W.taken output.old) (W.taken output.new)) }
     ensures summary { IfOk result (λ summary. summary ≡ summary_of scenario.now.setup (happenings (script scenario.now))) }
     ensures fault { IfErr result IsWriteFault }
     ensures failures { W.failures output.new ≡ W.failures output.old + failed_write result }
@@ -78,7 +79,7 @@ pub fn draw_svg<R: Source, W: Sink, L: Onlooker>(
 ) -> Result<Summary, Fault>
     requires reads { R.failures input.old < 2 ^ 64 - 1 }
     requires writes { W.failures output.old < 2 ^ 64 - 1 }
-    ensures drew { Drew (ended result)
+    ensures drew { Drew reads (form_variants.Picture 34) (ended result)
         (record { to_come = R.to_come input.old; taken = W.taken output.old; read_failures = R.failures input.old; write_failures = W.failures output.old })
         (record { to_come = R.to_come input.new; taken = W.taken output.new; read_failures = R.failures input.new; write_failures = W.failures output.new }) }
     ensures input { ReadsFront (R.to_come input.old) (R.to_come input.new) }
@@ -99,7 +100,7 @@ fn draw_picture<W: Sink, L: Onlooker>(
     onlooker: &mut L,
 ) -> Result<Summary, Fault>
     requires { W.failures output.old < 2 ^ 64 - 1 }
-    ensures ok { OnOk result (DrawsAll (W.taken output.old) (W.taken output.new) (replayed (script scenario.now))) }
+    ensures ok { OnOk result (DrawsAll reads (form_variants.Picture 34) (script scenario.now) (W.taken output.old) (W.taken output.new)) }
     ensures summary { IfOk result (λ summary. summary ≡ summary_of scenario.now.setup (happenings (script scenario.now))) }
     ensures fault { IfErr result IsWriteFault }
     ensures failures { W.failures output.new ≡ W.failures output.old + failed_write result }

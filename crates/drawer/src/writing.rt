@@ -2,9 +2,10 @@
 ghost use Rattle.std.specs.Prelude.{◌≡◌, ◌+◌, ◌-◌, ◌^◌, ◌<◌, IfErr, IfSome, OnOk};
 ghost use Rattle.shapes.specs.Elements.{EndsAll};
 ghost use Rattle.shapes.specs.Titles.{lines_in};
-ghost use Rattle.picture.specs.Pages.{lines_of_band};
+ghost use Rattle.picture.specs.Pages.{band_text, lines_of_band};
 ghost use Rattle.replayer.specs.Writing.{IsWriteFault, failed_write};
-ghost use Rattle.drawer.specs.Drawings.{Draws, Writes, ended_lines};
+ghost use Rattle.drawer.specs.Drawings.{Draws, Writes};
+ghost use Rattle.drawer.specs.Pictures.{ended_lines};
 
 use scenario::{Fault, Sink, write_all};
 use shapes::Markup;
@@ -14,7 +15,7 @@ use shapes::Markup;
 pub(crate) fn write_markup<W: Sink>(markup: &Markup, output: &mut W) -> Result<(), Fault>
     requires { W.failures output.old < 2 ^ 64 - 1 }
     ensures written { OnOk result (Writes (W.taken output.old) (W.taken output.new) markup.now) }
-    ensures ok { OnOk result (EndsAll markup.now → Draws (W.taken output.old) (W.taken output.new) (ended_lines (lines_in markup.now))) }
+    ensures ok { OnOk result (EndsAll markup.now → Draws (W.taken output.old) (W.taken output.new) markup.now (ended_lines (lines_in markup.now))) }
     ensures fault { IfErr result IsWriteFault }
     ensures failures { W.failures output.new ≡ W.failures output.old + failed_write result }
 {
@@ -25,7 +26,7 @@ pub(crate) fn write_markup<W: Sink>(markup: &Markup, output: &mut W) -> Result<(
 #[tactic(auto, using(crate::proofs::Drawn::draws_no_band))]
 pub(crate) fn write_band<W: Sink>(band: &Option<Markup>, output: &mut W) -> Result<(), Fault>
     requires { W.failures output.old < 2 ^ 64 - 1 }
-    ensures ok { OnOk result (IfSome band.now EndsAll → Draws (W.taken output.old) (W.taken output.new) (ended_lines (lines_of_band band.now))) }
+    ensures ok { OnOk result (IfSome band.now EndsAll → Draws (W.taken output.old) (W.taken output.new) (band_text band.now) (ended_lines (lines_of_band band.now))) }
     ensures fault { IfErr result IsWriteFault }
     ensures failures { W.failures output.new ≡ W.failures output.old + failed_write result }
 {

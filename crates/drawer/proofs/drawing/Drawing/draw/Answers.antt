@@ -1,7 +1,7 @@
 use Rattle.std.proofs.Common.{[], ◌++◌, ap, codes}
 use Rattle.replayer.proofs.Written.{ok_then}
 use Rattle.replayer.specs.declared.summaries.Summary.{Summary}
-use Rattle.picture.specs.Pages.{held, lines_of_band}
+use Rattle.drawer.specs.Drawings.{kept}
 use Rattle.picture.specs.Told.{saying_text}
 use Rattle.drawer.proofs.Drawn.{draws_on_both, draws_on_line, draws_on_same}
 use Rattle.drawer.proofs.drawing.Drawing.draw.Goals as goal
@@ -12,5 +12,6 @@ returns-clause-ok g c =
     ok_then c.write_band.result
     (λ wrote. draws_on_same _ _ _ _ (told c.draw_reads.new.self.summary) (told c.args.self.now.summary) (ap told c.in_ok-draw_reads.ensures.summary)
     (draws_on_both _ _ _ _ _ _ [] (told c.draw_reads.new.self.summary) c.in_ok-draw_reads.ensures.ok
-    (draws_on_line (held c.draw_reads.new.self.page) (lines_of_band c.in_ok-full.full) (held c.take.new.self) (saying_text c.draw_reads.new.self.summary.events c.args.saying) (g.W.Sink.taken c.draw_reads.new.output) (g.W.Sink.taken c.write_band.new.output) c.in_ok-full.ensures.lines (wrote c.in_ok-full.ensures.ended))))
+    (draws_on_line (record { source = c.draw_reads.new.self.source; at = c.draw_reads.new.self.summary.events; saying = c.args.saying }) (kept c.draw_reads.new.self.page) (kept c.take.new.self) c.in_ok-full.full (g.W.Sink.taken c.draw_reads.new.output) (g.W.Sink.taken c.write_band.new.output)
+    c.in_ok-full.ensures.lines c.in_ok-full.ensures.page (wrote c.in_ok-full.ensures.ended))))
     c.write_band.ensures.ok

@@ -1,5 +1,5 @@
 use Rattle.std.proofs.Common.{◌≡◌, ◌+◌, ◌<◌, ◌∙◌, ap, arith, refl, sym, subst}
-use Rattle.picture.specs.Pages.{held}
+use Rattle.drawer.specs.Drawings.{kept}
 use Rattle.replayer.specs.Courses.{CourseState, Follows}
 use Rattle.replayer.specs.Runs.{run_after}
 use Rattle.replayer.specs.Summaries.{counted}
@@ -15,7 +15,7 @@ turns-init g c =
     let begun : CourseState = c.begin.new.self in
     let left = ap (λ (course : CourseState). course.left) c.begin.ensures.course in
     record {
-      going = λ run follows counts. going_start c.args.self.now.course.world.setup c.args.line.now run begun c.args.self.now.summary (held c.args.self.now.page) (g.W.Sink.taken c.args.output.now)
+      going = λ run follows counts. going_start c.args.self.now.course.world.setup c.args.line.now run begun c.args.self.now.summary (kept c.args.self.now.page) (g.W.Sink.taken c.args.output.now)
           (ap (λ (course : CourseState). course.world.setup) c.begin.ensures.course) left
           (subst (λ course. Follows course run) (sym c.begin.ensures.course) (record { shows = follows.shows; flicks = follows.flicks })) counts;
       whole = refl;
@@ -27,8 +27,8 @@ turns-init g c =
 pub returns-in_default-clause-ok : goal.returns-in_default-clause-ok
 returns-in_default-clause-ok g c = λ run follows counts.
     let s = c.args.self.now.course.world.setup in
-    subst (λ n. Advances s run (run_after s c.args.line.now run) c.next_turns.new.course (with_events n c.turns.self.summary) (held c.args.self.now.page) (held c.turns.self.page) (g.W.Sink.taken c.args.output.now) (g.W.Sink.taken c.turns.output)) (sym c.from.ensures)
-    (going_ended s c.args.line.now run c.turns.self.course c.next_turns.new.course c.turns.self.summary c.in_ok-turns.turns (held c.args.self.now.page) (held c.turns.self.page) _ _ c.turns.invariant.left (c.turns.invariant.going run follows counts) c.in_ok-turns.ensures.made c.in_default.is)
+    subst (λ n. Advances s run (run_after s c.args.line.now run) c.next_turns.new.course (with_events n c.turns.self.summary) (kept c.args.self.now.page) (kept c.turns.self.page) (g.W.Sink.taken c.args.output.now) (g.W.Sink.taken c.turns.output)) (sym c.from.ensures)
+    (going_ended s c.args.line.now run c.turns.self.course c.next_turns.new.course c.turns.self.summary c.in_ok-turns.turns (kept c.args.self.now.page) (kept c.turns.self.page) _ _ c.turns.invariant.left (c.turns.invariant.going run follows counts) c.in_ok-turns.ensures.made c.in_default.is)
 
 pub turns-preserved : goal.turns-preserved
 turns-preserved g c =
@@ -39,10 +39,10 @@ turns-preserved g c =
     record {
       going = λ run follows counts.
           let s = c.args.self.now.course.world.setup in
-          let drew = subst (λ n. IsToldLine c.in-Some.told → DrawsOn (held c.turns.self.page) (held c.tell.new.self.page) (g.W.Sink.taken c.turns.output) (g.W.Sink.taken c.tell.new.output) (told_text (c.turns.self.summary.events + n) c.in-Some.told)) c.from.ensures (rw c.in-Some.told-is at c.in_ok-tell.ensures.ok) in
-          subst (λ (summary : Summary). Going s c.args.line.now run c.tell.new.self.course summary (held c.args.self.now.page) (held c.tell.new.self.page) (g.W.Sink.taken c.args.output.now) (g.W.Sink.taken c.tell.new.output)) (sym now)
-          (subst (λ (course : CourseState). Going s c.args.line.now run course (counted c.in-Some.told mid) (held c.args.self.now.page) (held c.tell.new.self.page) (g.W.Sink.taken c.args.output.now) (g.W.Sink.taken c.tell.new.output)) (sym course)
-          (going_on s c.args.line.now run c.turns.self.course c.next_turns.new.course c.turns.self.summary c.in_ok-turns.turns c.in-Some.told (held c.args.self.now.page) (held c.turns.self.page) (held c.tell.new.self.page) _ _ _ c.turns.invariant.left (c.turns.invariant.going run follows counts) c.in_ok-turns.ensures.made c.in-Some.is drew));
+          let drew = subst (λ n. IsToldLine c.in-Some.told → DrawsOn (kept c.turns.self.page) (kept c.tell.new.self.page) (g.W.Sink.taken c.turns.output) (g.W.Sink.taken c.tell.new.output) (told_text (c.turns.self.summary.events + n) c.in-Some.told)) c.from.ensures (rw c.in-Some.told-is at c.in_ok-tell.ensures.ok) in
+          subst (λ (summary : Summary). Going s c.args.line.now run c.tell.new.self.course summary (kept c.args.self.now.page) (kept c.tell.new.self.page) (g.W.Sink.taken c.args.output.now) (g.W.Sink.taken c.tell.new.output)) (sym now)
+          (subst (λ (course : CourseState). Going s c.args.line.now run course (counted c.in-Some.told mid) (kept c.args.self.now.page) (kept c.tell.new.self.page) (g.W.Sink.taken c.args.output.now) (g.W.Sink.taken c.tell.new.output)) (sym course)
+          (going_on s c.args.line.now run c.turns.self.course c.next_turns.new.course c.turns.self.summary c.in_ok-turns.turns c.in-Some.told (kept c.args.self.now.page) (kept c.turns.self.page) (kept c.tell.new.self.page) _ _ _ c.turns.invariant.left (c.turns.invariant.going run follows counts) c.in_ok-turns.ensures.made c.in-Some.is drew));
       whole = omega (arith, c.in_ok-tell.ensures.failures, c.turns.invariant.whole);
       left = omega (arith, less, c.turns.invariant.left, ap (λ (course : CourseState). course.left) course);
       events = omega (arith, less, c.turns.invariant.events, ap (λ (s : Summary). s.events) now, events_counted c.in-Some.told mid, ap (λ (course : CourseState). course.left) course);
@@ -58,10 +58,10 @@ turns-preserved-in_ok-tell g c =
     record {
       going = λ run follows counts.
           let s = c.args.self.now.course.world.setup in
-          let drew = subst (λ n. IsToldLine c.in-Some.told → DrawsOn (held c.turns.self.page) (held c.tell.new.self.page) (g.W.Sink.taken c.turns.output) (g.W.Sink.taken c.tell.new.output) (told_text (c.turns.self.summary.events + n) c.in-Some.told)) c.from.ensures (rw c.in-Some.told-is at c.in_ok-tell.ensures.ok) in
-          subst (λ (summary : Summary). Going s c.args.line.now run c.tell.new.self.course summary (held c.args.self.now.page) (held c.tell.new.self.page) (g.W.Sink.taken c.args.output.now) (g.W.Sink.taken c.tell.new.output)) (sym now)
-          (subst (λ (course : CourseState). Going s c.args.line.now run course (counted c.in-Some.told mid) (held c.args.self.now.page) (held c.tell.new.self.page) (g.W.Sink.taken c.args.output.now) (g.W.Sink.taken c.tell.new.output)) (sym course)
-          (going_on s c.args.line.now run c.turns.self.course c.next_turns.new.course c.turns.self.summary c.in_ok-turns.turns c.in-Some.told (held c.args.self.now.page) (held c.turns.self.page) (held c.tell.new.self.page) _ _ _ c.turns.invariant.left (c.turns.invariant.going run follows counts) c.in_ok-turns.ensures.made c.in-Some.is drew));
+          let drew = subst (λ n. IsToldLine c.in-Some.told → DrawsOn (kept c.turns.self.page) (kept c.tell.new.self.page) (g.W.Sink.taken c.turns.output) (g.W.Sink.taken c.tell.new.output) (told_text (c.turns.self.summary.events + n) c.in-Some.told)) c.from.ensures (rw c.in-Some.told-is at c.in_ok-tell.ensures.ok) in
+          subst (λ (summary : Summary). Going s c.args.line.now run c.tell.new.self.course summary (kept c.args.self.now.page) (kept c.tell.new.self.page) (g.W.Sink.taken c.args.output.now) (g.W.Sink.taken c.tell.new.output)) (sym now)
+          (subst (λ (course : CourseState). Going s c.args.line.now run course (counted c.in-Some.told mid) (kept c.args.self.now.page) (kept c.tell.new.self.page) (g.W.Sink.taken c.args.output.now) (g.W.Sink.taken c.tell.new.output)) (sym course)
+          (going_on s c.args.line.now run c.turns.self.course c.next_turns.new.course c.turns.self.summary c.in_ok-turns.turns c.in-Some.told (kept c.args.self.now.page) (kept c.turns.self.page) (kept c.tell.new.self.page) _ _ _ c.turns.invariant.left (c.turns.invariant.going run follows counts) c.in_ok-turns.ensures.made c.in-Some.is drew));
       whole = omega (arith, c.in_ok-tell.ensures.failures, c.turns.invariant.whole);
       left = omega (arith, less, c.turns.invariant.left, ap (λ (course : CourseState). course.left) course);
       events = omega (arith, less, c.turns.invariant.events, ap (λ (s : Summary). s.events) now, events_counted c.in-Some.told mid, ap (λ (course : CourseState). course.left) course);

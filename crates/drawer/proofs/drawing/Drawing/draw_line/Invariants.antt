@@ -1,5 +1,5 @@
 use Rattle.std.proofs.Common.{◌≡◌, ◌+◌, ◌≤◌}
-use Rattle.picture.specs.Pages.{held}
+use Rattle.drawer.specs.Drawings.{kept}
 use Rattle.replayer.specs.Courses.{Follows}
 use Rattle.replayer.specs.Runs.{Run}
 use Rattle.replayer.specs.Turns.{turns_in}
@@ -11,7 +11,7 @@ use Rattle.drawer.proofs.drawing.Drawing.draw_line.Given as goal
 abbrev pub invariant-turns : goal.invariant-turns
 invariant-turns g l = record {
   going : (run : Run) → Follows l.fn.self.course run → Counts l.fn.self.course.world.setup run l.fn.self.summary →
-      Going l.fn.self.course.world.setup l.line run l.self.course l.self.summary (held l.fn.self.page) (held l.self.page) (g.W.Sink.taken l.fn.output) (g.W.Sink.taken l.output);
+      Going l.fn.self.course.world.setup l.line run l.self.course l.self.summary (kept l.fn.self.page) (kept l.self.page) (g.W.Sink.taken l.fn.output) (g.W.Sink.taken l.output);
   whole : g.W.Sink.failures l.output ≡ g.W.Sink.failures l.fn.output;
   left : l.self.course.left ≤ turns_in l.line;
   events : l.self.summary.events + l.self.course.left ≤ l.fn.self.summary.events + turns_in l.line;

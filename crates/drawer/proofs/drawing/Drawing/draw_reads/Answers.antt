@@ -1,11 +1,11 @@
 use Rattle.std.proofs.Common.{◌∙◌, [], arith, refl}
-use Rattle.picture.specs.Pages.{held}
+use Rattle.drawer.specs.Drawings.{kept}
 use Rattle.replayer.proofs.Written.{failed_same}
 use Rattle.drawer.proofs.Drawn.{draws_on_both, draws_on_none}
 use Rattle.drawer.proofs.drawing.Drawing.draw_reads.Goals as goal
 
 pub loop-read-init : goal.loop-read-init
-loop-read-init g c = record { drawn = draws_on_none (held c.args.self.now.page) (g.W.Sink.taken c.args.output.now); summary = refl; course = refl; whole = refl }
+loop-read-init g c = record { drawn = draws_on_none (kept c.args.self.now.page) (g.W.Sink.taken c.args.output.now); summary = refl; course = refl; whole = refl }
 
 pub draw_read-requires : goal.draw_read-requires
 draw_read-requires g c = rw c.loop-read.invariant.whole c.requires

@@ -1,0 +1,55 @@
+-- What a run's picture is told, and what is written of it.
+use Rattle.std.specs.Prelude.{◌≡◌, ℕ, ◌-◌, List, [], ◌∷◌, ◌++◌, codes, drop, flat_map, length, take}
+use Rattle.plain_store.specs.Pairs.{Pair}
+use Rattle.plain_store.specs.Store.{Contents}
+use Rattle.plain_store.specs.StoreLine.{show_text}
+use Rattle.plain_store.specs.Setups.{opening_store}
+use Rattle.plain_store.specs.declared.setups.Setup.{Setup}
+use Rattle.scenario.specs.Printing.{scenario_text}
+use Rattle.scenario.specs.Reading.{Script}
+use Rattle.replayer.specs.Texts.{replayed}
+use Rattle.picture.specs.Bandings.{Item, Plan, Reads, Tells, bands_told, heights_told}
+use Rattle.picture.specs.Sheets.{page_back, page_front, picture_back, picture_front}
+use Rattle.picture.specs.Told.{text_of}
+use Rattle.picture.specs.declared.page.Form.{Form}
+use Rattle.picture.specs.declared.page.Form.TheVariants as form
+use Rattle.picture.specs.declared.reads.Reads.{Reads as Mode}
+
+-- the lines among items, of which the newest stands first; they stand in their order
+abbrev pub lines_told : List Item → List (List ℕ)
+lines_told [] = []
+lines_told (Tells line ∷ before) = lines_told before ++ text_of line ∷ []
+lines_told (Reads read ∷ before) = lines_told before
+
+-- the words of a line that shows a store, behind its first and without the line's end
+abbrev pub shown_words : List ℕ → List ℕ
+shown_words line = take (length line - 1 - 5) (drop 5 line)
+
+-- a store as a picture shows it at first, and beside its history: there nothing, if it is empty
+abbrev pub store_words : Contents → List ℕ
+store_words store = shown_words (show_text store.pairs)
+
+abbrev pub words_by : List Pair → List ℕ
+words_by [] = []
+words_by (pair ∷ pairs) = shown_words (show_text (pair ∷ pairs))
+
+-- what is known of a run's picture from the start
+abbrev pub plan_of : Form → Setup → Plan
+plan_of form s = record { form = form; processes = s.processes; opening = words_by (opening_store s).pairs }
+
+-- a page, and one picture whose bands' heights come to so much
+abbrev pub picture_of : Mode → Form → Script → ℕ → List Item → List ℕ
+picture_of reads form.Page said height items = (page_front said.setup (scenario_text said) reads ++ bands_told (plan_of form.Page said.setup) items) ++ page_back (store_words (opening_store said.setup))
+picture_of reads (form.Picture top) said height items = (picture_front said.setup height reads ++ bands_told (plan_of (form.Picture top) said.setup) items) ++ picture_back height reads
+
+-- lines, each with its end
+abbrev pub ended_lines : List (List ℕ) → List ℕ
+ended_lines = flat_map (λ line. line ++ codes "\n")
+
+-- Markup is the picture of a run, and nothing else: that of items whose lines are the text of the run, in order. The height of one picture is that of such a picture.
+pub record IsPictureOf (reads : Mode) (form : Form) (said : Script) (markup : List ℕ) : Type 0 where
+  pub items : List Item
+  pub lines : ended_lines (lines_told items) ≡ replayed said
+  pub first : List Item
+  pub same_lines : ended_lines (lines_told first) ≡ replayed said
+  pub is : markup ≡ picture_of reads form said (heights_told (plan_of form said.setup) first) items
