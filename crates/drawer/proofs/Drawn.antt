@@ -1,13 +1,16 @@
 -- Markup that is written piece by piece, and what a page holds back.
-use Rattle.std.proofs.Common.{◌≡◌, ℕ, true, List, [], ◌∷◌, ◌++◌, codes, Option, Some, refl, ap, sym, subst, ◌∙◌, append-nil, append_assoc}
+use Rattle.std.proofs.Common.{◌≡◌, ℕ, true, List, [], ◌∷◌, ◌++◌, codes, flat_map, Option, Some, refl, ap, sym, subst, ◌∙◌, append-nil, append_assoc}
 use Rattle.std.proofs.lemmas.Grind.{flat_map-append}
 use Rattle.std.specs.Io.KnownBytes.{Appends}
+use Rattle.record.specs.declared.marks.Mark.{Mark}
 use Rattle.shapes.specs.Elements.{EndsAll, opens_in}
 use Rattle.shapes.specs.Titles.{is_at_rest, lines_in, tags_of}
 use Rattle.shapes.proofs.Lines.{lines_on, rests_on}
 use Rattle.shapes.proofs.Stacks.{opens_on}
 use Rattle.picture.specs.Bandings.{Item, Plan, Reads, Tells, bands_told, full_told}
 use Rattle.picture.specs.Pages.{GivesRest, GoesOn, SeenPage, band_text, lines_of_band, page_of}
+use Rattle.picture.specs.Stages.{marks_said}
+use Rattle.picture.specs.Standings.{sayings}
 use Rattle.picture.specs.Told.{text_of}
 use Rattle.picture.specs.declared.page.Form.{Form}
 use Rattle.picture.specs.declared.reads.OverlappedRead.{OverlappedRead}
@@ -36,6 +39,15 @@ told_append (Reads read ∷ more) items = told_append more items
 pub both_told : (more items : List Item) (text then : List ℕ) → ended_lines (lines_told items) ≡ text → ended_lines (lines_told more) ≡ then → ended_lines (lines_told (more ++ items)) ≡ text ++ then
 both_told more items text then is next = ap ended_lines (told_append more items) ∙ ended-append (lines_told items) (lines_told more) ∙ (λ i. is i ++ next i)
 
+-- what they say stands so too
+said_append : (more items : List Item) → sayings (more ++ items) ≡ sayings items ++ sayings more
+said_append [] items = sym (append-nil (sayings items))
+said_append (Tells line ∷ more) items = ap (λ l. l ++ line.saying ∷ []) (said_append more items) ∙ append_assoc (sayings items) (sayings more) (line.saying ∷ [])
+said_append (Reads read ∷ more) items = said_append more items
+
+pub both_said : (more items : List Item) (marks then : List (ℕ × Mark)) → flat_map marks_said (sayings items) ≡ marks → flat_map marks_said (sayings more) ≡ then → flat_map marks_said (sayings (more ++ items)) ≡ marks ++ then
+both_said more items marks then is next = ap (flat_map marks_said) (said_append more items) ∙ flat_map-append marks_said (sayings items) (sayings more) ∙ (λ i. is i ++ next i)
+
 -- markup at rest
 pub writes_bytes : (a b : Option (List ℕ)) (bytes : List ℕ) → is_at_rest (tags_of bytes) ≡ true → Appends a b bytes → Writes a b bytes
 writes_bytes a b bytes rests taken = record { rests = rests; taken = taken }
@@ -62,13 +74,14 @@ draws_both a b c markup then text more first next = record {
 }
 
 -- a page takes in nothing, or some items and then others
-fills_none : (page : SeenPage) → Fills page page [] []
-fills_none page = record { items = []; lines = refl; goes_on = λ plan before is. (is, sym (append-nil (full_told plan before))) }
+fills_none : (page : SeenPage) → Fills page page [] [] []
+fills_none page = record { items = []; lines = refl; says = refl; goes_on = λ plan before is. (is, sym (append-nil (full_told plan before))) }
 
-fills_both : (old mid new : SeenPage) (markup then text more : List ℕ) → Fills old mid markup text → Fills mid new then more → Fills old new (markup ++ then) (text ++ more)
-fills_both old mid new markup then text more first next = record {
+fills_both : (old mid new : SeenPage) (markup then text more : List ℕ) (marks others : List (ℕ × Mark)) → Fills old mid markup text marks → Fills mid new then more others → Fills old new (markup ++ then) (text ++ more) (marks ++ others)
+fills_both old mid new markup then text more marks others first next = record {
   items = next.items ++ first.items;
   lines = both_told next.items first.items text more first.lines next.lines;
+  says = both_said next.items first.items marks others first.says next.says;
   goes_on = λ plan before is.
       let one = first.goes_on plan before is in
       let two = next.goes_on plan (first.items ++ before) one.0 in
@@ -77,51 +90,51 @@ fills_both old mid new markup then text more first next = record {
 }
 
 -- or one
-fills_one : (item : Item) (old new : SeenPage) (band : Option (List ℕ)) (text : List ℕ) → ended_lines (lines_told (item ∷ [])) ≡ text → GoesOn item old band new → Fills old new (band_text band) text
-fills_one item old new band text is goes = record { items = item ∷ []; lines = is; goes_on = λ plan before at. goes plan before at }
+fills_one : (item : Item) (old new : SeenPage) (band : Option (List ℕ)) (text : List ℕ) (marks : List (ℕ × Mark)) → ended_lines (lines_told (item ∷ [])) ≡ text → flat_map marks_said (sayings (item ∷ [])) ≡ marks → GoesOn item old band new → Fills old new (band_text band) text marks
+fills_one item old new band text marks is says goes = record { items = item ∷ []; lines = is; says = says; goes_on = λ plan before at. goes plan before at }
 
 -- nothing is drawn on
-pub draws_on_none : (has : Kept) (a : Option (List ℕ)) → DrawsOn has has a a []
+pub draws_on_none : (has : Kept) (a : Option (List ℕ)) → DrawsOn has has a a [] []
 draws_on_none has a = record { markup = []; drawn = []; draws = draws_none a; goes_on = sym (append-nil (ended_lines has.lines)); fills = fills_none has.page }
 
-pub draws_on_both : (had has now : Kept) (a b c : Option (List ℕ)) (text more : List ℕ) → DrawsOn had has a b text → DrawsOn has now b c more → DrawsOn had now a c (text ++ more)
-draws_on_both had has now a b c text more first next = record {
+pub draws_on_both : (had has now : Kept) (a b c : Option (List ℕ)) (text more : List ℕ) (marks others : List (ℕ × Mark)) → DrawsOn had has a b text marks → DrawsOn has now b c more others → DrawsOn had now a c (text ++ more) (marks ++ others)
+draws_on_both had has now a b c text more marks others first next = record {
   markup = first.markup ++ next.markup;
   drawn = first.drawn ++ next.drawn;
   draws = draws_both a b c first.markup next.markup first.drawn next.drawn first.draws next.draws;
   goes_on = append_assoc first.drawn next.drawn (ended_lines now.lines) ∙ ap (λ l. first.drawn ++ l) next.goes_on
       ∙ sym (append_assoc first.drawn (ended_lines has.lines) more) ∙ ap (λ l. l ++ more) first.goes_on ∙ append_assoc (ended_lines had.lines) text more;
-  fills = fills_both had.page has.page now.page first.markup next.markup text more first.fills next.fills;
+  fills = fills_both had.page has.page now.page first.markup next.markup text more marks others first.fills next.fills;
 }
 
 -- a line that was told, and the band that is full, if one is
 pub draws_on_line : (line : Line) (had has : Kept) (band : Option (List ℕ)) (a b : Option (List ℕ)) → lines_of_band band ++ has.lines ≡ had.lines ++ text_of line ∷ [] → GoesOn (Tells line) had.page band has.page →
-    Draws a b (band_text band) (ended_lines (lines_of_band band)) → DrawsOn had has a b (text_of line ++ codes "\n")
+    Draws a b (band_text band) (ended_lines (lines_of_band band)) → DrawsOn had has a b (text_of line ++ codes "\n") (marks_said line.saying)
 draws_on_line line had has band a b is goes draws = record {
   markup = band_text band;
   drawn = ended_lines (lines_of_band band);
   draws = draws;
   goes_on = sym (ended-append (lines_of_band band) has.lines) ∙ ap ended_lines is ∙ ended-append had.lines (text_of line ∷ []) ∙ ap (λ l. ended_lines had.lines ++ l) (ended_line (text_of line));
-  fills = fills_one (Tells line) had.page has.page band (text_of line ++ codes "\n") (ended_line (text_of line)) goes;
+  fills = fills_one (Tells line) had.page has.page band (text_of line ++ codes "\n") (marks_said line.saying) (ended_line (text_of line)) (append-nil (marks_said line.saying)) goes;
 }
 
 -- a read that was told, which is no line
 pub draws_on_read : (read : OverlappedRead) (had has : Kept) (band : Option (List ℕ)) (a b : Option (List ℕ)) → lines_of_band band ++ has.lines ≡ had.lines → GoesOn (Reads read) had.page band has.page →
-    Draws a b (band_text band) (ended_lines (lines_of_band band)) → DrawsOn had has a b []
+    Draws a b (band_text band) (ended_lines (lines_of_band band)) → DrawsOn had has a b [] []
 draws_on_read read had has band a b is goes draws = record {
   markup = band_text band;
   drawn = ended_lines (lines_of_band band);
   draws = draws;
   goes_on = sym (ended-append (lines_of_band band) has.lines) ∙ ap ended_lines is ∙ sym (append-nil (ended_lines had.lines));
-  fills = fills_one (Reads read) had.page has.page band [] refl goes;
+  fills = fills_one (Reads read) had.page has.page band [] [] refl refl goes;
 }
 
 -- the text is another one that is the same
-pub draws_on_same : (had has : Kept) (a b : Option (List ℕ)) (text other : List ℕ) → text ≡ other → DrawsOn had has a b text → DrawsOn had has a b other
-draws_on_same had has a b text other same on = subst (λ l. DrawsOn had has a b l) same on
+pub draws_on_same : (had has : Kept) (a b : Option (List ℕ)) (text other : List ℕ) (marks : List (ℕ × Mark)) → text ≡ other → DrawsOn had has a b text marks → DrawsOn had has a b other marks
+draws_on_same had has a b text other marks same on = subst (λ l. DrawsOn had has a b l marks) same on
 
 -- the last line, and then the bands that are left
-pub draws_on_rest : (had has : Kept) (new : SeenPage) (full : Option (List ℕ)) (last : List ℕ) (a b c d : Option (List ℕ)) (text : List ℕ) → DrawsOn had has a b text → lines_of_band full ++ lines_in last ≡ has.lines → GivesRest has.page full last new →
+pub draws_on_rest : (had has : Kept) (new : SeenPage) (full : Option (List ℕ)) (last : List ℕ) (a b c d : Option (List ℕ)) (text : List ℕ) → DrawsOn had has a b text [] → lines_of_band full ++ lines_in last ≡ has.lines → GivesRest has.page full last new →
     Draws b c (band_text full) (ended_lines (lines_of_band full)) → Draws c d last (ended_lines (lines_in last)) → DrawsRest had a d text new.height
 draws_on_rest had has new full last a b c d text on are gives band ending =
     let rest : List ℕ = band_text full ++ last in
@@ -133,6 +146,7 @@ draws_on_rest had has new full last a b c d text on are gives band ending =
           (draws_both b c d (band_text full) last (ended_lines (lines_of_band full)) (ended_lines (lines_in last)) band ending));
       items = on.fills.items;
       lines = on.fills.lines;
+      says = on.fills.says;
       ends = λ plan before is.
           let one = on.fills.goes_on plan before is in
           let two = gives plan (on.fills.items ++ before) one.0 in
@@ -144,8 +158,9 @@ pub rest_at : (had : Kept) (a b : Option (List ℕ)) (text : List ℕ) (height o
 rest_at had a b text height other same rest = subst (λ h. DrawsRest had a b text h) (sym same) rest
 
 -- from the start on: all bands
-pub draws_bands : (plan : Plan) (first has : Kept) (a b c : Option (List ℕ)) (text ending : List ℕ) (height : ℕ) → first.lines ≡ [] → first.page ≡ page_of plan [] → DrawsOn first has a b text → DrawsRest has b c ending height → DrawsBands plan a c (text ++ ending) height
-draws_bands plan first has a b c text ending height none new on rest =
+pub draws_bands : (plan : Plan) (first has : Kept) (a b c : Option (List ℕ)) (text ending : List ℕ) (marks : List (ℕ × Mark)) (height : ℕ) → first.lines ≡ [] → first.page ≡ page_of plan [] → DrawsOn first has a b text marks → DrawsRest has b c ending height →
+    DrawsBands plan a c (text ++ ending) marks height
+draws_bands plan first has a b c text ending marks height none new on rest =
     let items : List Item = on.fills.items ++ [] in
     let one = on.fills.goes_on plan [] new in
     let two = rest.ends plan items one.0 in
@@ -155,15 +170,16 @@ draws_bands plan first has a b c text ending height none new on rest =
     record {
       items = rest.items ++ items;
       lines = both_told rest.items items text ending (ap (λ l. ended_lines (lines_told l)) (append-nil on.fills.items) ∙ on.fills.lines) rest.lines;
+      says = both_said rest.items items marks [] (ap (λ l. flat_map marks_said (sayings l)) (append-nil on.fills.items) ∙ on.fills.says) rest.says ∙ append-nil marks;
       draws = subst (λ l. Draws a c l (text ++ ending)) (sym all) (subst (λ l. Draws a c (on.markup ++ rest.markup) l) drawn
           (draws_both a b c on.markup rest.markup on.drawn (ended_lines has.lines ++ ending) on.draws rest.draws));
       heights = two.1;
     }
 
 -- what stands before and behind tells nothing, and ends what it begins
-pub draws_framed : (reads : Mode) (form : Form) (said : Script) (plan : Plan) (a b c d : Option (List ℕ)) (head ending : List ℕ) (names : List (List ℕ)) (height : ℕ) → lines_in head ≡ [] → opens_in head (Some []) ≡ Some names → lines_in ending ≡ [] → opens_in ending (Some names) ≡ Some [] →
-    Writes a b head → (bands : DrawsBands plan b c (replayed said) height) → Writes c d ending → IsPictureOf reads form said ((head ++ bands_told plan bands.items) ++ ending) → DrawsAll reads form said a d
-draws_framed reads form said plan a b c d head ending names height no_head begin no_ending end first bands last page =
+pub draws_framed : (reads : Mode) (form : Form) (said : Script) (plan : Plan) (a b c d : Option (List ℕ)) (head ending : List ℕ) (names : List (List ℕ)) (marks : List (ℕ × Mark)) (height : ℕ) → lines_in head ≡ [] → opens_in head (Some []) ≡ Some names → lines_in ending ≡ [] → opens_in ending (Some names) ≡ Some [] →
+    Writes a b head → (bands : DrawsBands plan b c (replayed said) marks height) → Writes c d ending → IsPictureOf reads form said ((head ++ bands_told plan bands.items) ++ ending) → DrawsAll reads form said a d
+draws_framed reads form said plan a b c d head ending names marks height no_head begin no_ending end first bands last page =
     let markup : List ℕ = bands_told plan bands.items in
     let front = writes_both a b c head markup first bands.draws.writes in
     record {

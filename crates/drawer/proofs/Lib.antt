@@ -1,4 +1,5 @@
 pub mod Drawn
+mod Marked
 pub mod Shown
 pub mod Drawings
 pub mod Ends

@@ -1,17 +1,19 @@
 //! A run told line by line to a picture, whose bands are written as they are full.
-ghost use Rattle.std.specs.Prelude.{◌≡◌, ◌+◌, ◌-◌, ◌^◌, ◌<◌, ◌≤◌, [], ◌++◌, codes, flat_map, IfErr, IfOk, IfSome, Ok, OnOk};
+ghost use Rattle.std.specs.Prelude.{◌≡◌, ◌+◌, ◌-◌, ◌^◌, ◌<◌, ◌≤◌, [], ◌∷◌, ◌++◌, codes, flat_map, map, IfErr, IfOk, IfSome, Ok, OnOk};
 ghost use Rattle.plain_store.specs.Setups.{checked};
 ghost use Rattle.picture.specs.Pages.{held, page_of, seen_page};
+ghost use Rattle.picture.specs.Stages.{marks_in, marks_said};
 ghost use Rattle.picture.specs.Told.{saying_text};
 ghost use Rattle.scenario.specs.Reads.{script};
 ghost use Rattle.replayer.specs.Courses.{Follows, MakesTurns};
+ghost use Rattle.replayer.specs.Happenings.{past_after};
 ghost use Rattle.replayer.specs.Runs.{Run, happenings, run_at_start};
 ghost use Rattle.replayer.specs.Summaries.{counted, summary_of};
 ghost use Rattle.replayer.specs.Telling.{told_text};
 ghost use Rattle.replayer.specs.Texts.{end_line, mark_line, replayed};
 ghost use Rattle.replayer.specs.Turns.{turns_in};
 ghost use Rattle.replayer.specs.Writing.{IsWriteFault, failed_write};
-ghost use Rattle.drawer.specs.Drawings.{DrawsBands, DrawsLine, DrawsOn, DrawsRest, IsToldLine, kept};
+ghost use Rattle.drawer.specs.Drawings.{DrawsBands, DrawsLine, DrawsOn, DrawsRest, IsToldLine, kept, marks_told};
 ghost use Rattle.drawer.specs.Pictures.{plan_of};
 
 use crate::changes::{Changes, words_shown};
@@ -53,7 +55,7 @@ pub(crate) fn draw_bands<W: Sink, L: Onlooker>(
     onlooker: &mut L,
 ) -> Result<(Summary, u64), Fault>
     requires { W.failures output.old < 2 ^ 64 - 1 }
-    ensures ok { IfOk result (λ answer. DrawsBands (plan_of form scenario.now.setup) (W.taken output.old) (W.taken output.new) (replayed (script scenario.now)) answer.1) }
+    ensures ok { IfOk result (λ answer. DrawsBands (plan_of form scenario.now.setup) (W.taken output.old) (W.taken output.new) (replayed (script scenario.now)) (marks_in (past_after scenario.now.setup (happenings (script scenario.now)))) answer.1) }
     ensures summary { IfOk result (λ answer. answer.0 ≡ summary_of scenario.now.setup (happenings (script scenario.now))) }
     ensures fault { IfErr result IsWriteFault }
     ensures failures { W.failures output.new ≡ W.failures output.old + failed_write result }
@@ -125,7 +127,7 @@ impl Drawing {
         requires writes { W.failures output.old < 2 ^ 64 - 1 }
         requires events { self.old.summary.events < 2 ^ 64 - 1 }
         requires refused { self.old.summary.refused < 2 ^ 64 - 1 }
-        ensures ok { OnOk result (IsToldLine told.now → DrawsOn (kept self.old.page) (kept self.new.page) (W.taken output.old) (W.taken output.new) (told_text self.old.summary.events told.now)) }
+        ensures ok { OnOk result (IsToldLine told.now → DrawsOn (kept self.old.page) (kept self.new.page) (W.taken output.old) (W.taken output.new) (told_text self.old.summary.events told.now) (marks_told told.now)) }
         ensures count { OnOk result (self.new.summary ≡ counted told.now self.old.summary) }
         ensures course { self.new.course ≡ self.old.course }
         ensures fault { IfErr result IsWriteFault }
@@ -139,7 +141,7 @@ impl Drawing {
     /// Draws what a turn tells.
     fn draw_told<W: Sink>(&mut self, told: &Told, output: &mut W) -> Result<(), Fault>
         requires { W.failures output.old < 2 ^ 64 - 1 }
-        ensures ok { OnOk result (IsToldLine told.now → DrawsOn (kept self.old.page) (kept self.new.page) (W.taken output.old) (W.taken output.new) (told_text self.old.summary.events told.now)) }
+        ensures ok { OnOk result (IsToldLine told.now → DrawsOn (kept self.old.page) (kept self.new.page) (W.taken output.old) (W.taken output.new) (told_text self.old.summary.events told.now) (marks_told told.now)) }
         ensures summary { self.new.summary ≡ self.old.summary }
         ensures course { self.new.course ≡ self.old.course }
         ensures fault { IfErr result IsWriteFault }
@@ -175,7 +177,7 @@ impl Drawing {
         output: &mut W,
     ) -> Result<(), Fault>
         requires { W.failures output.old < 2 ^ 64 - 1 }
-        ensures ok { OnOk result (DrawsOn (kept self.old.page) (kept self.new.page) (W.taken output.old) (W.taken output.new) (flat_map (mark_line self.old.summary.events process) marks.now)) }
+        ensures ok { OnOk result (DrawsOn (kept self.old.page) (kept self.new.page) (W.taken output.old) (W.taken output.new) (flat_map (mark_line self.old.summary.events process) marks.now) (map (λ mark. (process, mark)) marks.now)) }
         ensures summary { self.new.summary ≡ self.old.summary }
         ensures course { self.new.course ≡ self.old.course }
         ensures fault { IfErr result IsWriteFault }
@@ -190,7 +192,7 @@ impl Drawing {
     /// Draws a mark of an event.
     fn draw_mark<W: Sink>(&mut self, process: u8, mark: &Mark, output: &mut W) -> Result<(), Fault>
         requires { W.failures output.old < 2 ^ 64 - 1 }
-        ensures ok { OnOk result (DrawsOn (kept self.old.page) (kept self.new.page) (W.taken output.old) (W.taken output.new) (mark_line self.old.summary.events process mark.now)) }
+        ensures ok { OnOk result (DrawsOn (kept self.old.page) (kept self.new.page) (W.taken output.old) (W.taken output.new) (mark_line self.old.summary.events process mark.now) ((process, mark.now) ∷ [])) }
         ensures summary { self.new.summary ≡ self.old.summary }
         ensures course { self.new.course ≡ self.old.course }
         ensures fault { IfErr result IsWriteFault }
@@ -209,7 +211,7 @@ impl Drawing {
     /// Draws a line, and before it the reads that were overlapped since the line before; writes each band that is full.
     fn draw<W: Sink>(&mut self, saying: Saying, output: &mut W) -> Result<(), Fault>
         requires { W.failures output.old < 2 ^ 64 - 1 }
-        ensures ok { OnOk result (DrawsOn (kept self.old.page) (kept self.new.page) (W.taken output.old) (W.taken output.new) (saying_text self.old.summary.events saying ++ codes "\n")) }
+        ensures ok { OnOk result (DrawsOn (kept self.old.page) (kept self.new.page) (W.taken output.old) (W.taken output.new) (saying_text self.old.summary.events saying ++ codes "\n") (marks_said saying)) }
         ensures summary { self.new.summary ≡ self.old.summary }
         ensures course { self.new.course ≡ self.old.course }
         ensures fault { IfErr result IsWriteFault }
@@ -228,7 +230,7 @@ impl Drawing {
     /// Draws the reads that were overlapped since the last line, which are no lines of the run.
     fn draw_reads<W: Sink>(&mut self, output: &mut W) -> Result<(), Fault>
         requires { W.failures output.old < 2 ^ 64 - 1 }
-        ensures ok { OnOk result (DrawsOn (kept self.old.page) (kept self.new.page) (W.taken output.old) (W.taken output.new) []) }
+        ensures ok { OnOk result (DrawsOn (kept self.old.page) (kept self.new.page) (W.taken output.old) (W.taken output.new) [] []) }
         ensures summary { self.new.summary ≡ self.old.summary }
         ensures course { self.new.course ≡ self.old.course }
         ensures fault { IfErr result IsWriteFault }
@@ -244,7 +246,7 @@ impl Drawing {
     /// Draws a read, and writes the band that it does not fit into, if it does not.
     fn draw_read<W: Sink>(&mut self, read: &OverlappedRead, output: &mut W) -> Result<(), Fault>
         requires { W.failures output.old < 2 ^ 64 - 1 }
-        ensures ok { OnOk result (DrawsOn (kept self.old.page) (kept self.new.page) (W.taken output.old) (W.taken output.new) []) }
+        ensures ok { OnOk result (DrawsOn (kept self.old.page) (kept self.new.page) (W.taken output.old) (W.taken output.new) [] []) }
         ensures summary { self.new.summary ≡ self.old.summary }
         ensures course { self.new.course ≡ self.old.course }
         ensures fault { IfErr result IsWriteFault }

@@ -6,7 +6,7 @@ use Rattle.replayer.specs.Summaries.{counted}
 use Rattle.replayer.specs.Telling.{told_text}
 use Rattle.replayer.specs.declared.summaries.Summary.{Summary}
 use Rattle.replayer.proofs.Underways.{events_counted, refused_counted, with_events}
-use Rattle.drawer.specs.Drawings.{Advances, DrawsOn, IsToldLine}
+use Rattle.drawer.specs.Drawings.{Advances, DrawsOn, IsToldLine, marks_told}
 use Rattle.drawer.proofs.Drawings.{Going, going_ended, going_on, going_start}
 use Rattle.drawer.proofs.drawing.Drawing.draw_line.Goals as goal
 
@@ -39,7 +39,7 @@ turns-preserved g c =
     record {
       going = λ run follows counts.
           let s = c.args.self.now.course.world.setup in
-          let drew = subst (λ n. IsToldLine c.in-Some.told → DrawsOn (kept c.turns.self.page) (kept c.tell.new.self.page) (g.W.Sink.taken c.turns.output) (g.W.Sink.taken c.tell.new.output) (told_text (c.turns.self.summary.events + n) c.in-Some.told)) c.from.ensures (rw c.in-Some.told-is at c.in_ok-tell.ensures.ok) in
+          let drew = subst (λ n. IsToldLine c.in-Some.told → DrawsOn (kept c.turns.self.page) (kept c.tell.new.self.page) (g.W.Sink.taken c.turns.output) (g.W.Sink.taken c.tell.new.output) (told_text (c.turns.self.summary.events + n) c.in-Some.told) (marks_told c.in-Some.told)) c.from.ensures (rw c.in-Some.told-is at c.in_ok-tell.ensures.ok) in
           subst (λ (summary : Summary). Going s c.args.line.now run c.tell.new.self.course summary (kept c.args.self.now.page) (kept c.tell.new.self.page) (g.W.Sink.taken c.args.output.now) (g.W.Sink.taken c.tell.new.output)) (sym now)
           (subst (λ (course : CourseState). Going s c.args.line.now run course (counted c.in-Some.told mid) (kept c.args.self.now.page) (kept c.tell.new.self.page) (g.W.Sink.taken c.args.output.now) (g.W.Sink.taken c.tell.new.output)) (sym course)
           (going_on s c.args.line.now run c.turns.self.course c.next_turns.new.course c.turns.self.summary c.in_ok-turns.turns c.in-Some.told (kept c.args.self.now.page) (kept c.turns.self.page) (kept c.tell.new.self.page) _ _ _ c.turns.invariant.left (c.turns.invariant.going run follows counts) c.in_ok-turns.ensures.made c.in-Some.is drew));
@@ -58,7 +58,7 @@ turns-preserved-in_ok-tell g c =
     record {
       going = λ run follows counts.
           let s = c.args.self.now.course.world.setup in
-          let drew = subst (λ n. IsToldLine c.in-Some.told → DrawsOn (kept c.turns.self.page) (kept c.tell.new.self.page) (g.W.Sink.taken c.turns.output) (g.W.Sink.taken c.tell.new.output) (told_text (c.turns.self.summary.events + n) c.in-Some.told)) c.from.ensures (rw c.in-Some.told-is at c.in_ok-tell.ensures.ok) in
+          let drew = subst (λ n. IsToldLine c.in-Some.told → DrawsOn (kept c.turns.self.page) (kept c.tell.new.self.page) (g.W.Sink.taken c.turns.output) (g.W.Sink.taken c.tell.new.output) (told_text (c.turns.self.summary.events + n) c.in-Some.told) (marks_told c.in-Some.told)) c.from.ensures (rw c.in-Some.told-is at c.in_ok-tell.ensures.ok) in
           subst (λ (summary : Summary). Going s c.args.line.now run c.tell.new.self.course summary (kept c.args.self.now.page) (kept c.tell.new.self.page) (g.W.Sink.taken c.args.output.now) (g.W.Sink.taken c.tell.new.output)) (sym now)
           (subst (λ (course : CourseState). Going s c.args.line.now run course (counted c.in-Some.told mid) (kept c.args.self.now.page) (kept c.tell.new.self.page) (g.W.Sink.taken c.args.output.now) (g.W.Sink.taken c.tell.new.output)) (sym course)
           (going_on s c.args.line.now run c.turns.self.course c.next_turns.new.course c.turns.self.summary c.in_ok-turns.turns c.in-Some.told (kept c.args.self.now.page) (kept c.turns.self.page) (kept c.tell.new.self.page) _ _ _ c.turns.invariant.left (c.turns.invariant.going run follows counts) c.in_ok-turns.ensures.made c.in-Some.is drew));

@@ -15,7 +15,7 @@ returns-in_err-draw_read-clause-failures g c = omega (arith, c.in_err-draw_read.
 
 pub loop-read-preserved : goal.loop-read-preserved
 loop-read-preserved g c = record {
-  drawn = draws_on_both _ _ _ _ _ _ [] [] c.loop-read.invariant.drawn c.in_ok-draw_read.ensures.ok;
+  drawn = draws_on_both _ _ _ _ _ _ [] [] [] [] c.loop-read.invariant.drawn c.in_ok-draw_read.ensures.ok;
   summary = c.in_ok-draw_read.ensures.summary ∙ c.loop-read.invariant.summary;
   course = c.in_ok-draw_read.ensures.course ∙ c.loop-read.invariant.course;
   whole = omega (arith, c.in_ok-draw_read.ensures.failures, c.loop-read.invariant.whole);
