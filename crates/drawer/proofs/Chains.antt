@@ -64,7 +64,7 @@ grown s past e = go (reply_taken e.marks)
     go None = omega arith
     go (Some r) = let long = length-append (history s past) (record { process = e.process; command = (last_call s e.process (own e.process past)).command; reply = r; number = (last_call s e.process (own e.process past)).number } ∷ []) in omega (arith, long)
 
-few_taken : (s : Setup) (past : Past) (e : Entry) → history s (e ∷ past) ≡ history s past ++ map (λ (t : ℕ × Reply). taken_with s past e t.1) (takings e.marks) → length (takings e.marks) ≤ 1
+pub few_taken : (s : Setup) (past : Past) (e : Entry) → history s (e ∷ past) ≡ history s past ++ map (λ (t : ℕ × Reply). taken_with s past e t.1) (takings e.marks) → length (takings e.marks) ≤ 1
 few_taken s past e grows =
     let long = ap length grows ∙ length-append (history s past) (map (λ (t : ℕ × Reply). taken_with s past e t.1) (takings e.marks)) in
     let same = length-map (takings e.marks) (λ (t : ℕ × Reply). taken_with s past e t.1) in

@@ -1,16 +1,17 @@
 -- A run that goes on while it is drawn: within a line, and from line to line.
-use Rattle.std.proofs.Common.{◌≡◌, ℕ, ◌+◌, ◌≤◌, List, [], ◌∷◌, ◌++◌, Option, None, Some, refl, ap, sym, subst, ◌∙◌}
+use Rattle.std.proofs.Common.{◌≡◌, ℕ, suc, ◌+◌, ◌≤◌, true, List, [], ◌∷◌, ◌++◌, length, Option, None, Some, is_some, refl, ap, sym, subst, ◌∙◌, append-nil, append_assoc, arith}
+use Rattle.plain_store.specs.Store.{Contents}
 use Rattle.plain_store.specs.declared.setups.Setup.{Setup}
 use Rattle.record.specs.declared.marks.Mark.{Mark}
 use Rattle.scenario.specs.declared.lines.Line.{Line}
 use Rattle.replayer.specs.Courses.{CourseState, Follows, MakesTurns}
-use Rattle.replayer.specs.Happenings.{past_after}
+use Rattle.replayer.specs.Happenings.{Happening, past_after}
 use Rattle.replayer.specs.Replays.{Moves}
 use Rattle.replayer.specs.Runs.{Run, past_in, run_after, run_at_start, runs}
-use Rattle.replayer.specs.Summaries.{counted}
-use Rattle.replayer.specs.Telling.{Tells, told_text}
+use Rattle.replayer.specs.Summaries.{counted, summary_of}
+use Rattle.replayer.specs.Telling.{told_text}
 use Rattle.replayer.specs.Texts.{text_of}
-use Rattle.replayer.specs.Turns.{turn_of, turns_in}
+use Rattle.replayer.specs.Turns.{turns_in}
 use Rattle.replayer.specs.Writing.{Counts}
 use Rattle.replayer.specs.declared.summaries.Summary.{Summary}
 use Rattle.replayer.specs.declared.told.Told.{Told}
@@ -21,66 +22,90 @@ use Rattle.replayer.proofs.Written.{appends_none}
 use Rattle.picture.specs.Bandings.{Plan}
 use Rattle.picture.specs.Pages.{page_of}
 use Rattle.picture.specs.Stages.{marks_in}
-use Rattle.drawer.specs.Drawings.{Advances, DrawsBands, DrawsLine, DrawsOn, DrawsRest, IsToldLine, Kept, marks_told}
+use Rattle.picture.specs.declared.reads.Reads.{Reads as Mode}
+use Rattle.drawer.specs.Drawings.{Advances, DrawsBands, DrawsLine, DrawsOn, DrawsRest, IsToDraw, Kept, Recalls, marks_told}
+use Rattle.drawer.specs.Items.{Gives, SaysEnd, first_line, given_at, given_at_end, given_by, given_from, lines_given, reads_since}
+use Rattle.drawer.specs.declared.overlaps.Overlaps.{Overlaps}
 use Rattle.drawer.proofs.Drawn.{draws_bands, draws_on_both, draws_on_none}
-use Rattle.drawer.proofs.Marked.{Marking, marking_ended, marking_on, marking_start}
-use Rattle.drawer.proofs.Shown.{told_line}
+use Rattle.drawer.proofs.Marked.{Marking, MarksLine, TellsNext, marking_ended, marking_on, marking_start}
 
 -- within a line: what it has told is drawn, but for what is held back
-pub record Going (s : Setup) (line : Line) (start : Run) (course : CourseState) (summary : Summary) (had has : Kept) (old new : Option (List ℕ)) : Type 0 where
+pub record Going (mode : Mode) (s : Setup) (n : ℕ) (line : Line) (start : Run) (course : CourseState) (summary : Summary) (store : Contents) (overlaps : Option Overlaps) (had has : Kept) (old new : Option (List ℕ)) : Type 0 where
   pub text : List ℕ
   pub marks : List (ℕ × Mark)
-  pub draws : DrawsOn had has old new text marks
+  pub gives : List Gives
+  pub draws : DrawsOn had has old new text marks gives
   pub underway : Underway s line start course summary (Some []) (Some text)
-  pub marking : Marking s line start course marks
+  pub marking : Marking mode s n line start course summary store overlaps marks gives
 
 -- before its first turn
-pub going_start : (s : Setup) (line : Line) (start : Run) (course : CourseState) (summary : Summary) (had : Kept) (a : Option (List ℕ)) → course.world.setup ≡ s → course.left ≡ turns_in line → Follows course start → Counts s start summary →
-    Going s line start course summary had had a a
-going_start s line start course summary had a setup left follows counts =
-    record { text = []; marks = []; draws = draws_on_none had a; underway = underway_start s line start course summary (Some []) setup left follows counts; marking = marking_start s line start course setup left follows }
+pub going_start : (mode : Mode) (s : Setup) (n : ℕ) (line : Line) (start : Run) (course : CourseState) (summary : Summary) (store : Contents) (overlaps : Option Overlaps) (had : Kept) (a : Option (List ℕ)) → course.world.setup ≡ s → course.left ≡ turns_in line → Follows course start → Counts s start summary →
+    Recalls mode s start.happened store overlaps → Going mode s n line start course summary store overlaps had had a a
+going_start mode s n line start course summary store overlaps had a setup left follows counts recalls = record {
+  text = [];
+  marks = [];
+  gives = [];
+  draws = draws_on_none had a;
+  underway = underway_start s line start course summary (Some []) setup left follows counts;
+  marking = marking_start mode s n line start course summary store overlaps setup left follows counts recalls;
+}
 
 -- the turns up to one that tells
-pub going_on : (s : Setup) (line : Line) (start : Run) (course course' : CourseState) (summary : Summary) (turns : Turns) (answer : Told) (had has now : Kept) (a b c : Option (List ℕ)) → course.left ≤ turns_in line →
-    Going s line start course summary had has a b → ((run : Run) → Follows course run → MakesTurns course line run turns course') → turns.told ≡ Some answer →
-    (IsToldLine answer → DrawsOn has now b c (told_text (summary.events + turns.quiet) answer) (marks_told answer)) → Going s line start course' (counted answer (with_events turns.quiet summary)) had now a c
-going_on s line start course course' summary turns answer had has now a b c few g makes told drew =
+pub going_on : (mode : Mode) (s : Setup) (n : ℕ) (line : Line) (start : Run) (course course' : CourseState) (summary : Summary) (store stores : Contents) (overlaps overlapping : Option Overlaps) (turns : Turns) (answer : Told) (had has now : Kept) (a b c : Option (List ℕ)) → course.left ≤ turns_in line →
+    Going mode s n line start course summary store overlaps had has a b → ((run : Run) → Follows course run → MakesTurns course line run turns course') → turns.told ≡ Some answer → (is_some overlaps ≡ true → turns.quiet ≡ 0) →
+    ((before : List Happening) (this : Happening) → IsToDraw mode course' (summary.events + turns.quiet) store overlaps before this answer → DrawsOn has now b c (told_text (summary.events + turns.quiet) answer) (marks_told answer) (given_at mode course'.world.setup n before this)) →
+    ((before : List Happening) (this : Happening) → IsToDraw mode course' (summary.events + turns.quiet) store overlaps before this answer → Recalls mode course'.world.setup (this ∷ before) stores overlapping) →
+    Going mode s n line start course' (counted answer (with_events turns.quiet summary)) stores overlapping had now a c
+going_on mode s n line start course course' summary store stores overlaps overlapping turns answer had has now a b c few g makes told each drew recalls =
     let text : List ℕ = told_text (summary.events + turns.quiet) answer in
-    let here : Run = g.underway.now in
-    let made : MakesTurns course line here turns course' = makes here g.underway.follows in
-    let is : IsToldLine answer = told_line course.world.setup (past_after course.world.setup made.now.happened) (turn_of course.world.setup line made.left made.now).this answer
-    (subst (λ o. Tells course.world.setup (past_after course.world.setup made.now.happened) (turn_of course.world.setup line made.left made.now).this o) told made.makes.tells) in
+    let next : TellsNext mode s n line start course' (with_events turns.quiet summary) store overlaps answer g.marks g.gives = marking_on mode s n line start course course' summary store overlaps turns answer g.marks g.gives few g.marking makes told each in
+    let given : List Gives = given_at mode course'.world.setup n next.before next.this in
     record {
       text = g.text ++ text;
       marks = g.marks ++ marks_told answer;
-      draws = draws_on_both had has now a b c g.text text g.marks (marks_told answer) g.draws (drew is);
+      gives = g.gives ++ given;
+      draws = draws_on_both had has now a b c g.text text g.marks (marks_told answer) g.gives given g.draws (drew next.before next.this next.draws);
       underway = underway_on s line start course course' summary turns answer (Some []) (Some g.text) (Some (g.text ++ text)) few g.underway makes told refl;
-      marking = marking_on s line start course course' turns answer g.marks few g.marking makes told;
+      marking = next.then stores overlapping (recalls next.before next.this next.draws);
     }
 
 -- the turns up to its end
-pub going_ended : (s : Setup) (line : Line) (start : Run) (course course' : CourseState) (summary : Summary) (turns : Turns) (had has : Kept) (a b : Option (List ℕ)) → course.left ≤ turns_in line →
-    Going s line start course summary had has a b → ((run : Run) → Follows course run → MakesTurns course line run turns course') → turns.told ≡ None → Advances s start (run_after s line start) course' (with_events turns.quiet summary) had has a b
-going_ended s line start course course' summary turns had has a b few g makes none =
-    record { text = g.text; marks = g.marks; draws = g.draws; says = marking_ended s line start course course' turns g.marks few g.marking makes none; moves = underway_ended s line start course course' summary turns (Some []) (Some g.text) few g.underway makes none }
+pub going_ended : (mode : Mode) (s : Setup) (n : ℕ) (line : Line) (start : Run) (course course' : CourseState) (summary : Summary) (store : Contents) (overlaps : Option Overlaps) (turns : Turns) (had has : Kept) (a b : Option (List ℕ)) → course.left ≤ turns_in line →
+    Going mode s n line start course summary store overlaps had has a b → ((run : Run) → Follows course run → MakesTurns course line run turns course') → turns.told ≡ None → (is_some overlaps ≡ true → turns.quiet ≡ 0) →
+    Advances mode s n start (run_after s line start) course' (with_events turns.quiet summary) store overlaps had has a b
+going_ended mode s n line start course course' summary store overlaps turns had has a b few g makes none each =
+    let m : MarksLine mode s n line start store overlaps g.marks g.gives = marking_ended mode s n line start course course' summary store overlaps turns g.marks g.gives few g.marking makes none each in
+    record {
+      text = g.text;
+      marks = g.marks;
+      draws = subst (λ l. DrawsOn had has a b g.text g.marks l) m.are g.draws;
+      says = m.says;
+      moves = underway_ended s line start course course' summary turns (Some []) (Some g.text) few g.underway makes none;
+      recalls = m.recalls;
+    }
 
--- from the start of a run on, between two lines
-pub record Drawn (plan : Plan) (s : Setup) (lines rest : List Line) (course : CourseState) (summary : Summary) (has : Kept) (old new : Option (List ℕ)) : Type 0 where
+-- from the start of a run on, between two lines, of which the last one has this number in the printed scenario
+pub record Drawn (plan : Plan) (mode : Mode) (s : Setup) (lines rest : List Line) (source : ℕ) (course : CourseState) (summary : Summary) (store : Contents) (overlaps : Option Overlaps) (has : Kept) (old new : Option (List ℕ)) : Type 0 where
   pub text : List ℕ
   pub marks : List (ℕ × Mark)
+  pub gives : List Gives
   pub first : Kept
   pub no_lines : first.lines ≡ []
   pub page : first.page ≡ page_of plan []
-  pub draws : DrawsOn first has old new text marks
+  pub draws : DrawsOn first has old new text marks gives
   pub onward : Onward s lines rest course summary (Some []) (Some text)
   pub says : marks_in (past_in s onward.now) ≡ marks
+  pub are : gives ++ given_by mode s (source + 1) rest onward.now ≡ given_by mode s (first_line s) lines run_at_start
+  pub number : source + 1 + length rest ≡ first_line s + length lines
+  pub recalls : Recalls mode s onward.now.happened store overlaps
 
 -- at the start
-pub drawn_start : (plan : Plan) (s : Setup) (lines : List Line) (course : CourseState) (summary : Summary) (has : Kept) (a : Option (List ℕ)) → course.world.setup ≡ s → Follows course run_at_start → summary ≡ record { events = 0; taken = 0; refused = 0 } → has.lines ≡ [] → has.page ≡ page_of plan [] →
-    Drawn plan s lines lines course summary has a a
-drawn_start plan s lines course summary has a setup follows none empty page = record {
+pub drawn_start : (plan : Plan) (mode : Mode) (s : Setup) (lines : List Line) (source : ℕ) (course : CourseState) (summary : Summary) (store : Contents) (overlaps : Option Overlaps) (has : Kept) (a : Option (List ℕ)) → course.world.setup ≡ s → Follows course run_at_start → summary ≡ record { events = 0; taken = 0; refused = 0 } → has.lines ≡ [] → has.page ≡ page_of plan [] →
+    source + 1 ≡ first_line s → Recalls mode s [] store overlaps → Drawn plan mode s lines lines source course summary store overlaps has a a
+drawn_start plan mode s lines source course summary store overlaps has a setup follows none empty page begins recalls = record {
   text = [];
   marks = [];
+  gives = [];
   first = has;
   no_lines = empty;
   page = page;
@@ -96,23 +121,29 @@ drawn_start plan s lines course summary has a setup follows none empty page = re
     whole = refl;
   };
   says = refl;
+  are = ap (λ n. given_by mode s n lines run_at_start) begins;
+  number = ap (λ n. n + length lines) begins;
+  recalls = recalls;
 }
 
 -- a line more
-pub drawn_on : (plan : Plan) (s : Setup) (lines rest : List Line) (line : Line) (course course' : CourseState) (summary summary' : Summary) (has now : Kept) (a b c : Option (List ℕ)) →
-    Drawn plan s lines (line ∷ rest) course summary has a b → DrawsLine line course course' summary summary' has now b c → Drawn plan s lines rest course' summary' now a c
-drawn_on plan s lines rest line course course' summary summary' has now a b c d draws =
+pub drawn_on : (plan : Plan) (mode : Mode) (s : Setup) (lines rest : List Line) (line : Line) (source : ℕ) (course course' : CourseState) (summary summary' : Summary) (store stores : Contents) (overlaps overlapping : Option Overlaps) (has now : Kept) (a b c : Option (List ℕ)) →
+    Drawn plan mode s lines (line ∷ rest) source course summary store overlaps has a b → DrawsLine line (source + 1) course course' summary summary' store stores overlaps overlapping has now b c → Drawn plan mode s lines rest (source + 1) course' summary' stores overlapping now a c
+drawn_on plan mode s lines rest line source course course' summary summary' store stores overlaps overlapping has now a b c d draws =
     let u = d.onward in
-    let family : Setup → Type 0 = λ s. Counts s u.now summary → Advances s u.now (run_after s line u.now) course' summary' has now b c in
-    let more : Advances s u.now (run_after s line u.now) course' summary' has now b c = subst family u.setup (draws u.now u.follows) u.counts in
+    let family : Setup → Type 0 = λ s. Counts s u.now summary → Recalls mode s u.now.happened store overlaps → Advances mode s (source + 1) u.now (run_after s line u.now) course' summary' stores overlapping has now b c in
+    let more : Advances mode s (source + 1) u.now (run_after s line u.now) course' summary' stores overlapping has now b c = subst family u.setup (draws mode u.now u.follows) u.counts d.recalls in
     let m : Moves s u.now (run_after s line u.now) course' summary' (Some []) (Some more.text) = more.moves in
+    let given : List Gives = given_from mode s (source + 1) u.now.happened (run_after s line u.now).happened in
+    let next : suc (source + 1) ≡ source + 1 + 1 = omega arith in
     record {
       text = d.text ++ more.text;
       marks = d.marks ++ more.marks;
+      gives = d.gives ++ given;
       first = d.first;
       no_lines = d.no_lines;
       page = d.page;
-      draws = draws_on_both d.first has now a b c d.text more.text d.marks more.marks d.draws more.draws;
+      draws = draws_on_both d.first has now a b c d.text more.text d.marks more.marks d.gives given d.draws more.draws;
       onward = record {
         now = run_after s line u.now;
         follows = m.follows;
@@ -124,13 +155,30 @@ drawn_on plan s lines rest line course course' summary summary' has now a b c d 
         whole = u.whole;
       };
       says = more.says ∙ ap (λ l. l ++ more.marks) d.says;
+      are = ap (λ n. (d.gives ++ given) ++ given_by mode s n rest (run_after s line u.now)) (sym next)
+          ∙ append_assoc d.gives given (given_by mode s (suc (source + 1)) rest (run_after s line u.now)) ∙ d.are;
+      number = omega (arith, d.number);
+      recalls = more.recalls;
     }
 
 -- the whole run, once the last line and what was held back are drawn
-pub drawn_end : (plan : Plan) (s : Setup) (lines : List Line) (course : CourseState) (summary : Summary) (has : Kept) (a b c : Option (List ℕ)) (ending : List ℕ) (height : ℕ) → Drawn plan s lines [] course summary has a b → DrawsRest has b c ending height →
-    DrawsBands plan a c (text_of s (runs s lines run_at_start).happened ++ ending) (marks_in (past_in s (runs s lines run_at_start))) height
-drawn_end plan s lines course summary has a b c ending height d last =
-    subst (λ l. DrawsBands plan a c l (marks_in (past_in s (runs s lines run_at_start))) height)
+pub drawn_end : (plan : Plan) (mode : Mode) (s : Setup) (lines : List Line) (source : ℕ) (course : CourseState) (summary : Summary) (store : Contents) (overlaps : Option Overlaps) (has : Kept) (a b c : Option (List ℕ)) (ending : List ℕ) (events height : ℕ) →
+    (d : Drawn plan mode s lines [] source course summary store overlaps has a b) → events ≡ summary.events →
+    DrawsRest has b c ending (lines_given mode (source + 1) events (reads_since s d.onward.now.happened) (SaysEnd (summary_of s (runs s lines run_at_start).happened) ∷ [])) height →
+    DrawsBands plan a c (text_of s (runs s lines run_at_start).happened ++ ending) (marks_in (past_in s (runs s lines run_at_start)))
+    (given_by mode s (first_line s) lines run_at_start ++ given_at_end mode s (first_line s + length lines) (runs s lines run_at_start).happened) height
+drawn_end plan mode s lines source course summary store overlaps has a b c ending events height d number last =
+    let whole : Run = runs s lines run_at_start in
+    let here : List Happening = d.onward.now.happened in
+    let same : here ≡ whole.happened = ap (λ (r : Run). r.happened) d.onward.whole in
+    let ends : List Gives = lines_given mode (source + 1) events (reads_since s here) (SaysEnd (summary_of s whole.happened) ∷ []) in
+    let at : source + 1 ≡ first_line s + length lines = omega (arith, d.number) in
+    let ended : ends ≡ given_at_end mode s (first_line s + length lines) whole.happened =
+    (λ i. lines_given mode (at i) ((number ∙ d.onward.counts.events) i) (reads_since s here) (SaysEnd (summary_of s whole.happened) ∷ []))
+    ∙ ap (λ (l : List Happening). lines_given mode (first_line s + length lines) (length (past_after s l)) (reads_since s l) (SaysEnd (summary_of s whole.happened) ∷ [])) same in
+    let given : d.gives ≡ given_by mode s (first_line s) lines run_at_start = sym (append-nil d.gives) ∙ d.are in
+    subst (λ l. DrawsBands plan a c l (marks_in (past_in s whole)) (given_by mode s (first_line s) lines run_at_start ++ given_at_end mode s (first_line s + length lines) whole.happened) height)
     (onward_end s lines course summary (Some []) (Some d.text) (Some (d.text ++ ending)) ending d.onward refl)
-    (subst (λ l. DrawsBands plan a c (d.text ++ ending) l height) (sym d.says ∙ ap (λ (r : Run). marks_in (past_in s r)) d.onward.whole)
-    (draws_bands plan d.first has a b c d.text ending d.marks height d.no_lines d.page d.draws last))
+    (subst (λ l. DrawsBands plan a c (d.text ++ ending) l (given_by mode s (first_line s) lines run_at_start ++ given_at_end mode s (first_line s + length lines) whole.happened) height) (sym d.says ∙ ap (λ (r : Run). marks_in (past_in s r)) d.onward.whole)
+    (subst (λ l. DrawsBands plan a c (d.text ++ ending) d.marks l height) (λ i. given i ++ ended i)
+    (draws_bands plan d.first has a b c d.text ending d.marks d.gives ends height d.no_lines d.page d.draws last)))

@@ -19,8 +19,9 @@ use Rattle.picture.specs.declared.told.Line.{Line}
 use Rattle.scenario.specs.Reading.{Script}
 use Rattle.replayer.specs.Texts.{replayed}
 use Rattle.replayer.proofs.Written.{appends_both, appends_none}
-use Rattle.drawer.specs.Drawings.{Draws, DrawsAll, DrawsBands, DrawsOn, DrawsRest, Fills, Kept, Writes}
-use Rattle.drawer.specs.Pictures.{IsPictureOf, ended_lines, lines_told}
+use Rattle.drawer.specs.Drawings.{Draws, DrawsAll, DrawsBands, DrawsOn, DrawsRest, Fills, IsPictureOf, Kept, Writes}
+use Rattle.drawer.specs.Items.{Gives, GivesLine, GivesRead, given, says_of}
+use Rattle.drawer.specs.Pictures.{ended_lines, lines_told}
 
 -- lines, and then others
 pub ended-append : (xs ys : List (List ℕ)) → ended_lines (xs ++ ys) ≡ ended_lines xs ++ ended_lines ys
@@ -48,6 +49,15 @@ said_append (Reads read ∷ more) items = said_append more items
 pub both_said : (more items : List Item) (marks then : List (ℕ × Mark)) → flat_map marks_said (sayings items) ≡ marks → flat_map marks_said (sayings more) ≡ then → flat_map marks_said (sayings (more ++ items)) ≡ marks ++ then
 both_said more items marks then is next = ap (flat_map marks_said) (said_append more items) ∙ flat_map-append marks_said (sayings items) (sayings more) ∙ (λ i. is i ++ next i)
 
+-- and what they are
+given_append : (more items : List Item) → given (more ++ items) ≡ given items ++ given more
+given_append [] items = sym (append-nil (given items))
+given_append (Tells line ∷ more) items = ap (λ l. l ++ GivesLine line.source line.at (says_of line.saying) ∷ []) (given_append more items) ∙ append_assoc (given items) (given more) (GivesLine line.source line.at (says_of line.saying) ∷ [])
+given_append (Reads read ∷ more) items = ap (λ l. l ++ GivesRead read ∷ []) (given_append more items) ∙ append_assoc (given items) (given more) (GivesRead read ∷ [])
+
+pub both_given : (more items : List Item) (gives then : List Gives) → given items ≡ gives → given more ≡ then → given (more ++ items) ≡ gives ++ then
+both_given more items gives then is next = given_append more items ∙ (λ i. is i ++ next i)
+
 -- markup at rest
 pub writes_bytes : (a b : Option (List ℕ)) (bytes : List ℕ) → is_at_rest (tags_of bytes) ≡ true → Appends a b bytes → Writes a b bytes
 writes_bytes a b bytes rests taken = record { rests = rests; taken = taken }
@@ -74,12 +84,13 @@ draws_both a b c markup then text more first next = record {
 }
 
 -- a page takes in nothing, or some items and then others
-fills_none : (page : SeenPage) → Fills page page [] [] []
-fills_none page = record { items = []; lines = refl; says = refl; goes_on = λ plan before is. (is, sym (append-nil (full_told plan before))) }
+fills_none : (page : SeenPage) → Fills page page [] [] [] []
+fills_none page = record { items = []; are = refl; lines = refl; says = refl; goes_on = λ plan before is. (is, sym (append-nil (full_told plan before))) }
 
-fills_both : (old mid new : SeenPage) (markup then text more : List ℕ) (marks others : List (ℕ × Mark)) → Fills old mid markup text marks → Fills mid new then more others → Fills old new (markup ++ then) (text ++ more) (marks ++ others)
-fills_both old mid new markup then text more marks others first next = record {
+fills_both : (old mid new : SeenPage) (markup then text more : List ℕ) (marks others : List (ℕ × Mark)) (gives those : List Gives) → Fills old mid markup text marks gives → Fills mid new then more others those → Fills old new (markup ++ then) (text ++ more) (marks ++ others) (gives ++ those)
+fills_both old mid new markup then text more marks others gives those first next = record {
   items = next.items ++ first.items;
+  are = both_given next.items first.items gives those first.are next.are;
   lines = both_told next.items first.items text more first.lines next.lines;
   says = both_said next.items first.items marks others first.says next.says;
   goes_on = λ plan before is.
@@ -90,53 +101,53 @@ fills_both old mid new markup then text more marks others first next = record {
 }
 
 -- or one
-fills_one : (item : Item) (old new : SeenPage) (band : Option (List ℕ)) (text : List ℕ) (marks : List (ℕ × Mark)) → ended_lines (lines_told (item ∷ [])) ≡ text → flat_map marks_said (sayings (item ∷ [])) ≡ marks → GoesOn item old band new → Fills old new (band_text band) text marks
-fills_one item old new band text marks is says goes = record { items = item ∷ []; lines = is; says = says; goes_on = λ plan before at. goes plan before at }
+fills_one : (item : Item) (old new : SeenPage) (band : Option (List ℕ)) (text : List ℕ) (marks : List (ℕ × Mark)) (gives : List Gives) → ended_lines (lines_told (item ∷ [])) ≡ text → flat_map marks_said (sayings (item ∷ [])) ≡ marks → given (item ∷ []) ≡ gives → GoesOn item old band new → Fills old new (band_text band) text marks gives
+fills_one item old new band text marks gives is says are goes = record { items = item ∷ []; are = are; lines = is; says = says; goes_on = λ plan before at. goes plan before at }
 
 -- nothing is drawn on
-pub draws_on_none : (has : Kept) (a : Option (List ℕ)) → DrawsOn has has a a [] []
+pub draws_on_none : (has : Kept) (a : Option (List ℕ)) → DrawsOn has has a a [] [] []
 draws_on_none has a = record { markup = []; drawn = []; draws = draws_none a; goes_on = sym (append-nil (ended_lines has.lines)); fills = fills_none has.page }
 
-pub draws_on_both : (had has now : Kept) (a b c : Option (List ℕ)) (text more : List ℕ) (marks others : List (ℕ × Mark)) → DrawsOn had has a b text marks → DrawsOn has now b c more others → DrawsOn had now a c (text ++ more) (marks ++ others)
-draws_on_both had has now a b c text more marks others first next = record {
+pub draws_on_both : (had has now : Kept) (a b c : Option (List ℕ)) (text more : List ℕ) (marks others : List (ℕ × Mark)) (gives those : List Gives) → DrawsOn had has a b text marks gives → DrawsOn has now b c more others those → DrawsOn had now a c (text ++ more) (marks ++ others) (gives ++ those)
+draws_on_both had has now a b c text more marks others gives those first next = record {
   markup = first.markup ++ next.markup;
   drawn = first.drawn ++ next.drawn;
   draws = draws_both a b c first.markup next.markup first.drawn next.drawn first.draws next.draws;
   goes_on = append_assoc first.drawn next.drawn (ended_lines now.lines) ∙ ap (λ l. first.drawn ++ l) next.goes_on
       ∙ sym (append_assoc first.drawn (ended_lines has.lines) more) ∙ ap (λ l. l ++ more) first.goes_on ∙ append_assoc (ended_lines had.lines) text more;
-  fills = fills_both had.page has.page now.page first.markup next.markup text more marks others first.fills next.fills;
+  fills = fills_both had.page has.page now.page first.markup next.markup text more marks others gives those first.fills next.fills;
 }
 
 -- a line that was told, and the band that is full, if one is
 pub draws_on_line : (line : Line) (had has : Kept) (band : Option (List ℕ)) (a b : Option (List ℕ)) → lines_of_band band ++ has.lines ≡ had.lines ++ text_of line ∷ [] → GoesOn (Tells line) had.page band has.page →
-    Draws a b (band_text band) (ended_lines (lines_of_band band)) → DrawsOn had has a b (text_of line ++ codes "\n") (marks_said line.saying)
+    Draws a b (band_text band) (ended_lines (lines_of_band band)) → DrawsOn had has a b (text_of line ++ codes "\n") (marks_said line.saying) (GivesLine line.source line.at (says_of line.saying) ∷ [])
 draws_on_line line had has band a b is goes draws = record {
   markup = band_text band;
   drawn = ended_lines (lines_of_band band);
   draws = draws;
   goes_on = sym (ended-append (lines_of_band band) has.lines) ∙ ap ended_lines is ∙ ended-append had.lines (text_of line ∷ []) ∙ ap (λ l. ended_lines had.lines ++ l) (ended_line (text_of line));
-  fills = fills_one (Tells line) had.page has.page band (text_of line ++ codes "\n") (marks_said line.saying) (ended_line (text_of line)) (append-nil (marks_said line.saying)) goes;
+  fills = fills_one (Tells line) had.page has.page band (text_of line ++ codes "\n") (marks_said line.saying) (GivesLine line.source line.at (says_of line.saying) ∷ []) (ended_line (text_of line)) (append-nil (marks_said line.saying)) refl goes;
 }
 
 -- a read that was told, which is no line
 pub draws_on_read : (read : OverlappedRead) (had has : Kept) (band : Option (List ℕ)) (a b : Option (List ℕ)) → lines_of_band band ++ has.lines ≡ had.lines → GoesOn (Reads read) had.page band has.page →
-    Draws a b (band_text band) (ended_lines (lines_of_band band)) → DrawsOn had has a b [] []
+    Draws a b (band_text band) (ended_lines (lines_of_band band)) → DrawsOn had has a b [] [] (GivesRead read ∷ [])
 draws_on_read read had has band a b is goes draws = record {
   markup = band_text band;
   drawn = ended_lines (lines_of_band band);
   draws = draws;
   goes_on = sym (ended-append (lines_of_band band) has.lines) ∙ ap ended_lines is ∙ sym (append-nil (ended_lines had.lines));
-  fills = fills_one (Reads read) had.page has.page band [] [] refl refl goes;
+  fills = fills_one (Reads read) had.page has.page band [] [] (GivesRead read ∷ []) refl refl refl goes;
 }
 
 -- the text is another one that is the same
-pub draws_on_same : (had has : Kept) (a b : Option (List ℕ)) (text other : List ℕ) (marks : List (ℕ × Mark)) → text ≡ other → DrawsOn had has a b text marks → DrawsOn had has a b other marks
-draws_on_same had has a b text other marks same on = subst (λ l. DrawsOn had has a b l marks) same on
+pub draws_on_same : (had has : Kept) (a b : Option (List ℕ)) (text other : List ℕ) (marks : List (ℕ × Mark)) (gives : List Gives) → text ≡ other → DrawsOn had has a b text marks gives → DrawsOn had has a b other marks gives
+draws_on_same had has a b text other marks gives same on = subst (λ l. DrawsOn had has a b l marks gives) same on
 
 -- the last line, and then the bands that are left
-pub draws_on_rest : (had has : Kept) (new : SeenPage) (full : Option (List ℕ)) (last : List ℕ) (a b c d : Option (List ℕ)) (text : List ℕ) → DrawsOn had has a b text [] → lines_of_band full ++ lines_in last ≡ has.lines → GivesRest has.page full last new →
-    Draws b c (band_text full) (ended_lines (lines_of_band full)) → Draws c d last (ended_lines (lines_in last)) → DrawsRest had a d text new.height
-draws_on_rest had has new full last a b c d text on are gives band ending =
+pub draws_on_rest : (had has : Kept) (new : SeenPage) (full : Option (List ℕ)) (last : List ℕ) (a b c d : Option (List ℕ)) (text : List ℕ) (last_given : List Gives) → DrawsOn had has a b text [] last_given → lines_of_band full ++ lines_in last ≡ has.lines → GivesRest has.page full last new →
+    Draws b c (band_text full) (ended_lines (lines_of_band full)) → Draws c d last (ended_lines (lines_in last)) → DrawsRest had a d text last_given new.height
+draws_on_rest had has new full last a b c d text last_given on are gives band ending =
     let rest : List ℕ = band_text full ++ last in
     let held : ended_lines (lines_of_band full) ++ ended_lines (lines_in last) ≡ ended_lines has.lines = sym (ended-append (lines_of_band full) (lines_in last)) ∙ ap ended_lines are in
     record {
@@ -145,6 +156,7 @@ draws_on_rest had has new full last a b c d text on are gives band ending =
           (draws_both a b d on.markup rest on.drawn (ended_lines (lines_of_band full) ++ ended_lines (lines_in last)) on.draws
           (draws_both b c d (band_text full) last (ended_lines (lines_of_band full)) (ended_lines (lines_in last)) band ending));
       items = on.fills.items;
+      are = on.fills.are;
       lines = on.fills.lines;
       says = on.fills.says;
       ends = λ plan before is.
@@ -154,13 +166,13 @@ draws_on_rest had has new full last a b c d text on are gives band ending =
     }
 
 -- their heights by another name
-pub rest_at : (had : Kept) (a b : Option (List ℕ)) (text : List ℕ) (height other : ℕ) → other ≡ height → DrawsRest had a b text height → DrawsRest had a b text other
-rest_at had a b text height other same rest = subst (λ h. DrawsRest had a b text h) (sym same) rest
+pub rest_at : (had : Kept) (a b : Option (List ℕ)) (text : List ℕ) (gives : List Gives) (height other : ℕ) → other ≡ height → DrawsRest had a b text gives height → DrawsRest had a b text gives other
+rest_at had a b text gives height other same rest = subst (λ h. DrawsRest had a b text gives h) (sym same) rest
 
 -- from the start on: all bands
-pub draws_bands : (plan : Plan) (first has : Kept) (a b c : Option (List ℕ)) (text ending : List ℕ) (marks : List (ℕ × Mark)) (height : ℕ) → first.lines ≡ [] → first.page ≡ page_of plan [] → DrawsOn first has a b text marks → DrawsRest has b c ending height →
-    DrawsBands plan a c (text ++ ending) marks height
-draws_bands plan first has a b c text ending marks height none new on rest =
+pub draws_bands : (plan : Plan) (first has : Kept) (a b c : Option (List ℕ)) (text ending : List ℕ) (marks : List (ℕ × Mark)) (gives ends : List Gives) (height : ℕ) → first.lines ≡ [] → first.page ≡ page_of plan [] → DrawsOn first has a b text marks gives → DrawsRest has b c ending ends height →
+    DrawsBands plan a c (text ++ ending) marks (gives ++ ends) height
+draws_bands plan first has a b c text ending marks gives ends height none new on rest =
     let items : List Item = on.fills.items ++ [] in
     let one = on.fills.goes_on plan [] new in
     let two = rest.ends plan items one.0 in
@@ -169,6 +181,7 @@ draws_bands plan first has a b c text ending marks height none new on rest =
     sym (append_assoc on.drawn (ended_lines has.lines) ending) ∙ ap (λ l. l ++ ending) (on.goes_on ∙ ap (λ l. ended_lines l ++ text) none) in
     record {
       items = rest.items ++ items;
+      are = both_given rest.items items gives ends (ap given (append-nil on.fills.items) ∙ on.fills.are) rest.are;
       lines = both_told rest.items items text ending (ap (λ l. ended_lines (lines_told l)) (append-nil on.fills.items) ∙ on.fills.lines) rest.lines;
       says = both_said rest.items items marks [] (ap (λ l. flat_map marks_said (sayings l)) (append-nil on.fills.items) ∙ on.fills.says) rest.says ∙ append-nil marks;
       draws = subst (λ l. Draws a c l (text ++ ending)) (sym all) (subst (λ l. Draws a c (on.markup ++ rest.markup) l) drawn
@@ -177,9 +190,9 @@ draws_bands plan first has a b c text ending marks height none new on rest =
     }
 
 -- what stands before and behind tells nothing, and ends what it begins
-pub draws_framed : (reads : Mode) (form : Form) (said : Script) (plan : Plan) (a b c d : Option (List ℕ)) (head ending : List ℕ) (names : List (List ℕ)) (marks : List (ℕ × Mark)) (height : ℕ) → lines_in head ≡ [] → opens_in head (Some []) ≡ Some names → lines_in ending ≡ [] → opens_in ending (Some names) ≡ Some [] →
-    Writes a b head → (bands : DrawsBands plan b c (replayed said) marks height) → Writes c d ending → IsPictureOf reads form said ((head ++ bands_told plan bands.items) ++ ending) → DrawsAll reads form said a d
-draws_framed reads form said plan a b c d head ending names marks height no_head begin no_ending end first bands last page =
+pub draws_framed : (reads : Mode) (form : Form) (said : Script) (plan : Plan) (a b c d : Option (List ℕ)) (head ending : List ℕ) (names : List (List ℕ)) (marks : List (ℕ × Mark)) (gives : List Gives) (height : ℕ) → lines_in head ≡ [] → opens_in head (Some []) ≡ Some names → lines_in ending ≡ [] → opens_in ending (Some names) ≡ Some [] →
+    Writes a b head → (bands : DrawsBands plan b c (replayed said) marks gives height) → Writes c d ending → IsPictureOf reads form said ((head ++ bands_told plan bands.items) ++ ending) → DrawsAll reads form said a d
+draws_framed reads form said plan a b c d head ending names marks gives height no_head begin no_ending end first bands last page =
     let markup : List ℕ = bands_told plan bands.items in
     let front = writes_both a b c head markup first bands.draws.writes in
     record {

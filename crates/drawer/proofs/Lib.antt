@@ -1,4 +1,8 @@
 pub mod Drawn
+pub mod Giving
+mod Changing
+mod Overhearing
+pub mod InTurn
 mod Marked
 pub mod Shown
 pub mod Drawings
@@ -6,3 +10,4 @@ pub mod Ends
 pub mod Pictured
 pub mod Chains
 pub mod Insides
+pub mod Turning

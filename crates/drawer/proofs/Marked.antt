@@ -1,31 +1,36 @@
--- The marks that the lines of a run say are those of its record.
-use Rattle.std.proofs.Common.{◌≡◌, ◌≤◌, ◌<◌, ◌+◌, ℕ, zero, suc, List, [], ◌∷◌, ◌++◌, length, get_or, map, take, Option, None, Some, refl, ap, sym, subst, ◌∙◌, append-nil, append_assoc, arith}
-use Rattle.std.proofs.lemmas.List.{map-append, take_more}
+-- The marks that the lines of a run say are those of its record, and the items that it gives its picture are the run's.
+use Rattle.std.proofs.Common.{◌≡◌, ◌≤◌, ◌+◌, ◌-◌, ℕ, zero, suc, true, List, [], ◌∷◌, ◌++◌, length, map, Option, None, Some, is_some, refl, ap, sym, subst, ◌∙◌, add-zero, append-nil, append_assoc, arith}
+use Rattle.plain_store.specs.Store.{Contents}
 use Rattle.plain_store.specs.declared.setups.Setup.{Setup}
 use Rattle.record.specs.declared.events.Event.{Event}
 use Rattle.record.specs.declared.marks.Mark.{Mark}
 use Rattle.record.specs.Entries.{Entry, Past}
-use Rattle.record.specs.Records.{entry_of, past_of, process_of}
+use Rattle.record.specs.Histories.{history, store_after}
+use Rattle.record.specs.Records.{entry_of, past_of, process_of, refused}
 use Rattle.picture.specs.Stages.{marks_in}
 use Rattle.scenario.specs.declared.lines.Line.{Line}
 use Rattle.replayer.specs.Courses.{CourseState, Follows, IsQuiet, MakesTurns, QuietTurns}
-use Rattle.replayer.specs.Happenings.{Happening, Tries, Lacks, Tires, Looks, past_after, tried}
+use Rattle.replayer.specs.Happenings.{Happening, Tries, Lacks, Tires, Looks, past_after, refusals, tried}
 use Rattle.replayer.specs.Runs.{Run, past_in, run_after}
 use Rattle.replayer.specs.Telling.{Tells, TellsOf, entry_made}
 use Rattle.replayer.specs.Turns.{Turn, turn_of, turns_in}
+use Rattle.replayer.specs.Summaries.{counted}
+use Rattle.replayer.specs.Writing.{Counts}
+use Rattle.replayer.specs.declared.summaries.Summary.{Summary}
 use Rattle.replayer.specs.declared.told.Told.{Told}
 use Rattle.replayer.specs.declared.told.Told.TheVariants as told
 use Rattle.replayer.specs.declared.told.Turns.{Turns}
 use Rattle.replayer.proofs.Refusals.{past_kept}
+use Rattle.replayer.proofs.Tellings.{Quietly, counts_more, quiet_counts}
 use Rattle.replayer.proofs.TurnLaw.{rest_of, rest_none, rest_whole, turn_less, turn_on}
-use Rattle.replayer.proofs.Underways.{Nothing, One, Turned, silent_one, told_none, told_one, turned}
-use Rattle.drawer.specs.Drawings.{marks_told}
-
--- a mark more, with its process
-pub mark_more : (p : ℕ) (marks : List Mark) (k : ℕ) (mark : Mark) → k < length marks → mark ≡ get_or marks k mark → map {B = ℕ × Mark} (λ (m : Mark). (p, m)) (take (k + 1) marks) ≡ map {B = ℕ × Mark} (λ (m : Mark). (p, m)) (take k marks) ++ (p, mark) ∷ []
-mark_more p marks k mark within is =
-    ap (map {B = ℕ × Mark} (λ (m : Mark). (p, m))) (take_more marks k mark within) ∙ map-append {B = ℕ × Mark} (λ (m : Mark). (p, m)) (take k marks) (get_or marks k mark ∷ [])
-    ∙ ap (λ (m : Mark). map {B = ℕ × Mark} (λ (m : Mark). (p, m)) (take k marks) ++ (p, m) ∷ []) (sym is)
+use Rattle.replayer.proofs.Underways.{Nothing, One, Turned, silent_one, told_none, told_one, turned, with_events}
+use Rattle.picture.specs.declared.reads.OverlappedRead.{OverlappedRead}
+use Rattle.picture.specs.declared.reads.Reads.{Reads as Mode}
+use Rattle.picture.specs.declared.reads.Reads.TheVariants.{Hidden, Shown}
+use Rattle.drawer.specs.Drawings.{IsToDraw, Recalls, marks_told}
+use Rattle.drawer.specs.Items.{Gives, given_at, given_from, given_last, lines_given, reads_since, said_of_event}
+use Rattle.drawer.specs.Overlaps.{Overhears, overlapped_by}
+use Rattle.drawer.specs.declared.overlaps.Overlaps.{Overlaps}
 
 -- an event that is made adds the marks of its entry
 made_marks : (s : Setup) (events : List Event) (event : Event) (e : Entry) → entry_of s (past_of s events) event ≡ Some e → marks_in (past_of s (event ∷ events)) ≡ marks_in (past_of s events) ++ map (λ (mark : Mark). (e.process, mark)) e.marks
@@ -59,29 +64,91 @@ quiet_marks s before (Lacks p) adds = absurd adds
 quiet_marks s before (Tires p) adds = absurd adds
 quiet_marks s before Looks adds = absurd adds
 
-quiet_turn : (s : Setup) (line : Line) (left : ℕ) (run : Run) → IsQuiet s (past_in s run) (turn_of s line left run).this → marks_in (past_in s (turn_of s line left run).run) ≡ marks_in (past_in s run)
+-- it gives nothing, and takes no command
+quiet_gives : (mode : Mode) (s : Setup) (n : ℕ) (before : List Happening) (this : Happening) → IsQuiet s (past_after s before) (Some this) → given_at mode s n before this ≡ []
+quiet_gives mode s n before (Tries event) adds =
+    ap (λ (o : Option Entry). lines_given mode n (length (past_after s before)) (reads_since s before ++ elim o as (λ _. List OverlappedRead) [ None ↦ [] | Some e ↦ overlapped_by s (past_after s before) e ])
+    (said_of_event s (past_after s before) (process_of event) (refused s (past_after s before) event) o)) adds.1
+quiet_gives mode s n before (Lacks p) adds = absurd adds
+quiet_gives mode s n before (Tires p) adds = absurd adds
+quiet_gives mode s n before Looks adds = absurd adds
+
+quiet_takes : (s : Setup) (before : List Happening) (this : Happening) → IsQuiet s (past_after s before) (Some this) → history s (past_after s (this ∷ before)) ≡ history s (past_after s before)
+quiet_takes s before (Tries event) adds = ap (λ (o : Option Entry). history s (elim o as (λ _. Past) [ None ↦ past_after s before | Some e ↦ e ∷ past_after s before ])) adds.1
+quiet_takes s before (Lacks p) adds = absurd adds
+quiet_takes s before (Tires p) adds = absurd adds
+quiet_takes s before Looks adds = absurd adds
+
+-- a run goes on without a mark: the marks stay, it gives nothing more, and no command was taken
+record Quietens (s : Setup) (quiet : ℕ) (before after : Run) : Type 0 where
+  marks : marks_in (past_in s after) ≡ marks_in (past_in s before)
+  taken : history s (past_in s after) ≡ history s (past_in s before)
+  events : length (past_in s after) ≡ length (past_in s before) + quiet
+  refused : refusals s after.happened ≡ refusals s before.happened
+  long : length after.happened ≡ quiet + length before.happened
+  gives : (mode : Mode) (n k : ℕ) → given_last mode s n (quiet + k) after.happened ≡ given_last mode s n k before.happened
+
+quiet_turn : (s : Setup) (line : Line) (left : ℕ) (run : Run) → IsQuiet s (past_in s run) (turn_of s line left run).this → Quietens s 1 run (turn_of s line left run).run
 quiet_turn s line left run quiet = by (turned s line left run)
   where
     t : Turn
     t = turn_of s line left run
 
-    by : Turned t run.happened → marks_in (past_in s t.run) ≡ marks_in (past_in s run)
+    by : Turned t run.happened → Quietens s 1 run t.run
     by (Nothing none ended same) = absurd (subst (λ o. IsQuiet s (past_in s run) o) none quiet)
-    by (One this some same) = ap (λ (l : List Happening). marks_in (past_after s l)) same ∙ quiet_marks s run.happened this (subst (λ o. IsQuiet s (past_in s run) o) some quiet)
+    by (One this some same) =
+        let is : IsQuiet s (past_in s run) (Some this) = subst (λ o. IsQuiet s (past_in s run) o) some quiet in
+        let counts : Quietly s run.happened this = quiet_counts s run.happened this is in
+        record {
+          marks = ap (λ (l : List Happening). marks_in (past_after s l)) same ∙ quiet_marks s run.happened this is;
+          taken = ap (λ (l : List Happening). history s (past_after s l)) same ∙ quiet_takes s run.happened this is;
+          events = ap (λ (l : List Happening). length (past_after s l)) same ∙ counts.events;
+          refused = ap (refusals s) same ∙ counts.refused;
+          long = let all : length t.run.happened ≡ suc (length run.happened) = ap (λ (l : List Happening). length l) same in omega (arith, all);
+          gives = λ mode n k. (let one : 1 + k ≡ suc k = omega arith in ap (λ m. given_last mode s n m t.run.happened) one) ∙ ap (given_last mode s n (suc k)) same ∙ ap (λ l. given_last mode s n k run.happened ++ l) (quiet_gives mode s n run.happened this is) ∙ append-nil (given_last mode s n k run.happened);
+        }
 
--- so many of them: the marks stay, and so does what the line comes to
-record Quieted (s : Setup) (line : Line) (left : ℕ) (run : Run) (left' : ℕ) (run' : Run) : Type 0 where
+-- so many of them, and what the line comes to stays
+record Quieted (s : Setup) (line : Line) (quiet left : ℕ) (run : Run) (left' : ℕ) (run' : Run) : Type 0 where
   few : left' ≤ turns_in line
-  marks : marks_in (past_in s run') ≡ marks_in (past_in s run)
+  quietens : Quietens s quiet run run'
   rest : rest_of s line left' run' ≡ rest_of s line left run
 
-quieted : (s : Setup) (line : Line) (quiet left : ℕ) (run : Run) (left' : ℕ) (run' : Run) → left ≤ turns_in line → QuietTurns s line quiet left run left' run' → Quieted s line left run left' run'
+quieted : (s : Setup) (line : Line) (quiet left : ℕ) (run : Run) (left' : ℕ) (run' : Run) → left ≤ turns_in line → QuietTurns s line quiet left run left' run' → Quieted s line quiet left run left' run'
 quieted s line zero left run left' run' few (same, at) =
-    subst (λ n. Quieted s line left run n run') (sym same) (subst (λ (r : Run). Quieted s line left run left r) (sym at) (record { few = few; marks = refl; rest = refl }))
+    subst (λ n. Quieted s line 0 left run n run') (sym same) (subst (λ (r : Run). Quieted s line 0 left run left r) (sym at)
+    (record { few = few; quietens = record { marks = refl; taken = refl; events = sym (add-zero (length (past_in s run))); refused = refl; long = omega arith; gives = λ mode n k. (let none : 0 + k ≡ k = omega arith in ap (λ m. given_last mode s n m run.happened) none) }; rest = refl }))
 quieted s line (suc quiet) left run left' run' few (first, more) =
     let less = turn_less s line left run in
-    let on = quieted s line quiet (turn_of s line left run).left (turn_of s line left run).run left' run' (omega (arith, less, few)) more in
-    record { few = on.few; marks = on.marks ∙ quiet_turn s line left run first; rest = on.rest ∙ sym (turn_on s line left run few) }
+    let t : Turn = turn_of s line left run in
+    let one : Quietens s 1 run t.run = quiet_turn s line left run first in
+    let on : Quieted s line quiet t.left t.run left' run' = quieted s line quiet t.left t.run left' run' (omega (arith, less, few)) more in
+    let q : Quietens s quiet t.run run' = on.quietens in
+    record {
+      few = on.few;
+      quietens = record {
+        marks = q.marks ∙ one.marks;
+        taken = q.taken ∙ one.taken;
+        events = omega (arith, q.events, one.events);
+        refused = q.refused ∙ one.refused;
+        long = omega (arith, q.long, one.long);
+        gives = λ mode n k.
+            let same : suc quiet + k ≡ quiet + suc k = omega arith in
+            let next : suc k ≡ 1 + k = omega arith in
+            ap (λ m. given_last mode s n m run'.happened) same ∙ q.gives mode n (suc k) ∙ ap (λ m. given_last mode s n m t.run.happened) next ∙ one.gives mode n k;
+      };
+      rest = on.rest ∙ sym (turn_on s line left run few);
+    }
+
+-- who hears each event makes each turn by itself; who hears none may pass over so many
+still_waits : (mode : Mode) (s : Setup) (line : Line) (quiet left : ℕ) (run : Run) (left' : ℕ) (run' : Run) (store : Contents) (overlaps : Option Overlaps) → (is_some overlaps ≡ true → quiet ≡ 0) → QuietTurns s line quiet left run left' run' →
+    Overhears mode s (past_in s run) (reads_since s run.happened) overlaps → Overhears mode s (past_in s run') (reads_since s run'.happened) overlaps
+still_waits Hidden s line quiet left run left' run' store None each turns waits = tt
+still_waits Hidden s line quiet left run left' run' store (Some overlaps) each turns waits = absurd waits
+still_waits Shown s line quiet left run left' run' store None each turns waits = absurd waits
+still_waits Shown s line quiet left run left' run' store (Some overlaps) each turns waits =
+    let none : QuietTurns s line 0 left run left' run' = subst (λ q. QuietTurns s line q left run left' run') (each refl) turns in
+    subst (λ (r : Run). Overhears Shown s (past_in s r) (reads_since s r.happened) (Some overlaps)) (sym none.1) waits
 
 -- turns as a course made them, said of the setup
 record Done (s : Setup) (line : Line) (left : ℕ) (run : Run) (turns : Turns) (course : CourseState) : Type 0 where
@@ -98,33 +165,72 @@ done s line run turns course course' setup made =
     let family : Setup → Type 0 = λ s. Done s line course.left run turns course' in
     subst family setup (record { then = made.left; now = made.now; quiet = made.quiet; tells = made.makes.tells; follows = made.makes.follows; left_is = made.makes.left; setup = made.makes.setup })
 
--- a line under way, from a run on, that has told these marks
-pub record Marking (s : Setup) (line : Line) (start : Run) (course : CourseState) (marks : List (ℕ × Mark)) : Type 0 where
+-- a line under way, from a run on, that has told these marks and given these items
+pub record Marking (mode : Mode) (s : Setup) (n : ℕ) (line : Line) (start : Run) (course : CourseState) (summary : Summary) (store : Contents) (overlaps : Option Overlaps) (marks : List (ℕ × Mark)) (gives : List Gives) : Type 0 where
   pub now : Run
   pub follows : Follows course now
   pub setup : course.world.setup ≡ s
+  pub counts : Counts s now summary
   pub says : marks_in (past_in s now) ≡ marks_in (past_in s start) ++ marks
+  pub k : ℕ
+  pub long : length now.happened ≡ k + length start.happened
+  pub are : given_last mode s n k now.happened ≡ gives
+  pub recalls : Recalls mode s now.happened store overlaps
   pub rest : rest_of s line course.left now ≡ run_after s line start
 
 -- before its first turn
-pub marking_start : (s : Setup) (line : Line) (start : Run) (course : CourseState) → course.world.setup ≡ s → course.left ≡ turns_in line → Follows course start → Marking s line start course []
-marking_start s line start course setup left follows = record {
+pub marking_start : (mode : Mode) (s : Setup) (n : ℕ) (line : Line) (start : Run) (course : CourseState) (summary : Summary) (store : Contents) (overlaps : Option Overlaps) → course.world.setup ≡ s → course.left ≡ turns_in line → Follows course start → Counts s start summary → Recalls mode s start.happened store overlaps →
+    Marking mode s n line start course summary store overlaps [] []
+marking_start mode s n line start course summary store overlaps setup left follows counts recalls = record {
   now = start;
   follows = follows;
   setup = setup;
+  counts = counts;
   says = sym (append-nil (marks_in (past_in s start)));
+  k = 0;
+  long = omega arith;
+  are = refl;
+  recalls = recalls;
   rest = ap (λ n. rest_of s line n start) left ∙ rest_whole s line start;
 }
 
--- the turns up to one that tells
-pub marking_on : (s : Setup) (line : Line) (start : Run) (course course' : CourseState) (turns : Turns) (answer : Told) (marks : List (ℕ × Mark)) → course.left ≤ turns_in line → Marking s line start course marks →
-    ((run : Run) → Follows course run → MakesTurns course line run turns course') → turns.told ≡ Some answer → Marking s line start course' (marks ++ marks_told answer)
-marking_on s line start course course' turns answer marks few m makes told = by (turned s line d.then d.now)
+-- quiet turns leave what a drawing recalls
+recalls_still : (mode : Mode) (s : Setup) (line : Line) (quiet left : ℕ) (run : Run) (left' : ℕ) (run' : Run) (store : Contents) (overlaps : Option Overlaps) → (is_some overlaps ≡ true → quiet ≡ 0) → QuietTurns s line quiet left run left' run' → Quietens s quiet run run' →
+    Recalls mode s run.happened store overlaps → Recalls mode s run'.happened store overlaps
+recalls_still mode s line quiet left run left' run' store overlaps each turns quietens recalls = record {
+  store_is = recalls.store_is ∙ ap (store_after s) (sym quietens.taken);
+  waits = still_waits mode s line quiet left run left' run' store overlaps each turns recalls.waits;
+}
+
+-- the turns up to one that tells: what is to be drawn, and the line once it is drawn
+pub record TellsNext (mode : Mode) (s : Setup) (n : ℕ) (line : Line) (start : Run) (course' : CourseState) (summary : Summary) (store : Contents) (overlaps : Option Overlaps) (answer : Told) (marks : List (ℕ × Mark)) (gives : List Gives) : Type 0 where
+  pub before : List Happening
+  pub this : Happening
+  pub draws : IsToDraw mode course' summary.events store overlaps before this answer
+  pub then : (stores : Contents) (overlapping : Option Overlaps) → Recalls mode course'.world.setup (this ∷ before) stores overlapping →
+      Marking mode s n line start course' (counted answer summary) stores overlapping (marks ++ marks_told answer) (gives ++ given_at mode course'.world.setup n before this)
+
+-- what is to be drawn, said of the setup
+to_draw : (mode : Mode) (s : Setup) (course : CourseState) (events : ℕ) (store : Contents) (overlaps : Option Overlaps) (before : List Happening) (this : Happening) (answer : Told) (now : Run) → course.world.setup ≡ s → Follows course now → now.happened ≡ this ∷ before →
+    TellsOf s (past_after s before) this answer → events ≡ length (past_after s before) → Recalls mode s before store overlaps → IsToDraw mode course events store overlaps before this answer
+to_draw mode s course events store overlaps before this answer now setup follows made tells number recalls = record {
+  now = now;
+  follows = follows;
+  made = made;
+  tells = subst (λ (s : Setup). TellsOf s (past_after s before) this answer) (sym setup) tells;
+  number = number ∙ ap (λ (s : Setup). length (past_after s before)) (sym setup);
+  recalls = subst (λ (s : Setup). Recalls mode s before store overlaps) (sym setup) recalls;
+}
+
+pub marking_on : (mode : Mode) (s : Setup) (n : ℕ) (line : Line) (start : Run) (course course' : CourseState) (summary : Summary) (store : Contents) (overlaps : Option Overlaps) (turns : Turns) (answer : Told) (marks : List (ℕ × Mark)) (gives : List Gives) → course.left ≤ turns_in line →
+    Marking mode s n line start course summary store overlaps marks gives → ((run : Run) → Follows course run → MakesTurns course line run turns course') → turns.told ≡ Some answer → (is_some overlaps ≡ true → turns.quiet ≡ 0) →
+    TellsNext mode s n line start course' (with_events turns.quiet summary) store overlaps answer marks gives
+marking_on mode s n line start course course' summary store overlaps turns answer marks gives few m makes told each = by (turned s line d.then d.now)
   where
     d : Done s line course.left m.now turns course'
     d = done s line m.now turns course course' m.setup (makes m.now m.follows)
 
-    q : Quieted s line course.left m.now d.then d.now
+    q : Quieted s line turns.quiet course.left m.now d.then d.now
     q = quieted s line turns.quiet course.left m.now d.then d.now few d.quiet
 
     t : Turn
@@ -133,26 +239,50 @@ marking_on s line start course course' turns answer marks few m makes told = by 
     tells : Tells s (past_in s d.now) t.this (Some answer)
     tells = subst (λ o. Tells s (past_in s d.now) t.this o) told d.tells
 
-    by : Turned t d.now.happened → Marking s line start course' (marks ++ marks_told answer)
+    number : summary.events + turns.quiet ≡ length (past_in s d.now)
+    number = ap (λ n. n + turns.quiet) m.counts.events ∙ sym q.quietens.events
+
+    by : Turned t d.now.happened → TellsNext mode s n line start course' (with_events turns.quiet summary) store overlaps answer marks gives
     by (Nothing none ended same) = absurd (told_none s (past_in s d.now) t.this answer none tells)
-    by (One this some same) = record {
-      now = t.run;
-      follows = d.follows;
-      setup = d.setup;
-      says = ap (λ (l : List Happening). marks_in (past_after s l)) same ∙ told_marks s d.now.happened this answer (told_one s (past_in s d.now) t.this this answer some tells)
-          ∙ ap (λ l. l ++ marks_told answer) (q.marks ∙ m.says) ∙ append_assoc (marks_in (past_in s start)) marks (marks_told answer);
-      rest = ap (λ n. rest_of s line n t.run) d.left_is ∙ sym (turn_on s line d.then d.now q.few) ∙ q.rest ∙ m.rest;
-    }
+    by (One this some same) =
+        let says : TellsOf s (past_in s d.now) this answer = told_one s (past_in s d.now) t.this this answer some tells in
+        let more = counts_more s d.now.happened this answer (with_events turns.quiet summary) says number (m.counts.refused ∙ sym q.quietens.refused) in
+        record {
+          before = d.now.happened;
+          this = this;
+          draws = to_draw mode s course' (summary.events + turns.quiet) store overlaps d.now.happened this answer t.run d.setup d.follows same says number
+              (recalls_still mode s line turns.quiet course.left m.now d.then d.now store overlaps each d.quiet q.quietens m.recalls);
+          then = λ stores overlapping recalls. record {
+            now = t.run;
+            follows = d.follows;
+            setup = d.setup;
+            counts = record { events = more.0 ∙ ap (λ (l : List Happening). length (past_after s l)) (sym same); refused = more.1 ∙ ap (refusals s) (sym same) };
+            says = ap (λ (l : List Happening). marks_in (past_after s l)) same ∙ told_marks s d.now.happened this answer says
+                ∙ ap (λ l. l ++ marks_told answer) (q.quietens.marks ∙ m.says) ∙ append_assoc (marks_in (past_in s start)) marks (marks_told answer);
+            k = suc (turns.quiet + m.k);
+            long = ap (λ (l : List Happening). length l) same ∙ omega (arith, q.quietens.long, m.long);
+            are = ap (given_last mode s n (suc (turns.quiet + m.k))) same
+                ∙ (λ i. (q.quietens.gives mode n m.k ∙ m.are) i ++ given_at mode (sym d.setup i) n d.now.happened this);
+            recalls = subst (λ (l : List Happening). Recalls mode s l stores overlapping) (sym same) (subst (λ (s : Setup). Recalls mode s (this ∷ d.now.happened) stores overlapping) d.setup recalls);
+            rest = ap (λ n. rest_of s line n t.run) d.left_is ∙ sym (turn_on s line d.then d.now q.few) ∙ q.rest ∙ m.rest;
+          };
+        }
 
 -- the turns up to its end
-pub marking_ended : (s : Setup) (line : Line) (start : Run) (course course' : CourseState) (turns : Turns) (marks : List (ℕ × Mark)) → course.left ≤ turns_in line → Marking s line start course marks →
-    ((run : Run) → Follows course run → MakesTurns course line run turns course') → turns.told ≡ None → marks_in (past_in s (run_after s line start)) ≡ marks_in (past_in s start) ++ marks
-marking_ended s line start course course' turns marks few m makes none_told = by (turned s line d.then d.now)
+pub record MarksLine (mode : Mode) (s : Setup) (n : ℕ) (line : Line) (start : Run) (store : Contents) (overlaps : Option Overlaps) (marks : List (ℕ × Mark)) (gives : List Gives) : Type 0 where
+  pub says : marks_in (past_in s (run_after s line start)) ≡ marks_in (past_in s start) ++ marks
+  pub are : gives ≡ given_from mode s n start.happened (run_after s line start).happened
+  pub recalls : Recalls mode s (run_after s line start).happened store overlaps
+
+pub marking_ended : (mode : Mode) (s : Setup) (n : ℕ) (line : Line) (start : Run) (course course' : CourseState) (summary : Summary) (store : Contents) (overlaps : Option Overlaps) (turns : Turns) (marks : List (ℕ × Mark)) (gives : List Gives) → course.left ≤ turns_in line →
+    Marking mode s n line start course summary store overlaps marks gives → ((run : Run) → Follows course run → MakesTurns course line run turns course') → turns.told ≡ None → (is_some overlaps ≡ true → turns.quiet ≡ 0) →
+    MarksLine mode s n line start store overlaps marks gives
+marking_ended mode s n line start course course' summary store overlaps turns marks gives few m makes none_told each = by (turned s line d.then d.now)
   where
     d : Done s line course.left m.now turns course'
     d = done s line m.now turns course course' m.setup (makes m.now m.follows)
 
-    q : Quieted s line course.left m.now d.then d.now
+    q : Quieted s line turns.quiet course.left m.now d.then d.now
     q = quieted s line turns.quiet course.left m.now d.then d.now few d.quiet
 
     t : Turn
@@ -161,8 +291,15 @@ marking_ended s line start course course' turns marks few m makes none_told = by
     tells : Tells s (past_in s d.now) t.this None
     tells = subst (λ o. Tells s (past_in s d.now) t.this o) none_told d.tells
 
-    by : Turned t d.now.happened → marks_in (past_in s (run_after s line start)) ≡ marks_in (past_in s start) ++ marks
+    by : Turned t d.now.happened → MarksLine mode s n line start store overlaps marks gives
     by (One this some same) = absurd (silent_one s (past_in s d.now) t.this this some tells)
     by (Nothing none ended same) =
         let all : t.run ≡ run_after s line start = sym (rest_none s line t.run) ∙ ap (λ n. rest_of s line n t.run) (sym ended) ∙ sym (turn_on s line d.then d.now q.few) ∙ q.rest ∙ m.rest in
-        ap (λ (r : Run). marks_in (past_in s r)) (sym all) ∙ ap (λ (l : List Happening). marks_in (past_after s l)) same ∙ q.marks ∙ m.says
+        let here : d.now.happened ≡ (run_after s line start).happened = sym same ∙ ap (λ (r : Run). r.happened) all in
+        let long : length d.now.happened - length start.happened ≡ turns.quiet + m.k = omega (arith, q.quietens.long, m.long) in
+        record {
+          says = ap (λ (l : List Happening). marks_in (past_after s l)) (sym here) ∙ q.quietens.marks ∙ m.says;
+          are = sym (q.quietens.gives mode n m.k ∙ m.are) ∙ ap (λ k. given_last mode s n k d.now.happened) (sym long) ∙ ap (λ (l : List Happening). given_from mode s n start.happened l) here;
+          recalls = subst (λ (l : List Happening). Recalls mode s l store overlaps) here
+              (recalls_still mode s line turns.quiet course.left m.now d.then d.now store overlaps each d.quiet q.quietens m.recalls);
+        }

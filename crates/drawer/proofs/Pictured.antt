@@ -11,32 +11,37 @@ use Rattle.picture.specs.Stages.{marks_in}
 use Rattle.replayer.specs.Happenings.{past_after}
 use Rattle.replayer.specs.Runs.{happenings}
 use Rattle.replayer.specs.Texts.{replayed}
-use Rattle.drawer.specs.Drawings.{DrawsBands}
-use Rattle.drawer.specs.Pictures.{IsPictureOf, plan_of, store_words}
+use Rattle.drawer.specs.Drawings.{DrawsBands, IsPictureOf}
+use Rattle.drawer.specs.Items.{run_given}
+use Rattle.drawer.specs.Pictures.{plan_of, store_words}
 
 -- a page
-pub is_page : (reads : Mode) (said : Script) (printed opening head ending : List ℕ) (b c : Option (List ℕ)) (height : ℕ) → (bands : DrawsBands (plan_of form.Page said.setup) b c (replayed said) (marks_in (past_after said.setup (happenings said))) height) →
+pub is_page : (reads : Mode) (said : Script) (printed opening head ending : List ℕ) (b c : Option (List ℕ)) (height : ℕ) → (bands : DrawsBands (plan_of form.Page said.setup) b c (replayed said) (marks_in (past_after said.setup (happenings said))) (run_given reads said) height) →
     printed ≡ scenario_text said → opening ≡ store_words (opening_store said.setup) → head ≡ page_front said.setup printed reads → ending ≡ page_back opening →
     IsPictureOf reads form.Page said ((head ++ bands_told (plan_of form.Page said.setup) bands.items) ++ ending)
 is_page reads said printed opening head ending b c height bands prints opens front back = record {
   items = bands.items;
+  are = bands.are;
   lines = bands.lines;
   marks = bands.says;
   first = bands.items;
+  same_items = bands.are;
   same_lines = bands.lines;
   same_marks = bands.says;
   is = λ i. ((front ∙ ap (λ l. page_front said.setup l reads) prints) i ++ bands_told (plan_of form.Page said.setup) bands.items) ++ (back ∙ ap page_back opens) i;
 }
 
 -- one picture, whose height was learnt first
-pub is_picture : (reads : Mode) (said : Script) (head ending : List ℕ) (a a' b c : Option (List ℕ)) (height height' : ℕ) → (first : DrawsBands (plan_of (form.Picture 34) said.setup) a a' (replayed said) (marks_in (past_after said.setup (happenings said))) height) → (bands : DrawsBands (plan_of (form.Picture 34) said.setup) b c (replayed said) (marks_in (past_after said.setup (happenings said))) height') →
+pub is_picture : (reads : Mode) (said : Script) (head ending : List ℕ) (a a' b c : Option (List ℕ)) (height height' : ℕ) → (first : DrawsBands (plan_of (form.Picture 34) said.setup) a a' (replayed said) (marks_in (past_after said.setup (happenings said))) (run_given reads said) height) → (bands : DrawsBands (plan_of (form.Picture 34) said.setup) b c (replayed said) (marks_in (past_after said.setup (happenings said))) (run_given reads said) height') →
     head ≡ picture_front said.setup height reads → ending ≡ picture_back height reads →
     IsPictureOf reads (form.Picture 34) said ((head ++ bands_told (plan_of (form.Picture 34) said.setup) bands.items) ++ ending)
 is_picture reads said head ending a a' b c height height' first bands front back = record {
   items = bands.items;
+  are = bands.are;
   lines = bands.lines;
   marks = bands.says;
   first = first.items;
+  same_items = first.are;
   same_lines = first.lines;
   same_marks = first.says;
   is = λ i. ((front ∙ ap (λ h. picture_front said.setup h reads) first.heights) i ++ bands_told (plan_of (form.Picture 34) said.setup) bands.items) ++ (back ∙ ap (λ h. picture_back h reads) first.heights) i;

@@ -1,6 +1,7 @@
 -- The words of a line that shows a store.
 use Rattle.std.proofs.Common.{◌≡◌, ◌<◌, ℕ, ◌+◌, ◌-◌, List, [], ◌∷◌, ◌++◌, codes, flat_map, Option, None, Some, length, length-append, take, drop, refl, ap, sym, ◌∙◌, arith}
 use Rattle.std.proofs.lemmas.List.{length_push}
+use Rattle.std.specs.String.{string_bytes}
 use Rattle.plain_store.specs.Pairs.{Pair}
 use Rattle.plain_store.specs.Shown.{value_text}
 use Rattle.plain_store.specs.Store.{Contents}
@@ -8,11 +9,10 @@ use Rattle.plain_store.specs.StoreLine.{pair_text, show_text}
 use Rattle.plain_store.specs.declared.setups.Setup.{Setup}
 use Rattle.record.specs.Entries.{Past}
 use Rattle.replayer.specs.Happenings.{Happening, Lacks, Looks, Tires, Tries}
-use Rattle.replayer.specs.Telling.{Tells, TellsOf}
+use Rattle.replayer.specs.Telling.{TellsOf}
 use Rattle.replayer.specs.Texts.{newest_store, store_text}
 use Rattle.replayer.specs.declared.told.Told.{Told}
 use Rattle.replayer.specs.declared.told.Told.TheVariants as told
-use Rattle.drawer.specs.Drawings.{IsToldLine}
 use Rattle.drawer.specs.Pictures.{shown_words, words_by}
 
 -- a front of a list
@@ -50,7 +50,11 @@ store_words None = (codes "busy", refl)
 store_words (Some store) = shows_words store.pairs
 
 -- what a turn tells is such a line, where it is one
-tells_line : (s : Setup) (past : Past) (this : Happening) (answer : Told) → TellsOf s past this answer → IsToldLine answer
+abbrev pub IsToldLine : Told → Type 0
+IsToldLine (told.Shown line) = (words : List ℕ) × (string_bytes line ≡ codes "show " ++ words ++ codes "\n")
+IsToldLine _ = Unit {0}
+
+pub tells_line : (s : Setup) (past : Past) (this : Happening) (answer : Told) → TellsOf s past this answer → IsToldLine answer
 tells_line s past this (told.Accepted made) tells = tt
 tells_line s past this (told.Refused p refusal) tells = tt
 tells_line s past this (told.Tired p) tells = tt
@@ -58,7 +62,3 @@ tells_line s past Looks (told.Shown line) tells = let (words, is) = store_words 
 tells_line s past (Tries event) (told.Shown line) tells = absurd tells
 tells_line s past (Lacks p) (told.Shown line) tells = absurd tells
 tells_line s past (Tires p) (told.Shown line) tells = absurd tells
-
-pub told_line : (s : Setup) (past : Past) (this : Option Happening) (answer : Told) → Tells s past this (Some answer) → IsToldLine answer
-told_line s past None answer tells = absurd tells
-told_line s past (Some this) answer tells = tells_line s past this answer tells

@@ -1,11 +1,13 @@
--- What a picture tells, read back from what was written.
-use Rattle.std.specs.Prelude.{◌≡◌, ◌<◌, ℕ, true, List, [], ◌++◌, codes, flat_map, map, Option, Some, IfSome, Result, Ok, Err}
+-- What was written of a run's picture, and what is read back of it.
+use Rattle.std.specs.Prelude.{◌≡◌, ◌<◌, ℕ, true, List, [], ◌∷◌, ◌+◌, ◌++◌, flat_map, length, map, take, Option, Some, IfSome, Result, Ok, Err}
 use Rattle.std.specs.Io.KnownBytes.{Appends, IsAtEnd}
-use Rattle.std.specs.String.{string_bytes}
 use Rattle.shapes.specs.Elements.{EndsAll, opens_in}
 use Rattle.shapes.specs.Titles.{is_at_rest, lines_in, tags_of}
+use Rattle.plain_store.specs.Store.{Contents}
 use Rattle.plain_store.specs.declared.setups.Setup.{Setup}
+use Rattle.record.specs.Histories.{history, store_after}
 use Rattle.record.specs.Records.{process_of}
+use Rattle.record.specs.declared.history.Taken.{Taken}
 use Rattle.record.specs.declared.marks.Mark.{Mark}
 use Rattle.files.specs.Engines.{Ran, Streams}
 use Rattle.files.specs.declared.faults.Fault.{Fault}
@@ -18,12 +20,18 @@ use Rattle.picture.specs.Stages.{marks_in, marks_said}
 use Rattle.picture.specs.Standings.{sayings}
 use Rattle.picture.specs.declared.page.Form.{Form}
 use Rattle.picture.specs.declared.page.Page.{Page}
+use Rattle.picture.specs.declared.reads.OverlappedRead.{OverlappedRead}
 use Rattle.picture.specs.declared.reads.Reads.{Reads as Mode}
-use Rattle.drawer.specs.Pictures.{IsPictureOf, ended_lines, lines_told}
+use Rattle.drawer.specs.Changes.{IsNext, takes}
+use Rattle.drawer.specs.Items.{Gives, given, given_from, reads_since, run_given}
+use Rattle.drawer.specs.Overlaps.{Overhears}
+use Rattle.drawer.specs.Pictures.{ended_lines, lines_told, picture_of, plan_of}
+use Rattle.drawer.specs.declared.overlaps.Overlaps.{Overlaps}
 use Rattle.replayer.specs.Courses.{CourseState, Follows}
+use Rattle.replayer.specs.Happenings.{Happening, past_after}
 use Rattle.replayer.specs.Replays.{Moves}
-use Rattle.replayer.specs.Runs.{Run, past_in, run_after}
-use Rattle.replayer.specs.Telling.{marks_made}
+use Rattle.replayer.specs.Runs.{Run, happenings, past_in, run_after}
+use Rattle.replayer.specs.Telling.{TellsOf, marks_made}
 use Rattle.replayer.specs.Texts.{replay_text, replayed}
 use Rattle.replayer.specs.Writing.{Counts}
 use Rattle.replayer.specs.declared.summaries.Summary.{Summary}
@@ -41,6 +49,18 @@ pub record Draws (old new : Option (List ℕ)) (markup text : List ℕ) : Type 0
   pub read_back : ended_lines (lines_in markup) ≡ text
   pub writes : Writes old new markup
 
+-- Markup is the picture of a run, and nothing else: that of items which are what the run gives, one by one. So their lines are the text of the run, in order, and say the marks of its record. The height of one picture is that of such a picture.
+pub record IsPictureOf (reads : Mode) (form : Form) (said : Script) (markup : List ℕ) : Type 0 where
+  pub items : List Item
+  pub are : given items ≡ run_given reads said
+  pub lines : ended_lines (lines_told items) ≡ replayed said
+  pub marks : flat_map marks_said (sayings items) ≡ marks_in (past_after said.setup (happenings said))
+  pub first : List Item
+  pub same_items : given first ≡ run_given reads said
+  pub same_lines : ended_lines (lines_told first) ≡ replayed said
+  pub same_marks : flat_map marks_said (sayings first) ≡ marks_in (past_after said.setup (happenings said))
+  pub is : markup ≡ picture_of reads form said (heights_told (plan_of form said.setup) first) items
+
 -- A whole picture was written: it is the picture of a run, and nothing else; its tags fit, and no element is open at its end; and the titles of its marks, read back, are the lines of the run.
 pub record DrawsAll (reads : Mode) (form : Form) (said : Script) (old new : Option (List ℕ)) : Type 0 where
   pub markup : List ℕ
@@ -50,8 +70,9 @@ pub record DrawsAll (reads : Mode) (form : Form) (said : Script) (old new : Opti
   pub writes : Writes old new markup
 
 -- the bands of a whole picture were written, whose heights come to so much
-pub record DrawsBands (plan : Plan) (old new : Option (List ℕ)) (text : List ℕ) (marks : List (ℕ × Mark)) (height : ℕ) : Type 0 where
+pub record DrawsBands (plan : Plan) (old new : Option (List ℕ)) (text : List ℕ) (marks : List (ℕ × Mark)) (gives : List Gives) (height : ℕ) : Type 0 where
   pub items : List Item
+  pub are : given items ≡ gives
   pub lines : ended_lines (lines_told items) ≡ text
   pub says : flat_map marks_said (sayings items) ≡ marks
   pub draws : Draws old new (bands_told plan items) text
@@ -65,26 +86,28 @@ pub record Kept : Type 0 where
 abbrev pub kept : Page → Kept
 kept page = record { lines = held page; page = seen_page page }
 
--- a page took in items whose lines are this text and say these marks, and this markup is the bands that are full by them
-pub record Fills (old new : SeenPage) (markup text : List ℕ) (marks : List (ℕ × Mark)) : Type 0 where
+-- a page took in these items, whose lines are this text and say these marks, and this markup is the bands that are full by them
+pub record Fills (old new : SeenPage) (markup text : List ℕ) (marks : List (ℕ × Mark)) (gives : List Gives) : Type 0 where
   pub items : List Item
+  pub are : given items ≡ gives
   pub lines : ended_lines (lines_told items) ≡ text
   pub says : flat_map marks_said (sayings items) ≡ marks
   pub goes_on : (plan : Plan) (before : List Item) → old ≡ page_of plan before → (new ≡ page_of plan (items ++ before)) × (full_told plan (items ++ before) ≡ full_told plan before ++ markup)
 
 -- markup was written, where some lines were held back before, and some are now
-pub record DrawsOn (had has : Kept) (old new : Option (List ℕ)) (text : List ℕ) (marks : List (ℕ × Mark)) : Type 0 where
+pub record DrawsOn (had has : Kept) (old new : Option (List ℕ)) (text : List ℕ) (marks : List (ℕ × Mark)) (gives : List Gives) : Type 0 where
   pub markup : List ℕ
   pub drawn : List ℕ
   pub draws : Draws old new markup drawn
   pub goes_on : drawn ++ ended_lines has.lines ≡ ended_lines had.lines ++ text
-  pub fills : Fills had.page has.page markup text marks
+  pub fills : Fills had.page has.page markup text marks gives
 
--- what was held back was written, and the last lines, which are this text and say no mark
-pub record DrawsRest (had : Kept) (old new : Option (List ℕ)) (text : List ℕ) (height : ℕ) : Type 0 where
+-- what was held back was written, and the last items, whose lines are this text and say no mark
+pub record DrawsRest (had : Kept) (old new : Option (List ℕ)) (text : List ℕ) (gives : List Gives) (height : ℕ) : Type 0 where
   pub markup : List ℕ
   pub draws : Draws old new markup (ended_lines had.lines ++ text)
   pub items : List Item
+  pub are : given items ≡ gives
   pub lines : ended_lines (lines_told items) ≡ text
   pub says : flat_map marks_said (sayings items) ≡ []
   pub ends : (plan : Plan) (before : List Item) → had.page ≡ page_of plan before → (bands_told plan (items ++ before) ≡ full_told plan before ++ markup) × (height ≡ heights_told plan (items ++ before))
@@ -96,23 +119,50 @@ marks_told (told.Refused p refusal) = []
 marks_told (told.Tired p) = []
 marks_told (told.Shown line) = []
 
+-- a drawing stands where this has happened: its store is the one-thread store after the history, and the overlapped reads that wait are those since the last line
+pub record Recalls (mode : Mode) (s : Setup) (happened : List Happening) (store : Contents) (overlaps : Option Overlaps) : Type 0 where
+  pub store_is : store ≡ store_after s (history s (past_after s happened))
+  pub waits : Overhears mode s (past_after s happened) (reads_since s happened) overlaps
+
+-- a turn that tells this was made, and what it tells is to be drawn, where so many events were accepted before it
+pub record IsToDraw (mode : Mode) (course : CourseState) (events : ℕ) (store : Contents) (overlaps : Option Overlaps) (before : List Happening) (this : Happening) (answer : Told) : Type 0 where
+  pub now : Run
+  pub follows : Follows course now
+  pub made : now.happened ≡ this ∷ before
+  pub tells : TellsOf course.world.setup (past_after course.world.setup before) this answer
+  pub number : events ≡ length (past_after course.world.setup before)
+  pub recalls : Recalls mode course.world.setup before store overlaps
+
+-- an event was made, and its marks are being drawn: these reads wait for the next of them, and so many commands of the history were applied
+pub record IsAmong (mode : Mode) (course : CourseState) (now : Run) (reads : List OverlappedRead) (n : ℕ) (store : Contents) (overlaps : Option Overlaps) : Type 0 where
+  pub follows : Follows course now
+  pub store_is : store ≡ store_after course.world.setup (take n (history course.world.setup (past_in course.world.setup now)))
+  pub waits : Overhears mode course.world.setup (past_in course.world.setup now) reads overlaps
+
+-- where marks take a command, it is the last of the history, and so many were taken before it
+abbrev pub AreNext : ℕ → List Taken → List Mark → Type 0
+AreNext n taken [] = Unit {0}
+AreNext n taken (mark ∷ marks) = IsNext n taken mark × AreNext (n + takes mark) taken marks
+
+-- how many commands marks take
+abbrev pub all_take : List Mark → ℕ
+all_take [] = 0
+all_take (mark ∷ marks) = takes mark + all_take marks
+
 -- a run went on, and what it tells was drawn
-pub record Advances (s : Setup) (before after : Run) (course : CourseState) (summary : Summary) (had has : Kept) (old new : Option (List ℕ)) : Type 0 where
+pub record Advances (mode : Mode) (s : Setup) (source : ℕ) (before after : Run) (course : CourseState) (summary : Summary) (store : Contents) (overlaps : Option Overlaps) (had has : Kept) (old new : Option (List ℕ)) : Type 0 where
   pub text : List ℕ
   pub marks : List (ℕ × Mark)
-  pub draws : DrawsOn had has old new text marks
+  pub draws : DrawsOn had has old new text marks (given_from mode s source before.happened after.happened)
   pub says : marks_in (past_in s after) ≡ marks_in (past_in s before) ++ marks
   pub moves : Moves s before after course summary (Some []) (Some text)
+  pub recalls : Recalls mode s after.happened store overlaps
 
 -- a line of a scenario has made all its turns, whatever has happened before
-abbrev pub DrawsLine : Line → CourseState → CourseState → Summary → Summary → Kept → Kept → Option (List ℕ) → Option (List ℕ) → Type 0
-DrawsLine line old new counted counts had has taken then =
-    (run : Run) → Follows old run → Counts old.world.setup run counted → Advances old.world.setup run (run_after old.world.setup line run) new counts had has taken then
-
--- where a turn tells a line that shows a store, it is one
-abbrev pub IsToldLine : Told → Type 0
-IsToldLine (told.Shown line) = (words : List ℕ) × (string_bytes line ≡ codes "show " ++ words ++ codes "\n")
-IsToldLine _ = Unit {0}
+abbrev pub DrawsLine : Line → ℕ → CourseState → CourseState → Summary → Summary → Contents → Contents → Option Overlaps → Option Overlaps → Kept → Kept → Option (List ℕ) → Option (List ℕ) → Type 0
+DrawsLine line source old new counted counts store stores overlaps overlapping had has taken then =
+    (mode : Mode) (run : Run) → Follows old run → Counts old.world.setup run counted → Recalls mode old.world.setup run.happened store overlaps →
+    Advances mode old.world.setup source run (run_after old.world.setup line run) new counts stores overlapping had has taken then
 
 -- How `draw` ends: where it ends well, what was written is a picture of the whole run; after a fault of the input nothing was written.
 abbrev pub Drew : Mode → Form → Result (Unit {0}) Fault → Streams → Streams → Type 0

@@ -1,5 +1,5 @@
 -- What a run's picture is told, and what is written of it.
-use Rattle.std.specs.Prelude.{◌≡◌, ℕ, ◌-◌, List, [], ◌∷◌, ◌++◌, codes, drop, flat_map, length, take}
+use Rattle.std.specs.Prelude.{ℕ, ◌-◌, List, [], ◌∷◌, ◌++◌, codes, drop, flat_map, length, take}
 use Rattle.plain_store.specs.Pairs.{Pair}
 use Rattle.plain_store.specs.Store.{Contents}
 use Rattle.plain_store.specs.StoreLine.{show_text}
@@ -7,13 +7,8 @@ use Rattle.plain_store.specs.Setups.{opening_store}
 use Rattle.plain_store.specs.declared.setups.Setup.{Setup}
 use Rattle.scenario.specs.Printing.{scenario_text}
 use Rattle.scenario.specs.Reading.{Script}
-use Rattle.replayer.specs.Happenings.{past_after}
-use Rattle.replayer.specs.Runs.{happenings}
-use Rattle.replayer.specs.Texts.{replayed}
-use Rattle.picture.specs.Bandings.{Item, Plan, Reads, Tells, bands_told, heights_told}
+use Rattle.picture.specs.Bandings.{Item, Plan, Reads, Tells, bands_told}
 use Rattle.picture.specs.Sheets.{page_back, page_front, picture_back, picture_front}
-use Rattle.picture.specs.Stages.{marks_in, marks_said}
-use Rattle.picture.specs.Standings.{sayings}
 use Rattle.picture.specs.Told.{text_of}
 use Rattle.picture.specs.declared.page.Form.{Form}
 use Rattle.picture.specs.declared.page.Form.TheVariants as form
@@ -49,13 +44,3 @@ picture_of reads (form.Picture top) said height items = (picture_front said.setu
 -- lines, each with its end
 abbrev pub ended_lines : List (List ℕ) → List ℕ
 ended_lines = flat_map (λ line. line ++ codes "\n")
-
--- Markup is the picture of a run, and nothing else: that of items whose lines are the text of the run, in order, and say the marks of its record. The height of one picture is that of such a picture.
-pub record IsPictureOf (reads : Mode) (form : Form) (said : Script) (markup : List ℕ) : Type 0 where
-  pub items : List Item
-  pub lines : ended_lines (lines_told items) ≡ replayed said
-  pub marks : flat_map marks_said (sayings items) ≡ marks_in (past_after said.setup (happenings said))
-  pub first : List Item
-  pub same_lines : ended_lines (lines_told first) ≡ replayed said
-  pub same_marks : flat_map marks_said (sayings first) ≡ marks_in (past_after said.setup (happenings said))
-  pub is : markup ≡ picture_of reads form said (heights_told (plan_of form said.setup) first) items

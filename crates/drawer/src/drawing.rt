@@ -1,19 +1,27 @@
 //! A run told line by line to a picture, whose bands are written as they are full.
-ghost use Rattle.std.specs.Prelude.{◌≡◌, ◌+◌, ◌-◌, ◌^◌, ◌<◌, ◌≤◌, [], ◌∷◌, ◌++◌, codes, flat_map, map, IfErr, IfOk, IfSome, Ok, OnOk};
+ghost use Rattle.std.specs.Prelude.{◌≡◌, ◌+◌, ◌-◌, ◌^◌, ◌<◌, ◌≤◌, ℕ, true, List, [], ◌∷◌, ◌++◌, codes, flat_map, length, map, IfErr, IfOk, IfSome, Ok, OnOk};
 ghost use Rattle.plain_store.specs.Setups.{checked};
+ghost use Rattle.plain_store.specs.declared.setups.Setup.{Setup as Given};
+ghost use Rattle.record.specs.Entries.{Past};
+ghost use Rattle.record.specs.Histories.{history};
+ghost use Rattle.picture.specs.declared.reads.OverlappedRead.{OverlappedRead as Ended};
+ghost use Rattle.picture.specs.declared.reads.Reads.{Reads as Mode};
 ghost use Rattle.picture.specs.Pages.{held, page_of, seen_page};
 ghost use Rattle.picture.specs.Stages.{marks_in, marks_said};
 ghost use Rattle.picture.specs.Told.{saying_text};
 ghost use Rattle.scenario.specs.Reads.{script};
 ghost use Rattle.replayer.specs.Courses.{Follows, MakesTurns};
-ghost use Rattle.replayer.specs.Happenings.{past_after};
-ghost use Rattle.replayer.specs.Runs.{Run, happenings, run_at_start};
+ghost use Rattle.replayer.specs.Happenings.{Happening, past_after};
+ghost use Rattle.replayer.specs.Runs.{Run, happenings, past_in, run_at_start};
 ghost use Rattle.replayer.specs.Summaries.{counted, summary_of};
 ghost use Rattle.replayer.specs.Telling.{told_text};
 ghost use Rattle.replayer.specs.Texts.{end_line, mark_line, replayed};
 ghost use Rattle.replayer.specs.Turns.{turns_in};
 ghost use Rattle.replayer.specs.Writing.{IsWriteFault, failed_write};
-ghost use Rattle.drawer.specs.Drawings.{DrawsBands, DrawsLine, DrawsOn, DrawsRest, IsToldLine, kept, marks_told};
+ghost use Rattle.drawer.specs.Changes.{IsNext, takes};
+ghost use Rattle.drawer.specs.Drawings.{AreNext, DrawsBands, DrawsLine, DrawsOn, DrawsRest, IsAmong, IsToDraw, Recalls, all_take, kept, marks_told};
+ghost use Rattle.drawer.specs.Items.{GivesRead, SaysEnd, given_at, lines_given, run_given, says_mark, says_of, waiting};
+ghost use Rattle.drawer.specs.Overlaps.{Overhears, shown_of};
 ghost use Rattle.drawer.specs.Pictures.{plan_of};
 
 use crate::changes::{Changes, words_shown};
@@ -55,7 +63,7 @@ pub(crate) fn draw_bands<W: Sink, L: Onlooker>(
     onlooker: &mut L,
 ) -> Result<(Summary, u64), Fault>
     requires { W.failures output.old < 2 ^ 64 - 1 }
-    ensures ok { IfOk result (λ answer. DrawsBands (plan_of form scenario.now.setup) (W.taken output.old) (W.taken output.new) (replayed (script scenario.now)) (marks_in (past_after scenario.now.setup (happenings (script scenario.now)))) answer.1) }
+    ensures ok { IfOk result (λ answer. DrawsBands (plan_of form scenario.now.setup) (W.taken output.old) (W.taken output.new) (replayed (script scenario.now)) (marks_in (past_after scenario.now.setup (happenings (script scenario.now)))) (run_given reads (script scenario.now)) answer.1) }
     ensures summary { IfOk result (λ answer. answer.0 ≡ summary_of scenario.now.setup (happenings (script scenario.now))) }
     ensures fault { IfErr result IsWriteFault }
     ensures failures { W.failures output.new ≡ W.failures output.old + failed_write result }
@@ -64,10 +72,10 @@ pub(crate) fn draw_bands<W: Sink, L: Onlooker>(
     let mut place = Place::before(file, scenario.lines.len());
     for line in &scenario.lines {
         onlooker.reached(place.begin_line(drawing.summary.events));
-        drawing.source = drawing.source.saturating_add(1);
+        drawing.source += 1;
         drawing.draw_line(line, output)?;
     }
-    drawing.source = drawing.source.saturating_add(1);
+    drawing.source += 1;
     drawing.summary.taken = drawing.course.taken();
     drawing.end(output)?;
     Ok((drawing.summary, drawing.page.height()))
@@ -81,6 +89,8 @@ impl Drawing {
         ensures summary { IfOk result (λ drawing. drawing.summary ≡ record { events = 0; taken = 0; refused = 0 }) }
         ensures held { IfOk result (λ drawing. held drawing.page ≡ []) }
         ensures page { IfOk result (λ drawing. seen_page drawing.page ≡ page_of (plan_of form setup.now) []) }
+        ensures source { IfOk result (λ drawing. drawing.source ≡ length setup.now.opening + 5) }
+        ensures recalls { IfOk result (λ drawing. Recalls reads setup.now [] drawing.changes.store drawing.overlaps) }
         ensures fault { IfErr result IsWriteFault }
         ensures failures { failed_write result ≡ 0 }
     {
@@ -96,7 +106,7 @@ impl Drawing {
             overlaps,
             summary: Summary::new(),
             page,
-            source: (setup.opening.len() as u64).saturating_add(HEADINGS),
+            source: setup.opening.len() as u64 + HEADINGS,
         })
     }
 
@@ -105,7 +115,8 @@ impl Drawing {
         requires writes { W.failures output.old < 2 ^ 64 - 1 }
         requires events { self.old.summary.events < 2 ^ 63 }
         requires refused { self.old.summary.refused < 2 ^ 63 }
-        ensures ok { OnOk result (DrawsLine line.now self.old.course self.new.course self.old.summary self.new.summary (kept self.old.page) (kept self.new.page) (W.taken output.old) (W.taken output.new)) }
+        ensures ok { OnOk result (DrawsLine line.now self.old.source self.old.course self.new.course self.old.summary self.new.summary self.old.changes.store self.new.changes.store self.old.overlaps self.new.overlaps (kept self.old.page) (kept self.new.page) (W.taken output.old) (W.taken output.new)) }
+        ensures source { OnOk result (self.new.source ≡ self.old.source) }
         ensures events { OnOk result (self.new.summary.events < self.old.summary.events + 2 ^ 32) }
         ensures refused { OnOk result (self.new.summary.refused < self.old.summary.refused + 2 ^ 32) }
         ensures fault { IfErr result IsWriteFault }
@@ -127,7 +138,9 @@ impl Drawing {
         requires writes { W.failures output.old < 2 ^ 64 - 1 }
         requires events { self.old.summary.events < 2 ^ 64 - 1 }
         requires refused { self.old.summary.refused < 2 ^ 64 - 1 }
-        ensures ok { OnOk result (IsToldLine told.now → DrawsOn (kept self.old.page) (kept self.new.page) (W.taken output.old) (W.taken output.new) (told_text self.old.summary.events told.now) (marks_told told.now)) }
+        ensures ok { OnOk result ((mode : Mode) (before : List Happening) (this : Happening) → IsToDraw mode self.old.course self.old.summary.events self.old.changes.store self.old.overlaps before this told.now → DrawsOn (kept self.old.page) (kept self.new.page) (W.taken output.old) (W.taken output.new) (told_text self.old.summary.events told.now) (marks_told told.now) (given_at mode self.old.course.world.setup self.old.source before this)) }
+        ensures recalls { OnOk result ((mode : Mode) (before : List Happening) (this : Happening) → IsToDraw mode self.old.course self.old.summary.events self.old.changes.store self.old.overlaps before this told.now → Recalls mode self.old.course.world.setup (this ∷ before) self.new.changes.store self.new.overlaps) }
+        ensures source { self.new.source ≡ self.old.source }
         ensures count { OnOk result (self.new.summary ≡ counted told.now self.old.summary) }
         ensures course { self.new.course ≡ self.old.course }
         ensures fault { IfErr result IsWriteFault }
@@ -141,7 +154,9 @@ impl Drawing {
     /// Draws what a turn tells.
     fn draw_told<W: Sink>(&mut self, told: &Told, output: &mut W) -> Result<(), Fault>
         requires { W.failures output.old < 2 ^ 64 - 1 }
-        ensures ok { OnOk result (IsToldLine told.now → DrawsOn (kept self.old.page) (kept self.new.page) (W.taken output.old) (W.taken output.new) (told_text self.old.summary.events told.now) (marks_told told.now)) }
+        ensures ok { OnOk result ((mode : Mode) (before : List Happening) (this : Happening) → IsToDraw mode self.old.course self.old.summary.events self.old.changes.store self.old.overlaps before this told.now → DrawsOn (kept self.old.page) (kept self.new.page) (W.taken output.old) (W.taken output.new) (told_text self.old.summary.events told.now) (marks_told told.now) (given_at mode self.old.course.world.setup self.old.source before this)) }
+        ensures recalls { OnOk result ((mode : Mode) (before : List Happening) (this : Happening) → IsToDraw mode self.old.course self.old.summary.events self.old.changes.store self.old.overlaps before this told.now → Recalls mode self.old.course.world.setup (this ∷ before) self.new.changes.store self.new.overlaps) }
+        ensures source { self.new.source ≡ self.old.source }
         ensures summary { self.new.summary ≡ self.old.summary }
         ensures course { self.new.course ≡ self.old.course }
         ensures fault { IfErr result IsWriteFault }
@@ -177,7 +192,9 @@ impl Drawing {
         output: &mut W,
     ) -> Result<(), Fault>
         requires { W.failures output.old < 2 ^ 64 - 1 }
-        ensures ok { OnOk result (DrawsOn (kept self.old.page) (kept self.new.page) (W.taken output.old) (W.taken output.new) (flat_map (mark_line self.old.summary.events process) marks.now) (map (λ mark. (process, mark)) marks.now)) }
+        ensures ok { OnOk result ((mode : Mode) (now : Run) (reads : List Ended) (n : ℕ) → IsAmong mode self.old.course now reads n self.old.changes.store self.old.overlaps → AreNext n (history self.old.course.world.setup (past_in self.old.course.world.setup now)) marks.now → DrawsOn (kept self.old.page) (kept self.new.page) (W.taken output.old) (W.taken output.new) (flat_map (mark_line self.old.summary.events process) marks.now) (map (λ mark. (process, mark)) marks.now) (lines_given mode self.old.source self.old.summary.events reads (map (says_mark self.old.course.world.setup (history self.old.course.world.setup (past_in self.old.course.world.setup now)) process) marks.now))) }
+        ensures among { OnOk result ((mode : Mode) (now : Run) (reads : List Ended) (n : ℕ) → IsAmong mode self.old.course now reads n self.old.changes.store self.old.overlaps → AreNext n (history self.old.course.world.setup (past_in self.old.course.world.setup now)) marks.now → IsAmong mode self.old.course now (waiting marks.now reads) (n + all_take marks.now) self.new.changes.store self.new.overlaps) }
+        ensures source { self.new.source ≡ self.old.source }
         ensures summary { self.new.summary ≡ self.old.summary }
         ensures course { self.new.course ≡ self.old.course }
         ensures fault { IfErr result IsWriteFault }
@@ -192,7 +209,9 @@ impl Drawing {
     /// Draws a mark of an event.
     fn draw_mark<W: Sink>(&mut self, process: u8, mark: &Mark, output: &mut W) -> Result<(), Fault>
         requires { W.failures output.old < 2 ^ 64 - 1 }
-        ensures ok { OnOk result (DrawsOn (kept self.old.page) (kept self.new.page) (W.taken output.old) (W.taken output.new) (mark_line self.old.summary.events process mark.now) ((process, mark.now) ∷ [])) }
+        ensures ok { OnOk result ((mode : Mode) (now : Run) (reads : List Ended) (n : ℕ) → IsAmong mode self.old.course now reads n self.old.changes.store self.old.overlaps → IsNext n (history self.old.course.world.setup (past_in self.old.course.world.setup now)) mark.now → DrawsOn (kept self.old.page) (kept self.new.page) (W.taken output.old) (W.taken output.new) (mark_line self.old.summary.events process mark.now) ((process, mark.now) ∷ []) (lines_given mode self.old.source self.old.summary.events reads (says_mark self.old.course.world.setup (history self.old.course.world.setup (past_in self.old.course.world.setup now)) process mark.now ∷ []))) }
+        ensures among { OnOk result ((mode : Mode) (now : Run) (reads : List Ended) (n : ℕ) → IsAmong mode self.old.course now reads n self.old.changes.store self.old.overlaps → IsNext n (history self.old.course.world.setup (past_in self.old.course.world.setup now)) mark.now → IsAmong mode self.old.course now [] (n + takes mark.now) self.new.changes.store self.new.overlaps) }
+        ensures source { self.new.source ≡ self.old.source }
         ensures summary { self.new.summary ≡ self.old.summary }
         ensures course { self.new.course ≡ self.old.course }
         ensures fault { IfErr result IsWriteFault }
@@ -211,7 +230,10 @@ impl Drawing {
     /// Draws a line, and before it the reads that were overlapped since the line before; writes each band that is full.
     fn draw<W: Sink>(&mut self, saying: Saying, output: &mut W) -> Result<(), Fault>
         requires { W.failures output.old < 2 ^ 64 - 1 }
-        ensures ok { OnOk result (DrawsOn (kept self.old.page) (kept self.new.page) (W.taken output.old) (W.taken output.new) (saying_text self.old.summary.events saying ++ codes "\n") (marks_said saying)) }
+        ensures ok { OnOk result ((mode : Mode) (s : Given) (past : Past) (reads : List Ended) → Overhears mode s past reads self.old.overlaps → DrawsOn (kept self.old.page) (kept self.new.page) (W.taken output.old) (W.taken output.new) (saying_text self.old.summary.events saying ++ codes "\n") (marks_said saying) (lines_given mode self.old.source self.old.summary.events reads (says_of saying ∷ []))) }
+        ensures overlaps { OnOk result ((mode : Mode) (s : Given) (past : Past) (reads : List Ended) → Overhears mode s past reads self.old.overlaps → Overhears mode s past [] self.new.overlaps) }
+        ensures changes { self.new.changes ≡ self.old.changes }
+        ensures source { self.new.source ≡ self.old.source }
         ensures summary { self.new.summary ≡ self.old.summary }
         ensures course { self.new.course ≡ self.old.course }
         ensures fault { IfErr result IsWriteFault }
@@ -230,7 +252,10 @@ impl Drawing {
     /// Draws the reads that were overlapped since the last line, which are no lines of the run.
     fn draw_reads<W: Sink>(&mut self, output: &mut W) -> Result<(), Fault>
         requires { W.failures output.old < 2 ^ 64 - 1 }
-        ensures ok { OnOk result (DrawsOn (kept self.old.page) (kept self.new.page) (W.taken output.old) (W.taken output.new) [] []) }
+        ensures ok { OnOk result ((mode : Mode) (s : Given) (past : Past) (reads : List Ended) → Overhears mode s past reads self.old.overlaps → DrawsOn (kept self.old.page) (kept self.new.page) (W.taken output.old) (W.taken output.new) [] [] (map GivesRead (shown_of mode reads))) }
+        ensures overlaps { OnOk result ((mode : Mode) (s : Given) (past : Past) (reads : List Ended) → Overhears mode s past reads self.old.overlaps → Overhears mode s past [] self.new.overlaps) }
+        ensures changes { self.new.changes ≡ self.old.changes }
+        ensures source { self.new.source ≡ self.old.source }
         ensures summary { self.new.summary ≡ self.old.summary }
         ensures course { self.new.course ≡ self.old.course }
         ensures fault { IfErr result IsWriteFault }
@@ -246,7 +271,10 @@ impl Drawing {
     /// Draws a read, and writes the band that it does not fit into, if it does not.
     fn draw_read<W: Sink>(&mut self, read: &OverlappedRead, output: &mut W) -> Result<(), Fault>
         requires { W.failures output.old < 2 ^ 64 - 1 }
-        ensures ok { OnOk result (DrawsOn (kept self.old.page) (kept self.new.page) (W.taken output.old) (W.taken output.new) [] []) }
+        ensures ok { OnOk result (DrawsOn (kept self.old.page) (kept self.new.page) (W.taken output.old) (W.taken output.new) [] [] (GivesRead read.now ∷ [])) }
+        ensures overlaps { self.new.overlaps ≡ self.old.overlaps }
+        ensures changes { self.new.changes ≡ self.old.changes }
+        ensures source { self.new.source ≡ self.old.source }
         ensures summary { self.new.summary ≡ self.old.summary }
         ensures course { self.new.course ≡ self.old.course }
         ensures fault { IfErr result IsWriteFault }
@@ -259,7 +287,7 @@ impl Drawing {
     /// Draws the last line, and writes what is held back.
     fn end<W: Sink>(&mut self, output: &mut W) -> Result<(), Fault>
         requires { W.failures output.old < 2 ^ 64 - 1 }
-        ensures ok { OnOk result (DrawsRest (kept self.old.page) (W.taken output.old) (W.taken output.new) (end_line self.old.summary) self.new.page.height) }
+        ensures ok { OnOk result ((mode : Mode) (s : Given) (past : Past) (reads : List Ended) → Overhears mode s past reads self.old.overlaps → DrawsRest (kept self.old.page) (W.taken output.old) (W.taken output.new) (end_line self.old.summary) (lines_given mode self.old.source self.old.summary.events reads (SaysEnd self.old.summary ∷ [])) self.new.page.height) }
         ensures summary { self.new.summary ≡ self.old.summary }
         ensures fault { IfErr result IsWriteFault }
         ensures failures { W.failures output.new ≡ W.failures output.old + failed_write result }
@@ -286,6 +314,7 @@ impl Drawing {
 fn next_turns(course: &mut Course, line: &scenario::Line, each: bool) -> Result<Turns, AllocError>
     requires { course.old.left ≤ turns_in line.now }
     ensures few { IfOk result (λ turns. turns.quiet ≤ course.old.left) }
+    ensures each { each ≡ true → IfOk result (λ turns. turns.quiet ≡ 0) }
     ensures less { IfOk result (λ turns. IfSome turns.told (λ _. turns.quiet + course.new.left < course.old.left)) }
     ensures made { IfOk result (λ turns. (run : Run) → Follows course.old run → MakesTurns course.old line.now run turns course.new) }
 {

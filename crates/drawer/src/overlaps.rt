@@ -1,6 +1,14 @@
 //! The reads of a run that writes overlap: a watch beside the run, which hears each entry.
-ghost use Rattle.std.specs.Prelude.{◌≡◌, Ok};
+ghost use Rattle.std.specs.Prelude.{◌≡◌, ◌<◌, ℕ, [], ◌∷◌, ◌++◌, List, length, nat_lt, set, slice_index, IfOk, Ok, OnOk};
+ghost use Rattle.safe_bit.specs.declared.Move.TheVariants.{EndRead};
 ghost use Rattle.plain_store.specs.Setups.{checked};
+ghost use Rattle.plain_store.specs.declared.setups.Setup.{Setup as Given};
+ghost use Rattle.record.specs.Entries.{Entry, Past};
+ghost use Rattle.record.specs.Registers.{width};
+ghost use Rattle.replayer.specs.Telling.{entry_made};
+ghost use Rattle.picture.specs.declared.reads.OverlappedRead.{OverlappedRead as Ended};
+ghost use Rattle.picture.specs.declared.reads.Reads.{Reads as Mode};
+ghost use Rattle.drawer.specs.Overlaps.{ComesInTurn, Hears, Overhears, begun_by, first_three, overlapped_by, read_ended, shown_of};
 
 use picture::{OverlappedRead, Reads};
 use plain_store::{NestedTypes, Setup};
@@ -29,6 +37,7 @@ impl Overlaps {
     /// One that has heard nothing, if reads are shown.
     pub fn new(alloc: Global, setup: &Setup, reads: Reads) -> Result<Option<Overlaps>, AllocError>
         requires { checked setup.now ≡ Ok tt }
+        ensures { IfOk result (Overhears reads setup.now [] []) }
     {
         let _nested: NestedTypes = None;
         if reads == Reads::Hidden {
@@ -44,36 +53,52 @@ impl Overlaps {
     }
 
     /// Hears an event, of this number.
-    fn hear(&mut self, number: u64, made: &Accepted) -> Result<(), AllocError> {
+    fn hear(&mut self, number: u64, made: &Accepted) -> Result<(), AllocError>
+        ensures { OnOk result ((s : Given) (past : Past) (reads : List Ended) → Hears s past reads self.old → number ≡ length past → ComesInTurn s past (entry_made made.now) → Hears s (entry_made made.now ∷ past) (reads ++ overlapped_by s past (entry_made made.now)) self.new) }
+    {
         let _nested: NestedTypes = None;
-        if let Some(access) = &made.access {
-            self.hear_access(number, access)?;
-        }
+        self.hear_access(number, made.access)?;
         self.watch.hear(&made.entry(self.alloc));
         Ok(())
     }
 
     /// Keeps where a read begins, and that an overlapped one ends.
-    fn hear_access(&mut self, number: u64, access: &Access) -> Result<(), AllocError> {
+    fn hear_access(&mut self, number: u64, access: Option<Access>) -> Result<(), AllocError>
+        ensures setup { self.new.setup ≡ self.old.setup }
+        ensures watch { self.new.watch ≡ self.old.watch }
+        ensures begun { OnOk result ((past : Past) (e : Entry) (p : ℕ) → e.access ≡ access → number ≡ length past → p < 16 → slice_index self.old.begun p ≡ begun_by past p → slice_index self.new.begun p ≡ begun_by (e ∷ past) p) }
+        ensures ended { OnOk result ((s : Given) (past : Past) (reads : List Ended) (e : Entry) → e.access ≡ access → number ≡ length past → Hears s past reads self.old → ComesInTurn s past e → self.new.ended.items ≡ first_three (reads ++ overlapped_by s past e)) }
+    {
+        let Some(access) = access else {
+            return Ok(());
+        };
         match access.how {
-            Move::BeginRead => self.begin(access.reader, number),
-            Move::EndRead(value) if self.watch.overlaps(access) => {
-                let read = self.ended_read(number, access, value);
-                self.add(read)?;
+            Move::BeginRead => {
+                self.begin(access.reader, number);
+                Ok(())
             }
-            _ => {}
+            Move::EndRead(value) if self.watch.overlaps(&access) => {
+                let read = self.ended_read(number, &access, value);
+                self.add(read)
+            }
+            _ => Ok(()),
         }
-        Ok(())
     }
 
-    fn begin(&mut self, reader: u8, number: u64) {
-        if let Some(begun) = self.begun.get_mut(usize::from(reader)) {
-            *begun = number;
+    /// A read of a process begins.
+    fn begin(&mut self, reader: u8, number: u64)
+        ensures { self.new ≡ record self.old { begun = set self.old.begun reader number } }
+    {
+        let place = usize::from(reader);
+        if place < self.begun.len() {
+            self.begun[place] = number;
         }
     }
 
     /// The read that an access ends.
-    fn ended_read(&self, number: u64, access: &Access, value: bool) -> OverlappedRead {
+    fn ended_read(&self, number: u64, access: &Access, value: bool) -> OverlappedRead
+        ensures { (s : Given) (past : Past) (reads : List Ended) → Hears s past reads self.now → number ≡ length past → access.now.reader < s.processes → access.now.how ≡ EndRead value → result ≡ read_ended s past access.now }
+    {
         let reader = access.reader;
         let begin = match self.begun.get(usize::from(reader)) {
             Some(begun) => *begun,
@@ -93,7 +118,12 @@ impl Overlaps {
     }
 
     /// Adds a read to those that are shown, or counts it.
-    fn add(&mut self, read: OverlappedRead) -> Result<(), AllocError> {
+    fn add(&mut self, read: OverlappedRead) -> Result<(), AllocError>
+        ensures setup { self.new.setup ≡ self.old.setup }
+        ensures watch { self.new.watch ≡ self.old.watch }
+        ensures begun { self.new.begun ≡ self.old.begun }
+        ensures ended { OnOk result ((reads : List Ended) → self.old.ended.items ≡ first_three reads → read.more ≡ 0 → self.new.ended.items ≡ first_three (reads ++ read ∷ [])) }
+    {
         if let Some(last) = self.ended.get_mut(MOST_SHOWN - 1) {
             last.more = last.more.saturating_add(1);
             return Ok(());
@@ -107,7 +137,9 @@ pub(crate) fn hear(
     overlaps: &mut Option<Overlaps>,
     number: u64,
     made: &Accepted,
-) -> Result<(), AllocError> {
+) -> Result<(), AllocError>
+    ensures { OnOk result ((mode : Mode) (s : Given) (past : Past) (reads : List Ended) → Overhears mode s past reads overlaps.old → number ≡ length past → ComesInTurn s past (entry_made made.now) → Overhears mode s (entry_made made.now ∷ past) (reads ++ overlapped_by s past (entry_made made.now)) overlaps.new) }
+{
     match overlaps {
         Some(overlaps) => overlaps.hear(number, made),
         None => Ok(()),
@@ -115,7 +147,10 @@ pub(crate) fn hear(
 }
 
 /// The overlapped reads since the last line of the run; then there are none.
-pub(crate) fn take_ended(alloc: Global, overlaps: &mut Option<Overlaps>) -> Vec<OverlappedRead> {
+pub(crate) fn take_ended(alloc: Global, overlaps: &mut Option<Overlaps>) -> Vec<OverlappedRead>
+    ensures reads { (mode : Mode) (s : Given) (past : Past) (reads : List Ended) → Overhears mode s past reads overlaps.old → result.items ≡ shown_of mode reads }
+    ensures none { (mode : Mode) (s : Given) (past : Past) (reads : List Ended) → Overhears mode s past reads overlaps.old → Overhears mode s past [] overlaps.new }
+{
     match overlaps {
         Some(overlaps) => std::mem::replace(&mut overlaps.ended, Vec::new(alloc)),
         None => Vec::new(alloc),
@@ -123,7 +158,9 @@ pub(crate) fn take_ended(alloc: Global, overlaps: &mut Option<Overlaps>) -> Vec<
 }
 
 /// Whether a register has more than one bit.
-fn is_wide(setup: &Setup, field: Field) -> bool {
+fn is_wide(setup: &Setup, field: Field) -> bool
+    ensures { checked setup.now ≡ Ok tt → result ≡ nat_lt 1 (width setup.now field) }
+{
     match field {
         Field::Choosing | Field::Commit => false,
         Field::Ticket => setup.ticket_bits > 1,

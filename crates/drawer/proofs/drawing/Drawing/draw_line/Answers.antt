@@ -1,12 +1,15 @@
-use Rattle.std.proofs.Common.{◌≡◌, ◌+◌, ◌<◌, ◌∙◌, ap, arith, refl, sym, subst}
+use Rattle.std.proofs.Common.{◌≡◌, ℕ, ◌+◌, ◌<◌, List, ◌∷◌, ◌∙◌, ap, arith, refl, sym, subst}
+use Rattle.picture.specs.declared.reads.Reads.{Reads as Mode}
 use Rattle.drawer.specs.Drawings.{kept}
+use Rattle.drawer.specs.Items.{given_at}
+use Rattle.replayer.specs.Happenings.{Happening}
 use Rattle.replayer.specs.Courses.{CourseState, Follows}
 use Rattle.replayer.specs.Runs.{run_after}
 use Rattle.replayer.specs.Summaries.{counted}
 use Rattle.replayer.specs.Telling.{told_text}
 use Rattle.replayer.specs.declared.summaries.Summary.{Summary}
 use Rattle.replayer.proofs.Underways.{events_counted, refused_counted, with_events}
-use Rattle.drawer.specs.Drawings.{Advances, DrawsOn, IsToldLine, marks_told}
+use Rattle.drawer.specs.Drawings.{Advances, DrawsOn, IsToDraw, Recalls, marks_told}
 use Rattle.drawer.proofs.Drawings.{Going, going_ended, going_on, going_start}
 use Rattle.drawer.proofs.drawing.Drawing.draw_line.Goals as goal
 
@@ -15,9 +18,10 @@ turns-init g c =
     let begun : CourseState = c.begin.new.self in
     let left = ap (λ (course : CourseState). course.left) c.begin.ensures.course in
     record {
-      going = λ run follows counts. going_start c.args.self.now.course.world.setup c.args.line.now run begun c.args.self.now.summary (kept c.args.self.now.page) (g.W.Sink.taken c.args.output.now)
+      going = λ mode run follows counts recalls. going_start mode c.args.self.now.course.world.setup c.args.self.now.source c.args.line.now run begun c.args.self.now.summary c.args.self.now.changes.store c.args.self.now.overlaps (kept c.args.self.now.page) (g.W.Sink.taken c.args.output.now)
           (ap (λ (course : CourseState). course.world.setup) c.begin.ensures.course) left
-          (subst (λ course. Follows course run) (sym c.begin.ensures.course) (record { shows = follows.shows; flicks = follows.flicks })) counts;
+          (subst (λ course. Follows course run) (sym c.begin.ensures.course) (record { shows = follows.shows; flicks = follows.flicks })) counts recalls;
+      source = refl;
       whole = refl;
       left = omega (arith, left);
       events = omega (arith, left);
@@ -25,10 +29,10 @@ turns-init g c =
     }
 
 pub returns-in_default-clause-ok : goal.returns-in_default-clause-ok
-returns-in_default-clause-ok g c = λ run follows counts.
+returns-in_default-clause-ok g c = λ mode run follows counts recalls.
     let s = c.args.self.now.course.world.setup in
-    subst (λ n. Advances s run (run_after s c.args.line.now run) c.next_turns.new.course (with_events n c.turns.self.summary) (kept c.args.self.now.page) (kept c.turns.self.page) (g.W.Sink.taken c.args.output.now) (g.W.Sink.taken c.turns.output)) (sym c.from.ensures)
-    (going_ended s c.args.line.now run c.turns.self.course c.next_turns.new.course c.turns.self.summary c.in_ok-turns.turns (kept c.args.self.now.page) (kept c.turns.self.page) _ _ c.turns.invariant.left (c.turns.invariant.going run follows counts) c.in_ok-turns.ensures.made c.in_default.is)
+    subst (λ n. Advances mode s c.args.self.now.source run (run_after s c.args.line.now run) c.next_turns.new.course (with_events n c.turns.self.summary) c.turns.self.changes.store c.turns.self.overlaps (kept c.args.self.now.page) (kept c.turns.self.page) (g.W.Sink.taken c.args.output.now) (g.W.Sink.taken c.turns.output)) (sym c.from.ensures)
+    (going_ended mode s c.args.self.now.source c.args.line.now run c.turns.self.course c.next_turns.new.course c.turns.self.summary c.turns.self.changes.store c.turns.self.overlaps c.in_ok-turns.turns (kept c.args.self.now.page) (kept c.turns.self.page) _ _ c.turns.invariant.left (c.turns.invariant.going mode run follows counts recalls) c.in_ok-turns.ensures.made c.in_default.is (λ heard. c.in_ok-turns.ensures.each (c.is_some.ensures ∙ heard)))
 
 pub turns-preserved : goal.turns-preserved
 turns-preserved g c =
@@ -37,12 +41,19 @@ turns-preserved g c =
     let now : c.tell.new.self.summary ≡ counted c.in-Some.told mid = (rw c.in-Some.told-is at c.in_ok-tell.ensures.count) ∙ ap (λ n. counted c.in-Some.told (with_events n c.turns.self.summary)) c.from.ensures in
     let course : c.tell.new.self.course ≡ c.next_turns.new.course = c.in_ok-tell.ensures.course in
     record {
-      going = λ run follows counts.
+      going = λ mode run follows counts recalls.
           let s = c.args.self.now.course.world.setup in
-          let drew = subst (λ n. IsToldLine c.in-Some.told → DrawsOn (kept c.turns.self.page) (kept c.tell.new.self.page) (g.W.Sink.taken c.turns.output) (g.W.Sink.taken c.tell.new.output) (told_text (c.turns.self.summary.events + n) c.in-Some.told) (marks_told c.in-Some.told)) c.from.ensures (rw c.in-Some.told-is at c.in_ok-tell.ensures.ok) in
-          subst (λ (summary : Summary). Going s c.args.line.now run c.tell.new.self.course summary (kept c.args.self.now.page) (kept c.tell.new.self.page) (g.W.Sink.taken c.args.output.now) (g.W.Sink.taken c.tell.new.output)) (sym now)
-          (subst (λ (course : CourseState). Going s c.args.line.now run course (counted c.in-Some.told mid) (kept c.args.self.now.page) (kept c.tell.new.self.page) (g.W.Sink.taken c.args.output.now) (g.W.Sink.taken c.tell.new.output)) (sym course)
-          (going_on s c.args.line.now run c.turns.self.course c.next_turns.new.course c.turns.self.summary c.in_ok-turns.turns c.in-Some.told (kept c.args.self.now.page) (kept c.turns.self.page) (kept c.tell.new.self.page) _ _ _ c.turns.invariant.left (c.turns.invariant.going run follows counts) c.in_ok-turns.ensures.made c.in-Some.is drew));
+          let drew = λ (mode : Mode) (n source : ℕ). (before : List Happening) (this : Happening) → IsToDraw mode c.next_turns.new.course (c.turns.self.summary.events + n) c.turns.self.changes.store c.turns.self.overlaps before this c.in-Some.told →
+          DrawsOn (kept c.turns.self.page) (kept c.tell.new.self.page) (g.W.Sink.taken c.turns.output) (g.W.Sink.taken c.tell.new.output) (told_text (c.turns.self.summary.events + n) c.in-Some.told) (marks_told c.in-Some.told) (given_at mode c.next_turns.new.course.world.setup source before this) in
+          let recalled = λ (mode : Mode) (n : ℕ). (before : List Happening) (this : Happening) → IsToDraw mode c.next_turns.new.course (c.turns.self.summary.events + n) c.turns.self.changes.store c.turns.self.overlaps before this c.in-Some.told →
+          Recalls mode c.next_turns.new.course.world.setup (this ∷ before) c.tell.new.self.changes.store c.tell.new.self.overlaps in
+          subst (λ (summary : Summary). Going mode s c.args.self.now.source c.args.line.now run c.tell.new.self.course summary c.tell.new.self.changes.store c.tell.new.self.overlaps (kept c.args.self.now.page) (kept c.tell.new.self.page) (g.W.Sink.taken c.args.output.now) (g.W.Sink.taken c.tell.new.output)) (sym now)
+          (subst (λ (course : CourseState). Going mode s c.args.self.now.source c.args.line.now run course (counted c.in-Some.told mid) c.tell.new.self.changes.store c.tell.new.self.overlaps (kept c.args.self.now.page) (kept c.tell.new.self.page) (g.W.Sink.taken c.args.output.now) (g.W.Sink.taken c.tell.new.output)) (sym course)
+          (going_on mode s c.args.self.now.source c.args.line.now run c.turns.self.course c.next_turns.new.course c.turns.self.summary c.turns.self.changes.store c.tell.new.self.changes.store c.turns.self.overlaps c.tell.new.self.overlaps c.in_ok-turns.turns c.in-Some.told (kept c.args.self.now.page) (kept c.turns.self.page) (kept c.tell.new.self.page) _ _ _
+          c.turns.invariant.left (c.turns.invariant.going mode run follows counts recalls) c.in_ok-turns.ensures.made c.in-Some.is (λ heard. c.in_ok-turns.ensures.each (c.is_some.ensures ∙ heard))
+          (subst (drew mode c.in_ok-turns.turns.quiet) c.turns.invariant.source (subst (λ n. drew mode n c.turns.self.source) c.from.ensures (rw c.in-Some.told-is at c.in_ok-tell.ensures.ok mode)))
+          (subst (recalled mode) c.from.ensures (rw c.in-Some.told-is at c.in_ok-tell.ensures.recalls mode))));
+      source = c.in_ok-tell.ensures.source ∙ c.turns.invariant.source;
       whole = omega (arith, c.in_ok-tell.ensures.failures, c.turns.invariant.whole);
       left = omega (arith, less, c.turns.invariant.left, ap (λ (course : CourseState). course.left) course);
       events = omega (arith, less, c.turns.invariant.events, ap (λ (s : Summary). s.events) now, events_counted c.in-Some.told mid, ap (λ (course : CourseState). course.left) course);
@@ -56,12 +67,19 @@ turns-preserved-in_ok-tell g c =
     let now : c.tell.new.self.summary ≡ counted c.in-Some.told mid = (rw c.in-Some.told-is at c.in_ok-tell.ensures.count) ∙ ap (λ n. counted c.in-Some.told (with_events n c.turns.self.summary)) c.from.ensures in
     let course : c.tell.new.self.course ≡ c.next_turns.new.course = c.in_ok-tell.ensures.course in
     record {
-      going = λ run follows counts.
+      going = λ mode run follows counts recalls.
           let s = c.args.self.now.course.world.setup in
-          let drew = subst (λ n. IsToldLine c.in-Some.told → DrawsOn (kept c.turns.self.page) (kept c.tell.new.self.page) (g.W.Sink.taken c.turns.output) (g.W.Sink.taken c.tell.new.output) (told_text (c.turns.self.summary.events + n) c.in-Some.told) (marks_told c.in-Some.told)) c.from.ensures (rw c.in-Some.told-is at c.in_ok-tell.ensures.ok) in
-          subst (λ (summary : Summary). Going s c.args.line.now run c.tell.new.self.course summary (kept c.args.self.now.page) (kept c.tell.new.self.page) (g.W.Sink.taken c.args.output.now) (g.W.Sink.taken c.tell.new.output)) (sym now)
-          (subst (λ (course : CourseState). Going s c.args.line.now run course (counted c.in-Some.told mid) (kept c.args.self.now.page) (kept c.tell.new.self.page) (g.W.Sink.taken c.args.output.now) (g.W.Sink.taken c.tell.new.output)) (sym course)
-          (going_on s c.args.line.now run c.turns.self.course c.next_turns.new.course c.turns.self.summary c.in_ok-turns.turns c.in-Some.told (kept c.args.self.now.page) (kept c.turns.self.page) (kept c.tell.new.self.page) _ _ _ c.turns.invariant.left (c.turns.invariant.going run follows counts) c.in_ok-turns.ensures.made c.in-Some.is drew));
+          let drew = λ (mode : Mode) (n source : ℕ). (before : List Happening) (this : Happening) → IsToDraw mode c.next_turns.new.course (c.turns.self.summary.events + n) c.turns.self.changes.store c.turns.self.overlaps before this c.in-Some.told →
+          DrawsOn (kept c.turns.self.page) (kept c.tell.new.self.page) (g.W.Sink.taken c.turns.output) (g.W.Sink.taken c.tell.new.output) (told_text (c.turns.self.summary.events + n) c.in-Some.told) (marks_told c.in-Some.told) (given_at mode c.next_turns.new.course.world.setup source before this) in
+          let recalled = λ (mode : Mode) (n : ℕ). (before : List Happening) (this : Happening) → IsToDraw mode c.next_turns.new.course (c.turns.self.summary.events + n) c.turns.self.changes.store c.turns.self.overlaps before this c.in-Some.told →
+          Recalls mode c.next_turns.new.course.world.setup (this ∷ before) c.tell.new.self.changes.store c.tell.new.self.overlaps in
+          subst (λ (summary : Summary). Going mode s c.args.self.now.source c.args.line.now run c.tell.new.self.course summary c.tell.new.self.changes.store c.tell.new.self.overlaps (kept c.args.self.now.page) (kept c.tell.new.self.page) (g.W.Sink.taken c.args.output.now) (g.W.Sink.taken c.tell.new.output)) (sym now)
+          (subst (λ (course : CourseState). Going mode s c.args.self.now.source c.args.line.now run course (counted c.in-Some.told mid) c.tell.new.self.changes.store c.tell.new.self.overlaps (kept c.args.self.now.page) (kept c.tell.new.self.page) (g.W.Sink.taken c.args.output.now) (g.W.Sink.taken c.tell.new.output)) (sym course)
+          (going_on mode s c.args.self.now.source c.args.line.now run c.turns.self.course c.next_turns.new.course c.turns.self.summary c.turns.self.changes.store c.tell.new.self.changes.store c.turns.self.overlaps c.tell.new.self.overlaps c.in_ok-turns.turns c.in-Some.told (kept c.args.self.now.page) (kept c.turns.self.page) (kept c.tell.new.self.page) _ _ _
+          c.turns.invariant.left (c.turns.invariant.going mode run follows counts recalls) c.in_ok-turns.ensures.made c.in-Some.is (λ heard. c.in_ok-turns.ensures.each (c.is_some.ensures ∙ heard))
+          (subst (drew mode c.in_ok-turns.turns.quiet) c.turns.invariant.source (subst (λ n. drew mode n c.turns.self.source) c.from.ensures (rw c.in-Some.told-is at c.in_ok-tell.ensures.ok mode)))
+          (subst (recalled mode) c.from.ensures (rw c.in-Some.told-is at c.in_ok-tell.ensures.recalls mode))));
+      source = c.in_ok-tell.ensures.source ∙ c.turns.invariant.source;
       whole = omega (arith, c.in_ok-tell.ensures.failures, c.turns.invariant.whole);
       left = omega (arith, less, c.turns.invariant.left, ap (λ (course : CourseState). course.left) course);
       events = omega (arith, less, c.turns.invariant.events, ap (λ (s : Summary). s.events) now, events_counted c.in-Some.told mid, ap (λ (course : CourseState). course.left) course);

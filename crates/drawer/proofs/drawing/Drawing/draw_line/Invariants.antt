@@ -1,5 +1,6 @@
 use Rattle.std.proofs.Common.{◌≡◌, ◌+◌, ◌≤◌}
-use Rattle.drawer.specs.Drawings.{kept}
+use Rattle.picture.specs.declared.reads.Reads.{Reads as Mode}
+use Rattle.drawer.specs.Drawings.{Recalls, kept}
 use Rattle.replayer.specs.Courses.{Follows}
 use Rattle.replayer.specs.Runs.{Run}
 use Rattle.replayer.specs.Turns.{turns_in}
@@ -10,8 +11,9 @@ use Rattle.drawer.proofs.drawing.Drawing.draw_line.Given as goal
 -- what has happened of the line is drawn but for what is held back, and what is left of it follows
 abbrev pub invariant-turns : goal.invariant-turns
 invariant-turns g l = record {
-  going : (run : Run) → Follows l.fn.self.course run → Counts l.fn.self.course.world.setup run l.fn.self.summary →
-      Going l.fn.self.course.world.setup l.line run l.self.course l.self.summary (kept l.fn.self.page) (kept l.self.page) (g.W.Sink.taken l.fn.output) (g.W.Sink.taken l.output);
+  going : (mode : Mode) (run : Run) → Follows l.fn.self.course run → Counts l.fn.self.course.world.setup run l.fn.self.summary → Recalls mode l.fn.self.course.world.setup run.happened l.fn.self.changes.store l.fn.self.overlaps →
+      Going mode l.fn.self.course.world.setup l.fn.self.source l.line run l.self.course l.self.summary l.self.changes.store l.self.overlaps (kept l.fn.self.page) (kept l.self.page) (g.W.Sink.taken l.fn.output) (g.W.Sink.taken l.output);
+  source : l.self.source ≡ l.fn.self.source;
   whole : g.W.Sink.failures l.output ≡ g.W.Sink.failures l.fn.output;
   left : l.self.course.left ≤ turns_in l.line;
   events : l.self.summary.events + l.self.course.left ≤ l.fn.self.summary.events + turns_in l.line;

@@ -1,0 +1,114 @@
+-- The lines that the marks of an event give, one by one, and the reads that stand before them.
+use Rattle.std.proofs.Common.{◌≡◌, ◌<◌, ◌≤◌, ℕ, zero, suc, ◌+◌, List, [], ◌∷◌, ◌++◌, codes, length, get_or, map, take, Contains, Option, refl, ap, sym, subst, ◌∙◌, add-zero, append_assoc, arith}
+use Rattle.std.proofs.lemmas.List.{length-append, length-map, map-append, take_more}
+use Rattle.plain_store.specs.declared.Reply.{Reply}
+use Rattle.plain_store.specs.declared.setups.Setup.{Setup}
+use Rattle.scenario.specs.Printing.{open_words, setup_words}
+use Rattle.record.specs.Spans.{takings}
+use Rattle.record.specs.declared.history.Taken.{Taken}
+use Rattle.record.specs.declared.marks.Mark.{Mark}
+use Rattle.record.specs.declared.marks.Mark.TheVariants as mark
+use Rattle.replayer.specs.Texts.{mark_line}
+use Rattle.picture.specs.Told.{saying_text}
+use Rattle.picture.specs.declared.reads.OverlappedRead.{OverlappedRead}
+use Rattle.picture.specs.declared.reads.Reads.{Reads as Mode}
+use Rattle.picture.specs.declared.reads.Reads.TheVariants.{Hidden, Shown}
+use Rattle.picture.specs.declared.told.Change.{Change}
+use Rattle.picture.specs.declared.told.Saying.TheVariants.{Marked}
+use Rattle.drawer.specs.Changes.{IsNext, takes}
+use Rattle.drawer.specs.Drawings.{AreNext, all_take}
+use Rattle.drawer.specs.Items.{Gives, GivesLine, GivesRead, Says, first_line, lines_given, waiting}
+use Rattle.drawer.specs.Overlaps.{shown_of}
+
+-- one more, by what is made of each
+pub map_next : {A : Type 0} {B : Type 0} (f : A → B) (xs : List A) (k : ℕ) (d : A) → k < length xs → map f (take (k + 1) xs) ≡ map f (take k xs) ++ f (get_or xs k d) ∷ []
+map_next f xs k d within = ap (map f) (take_more xs k d within) ∙ map-append f (take k xs) (get_or xs k d ∷ [])
+
+pub map_more : {A : Type 0} {B : Type 0} (f : A → B) (xs : List A) (k : ℕ) (x : A) → k < length xs → x ≡ get_or xs k x → map f (take (k + 1) xs) ≡ map f (take k xs) ++ f x ∷ []
+map_more f xs k x within is = map_next f xs k x within ∙ ap (λ y. map f (take k xs) ++ f y ∷ []) (sym is)
+
+-- the commands that it takes
+take-append : (marks more : List Mark) → all_take (marks ++ more) ≡ all_take marks + all_take more
+take-append [] more = omega arith
+take-append (m ∷ marks) more = let rest = take-append marks more in omega (arith, rest)
+
+pub take_counts : (marks : List Mark) (k : ℕ) (mark : Mark) → k < length marks → mark ≡ get_or marks k mark → all_take (take (k + 1) marks) ≡ all_take (take k marks) + takes mark
+take_counts marks k mark within is =
+    ap all_take (take_more marks k mark within) ∙ take-append (take k marks) (get_or marks k mark ∷ []) ∙ ap (λ n. all_take (take k marks) + n) (add-zero (takes (get_or marks k mark)))
+    ∙ ap (λ (m : Mark). all_take (take k marks) + takes m) (sym is)
+
+-- what is next at one of marks
+pub next_at : (n : ℕ) (taken : List Taken) (marks : List Mark) (k : ℕ) (mark : Mark) → AreNext n taken marks → k < length marks → mark ≡ get_or marks k mark → IsNext (n + all_take (take k marks)) taken mark
+next_at n taken [] k mark next within is = absurd (omega (arith, within))
+next_at n taken (m ∷ marks) zero mark next within is = subst (λ a. IsNext a taken mark) (sym (add-zero n)) (subst (λ (m : Mark). IsNext n taken m) (sym is) next.0)
+next_at n taken (m ∷ marks) (suc k) mark next within is =
+    let same : (n + takes m) + all_take (take k marks) ≡ n + (takes m + all_take (take k marks)) = omega arith in
+    subst (λ a. IsNext a taken mark) same (next_at (n + takes m) taken marks k mark next.1 (omega (arith, within)) is)
+
+-- of no reads none is shown
+pub shown_none : (mode : Mode) → shown_of mode [] ≡ []
+shown_none Hidden = refl
+shown_none Shown = refl
+
+-- a line more
+pub lines_more : (mode : Mode) (n at : ℕ) (reads : List OverlappedRead) (lines : List Says) (line : Says) → lines_given mode n at reads (lines ++ line ∷ []) ≡ lines_given mode n at reads lines ++ lines_given mode n at (waiting lines reads) (line ∷ [])
+lines_more mode n at reads [] line = refl
+lines_more mode n at reads (first ∷ lines) line =
+    let before : List Gives = map GivesRead (shown_of mode reads) in
+    ap (λ l. before ++ l) (map-append (GivesLine n at) (first ∷ lines) (line ∷ []))
+    ∙ sym (append_assoc before (map (GivesLine n at) (first ∷ lines)) (GivesLine n at line ∷ []))
+    ∙ ap (λ (l : List OverlappedRead). (before ++ map (GivesLine n at) (first ∷ lines)) ++ (map GivesRead l ++ GivesLine n at line ∷ [])) (sym (shown_none mode))
+
+-- reads wait as long as there is no line
+pub waiting_map : {A : Type 0} {B : Type 0} (f : A → B) (xs : List A) (reads : List OverlappedRead) → waiting (map f xs) reads ≡ waiting xs reads
+waiting_map f [] reads = refl
+waiting_map f (x ∷ xs) reads = refl
+
+pub waiting_none : (marks : List Mark) (k : ℕ) (reads : List OverlappedRead) → k < length marks → [] ≡ waiting (take (k + 1) marks) reads
+waiting_none [] k reads within = absurd (omega (arith, within))
+waiting_none (m ∷ marks) k reads within =
+    let same : suc k ≡ k + 1 = omega arith in
+    ap (λ n. waiting (take n (m ∷ marks)) reads) same
+
+-- the text of a line that says a mark
+pub marked_line : (n p : ℕ) (mark : Mark) (change : Option Change) → saying_text n (Marked p mark change) ++ codes "\n" ≡ mark_line n p mark
+marked_line n p mark change = refl
+
+-- marks that take no command, or one, the last of the history
+pub as_many : (marks : List Mark) → all_take marks ≡ length (takings marks)
+as_many [] = refl
+as_many (mark.Called c ∷ marks) = let rest = as_many marks in omega (arith, rest)
+as_many (mark.Waiting t ∷ marks) = let rest = as_many marks in omega (arith, rest)
+as_many (mark.Entered ∷ marks) = let rest = as_many marks in omega (arith, rest)
+as_many (mark.Taken k r ∷ marks) = let rest = as_many marks in omega (arith, rest)
+as_many (mark.Left ∷ marks) = let rest = as_many marks in omega (arith, rest)
+as_many (mark.Answered a ∷ marks) = let rest = as_many marks in omega (arith, rest)
+as_many (mark.Failed ∷ marks) = let rest = as_many marks in omega (arith, rest)
+as_many (mark.Settled v ∷ marks) = let rest = as_many marks in omega (arith, rest)
+as_many (mark.Down ∷ marks) = let rest = as_many marks in omega (arith, rest)
+as_many (mark.Withdrew ∷ marks) = let rest = as_many marks in omega (arith, rest)
+as_many (mark.Restarted ∷ marks) = let rest = as_many marks in omega (arith, rest)
+
+-- the marks behind one that takes none
+beside : (n : ℕ) (taken : List Taken) (marks : List Mark) → AreNext n taken marks → Unit {0} × AreNext (n + 0) taken marks
+beside n taken marks next = (tt, subst (λ a. AreNext a taken marks) (sym (add-zero n)) next)
+
+pub are_next : (n : ℕ) (taken : List Taken) (marks : List Mark) → ((k : ℕ) (r : Reply) → Contains (takings marks) (k, r) → (k ≡ n) × (suc n ≡ length taken)) → length (takings marks) ≤ 1 → AreNext n taken marks
+are_next n taken [] at few = tt
+are_next n taken (mark.Called c ∷ marks) at few = beside n taken marks (are_next n taken marks at few)
+are_next n taken (mark.Waiting t ∷ marks) at few = beside n taken marks (are_next n taken marks at few)
+are_next n taken (mark.Entered ∷ marks) at few = beside n taken marks (are_next n taken marks at few)
+are_next n taken (mark.Taken k r ∷ marks) at few = (at k r (0, omega arith, refl), are_next (n + 1) taken marks (λ j q (i, within, is). absurd (omega (arith, few, within))) (omega (arith, few)))
+are_next n taken (mark.Left ∷ marks) at few = beside n taken marks (are_next n taken marks at few)
+are_next n taken (mark.Answered a ∷ marks) at few = beside n taken marks (are_next n taken marks at few)
+are_next n taken (mark.Failed ∷ marks) at few = beside n taken marks (are_next n taken marks at few)
+are_next n taken (mark.Settled v ∷ marks) at few = beside n taken marks (are_next n taken marks at few)
+are_next n taken (mark.Down ∷ marks) at few = beside n taken marks (are_next n taken marks at few)
+are_next n taken (mark.Withdrew ∷ marks) at few = beside n taken marks (are_next n taken marks at few)
+are_next n taken (mark.Restarted ∷ marks) at few = beside n taken marks (are_next n taken marks at few)
+
+-- how many lines stand before the first one of a printed scenario
+pub number_of_first : (s : Setup) (n : ℕ) → n ≡ length s.opening + 5 → n + 1 ≡ first_line s
+number_of_first s n is =
+    let all : length (setup_words s ++ map open_words s.opening) ≡ 5 + length (map open_words s.opening) = length-append (setup_words s) (map open_words s.opening) in
+    omega (arith, is, all, length-map s.opening open_words)

@@ -1,0 +1,79 @@
+use Rattle.std.proofs.Common.{◌≡◌, ℕ, ◌+◌, ◌++◌, List, [], ◌∷◌, ◌∙◌, codes, flat_map, map, ap, subst, sym}
+use Rattle.std.specs.Result.{OnOk}
+use Rattle.std.specs.String.{string_bytes}
+use Rattle.plain_store.specs.declared.setups.Setup.{Setup}
+use Rattle.record.specs.Histories.{history}
+use Rattle.record.specs.Records.{process_of}
+use Rattle.record.specs.declared.history.Taken.{Taken}
+use Rattle.record.specs.declared.marks.Mark.{Mark}
+use Rattle.picture.specs.declared.reads.Reads.{Reads as Mode}
+use Rattle.replayer.specs.Happenings.{Happening, past_after}
+use Rattle.replayer.specs.Runs.{past_in}
+use Rattle.replayer.specs.Telling.{marks_made, told_text}
+use Rattle.replayer.specs.Texts.{mark_line}
+use Rattle.replayer.specs.declared.told.Told.{Told}
+use Rattle.replayer.specs.declared.told.Told.TheVariants as told
+use Rattle.replayer.proofs.Written.{ok_then}
+use Rattle.drawer.specs.Drawings.{AreNext, DrawsOn, IsAmong, IsToDraw, Recalls, all_take, kept, marks_told}
+use Rattle.drawer.specs.Items.{SaysStore, given_at, lines_given, reads_since, says_mark, waiting}
+use Rattle.drawer.specs.Pictures.{shown_words}
+use Rattle.drawer.proofs.Shown.{tells_line}
+use Rattle.drawer.proofs.Turning.{BeginsMarks, Speaks, begins_marks, gives_one, speaks_as}
+use Rattle.drawer.proofs.drawing.Drawing.draw_told.Goals as goal
+
+pub returns-in_ok-hear-in-Accepted-clause-ok : goal.returns-in_ok-hear-in-Accepted-clause-ok
+returns-in_ok-hear-in-Accepted-clause-ok g c =
+    let self = c.args.self.now in
+    let made = c.in-Accepted.made in
+    let s : Setup = self.course.world.setup in
+    let marks : c.as_slice-in-Accepted.result.now ≡ marks_made made = c.as_slice-in-Accepted.ensures ∙ c.marks.ensures in
+    subst (λ (t : Told). OnOk c.draw_marks.result ((mode : Mode) (before : List Happening) (this : Happening) → IsToDraw mode self.course self.summary.events self.changes.store self.overlaps before this t →
+    DrawsOn (kept self.page) (kept c.draw_marks.new.self.page) (g.W.Sink.taken c.args.output.now) (g.W.Sink.taken c.draw_marks.new.output) (told_text self.summary.events t) (marks_told t) (given_at mode s self.source before this))) (sym c.in-Accepted.is)
+    (ok_then c.draw_marks.result
+    (λ drew mode before this d.
+    let b : BeginsMarks mode self.course self.source self.summary.events self.changes.store c.hear.new.overlaps before this made = begins_marks mode self.course self.source self.summary.events self.changes.store self.overlaps c.hear.new.overlaps before this made d c.in_ok-hear-in-Accepted.ensures in
+    let taken : List Taken = history s (past_in s b.now) in
+    let drawn = λ (p : ℕ) (l : List Mark). DrawsOn (kept self.page) (kept c.draw_marks.new.self.page) (g.W.Sink.taken c.args.output.now) (g.W.Sink.taken c.draw_marks.new.output) (flat_map (mark_line self.summary.events p) l) (map {B = ℕ × Mark} (λ (mark : Mark). (p, mark)) l) (lines_given mode self.source self.summary.events b.reads (map (says_mark s taken p) l)) in
+    subst (λ l. DrawsOn (kept self.page) (kept c.draw_marks.new.self.page) (g.W.Sink.taken c.args.output.now) (g.W.Sink.taken c.draw_marks.new.output) (flat_map (mark_line self.summary.events (process_of made.event)) (marks_made made)) (map {B = ℕ × Mark} (λ (mark : Mark). (process_of made.event, mark)) (marks_made made)) l) b.gives
+    (subst (λ (p : ℕ). drawn p (marks_made made)) c.process-process.ensures
+    (subst (λ (l : List Mark). drawn c.process-process.result l) marks
+    (drew mode b.now b.reads b.n b.among (subst (λ (l : List Mark). AreNext b.n taken l) (sym marks) b.next)))))
+    c.draw_marks.ensures.ok)
+
+pub returns-in_ok-hear-in-Accepted-clause-recalls : goal.returns-in_ok-hear-in-Accepted-clause-recalls
+returns-in_ok-hear-in-Accepted-clause-recalls g c =
+    let self = c.args.self.now in
+    let made = c.in-Accepted.made in
+    let s : Setup = self.course.world.setup in
+    let marks : c.as_slice-in-Accepted.result.now ≡ marks_made made = c.as_slice-in-Accepted.ensures ∙ c.marks.ensures in
+    subst (λ (t : Told). OnOk c.draw_marks.result ((mode : Mode) (before : List Happening) (this : Happening) → IsToDraw mode self.course self.summary.events self.changes.store self.overlaps before this t →
+    Recalls mode s (this ∷ before) c.draw_marks.new.self.changes.store c.draw_marks.new.self.overlaps)) (sym c.in-Accepted.is)
+    (ok_then c.draw_marks.result
+    (λ among mode before this d.
+    let b : BeginsMarks mode self.course self.source self.summary.events self.changes.store c.hear.new.overlaps before this made = begins_marks mode self.course self.source self.summary.events self.changes.store self.overlaps c.hear.new.overlaps before this made d c.in_ok-hear-in-Accepted.ensures in
+    let taken : List Taken = history s (past_in s b.now) in
+    b.ends c.draw_marks.new.self.changes.store c.draw_marks.new.self.overlaps
+    (subst (λ (l : List Mark). IsAmong mode self.course b.now (waiting l b.reads) (b.n + all_take l) c.draw_marks.new.self.changes.store c.draw_marks.new.self.overlaps) marks
+    (among mode b.now b.reads b.n b.among (subst (λ (l : List Mark). AreNext b.n taken l) (sym marks) b.next))))
+    c.draw_marks.ensures.among)
+
+pub returns-in_ok-words-in-Shown-clause-ok : goal.returns-in_ok-words-in-Shown-clause-ok
+returns-in_ok-words-in-Shown-clause-ok g c =
+    let self = c.args.self.now in
+    let line = c.in-Shown.line in
+    let s : Setup = self.course.world.setup in
+    subst (λ (t : Told). OnOk c.draw-in-Shown.result ((mode : Mode) (before : List Happening) (this : Happening) → IsToDraw mode self.course self.summary.events self.changes.store self.overlaps before this t →
+    DrawsOn (kept self.page) (kept c.draw-in-Shown.new.self.page) (g.W.Sink.taken c.args.output.now) (g.W.Sink.taken c.draw-in-Shown.new.output) (told_text self.summary.events t) (marks_told t) (given_at mode s self.source before this))) (sym c.in-Shown.is)
+    (ok_then c.draw-in-Shown.result
+    (λ drew mode before this d.
+    let (words, is) = tells_line s (past_after s before) this (told.Shown line) d.tells in
+    let speaks : Speaks s before this (SaysStore (shown_words (string_bytes line))) = speaks_as s before this (told.Shown line) d.tells in
+    let said = c.in_ok-words-in-Shown.ensures.words words (c.as_bytes.ensures.value ∙ is) in
+    let shown = c.in_ok-words-in-Shown.ensures.shown ∙ ap shown_words c.as_bytes.ensures.value in
+    subst (λ l. DrawsOn (kept self.page) (kept c.draw-in-Shown.new.self.page) (g.W.Sink.taken c.args.output.now) (g.W.Sink.taken c.draw-in-Shown.new.output) (string_bytes line) [] l)
+    (ap (λ (l : List ℕ). lines_given mode self.source self.summary.events (reads_since s before) (SaysStore l ∷ [])) shown
+    ∙ ap (λ (n : ℕ). lines_given mode self.source n (reads_since s before) (SaysStore (shown_words (string_bytes line)) ∷ [])) d.number ∙ gives_one mode s self.source before this (SaysStore (shown_words (string_bytes line))) speaks)
+    (subst (λ l. DrawsOn (kept self.page) (kept c.draw-in-Shown.new.self.page) (g.W.Sink.taken c.args.output.now) (g.W.Sink.taken c.draw-in-Shown.new.output) l [] (lines_given mode self.source self.summary.events (reads_since s before) (SaysStore c.in_ok-words-in-Shown.words.items ∷ [])))
+    (ap (λ (l : List ℕ). codes "show " ++ l ++ codes "\n") said ∙ sym is)
+    (drew mode s (past_after s before) (reads_since s before) d.recalls.waits)))
+    c.draw-in-Shown.ensures.ok)
