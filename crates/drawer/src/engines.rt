@@ -20,9 +20,10 @@ use scenario::{Fault, Scenario, Sink, Source, print_scenario, read_input, read_s
 use std::alloc::Global;
 
 /// Reads a whole file, and writes the page of its run: a picture in bands, each written when it is full. Where it ends
-/// well, what was written is the page of items whose lines are those that `replay` writes for the file, and say the
-/// marks of the run's record, and nothing else; the titles of the marks, read back, are these lines, whether or not the
-/// page shows the reads that writes overlapped too; and its tags fit, and no element is open at its end.
+/// well, what was written is the page of what the run gives, item by item, and nothing else: of its lines, each with the
+/// line of the scenario that makes it and with what its command changed, and, if they are to be shown, of the reads that
+/// writes overlapped. The titles of the marks, read back, are the lines that `replay` writes for the file; and the tags
+/// fit, and no element is open at the end.
 pub fn draw<R: Source, W: Sink, L: Onlooker>(
     alloc: Global,
     reads: Reads,
