@@ -10,4 +10,8 @@ pub mod Ends
 pub mod Pictured
 pub mod Chains
 pub mod Insides
+pub mod TicketsShown
+pub mod SeatTickets
+pub mod LineOrder
+pub mod InLine
 pub mod Turning

@@ -1,5 +1,6 @@
 //! What the lines of a run tell of its record. Each law is a function with nothing to do, whose contract is the law.
 ghost use Rattle.drawer.specs.Chains.{ChainIsTheHistory};
+ghost use Rattle.drawer.specs.InLine.{WhoEntersIsFirst, WhoIsInsideIsDrawnFirst, WhoIsInsideIsFirst};
 ghost use Rattle.drawer.specs.Insides.{OneIsInside};
 
 use picture::stages_are_the_records;
@@ -13,6 +14,18 @@ pub fn chain_is_the_history()
 /// are drawn from these stages no two `inside` stand side by side.
 pub fn one_is_inside()
     ensures { OneIsInside }
+{
+    stages_are_the_records();
+}
+
+/// Where lines say the marks of a record, whoever gets inside is first in the line of the tickets that they tell: of those
+/// that stand before it none waits any more. Each has given up, or has failed. So it stays while it is inside, and so it
+/// is drawn. A bar that says `behind 0,2` is therefore kept: its process does not get inside while one of the two still
+/// waits before it.
+pub fn who_enters_is_first_in_line()
+    ensures entering { WhoEntersIsFirst }
+    ensures inside { WhoIsInsideIsFirst }
+    ensures drawn { WhoIsInsideIsDrawnFirst }
 {
     stages_are_the_records();
 }

@@ -1,0 +1,10 @@
+-- Who enters is first in line.
+use Rattle.record.proofs.Width.{is_good}
+use Rattle.ticket_laws.proofs.FirstInLine.{first_inside, first_to_enter}
+use Rattle.ticket_laws.proofs.who_enters_is_first_in_line.Goals as goal
+
+pub returns : goal.returns
+returns x = record {
+  entering = λ s h events event e is enters q other waits. first_to_enter s (is_good s h) events event e is enters q other waits;
+  inside = λ s h events p inside q waits. first_inside s (is_good s h) events p inside q waits;
+}
