@@ -9,13 +9,13 @@ use Rattle.shapes.proofs.Lines.{lines_on, rests_on}
 use Rattle.shapes.proofs.Stacks.{opens_on}
 use Rattle.picture.specs.Bandings.{Item, Plan, Reads, Tells, bands_told, full_told}
 use Rattle.picture.specs.Pages.{GivesRest, GoesOn, SeenPage, band_text, lines_of_band, page_of}
-use Rattle.picture.specs.Stages.{marks_said}
+use Rattle.columns.specs.Stages.{marks_said}
 use Rattle.picture.specs.Standings.{sayings}
-use Rattle.picture.specs.Told.{text_of}
+use Rattle.columns.specs.Told.{text_of}
 use Rattle.picture.specs.declared.page.Form.{Form}
-use Rattle.picture.specs.declared.reads.OverlappedRead.{OverlappedRead}
+use Rattle.columns.specs.declared.reads.OverlappedRead.{OverlappedRead}
 use Rattle.picture.specs.declared.reads.Reads.{Reads as Mode}
-use Rattle.picture.specs.declared.told.Line.{Line}
+use Rattle.columns.specs.declared.told.Line.{Line}
 use Rattle.scenario.specs.Reading.{Script}
 use Rattle.replayer.specs.Texts.{replayed}
 use Rattle.replayer.proofs.Written.{appends_both, appends_none}

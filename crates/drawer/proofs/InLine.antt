@@ -30,10 +30,10 @@ use Rattle.laws.proofs.FrameInside.{inside-is}
 use Rattle.laws.proofs.Invariant.{Inv}
 use Rattle.laws.proofs.Theorems.{Enters, enters, mutual_exclusion, of_entered}
 use Rattle.picture.specs.Bandings.{Item, Reads, Tells, state_after}
-use Rattle.picture.specs.Stages.{StagesAreTheRecords, marks_in, stage_among}
+use Rattle.columns.specs.Stages.{StagesAreTheRecords, marks_in, stage_among}
 use Rattle.picture.specs.Standings.{sayings}
-use Rattle.picture.specs.States.{at_first, before_in, line_of_first, state_told, ticket_in}
-use Rattle.picture.specs.declared.state.State.{State}
+use Rattle.columns.specs.States.{at_first, before_in, line_of_first, state_told, ticket_in}
+use Rattle.columns.specs.declared.state.State.{State}
 use Rattle.ticket_laws.specs.Lines.{ticket_told}
 use Rattle.ticket_laws.proofs.FirstInLine.{first_inside}
 use Rattle.ticket_laws.proofs.HeldTickets.{insiders}

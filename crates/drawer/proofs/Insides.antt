@@ -13,8 +13,8 @@ use Rattle.record.specs.Stages.{inside, inside_after, stage, stage_after}
 use Rattle.record.proofs.Width.{is_good}
 use Rattle.laws.proofs.Always.{inv_of}
 use Rattle.laws.proofs.Theorems.{mutual_exclusion}
-use Rattle.picture.specs.Stages.{StagesAreTheRecords, marks_in, marks_said, stage_among, stages_after}
-use Rattle.picture.specs.declared.told.Saying.{Saying}
+use Rattle.columns.specs.Stages.{StagesAreTheRecords, marks_in, marks_said, stage_among, stages_after}
+use Rattle.columns.specs.declared.told.Saying.{Saying}
 use Rattle.drawer.specs.Insides.{OneIsInside}
 
 -- who has left is not inside

@@ -4,7 +4,7 @@ use Rattle.plain_store.specs.declared.Setup.{Setup}
 use Rattle.plain_store.proofs.GoodSetups.{few-processes}
 use Rattle.record.specs.Entries.{Entry, Past}
 use Rattle.watch.specs.Watching.{HasHeard}
-use Rattle.picture.specs.declared.reads.OverlappedRead.{OverlappedRead}
+use Rattle.columns.specs.declared.reads.OverlappedRead.{OverlappedRead}
 use Rattle.picture.specs.declared.reads.Reads.{Reads as Mode}
 use Rattle.picture.specs.declared.reads.Reads.TheVariants.{Hidden, Shown}
 use Rattle.drawer.specs.declared.overlaps.Overlaps.{Overlaps}

@@ -25,7 +25,7 @@ use Rattle.laws.proofs.Doings as doings
 use Rattle.laws.proofs.Frame.{Happens, a_call, a_withdrawal, a_failure, a_restart, a_step, a_closing}
 use Rattle.laws.proofs.FrameEvents.{accepted}
 use Rattle.laws.proofs.FrameInside.{stage-is}
-use Rattle.picture.specs.Stages.{marks_in}
+use Rattle.columns.specs.Stages.{marks_in}
 use Rattle.ticket_laws.specs.Lines.{ticket_after, ticket_told}
 
 -- what is shown after a mark

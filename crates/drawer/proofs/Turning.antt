@@ -17,7 +17,7 @@ use Rattle.record.specs.declared.refusals.Refusal.{Refusal}
 use Rattle.record.proofs.Width.{is_good}
 use Rattle.history_laws.specs.HistoryLaws.{taken_with}
 use Rattle.history_laws.proofs.Places.{at_its_place, grows_by_the_taken}
-use Rattle.picture.specs.declared.reads.OverlappedRead.{OverlappedRead}
+use Rattle.columns.specs.declared.reads.OverlappedRead.{OverlappedRead}
 use Rattle.picture.specs.declared.reads.Reads.{Reads as Mode}
 use Rattle.replayer.specs.Courses.{CourseState}
 use Rattle.replayer.specs.Happenings.{Happening, Tries, Lacks, Tires, Looks, past_after, tried}

@@ -16,11 +16,11 @@ use Rattle.scenario.specs.Reading.{Script, scenario_of}
 use Rattle.scenario.specs.declared.lines.Line.{Line}
 use Rattle.picture.specs.Bandings.{Item, Plan, bands_told, full_told, heights_told}
 use Rattle.picture.specs.Pages.{SeenPage, held, page_of, seen_page}
-use Rattle.picture.specs.Stages.{marks_in, marks_said}
+use Rattle.columns.specs.Stages.{marks_in, marks_said}
 use Rattle.picture.specs.Standings.{sayings}
 use Rattle.picture.specs.declared.page.Form.{Form}
 use Rattle.picture.specs.declared.page.Page.{Page}
-use Rattle.picture.specs.declared.reads.OverlappedRead.{OverlappedRead}
+use Rattle.columns.specs.declared.reads.OverlappedRead.{OverlappedRead}
 use Rattle.picture.specs.declared.reads.Reads.{Reads as Mode}
 use Rattle.drawer.specs.Changes.{IsNext, takes}
 use Rattle.drawer.specs.Items.{Gives, given, given_from, reads_since, run_given}

@@ -12,7 +12,7 @@ use Rattle.record.specs.Registers.{width}
 use Rattle.watch.specs.Looks.{ends_overlapped}
 use Rattle.watch.specs.Watching.{HasHeard}
 use Rattle.picture.specs.Sheets.{held_in_64}
-use Rattle.picture.specs.declared.reads.OverlappedRead.{OverlappedRead}
+use Rattle.columns.specs.declared.reads.OverlappedRead.{OverlappedRead}
 use Rattle.picture.specs.declared.reads.Reads.{Reads as Mode}
 use Rattle.picture.specs.declared.reads.Reads.TheVariants.{Hidden, Shown}
 use Rattle.drawer.specs.declared.overlaps.Overlaps.{Overlaps}

@@ -6,7 +6,7 @@ ghost use Rattle.plain_store.specs.declared.setups.Setup.{Setup as Given};
 ghost use Rattle.record.specs.Entries.{Entry, Past};
 ghost use Rattle.record.specs.Registers.{width};
 ghost use Rattle.replayer.specs.Telling.{entry_made};
-ghost use Rattle.picture.specs.declared.reads.OverlappedRead.{OverlappedRead as Ended};
+ghost use Rattle.columns.specs.declared.reads.OverlappedRead.{OverlappedRead as Ended};
 ghost use Rattle.picture.specs.declared.reads.Reads.{Reads as Mode};
 ghost use Rattle.drawer.specs.Overlaps.{ComesInTurn, Hears, Overhears, begun_by, first_three, overlapped_by, read_ended, shown_of};
 

@@ -1,9 +1,9 @@
 -- What a page holds back, from line to line.
-use Rattle.std.proofs.Common.{◌≡◌, ℕ, zero, suc, List, [], ◌∷◌, ◌++◌, flat_map, get_or, slice_set, Option, None, Some, refl, ap, sym, ◌∙◌, append-nil, append_assoc}
+use Rattle.std.proofs.Common.{◌≡◌, ℕ, List, [], ◌∷◌, ◌++◌, flat_map, Option, None, Some, ap, sym, ◌∙◌, append-nil, append_assoc}
 use Rattle.std.proofs.lemmas.Grind.{flat_map-append}
 use Rattle.picture.specs.Pages.{lines_of}
-use Rattle.picture.specs.Told.{told_in}
-use Rattle.picture.specs.declared.columns.Column.{Column}
+use Rattle.columns.specs.Told.{told_in}
+use Rattle.columns.specs.declared.columns.Column.{Column}
 
 -- no column is to be placed
 pub none_pending : (columns : List Column) (pending : Option Column) → pending ≡ None → lines_of columns pending ≡ flat_map told_in columns
@@ -17,12 +17,6 @@ one_pending columns pending column one = ap (lines_of columns) one ∙ ap (λ l.
 pub put_last : (columns new : List Column) (column put : Column) → new ≡ columns ++ put ∷ [] → told_in put ≡ told_in column → flat_map told_in new ≡ flat_map told_in columns ++ told_in column
 put_last columns new column put is same =
     ap (flat_map told_in) is ∙ flat_map-append told_in columns (put ∷ []) ∙ ap (λ l. flat_map told_in columns ++ l) (append-nil (told_in put) ∙ same)
-
--- one is put elsewhere
-pub set_told : (columns : List Column) (k : ℕ) (put had : Column) → told_in put ≡ told_in (get_or columns k had) → flat_map told_in (slice_set columns k put) ≡ flat_map told_in columns
-set_told [] k put had same = refl
-set_told (column ∷ columns) zero put had same = ap (λ l. l ++ flat_map told_in columns) same
-set_told (column ∷ columns) (suc k) put had same = ap (λ l. told_in column ++ l) (set_told columns k put had same)
 
 -- a line more is told: in the column that is to be placed
 pub joins_pending : (columns : List Column) (old new : Option Column) (had has : Column) (line : List ℕ) → old ≡ Some had → new ≡ Some has → told_in has ≡ told_in had ++ line ∷ [] → lines_of columns new ≡ lines_of columns old ++ line ∷ []

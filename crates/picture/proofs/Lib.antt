@@ -4,10 +4,7 @@ mod Steps
 mod Texts
 mod Tellings
 mod Held
-mod Stages
 mod Framing
 mod Pagings
 mod Standings
 mod Sheetings
-mod Lists
-mod Lines

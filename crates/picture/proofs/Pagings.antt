@@ -6,21 +6,21 @@ use Rattle.std.proofs.lemmas.List.{length-map}
 use Rattle.shapes.specs.Figures.{drawings}
 use Rattle.record.specs.declared.marks.Mark.{Mark}
 use Rattle.picture.specs.Bandings.{Bands, Item, Plan, Reads, Tells, bands_of, begun_by, behind_columns, columns_of, filled, framed, full_bytes, heights, last_in, layout_in, line_by, newest, newest_at, older, placing_before, placing_in, room_by, state_after, with_line, with_placed, with_put, with_room}
-use Rattle.picture.specs.Columns.{Seen, alone, column_of_read, joined, joins, seen}
+use Rattle.columns.specs.Columns.{Seen, alone, column_of_read, joined, joins, seen}
 use Rattle.picture.specs.Drawings.{band_shapes}
 use Rattle.picture.specs.Pages.{DrawsBand, GivesRest, GoesOn, MakesRoom, Places, Puts, SeenPage, band_text, page_by, page_holding}
-use Rattle.picture.specs.Layouts.{layout_of}
-use Rattle.picture.specs.Placings.{drawn_apart, end_of_words, has_room_at, last_of, moved_to, place_of, placing_at_first, put_at, stretched_all, widened}
+use Rattle.columns.specs.Layouts.{layout_of}
+use Rattle.columns.specs.Placings.{drawn_apart, end_of_words, has_room_at, last_of, moved_to, place_of, placing_at_first, put_at, stretched_all, widened}
 use Rattle.picture.specs.Sheets.{held_in_64}
-use Rattle.picture.specs.States.{freed_by, state_marked, state_told}
-use Rattle.picture.specs.declared.columns.Column.{Column}
-use Rattle.picture.specs.declared.layout.Layout.{Layout}
-use Rattle.picture.specs.declared.placing.Placing.{Placing}
-use Rattle.picture.specs.declared.reads.OverlappedRead.{OverlappedRead}
-use Rattle.picture.specs.declared.state.State.{State}
-use Rattle.picture.specs.declared.told.Line.{Line}
-use Rattle.picture.specs.declared.told.Saying.{Saying}
-use Rattle.picture.specs.declared.told.Saying.TheVariants.{Ended, Marked, Refused, Shown, Tired}
+use Rattle.columns.specs.States.{freed_by, state_marked, state_told}
+use Rattle.columns.specs.declared.columns.Column.{Column}
+use Rattle.columns.specs.declared.layout.Layout.{Layout}
+use Rattle.columns.specs.declared.placing.Placing.{Placing}
+use Rattle.columns.specs.declared.reads.OverlappedRead.{OverlappedRead}
+use Rattle.columns.specs.declared.state.State.{State}
+use Rattle.columns.specs.declared.told.Line.{Line}
+use Rattle.columns.specs.declared.told.Saying.{Saying}
+use Rattle.columns.specs.declared.told.Saying.TheVariants.{Ended, Marked, Refused, Shown, Tired}
 
 -- a column is put behind the others
 abbrev pub put_page : Seen → SeenPage → SeenPage

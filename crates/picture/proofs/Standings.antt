@@ -5,16 +5,16 @@ use Rattle.std.specs.List.{AllByRecursion}
 use Rattle.record.specs.declared.marks.Mark.{Mark}
 use Rattle.record.specs.declared.stages.Stage.{Stage}
 use Rattle.picture.specs.Bandings.{Item, Reads, Tells, columns_of, line_by, newest_at, state_after, with_line}
-use Rattle.picture.specs.Columns.{Seen, alone, column_of_read, joined, joins}
-use Rattle.picture.specs.Stages.{nothing_told, stage_among, stages_after, stages_marked, stages_told}
+use Rattle.columns.specs.Columns.{Seen, alone, column_of_read, joined, joins}
+use Rattle.columns.specs.Stages.{nothing_told, stage_among, stages_after, stages_marked, stages_told}
 use Rattle.picture.specs.Standings.{BarsAreStages, ShowsStages, sayings}
-use Rattle.picture.specs.States.{freed_by, state_marked, state_told}
-use Rattle.picture.specs.declared.state.State.{State}
-use Rattle.picture.specs.declared.told.Line.{Line}
-use Rattle.picture.specs.declared.told.Saying.{Saying}
-use Rattle.picture.specs.declared.told.Saying.TheVariants.{Ended, Marked, Refused, Shown, Tired}
+use Rattle.columns.specs.States.{freed_by, state_marked, state_told}
+use Rattle.columns.specs.declared.state.State.{State}
+use Rattle.columns.specs.declared.told.Line.{Line}
+use Rattle.columns.specs.declared.told.Saying.{Saying}
+use Rattle.columns.specs.declared.told.Saying.TheVariants.{Ended, Marked, Refused, Shown, Tired}
 use Rattle.picture.proofs.Pagings.{processes_after}
-use Rattle.picture.proofs.Stages.{stages_are}
+use Rattle.columns.proofs.Stages.{stages_are}
 
 -- the stages after a line
 marked_stages : (b : Bool) (state : State) (p : ℕ) (mark : Mark) → (let s : State = cond b (state_marked state p mark) state in s.stages) ≡ cond b (stages_marked state.stages p mark) state.stages

@@ -2,10 +2,10 @@
 use Rattle.std.proofs.Common.{◌≡◌, ℕ, ◌+◌, add-one, ◌<◌, Bool, is_some, Option, List, ◌++◌, drop, length, map, flat_map, get_or, ap, sym, ◌∙◌}
 use Rattle.shapes.specs.Figures.{Shape, drawings}
 use Rattle.shapes.specs.declared.figures.Point.{Point}
-use Rattle.picture.specs.Columns.{Seen, seen}
+use Rattle.columns.specs.Columns.{Seen, seen}
 use Rattle.picture.specs.Drawings.{SeenBand, axis, axis_up_to, for_each, inside_since, line_shapes, lines_shapes, shade_up_to, shades}
-use Rattle.picture.specs.declared.columns.Column.{Column}
-use Rattle.picture.specs.declared.told.Line.{Line}
+use Rattle.columns.specs.declared.columns.Column.{Column}
+use Rattle.columns.specs.declared.told.Line.{Line}
 use Rattle.picture.proofs.Drawn.{drop_next, then_drawn}
 
 module _ (columns : List Column) (k : ℕ) (column : Column) (within : k < length columns) (here : column ≡ get_or columns k column) where

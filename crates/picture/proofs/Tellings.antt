@@ -6,9 +6,9 @@ use Rattle.shapes.specs.Elements.{Stack, is_among, text_names}
 use Rattle.shapes.specs.Readings.{Reading, group, reading, with_begun, with_ended, with_lines, with_mark}
 use Rattle.shapes.specs.Titles.{lines_in}
 use Rattle.shapes.proofs.Stacks.{round}
-use Rattle.picture.specs.Told.{text_of, texts, told_in}
-use Rattle.picture.specs.declared.columns.Column.{Column}
-use Rattle.picture.specs.declared.told.Line.{Line}
+use Rattle.columns.specs.Told.{text_of, texts, told_in}
+use Rattle.columns.specs.declared.columns.Column.{Column}
+use Rattle.columns.specs.declared.told.Line.{Line}
 
 -- no line yet
 pub none_more : (new : Reading) (old : List ℕ) → new ≡ reading old → new ≡ with_lines [] (reading old)

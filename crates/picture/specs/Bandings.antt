@@ -5,19 +5,19 @@ use Rattle.shapes.specs.Figures.{End, drawings, drawn}
 use Rattle.shapes.specs.Markup.{entering_by, lowering}
 use Rattle.shapes.specs.declared.names.Key.TheVariants as key
 use Rattle.shapes.specs.declared.names.Tag.TheVariants as tag
-use Rattle.picture.specs.Columns.{Seen, alone, column_of_read, joined, joins, shortened}
+use Rattle.columns.specs.Columns.{Seen, alone, column_of_read, joined, joins, shortened}
 use Rattle.picture.specs.Drawings.{band_shapes}
-use Rattle.picture.specs.Layouts.{layout_of}
-use Rattle.picture.specs.Placings.{has_room_at, moved_to, place_of, placing_at_first, put_at, stretched_all}
+use Rattle.columns.specs.Layouts.{layout_of}
+use Rattle.columns.specs.Placings.{has_room_at, moved_to, place_of, placing_at_first, put_at, stretched_all}
 use Rattle.picture.specs.Sheets.{held_in_64, says, view_of}
-use Rattle.picture.specs.States.{at_first, freed_by, state_told}
-use Rattle.picture.specs.declared.layout.Layout.{Layout}
+use Rattle.columns.specs.States.{at_first, freed_by, state_told}
+use Rattle.columns.specs.declared.layout.Layout.{Layout}
 use Rattle.picture.specs.declared.page.Form.{Form}
 use Rattle.picture.specs.declared.page.Form.TheVariants as form
-use Rattle.picture.specs.declared.placing.Placing.{Placing}
-use Rattle.picture.specs.declared.reads.OverlappedRead.{OverlappedRead}
-use Rattle.picture.specs.declared.state.State.{State}
-use Rattle.picture.specs.declared.told.Line.{Line}
+use Rattle.columns.specs.declared.placing.Placing.{Placing}
+use Rattle.columns.specs.declared.reads.OverlappedRead.{OverlappedRead}
+use Rattle.columns.specs.declared.state.State.{State}
+use Rattle.columns.specs.declared.told.Line.{Line}
 
 -- what a picture is told
 pub data Item : Type 0 where

@@ -6,15 +6,15 @@ use Rattle.record.specs.declared.stages.Stage.{Stage}
 use Rattle.record.specs.declared.stages.Stage.TheVariants as stage
 use Rattle.shapes.specs.Figures.{Shape, Block, Label, line_from}
 use Rattle.shapes.specs.declared.figures.Point.{Point}
-use Rattle.picture.specs.Columns.{Seen, capped}
-use Rattle.picture.specs.Layouts.{bar_of, stands_in}
-use Rattle.picture.specs.Stages.{stage_among}
-use Rattle.picture.specs.States.{word_of}
+use Rattle.columns.specs.Columns.{Seen, capped}
+use Rattle.columns.specs.Layouts.{bar_of, stands_in}
+use Rattle.columns.specs.Stages.{stage_among}
+use Rattle.columns.specs.States.{word_of}
 use Rattle.picture.specs.Words.{left_reach_of, right_reach_of, stage_text, word_text}
-use Rattle.picture.specs.declared.layout.Lane.{Lane}
-use Rattle.picture.specs.declared.state.Group.{Group}
-use Rattle.picture.specs.declared.state.Word.{Word}
-use Rattle.picture.specs.declared.state.Word.TheVariants as word
+use Rattle.columns.specs.declared.layout.Lane.{Lane}
+use Rattle.columns.specs.declared.state.Group.{Group}
+use Rattle.columns.specs.declared.state.Word.{Word}
+use Rattle.columns.specs.declared.state.Word.TheVariants as word
 use Rattle.picture.specs.declared.words.Stretch.{Stretch}
 
 -- a place in a band

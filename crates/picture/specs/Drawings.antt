@@ -6,23 +6,23 @@ use Rattle.shapes.specs.Markup.{Said}
 use Rattle.shapes.specs.declared.figures.Point.{Point}
 use Rattle.shapes.specs.declared.names.Key.TheVariants as key
 use Rattle.picture.specs.Bars.{bars, lane_name, point, words_from}
-use Rattle.picture.specs.Columns.{Seen, Wording, capped, seen, settles_and_takes_in, taken_in}
-use Rattle.picture.specs.Layouts.{bar_of, chain_ends_of, knot_of, lane_in}
-use Rattle.picture.specs.Overlaps.{bit_text, saw_text, title_text}
-use Rattle.picture.specs.Placings.{event_stands}
+use Rattle.columns.specs.Columns.{Seen, Wording, capped, seen, settles_and_takes_in, taken_in}
+use Rattle.columns.specs.Layouts.{bar_of, chain_ends_of, knot_of, lane_in}
+use Rattle.columns.specs.Overlaps.{bit_text, saw_text, title_text}
+use Rattle.columns.specs.Placings.{event_stands}
 use Rattle.picture.specs.Signs.{down_by, moved_by, sign}
-use Rattle.picture.specs.Stages.{stage_among}
-use Rattle.picture.specs.States.{word_of}
-use Rattle.picture.specs.Told.{change_told, place_told, tells_refusal, text_of}
+use Rattle.columns.specs.Stages.{stage_among}
+use Rattle.columns.specs.States.{word_of}
+use Rattle.columns.specs.Told.{change_told, place_told, tells_refusal, text_of}
 use Rattle.picture.specs.Words.{queue_text, row_class}
 use Rattle.picture.specs.declared.bands.Band.{Band}
-use Rattle.picture.specs.declared.layout.Lane.{Lane}
-use Rattle.picture.specs.declared.layout.Layout.{Layout}
-use Rattle.picture.specs.declared.reads.OverlappedRead.{OverlappedRead}
-use Rattle.picture.specs.declared.state.State.{State}
+use Rattle.columns.specs.declared.layout.Lane.{Lane}
+use Rattle.columns.specs.declared.layout.Layout.{Layout}
+use Rattle.columns.specs.declared.reads.OverlappedRead.{OverlappedRead}
+use Rattle.columns.specs.declared.state.State.{State}
 use Rattle.picture.specs.declared.words.Stretch.{Stretch}
-use Rattle.picture.specs.declared.told.Change.{Change}
-use Rattle.picture.specs.declared.told.Line.{Line}
+use Rattle.columns.specs.declared.told.Change.{Change}
+use Rattle.columns.specs.declared.told.Line.{Line}
 
 -- a band, with lists for what its fields hold: its columns, what stood before them, and where its lanes lie
 pub record SeenBand : Type 0 where

@@ -1,15 +1,8 @@
 pub mod Bandings
 pub mod Bars
-pub mod Columns
 pub mod Drawings
-pub mod Layouts
-pub mod Overlaps
 pub mod Pages
-pub mod Placings
 pub mod Sheets
 pub mod Signs
-pub mod Stages
 pub mod Standings
-pub mod States
-pub mod Told
 pub mod Words

@@ -4,13 +4,13 @@ use Rattle.std.specs.Option.{option_to_list}
 use Rattle.record.specs.declared.stages.Stage.{Stage}
 use Rattle.shapes.specs.Titles.{lines_in}
 use Rattle.picture.specs.Bandings.{Bands, Item, Plan, band_bytes, bands_of, bands_told, before_band, columns_of, filled, full_bytes, full_told, heights, heights_told, newest, newest_at, number_of, older, opens_before, placing_in, state_after, with_put, with_room}
-use Rattle.picture.specs.Columns.{Seen, seen}
-use Rattle.picture.specs.Told.{told_in}
-use Rattle.picture.specs.declared.columns.Column.{Column}
+use Rattle.columns.specs.Columns.{Seen, seen}
+use Rattle.columns.specs.Told.{told_in}
+use Rattle.columns.specs.declared.columns.Column.{Column}
 use Rattle.picture.specs.declared.page.Form.{Form}
 use Rattle.picture.specs.declared.page.Page.{Page}
-use Rattle.picture.specs.declared.placing.Placing.{Placing}
-use Rattle.picture.specs.declared.state.State.{State}
+use Rattle.columns.specs.declared.placing.Placing.{Placing}
+use Rattle.columns.specs.declared.state.State.{State}
 
 -- the lines of these columns, and of one that is not placed yet
 abbrev pub lines_of : List Column → Option Column → List (List ℕ)

@@ -5,9 +5,9 @@ use Rattle.record.specs.declared.marks.Mark.{Mark}
 use Rattle.record.specs.declared.marks.Mark.TheVariants as mark
 use Rattle.shapes.specs.Figures.{Shape, Block, Label, Pill, Ring, path_from}
 use Rattle.shapes.specs.declared.figures.Point.{Point}
-use Rattle.picture.specs.Columns.{capped}
-use Rattle.picture.specs.declared.told.Saying.{Saying}
-use Rattle.picture.specs.declared.told.Saying.TheVariants.{Marked, Refused, Tired, Shown, Ended}
+use Rattle.columns.specs.Columns.{capped}
+use Rattle.columns.specs.declared.told.Saying.{Saying}
+use Rattle.columns.specs.declared.told.Saying.TheVariants.{Marked, Refused, Tired, Shown, Ended}
 
 -- a place so far to the left of another and above it
 abbrev pub moved_by : Point → ℕ → ℕ → Point

@@ -4,9 +4,9 @@ use Rattle.std.specs.List.{AllByRecursion}
 use Rattle.record.specs.Entries.{Past}
 use Rattle.record.specs.Stages.{stage}
 use Rattle.picture.specs.Bandings.{Item, Reads, Tells, columns_of, state_after}
-use Rattle.picture.specs.Columns.{Seen}
-use Rattle.picture.specs.Stages.{marks_in, marks_said, stage_among}
-use Rattle.picture.specs.declared.told.Saying.{Saying}
+use Rattle.columns.specs.Columns.{Seen}
+use Rattle.columns.specs.Stages.{marks_in, marks_said, stage_among}
+use Rattle.columns.specs.declared.told.Saying.{Saying}
 
 -- what the lines among items say, in their order
 abbrev pub sayings : List Item → List Saying

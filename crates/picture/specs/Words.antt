@@ -6,14 +6,14 @@ use Rattle.record.specs.declared.marks.Mark.{Mark}
 use Rattle.record.specs.declared.marks.Mark.TheVariants as mark
 use Rattle.record.specs.declared.stages.Stage.{Stage}
 use Rattle.record.specs.declared.stages.Stage.TheVariants as stage
-use Rattle.picture.specs.Columns.{Seen, capped, settles_and_takes_in}
-use Rattle.picture.specs.States.{queue_of}
-use Rattle.picture.specs.Told.{mark_told}
-use Rattle.picture.specs.declared.state.Group.{Group}
-use Rattle.picture.specs.declared.state.State.{State}
-use Rattle.picture.specs.declared.state.Word.{Word}
-use Rattle.picture.specs.declared.state.Word.TheVariants as word
-use Rattle.picture.specs.declared.told.Line.{Line}
+use Rattle.columns.specs.Columns.{Seen, capped, settles_and_takes_in}
+use Rattle.columns.specs.States.{queue_of}
+use Rattle.columns.specs.Told.{mark_told}
+use Rattle.columns.specs.declared.state.Group.{Group}
+use Rattle.columns.specs.declared.state.State.{State}
+use Rattle.columns.specs.declared.state.Word.{Word}
+use Rattle.columns.specs.declared.state.Word.TheVariants as word
+use Rattle.columns.specs.declared.told.Line.{Line}
 
 -- how a stage is called
 abbrev pub stage_text : Stage → List ℕ

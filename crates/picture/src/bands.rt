@@ -2,13 +2,11 @@
 ghost use Rattle.std.specs.Prelude.{◌≡◌, ◌++◌, flat_map, map, OnOk};
 ghost use Rattle.shapes.specs.Figures.{drawings};
 ghost use Rattle.shapes.specs.Readings.{reading, with_lines};
-ghost use Rattle.picture.specs.Columns.{seen};
+ghost use Rattle.columns.specs.Columns.{seen};
 ghost use Rattle.picture.specs.Drawings.{band_shapes, column_shapes, for_each, lane_shapes, lane_words, links, seen_band};
-ghost use Rattle.picture.specs.Told.{told_in};
+ghost use Rattle.columns.specs.Told.{told_in};
 
-use crate::columns::Column;
-use crate::layout::Layout;
-use crate::state::State;
+use columns::{Column, Layout, State};
 use shapes::Markup;
 use std::alloc::{AllocError, Global};
 

@@ -7,8 +7,7 @@ ghost use Rattle.picture.specs.Drawings.{lane_shapes, seen_band};
 ghost use Rattle.picture.specs.Words.{stage_text};
 
 use crate::bands::Band;
-use crate::layout::Lane;
-use crate::measures::{LEFT, RIGHT};
+use columns::{LEFT, Lane, RIGHT};
 use record::Stage;
 use shapes::{Markup, Point};
 use std::alloc::{AllocError, Global};

@@ -1,15 +1,13 @@
 //! What a band has behind its marks: shades, the axis, and the history.
-ghost use Rattle.std.specs.Prelude.{◌≡◌, [], ◌∷◌, ◌++◌, map, None, OnOk, Some};
+ghost use Rattle.std.specs.Prelude.{◌≡◌, [], ◌∷◌, ◌++◌, map, OnOk};
 ghost use Rattle.shapes.specs.Figures.{drawings};
 ghost use Rattle.shapes.specs.Readings.{reading};
-ghost use Rattle.picture.specs.Columns.{seen};
-ghost use Rattle.picture.specs.Layouts.{chain_ends_of, knot_of, knots_from, with_knot};
+ghost use Rattle.columns.specs.Columns.{seen};
+ghost use Rattle.columns.specs.Layouts.{knot_of};
 ghost use Rattle.picture.specs.Drawings.{axis, axis_line, axis_up_to, chain_shapes, first_inside, gap_words, inside_since, opening_words, seen_band, shade_of, shade_up_to, shades, tick};
 
 use crate::bands::Band;
-use crate::columns::Column;
-use crate::layout::AXIS;
-use crate::measures::{DIGIT, LEFT, RIGHT, room};
+use columns::{AXIS, Column, DIGIT, LEFT, RIGHT, room};
 use shapes::{Markup, Point};
 use std::alloc::{AllocError, Global};
 
@@ -97,7 +95,10 @@ impl Band {
         )?;
         markup.label("name", Point::at(8, knot + 3), b"history")?;
         self.draw_opening(markup)?;
-        let Some((from, to)) = self.chain_ends() else {
+        let ends = self
+            .layout
+            .chain_ends(self.before.places, self.columns.as_slice(), self.is_last);
+        let Some((from, to)) = ends else {
             return Ok(());
         };
         let from = Point::at(u32::from(from), knot);
@@ -114,43 +115,6 @@ impl Band {
         }
         let at = Point::at(62, self.layout.knot() + 4);
         markup.label("store", at, self.opens.as_slice())
-    }
-
-    /// Where the chain begins and ends, if there is a knot before or in this band.
-    fn chain_ends(&self) -> Option<(u16, u16)>
-        ensures { result ≡ chain_ends_of self.now.before.places self.now.is_last self.now.layout.end (map seen self.now.columns.items) }
-    {
-        match knots(self.columns.as_slice()) {
-            Some((first, last)) => Some((
-                if self.before.places == 0 { first } else { LEFT },
-                if self.is_last { last } else { self.layout.end },
-            )),
-            None if self.before.places == 0 => None,
-            None => Some((LEFT, self.layout.end)),
-        }
-    }
-}
-
-/// Where the first and the last knot of these columns stand.
-fn knots(columns: &[Column]) -> Option<(u16, u16)>
-    ensures { result ≡ knots_from None (map seen columns.now) }
-{
-    let mut ends = None;
-    for column in columns {
-        if column.taken().is_some() {
-            ends = Some(with_last(ends, column.x));
-        }
-    }
-    ends
-}
-
-/// The first and the last of some knots, once there is one more.
-fn with_last(ends: Option<(u16, u16)>, x: u16) -> (u16, u16)
-    ensures { Some result ≡ with_knot ends x }
-{
-    match ends {
-        Some((first, _)) => (first, x),
-        None => (x, x),
     }
 }
 

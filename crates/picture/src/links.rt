@@ -2,12 +2,11 @@
 ghost use Rattle.std.specs.Prelude.{◌≡◌, ◌≤◌, ◌++◌, OnOk};
 ghost use Rattle.shapes.specs.Figures.{drawings};
 ghost use Rattle.shapes.specs.Readings.{reading};
-ghost use Rattle.picture.specs.Columns.{seen};
+ghost use Rattle.columns.specs.Columns.{seen};
 ghost use Rattle.picture.specs.Drawings.{arrow_by, distance_of_tip, drop_line, freed_arrow, links, seen_band};
 
 use crate::bands::Band;
-use crate::columns::Column;
-use crate::layout::Lane;
+use columns::{Column, Lane};
 use shapes::{Markup, Point};
 use std::alloc::{AllocError, Global};
 

@@ -2,17 +2,17 @@
 ghost use Rattle.std.specs.Prelude.{◌≡◌, [], ◌∷◌, ◌++◌, flat_map, IfOk, OnOk, string_bytes};
 ghost use Rattle.shapes.specs.Figures.{drawings};
 ghost use Rattle.shapes.specs.Readings.{reading, with_lines, with_mark};
-ghost use Rattle.picture.specs.Columns.{seen};
+ghost use Rattle.columns.specs.Columns.{seen};
 ghost use Rattle.picture.specs.Drawings.{column_shapes, foot_shapes, head_shapes, line_shapes, lines_shapes, mark_shape, note_shapes, number_words, pair_words, place_of_row, queue_said, right_by, rows_of_line, rows_place, seen_band, store_said};
 ghost use Rattle.shapes.specs.Markup.{attribute_text, said_text};
-ghost use Rattle.picture.specs.Told.{change_told, text_of, texts};
+ghost use Rattle.columns.specs.Told.{change_told, text_of, texts};
 ghost use Rattle.picture.specs.Words.{queue_text, row_class};
 
 use crate::bands::Band;
-use crate::columns::{Column, Row};
+use crate::reads::draw_read;
 use crate::signs::{below, draw_sign, moved};
-use crate::told::Line;
 use crate::words::listed;
+use columns::{Column, Line, Row};
 use shapes::{Attribute, Key, Markup, Point, number, words};
 use std::alloc::{AllocError, Global};
 
@@ -157,7 +157,7 @@ fn draw_head(
     markup.line("pole", below(head, 5), foot)?;
     draw_number(column.event, head, markup)?;
     match &column.read {
-        Some(read) => read.draw(alloc, rows_below(head), markup),
+        Some(read) => draw_read(alloc, read, rows_below(head), markup),
         None => Ok(()),
     }
 }

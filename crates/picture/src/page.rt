@@ -5,20 +5,15 @@ ghost use Rattle.shapes.specs.Figures.{drawings};
 ghost use Rattle.shapes.specs.Readings.{reading, with_begun};
 ghost use Rattle.shapes.specs.Titles.{lines_in};
 ghost use Rattle.picture.specs.Bandings.{Reads, Tells, band_tag, behind_columns, framed, opening_length, opens_with};
-ghost use Rattle.picture.specs.Columns.{seen};
+ghost use Rattle.columns.specs.Columns.{seen};
 ghost use Rattle.picture.specs.Drawings.{band_shapes, seen_band};
 ghost use Rattle.picture.specs.Pages.{DrawsBand, GivesRest, GoesOn, MakesRoom, Places, Puts, held, lines_of_band, page_of, seen_page, stages_kept};
 ghost use Rattle.picture.specs.declared.page.Form.TheVariants as form_variants;
-ghost use Rattle.picture.specs.Stages.{nothing_told, stages_told};
-ghost use Rattle.picture.specs.Told.{text_of, told_in};
+ghost use Rattle.columns.specs.Stages.{nothing_told, stages_told};
+ghost use Rattle.columns.specs.Told.{text_of, told_in};
 
 use crate::bands::Band;
-use crate::columns::{Column, cut};
-use crate::layout::Layout;
-use crate::placing::{Placing, stretch};
-use crate::reads::OverlappedRead;
-use crate::state::State;
-use crate::told::Line;
+use columns::{Column, Layout, Line, OverlappedRead, Placing, State, cut, stretch};
 use shapes::{Key, Markup, Tag, class, words};
 use std::alloc::{AllocError, Global};
 

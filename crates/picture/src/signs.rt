@@ -4,8 +4,7 @@ ghost use Rattle.shapes.specs.Figures.{drawings};
 ghost use Rattle.shapes.specs.Readings.{reading};
 ghost use Rattle.picture.specs.Signs.{down_by, mark_sign, moved_by, settled_sign, sign, taken_sign};
 
-use crate::measures::{DIGIT, room};
-use crate::told::{Line, Saying};
+use columns::{DIGIT, Line, Saying, room};
 use record::Mark;
 use shapes::{Markup, Point};
 use std::alloc::{AllocError, Global};

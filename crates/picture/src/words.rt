@@ -4,16 +4,14 @@ ghost use Rattle.std.specs.Fmt.{decimal};
 ghost use Rattle.shapes.specs.Figures.{drawings};
 ghost use Rattle.shapes.specs.Readings.{reading};
 ghost use Rattle.picture.specs.Bars.{free_left, is_word, says_word, stretch_at, stretch_word, style_of_word};
-ghost use Rattle.picture.specs.Layouts.{stands_in};
-ghost use Rattle.picture.specs.Columns.{capped, seen};
+ghost use Rattle.columns.specs.Layouts.{stands_in};
+ghost use Rattle.columns.specs.Columns.{capped, seen};
 ghost use Rattle.picture.specs.Words.{group_text, left_reach_of, listed_with, mark_reach, right_reach_of, word_text};
 ghost use Rattle.picture.specs.Drawings.{seen_band, words_of_lane};
 
 use crate::bands::Band;
 use crate::bars::stage_name;
-use crate::columns::Column;
-use crate::measures::{DIGIT, LEFT, room};
-use crate::state::{Group, Word};
+use columns::{Column, DIGIT, Group, LEFT, Word, room};
 use record::{Mark, Stage};
 use shapes::{Markup, Point};
 use std::alloc::{AllocError, Global};
@@ -113,7 +111,7 @@ impl Stretch {
         if self.is_said {
             return Ok(true);
         }
-        let Some(text) = self.word.text(alloc)? else {
+        let Some(text) = words_of(alloc, &self.word)? else {
             return Ok(false);
         };
         let needed = room(text.len(), DIGIT)
@@ -129,17 +127,15 @@ impl Stretch {
     }
 }
 
-impl Word {
-    /// The word as it is drawn.
-    fn text(&self, alloc: Global) -> Result<Option<String>, AllocError>
-        ensures { IfOk result (λ text. option_map string_bytes text ≡ word_text self.now) }
-    {
-        match self {
-            Word::Nothing => Ok(None),
-            Word::Is(stage) => Ok(Some(String::from_str(alloc, stage_name(*stage))?)),
-            Word::Behind(group) => Ok(Some(behind(alloc, group)?)),
-            Word::Awaits(group) => Ok(Some(awaits(alloc, group)?)),
-        }
+/// What the bar of a process says, if it says anything.
+fn words_of(alloc: Global, word: &Word) -> Result<Option<String>, AllocError>
+    ensures { IfOk result (λ text. option_map string_bytes text ≡ word_text word.now) }
+{
+    match word {
+        Word::Nothing => Ok(None),
+        Word::Is(stage) => Ok(Some(String::from_str(alloc, stage_name(*stage))?)),
+        Word::Behind(group) => Ok(Some(behind(alloc, group)?)),
+        Word::Awaits(group) => Ok(Some(awaits(alloc, group)?)),
     }
 }
 

@@ -3,7 +3,7 @@ use Rattle.std.specs.Fmt.{decimal}
 use Rattle.shapes.specs.Markup.{Said, attribute_text, said_text}
 use Rattle.shapes.specs.declared.names.Key.TheVariants as key
 use Rattle.picture.specs.Drawings.{queue_said, store_said}
-use Rattle.picture.specs.Told.{change_told, text_of}
+use Rattle.columns.specs.Told.{change_told, text_of}
 use Rattle.picture.specs.Words.{queue_text}
 use Rattle.picture.proofs.Beginnings.{attributes_said, mark_drawn}
 use Rattle.picture.proofs.marks.begin_mark.Goals as goal

@@ -1,6 +1,6 @@
 use Rattle.std.specs.String.{string_bytes}
 use Rattle.picture.proofs.Sheetings.{heading_is}
-use Rattle.picture.proofs.Texts.{ok_along}
+use Rattle.columns.proofs.Texts.{ok_along}
 use Rattle.picture.proofs.sheets.heading.Goals as goal
 
 pub returns : goal.returns

@@ -2,7 +2,7 @@ use Rattle.std.proofs.Common.{ℕ, List, ◌++◌, ◌∙◌, ap, flat_map}
 use Rattle.shapes.specs.Figures.{Shape}
 use Rattle.shapes.specs.Readings.{with_lines}
 use Rattle.picture.specs.Drawings.{SeenBand, axis, chain_shapes, column_shapes, first_inside, for_each, lane_shapes, lane_words, links, seen_band, shades}
-use Rattle.picture.specs.Told.{told_in}
+use Rattle.columns.specs.Told.{told_in}
 use Rattle.picture.proofs.Drawn.{ends_drawn, then_drawn}
 use Rattle.picture.proofs.Tellings.{then_same}
 use Rattle.picture.proofs.bands.Band.draw.Goals as goal

@@ -1,8 +1,8 @@
 use Rattle.std.proofs.Common.{ℕ, ◌+◌, List, ◌∙◌, arith, drop, flat_map, map}
 use Rattle.shapes.specs.Figures.{Shape}
-use Rattle.picture.specs.Columns.{Seen, seen}
+use Rattle.columns.specs.Columns.{Seen, seen}
 use Rattle.picture.specs.Drawings.{links, seen_band}
-use Rattle.picture.specs.declared.columns.Column.{Column}
+use Rattle.columns.specs.declared.columns.Column.{Column}
 use Rattle.picture.proofs.Drawn.{drawn_on}
 use Rattle.picture.proofs.Steps.{each_next}
 use Rattle.picture.proofs.bands.Band.draw_all_links.Goals as goal

@@ -1,6 +1,6 @@
 use Rattle.std.proofs.Common.{ap}
 use Rattle.shapes.specs.Readings.{with_lines}
-use Rattle.picture.specs.Told.{told_in}
+use Rattle.columns.specs.Told.{told_in}
 use Rattle.picture.proofs.Tellings.{then_same}
 use Rattle.picture.proofs.bands.Band.draw_column.Goals as goal
 

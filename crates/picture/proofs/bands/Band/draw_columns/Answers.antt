@@ -1,9 +1,9 @@
 use Rattle.std.proofs.Common.{ℕ, ◌+◌, List, arith, drop, flat_map, map, refl}
 use Rattle.shapes.specs.Figures.{Shape}
 use Rattle.shapes.specs.Readings.{reading}
-use Rattle.picture.specs.Columns.{Seen, seen}
+use Rattle.columns.specs.Columns.{Seen, seen}
 use Rattle.picture.specs.Drawings.{column_shapes, seen_band}
-use Rattle.picture.specs.declared.columns.Column.{Column}
+use Rattle.columns.specs.declared.columns.Column.{Column}
 use Rattle.picture.proofs.Drawn.{drawn_on}
 use Rattle.picture.proofs.Steps.{each_next}
 use Rattle.picture.proofs.Tellings.{column_more, none_more}

@@ -1,8 +1,8 @@
 use Rattle.std.proofs.Common.{ℕ, ◌+◌, List, arith, drop, refl}
 use Rattle.shapes.specs.Readings.{reading}
-use Rattle.picture.specs.Columns.{seen}
+use Rattle.columns.specs.Columns.{seen}
 use Rattle.picture.specs.Drawings.{SeenBand, line_shapes, lines_shapes, seen_band}
-use Rattle.picture.specs.declared.told.Line.{Line}
+use Rattle.columns.specs.declared.told.Line.{Line}
 use Rattle.picture.proofs.Drawn.{drawn_on}
 use Rattle.picture.proofs.Steps.{lines_next}
 use Rattle.picture.proofs.Tellings.{line_more, none_more}

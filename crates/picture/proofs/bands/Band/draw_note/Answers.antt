@@ -1,9 +1,9 @@
 use Rattle.std.proofs.Common.{ℕ, ◌+◌, List, arith, drop, flat_map, refl}
 use Rattle.shapes.specs.Figures.{Shape}
 use Rattle.shapes.specs.Readings.{reading}
-use Rattle.picture.specs.Columns.{seen}
+use Rattle.columns.specs.Columns.{seen}
 use Rattle.picture.specs.Drawings.{note_shapes, seen_band}
-use Rattle.picture.specs.declared.told.Line.{Line}
+use Rattle.columns.specs.declared.told.Line.{Line}
 use Rattle.picture.proofs.Drawn.{drawn_on}
 use Rattle.picture.proofs.Steps.{notes_next}
 use Rattle.picture.proofs.Tellings.{line_more, none_more}

@@ -1,7 +1,7 @@
 use Rattle.std.proofs.Common.{◌≡◌, ◌++◌, drop, map}
 use Rattle.shapes.specs.Figures.{drawings}
 use Rattle.shapes.specs.Readings.{reading}
-use Rattle.picture.specs.Columns.{seen}
+use Rattle.columns.specs.Columns.{seen}
 use Rattle.picture.specs.Drawings.{first_inside, shades}
 use Rattle.picture.proofs.bands.Band.draw_shades.Given as goal
 

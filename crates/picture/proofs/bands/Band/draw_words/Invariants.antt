@@ -2,9 +2,9 @@ use Rattle.std.proofs.Common.{◌≡◌, ◌+◌, ◌++◌, drop, map}
 use Rattle.shapes.specs.Figures.{drawings}
 use Rattle.shapes.specs.Readings.{reading}
 use Rattle.picture.specs.Bars.{words_from}
-use Rattle.picture.specs.Columns.{seen}
+use Rattle.columns.specs.Columns.{seen}
 use Rattle.picture.specs.Drawings.{seen_band, words_of_lane}
-use Rattle.picture.specs.Layouts.{bar_of, lane_in}
+use Rattle.columns.specs.Layouts.{bar_of, lane_in}
 use Rattle.picture.proofs.bands.Band.draw_words.Given as goal
 
 -- no line more, and what is drawn so far and what is drawn of those to come is all that is drawn

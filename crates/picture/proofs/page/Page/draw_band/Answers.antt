@@ -3,13 +3,13 @@ use Rattle.std.specs.declared.alloc.Global.{Global}
 use Rattle.std.specs.declared.vec.Vec.{Vec}
 use Rattle.shapes.specs.Figures.{drawings}
 use Rattle.picture.specs.Bandings.{behind_columns, framed}
-use Rattle.picture.specs.Columns.{seen}
+use Rattle.columns.specs.Columns.{seen}
 use Rattle.picture.specs.Drawings.{band_shapes}
-use Rattle.picture.specs.Layouts.{layout_of}
+use Rattle.columns.specs.Layouts.{layout_of}
 use Rattle.picture.specs.Pages.{seen_page}
-use Rattle.picture.specs.Placings.{stretched_all}
+use Rattle.columns.specs.Placings.{stretched_all}
 use Rattle.picture.specs.Sheets.{held_in_64}
-use Rattle.picture.specs.declared.columns.Column.{Column}
+use Rattle.columns.specs.declared.columns.Column.{Column}
 use Rattle.picture.proofs.Pagings.{draws_parts, stretched_within}
 use Rattle.picture.proofs.page.Page.draw_band.Goals as goal
 

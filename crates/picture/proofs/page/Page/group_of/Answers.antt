@@ -1,7 +1,7 @@
 use Rattle.std.proofs.Common.{ap, flat_map, refl}
 use Rattle.shapes.specs.Markup.{lowering}
 use Rattle.shapes.specs.Readings.{group, reading}
-use Rattle.picture.specs.Told.{told_in}
+use Rattle.columns.specs.Told.{told_in}
 use Rattle.picture.proofs.Sheetings.{adds, adds_same}
 use Rattle.picture.proofs.Tellings.{framed_ends, framed_lines}
 use Rattle.picture.proofs.page.Page.group_of.Goals as goal

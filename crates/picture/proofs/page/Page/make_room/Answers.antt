@@ -1,7 +1,7 @@
 use Rattle.std.proofs.Common.{ap, ◌∙◌, sym}
-use Rattle.picture.specs.Columns.{seen}
+use Rattle.columns.specs.Columns.{seen}
 use Rattle.picture.specs.Pages.{seen_page}
-use Rattle.picture.specs.Placings.{has_room_at}
+use Rattle.columns.specs.Placings.{has_room_at}
 use Rattle.picture.proofs.Pagings.{begins_next}
 use Rattle.picture.proofs.page.Page.make_room.Goals as goal
 

@@ -1,8 +1,8 @@
 use Rattle.std.proofs.Common.{ap, map, ◌∷◌, [], ◌∙◌}
 use Rattle.std.proofs.lemmas.List.{map-append}
-use Rattle.picture.specs.Columns.{seen}
+use Rattle.columns.specs.Columns.{seen}
 use Rattle.picture.specs.Pages.{seen_page}
-use Rattle.picture.specs.declared.placing.Place.{Place}
+use Rattle.columns.specs.declared.placing.Place.{Place}
 use Rattle.picture.proofs.Pagings.{put_parts}
 use Rattle.picture.proofs.page.Page.put.Goals as goal
 

@@ -1,7 +1,7 @@
 use Rattle.std.proofs.Common.{◌≡◌, ap, option_map, ◌∙◌, sym}
-use Rattle.picture.specs.Columns.{seen}
+use Rattle.columns.specs.Columns.{seen}
 use Rattle.picture.specs.Pages.{SeenPage, seen_page}
-use Rattle.picture.specs.declared.state.State.{State}
+use Rattle.columns.specs.declared.state.State.{State}
 use Rattle.picture.proofs.Pagings.{begins_alone, begun_is, does_not_join, none_to_join, told_page}
 use Rattle.picture.proofs.page.Page.take.Goals.{in-Some+else-has_room_for, in_default}
 use Rattle.picture.proofs.page.Page.take.Goals as goal

@@ -1,4 +1,4 @@
-use Rattle.picture.specs.Columns.{seen}
+use Rattle.columns.specs.Columns.{seen}
 use Rattle.picture.specs.Pages.{seen_page}
 use Rattle.picture.proofs.Pagings.{begins_read, read_is}
 use Rattle.picture.proofs.page.Page.take_read.Goals as goal

@@ -1,0 +1,4 @@
+mod Lines
+mod Lists
+pub mod Stages
+pub mod Texts

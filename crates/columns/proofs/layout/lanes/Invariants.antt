@@ -1,0 +1,8 @@
+use Rattle.std.proofs.Common.{◌≡◌, length, map, take}
+use Rattle.columns.specs.Columns.{seen}
+use Rattle.columns.specs.Layouts.{first_lanes}
+use Rattle.columns.proofs.layout.lanes.Given as goal
+
+-- the lanes of the processes before the present one
+abbrev pub invariant-loop-process : goal.invariant-loop-process
+invariant-loop-process l = (take l.process l.lanes ≡ first_lanes l.processes (map seen l.columns) l.process) × (length l.lanes ≡ 16)

@@ -1,0 +1,8 @@
+use Rattle.std.proofs.Common.{◌≡◌, ◌+◌, ◌*◌, ◌≤◌, map}
+use Rattle.columns.specs.Columns.{seen}
+use Rattle.columns.specs.Layouts.{top_of}
+use Rattle.columns.proofs.layout.top_below.Given as goal
+
+-- the lanes of the processes before the present one lie above this
+abbrev pub invariant-loop-other : goal.invariant-loop-other
+invariant-loop-other l = (l.top ≡ top_of (map seen l.columns) l.other) × (l.top ≤ 20 + 70 * l.other)

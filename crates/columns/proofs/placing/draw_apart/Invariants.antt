@@ -1,0 +1,10 @@
+use Rattle.std.proofs.Common.{◌≡◌, flat_map, map}
+use Rattle.columns.specs.Columns.{seen}
+use Rattle.columns.specs.Placings.{drawn_apart}
+use Rattle.columns.specs.Told.{told_in}
+use Rattle.columns.proofs.Lists.{first_mapped}
+use Rattle.columns.proofs.placing.draw_apart.Given as goal
+
+-- the columns tell what they told, and those before the present one are drawn apart
+abbrev pub invariant-loop-column : goal.invariant-loop-column
+invariant-loop-column l = (flat_map told_in l.columns ≡ flat_map told_in l.fn.columns) × (map seen l.columns ≡ first_mapped (drawn_apart l.old l.new) l.column-index (map seen l.fn.columns))

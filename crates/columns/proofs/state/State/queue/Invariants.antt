@@ -1,0 +1,7 @@
+use Rattle.std.proofs.Common.{◌≡◌}
+use Rattle.columns.specs.States.{line_of_first}
+use Rattle.columns.proofs.state.State.queue.Given as goal
+
+-- the line of the processes before the present one
+abbrev pub invariant-loop-process : goal.invariant-loop-process
+invariant-loop-process l = l.queue.items ≡ line_of_first l.self l.process

@@ -1,0 +1,186 @@
+-- Columns as lists, and what they are by the lines and the reads that they show.
+use Rattle.std.specs.Prelude.{ℕ, ◌+◌, ◌*◌, max, min, Bool, true, false, ◌==◌, ◌&&◌, nat_le, nat_lt, cond, List, [], ◌∷◌, ◌++◌, codes, filter_map, find, is_some, length, map, string_bytes, take, Option, None, Some, option_map, option_and_then}
+use Rattle.std.specs.Fmt.{decimal}
+use Rattle.std.specs.Option.{option_or}
+use Rattle.record.specs.Shown.{mark_text, refusal_text}
+use Rattle.plain_store.specs.Shown.{answer_text, command_text, reply_text}
+use Rattle.record.specs.declared.marks.Mark.{Mark}
+use Rattle.record.specs.declared.marks.Mark.TheVariants.{Answered, Called, Taken}
+use Rattle.columns.specs.Overlaps.{bit_text, saw_text}
+use Rattle.columns.specs.Told.{change_told, event_told, mark_told, place_told, process_told}
+use Rattle.columns.specs.declared.columns.Column.{Column}
+use Rattle.columns.specs.declared.columns.Row.{Row}
+use Rattle.columns.specs.declared.reads.OverlappedRead.{OverlappedRead}
+use Rattle.columns.specs.declared.state.State.{State}
+use Rattle.columns.specs.declared.told.Change.{Change}
+use Rattle.columns.specs.declared.told.Line.{Line}
+use Rattle.columns.specs.declared.told.Saying.{Saying}
+use Rattle.columns.specs.declared.told.Saying.TheVariants.{Ended, Marked, Refused, Shown, Tired}
+
+-- words in one row: whether they stand out, their bytes, and how many characters they are
+pub record Wording : Type 0 where
+  pub is_verb : Bool
+  pub text : List ℕ
+  pub characters : ℕ
+
+-- a column, with lists for what its fields hold
+pub record Seen : Type 0 where
+  pub at : ℕ
+  pub event : Option ℕ
+  pub lane : Option ℕ
+  pub gap : ℕ
+  pub lines : List Line
+  pub read : Option OverlappedRead
+  pub rows : List Wording
+  pub frees : Option ℕ
+  pub after : State
+  pub x : ℕ
+
+-- a row as a list
+abbrev pub wording : Row → Wording
+wording row = record { is_verb = row.is_verb; text = row.text.items; characters = row.characters }
+
+-- a column as lists
+abbrev pub seen : Column → Seen
+seen column = record {
+  at = column.at;
+  event = column.event;
+  lane = column.lane;
+  gap = column.gap;
+  lines = column.lines.items;
+  read = column.read;
+  rows = map wording column.rows.items;
+  frees = column.frees;
+  after = column.after;
+  x = column.x;
+}
+
+-- words that are drawn whole: a byte is a character
+abbrev pub worded : Bool → List ℕ → Wording
+worded is_verb text = record { is_verb = is_verb; text = text; characters = length text }
+
+-- words that stand out, and others
+abbrev pub verb : List ℕ → Wording
+verb = worded true
+
+abbrev pub rest : List ℕ → Wording
+rest = worded false
+
+-- what is drawn of a store's words: all, or of more than 44 the first 43 and three dots, U+2026
+abbrev pub shortened : List ℕ → List ℕ
+shortened words = cond (nat_le (length words) 44) words (take 43 words ++ 226 ∷ 128 ∷ 166 ∷ [])
+
+-- the row of a store's words
+abbrev pub row_shortened : List ℕ → Wording
+row_shortened words = record { is_verb = false; text = shortened words; characters = min (length words) 44 }
+
+-- the rows of a mark that stands alone
+abbrev pub rows_marked : Mark → List Wording
+rows_marked (Called command) = verb (codes "call") ∷ rest (command_text command) ∷ []
+rows_marked (Taken place reply) = verb (codes "taken " ++ decimal place) ∷ rest (reply_text reply) ∷ []
+rows_marked (Answered answer) = verb (codes "answer") ∷ rest (answer_text answer) ∷ []
+rows_marked mark = verb (mark_text mark) ∷ []
+
+-- the rows of what a line says that stands alone, in the lane of its process or in that of the history
+abbrev pub rows_told : Bool → Saying → List Wording
+rows_told in_lane (Marked p mark change) = rows_marked mark
+rows_told in_lane (Refused p refusal) = verb (cond in_lane (codes "refused") (decimal p ++ codes " refused")) ∷ rest (refusal_text refusal) ∷ []
+rows_told in_lane (Tired p) = verb (codes "turns") ∷ []
+rows_told in_lane (Shown words) = verb (codes "show") ∷ row_shortened words.items ∷ []
+rows_told in_lane (Ended events taken refused) = verb (codes "end events " ++ decimal events) ∷ rest (codes "taken " ++ decimal taken ++ codes " refused " ++ decimal refused) ∷ []
+
+-- the row of a line that shares its column
+abbrev pub row_shared : Line → Option Wording
+row_shared line = option_map (λ mark. verb (mark_text mark)) (mark_told line.saying)
+
+-- the lane of a process, if there are more processes than its number
+abbrev pub lane_among : ℕ → Option ℕ → Option ℕ
+lane_among processes = option_and_then (λ p. cond (nat_lt p processes) (Some p) None)
+
+-- the column of a line alone, before it is placed
+abbrev pub alone : Line → ℕ → Option ℕ → State → Seen
+alone line gap frees after = record {
+  at = line.at;
+  event = event_told line;
+  lane = lane_among after.processes (process_told line.saying);
+  gap = gap;
+  lines = line ∷ [];
+  read = None;
+  rows = rows_told (is_some (lane_among after.processes (process_told line.saying))) line.saying;
+  frees = frees;
+  after = after;
+  x = 0;
+}
+
+-- the column of a read, before it is placed
+abbrev pub column_of_read : OverlappedRead → ℕ → State → Seen
+column_of_read read gap after = record {
+  at = read.end;
+  event = Some read.end;
+  lane = lane_among after.processes (Some read.reader);
+  gap = gap;
+  lines = [];
+  read = Some read;
+  rows = verb (saw_text read) ∷ rest (bit_text read) ∷ [];
+  frees = None;
+  after = after;
+  x = 0;
+}
+
+-- whether these are the same event
+abbrev pub is_same_event : Option ℕ → Option ℕ → Bool
+is_same_event (Some e) (Some f) = e == f
+is_same_event (Some e) None = false
+is_same_event None event = false
+
+-- whether a line is a mark of a column's event
+abbrev pub joins : Seen → Line → Bool
+joins column line = elim column.read [ Some read ↦ false | None ↦ is_same_event column.event (event_told line) ]
+
+-- the column once the second mark of its event has joined it: each mark has a row
+abbrev pub joined : Seen → Line → Option ℕ → State → Seen
+joined column line frees after = record column {
+  lines = column.lines ++ line ∷ [];
+  rows = filter_map row_shared (column.lines ++ line ∷ []);
+  frees = option_or frees column.frees;
+  after = after;
+}
+
+-- the line that tells a place in the history, if one does
+abbrev pub taken_in : Seen → Option Line
+taken_in column = find (λ line. is_some (place_told line.saying)) column.lines
+
+-- so many pixels, of which 65535 at most are told apart
+abbrev pub capped : ℕ → ℕ
+capped pixels = min pixels 65535
+
+-- how many digits a number has, and none if there is none
+abbrev pub digits_of : Option ℕ → ℕ
+digits_of None = 0
+digits_of (Some n) = length (decimal n)
+
+-- how many characters the longest row has
+abbrev pub longest_row : List Wording → ℕ
+longest_row [] = 0
+longest_row (row ∷ rows) = max row.characters (longest_row rows)
+
+-- how many pixels the words of a column take in its lane
+abbrev pub width_of : Seen → ℕ
+width_of column = capped (max (6 * digits_of column.event) (7 * longest_row column.rows) + 9)
+
+-- how many characters the pair has that a command changed
+abbrev pub pair_of : Option Change → ℕ
+pair_of None = 0
+pair_of (Some change) = length (string_bytes change.pair)
+
+-- how many pixels a line takes in the lane of the history that tells a place in it
+abbrev pub knot_width : Line → ℕ
+knot_width line = capped (max (6 * digits_of (place_told line.saying) + 14) (7 * pair_of (change_told line.saying) + 2) + 9)
+
+-- how many pixels a column takes in the lane of the history, if it stands there or a line of it does
+abbrev pub width_below_of : Seen → Option ℕ
+width_below_of column = elim column.lane [ None ↦ Some (capped (width_of column + 4)) | Some p ↦ option_map knot_width (taken_in column) ]
+
+-- whether it tells that a torn bit was settled, and with it that a command is taken
+abbrev pub settles_and_takes_in : Seen → Bool
+settles_and_takes_in column = (length column.lines == 2) && is_some (taken_in column)

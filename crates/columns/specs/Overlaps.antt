@@ -1,0 +1,42 @@
+-- Reads that writes overlapped: what is said of them, and where an event stands between columns.
+use Rattle.std.specs.Prelude.{ℕ, ◌+◌, ◌-◌, ◌*◌, ◌/◌, min, Bool, ◌==◌, cond, nat_le, List, [], ◌++◌, codes}
+use Rattle.std.specs.Fmt.{decimal}
+use Rattle.std.specs.Int.{from_bool}
+use Rattle.safe_number.specs.declared.access.Field.{Field}
+use Rattle.safe_number.specs.declared.access.Field.TheVariants.{Choosing, Ticket, Commit, Stamp0, Stamp1, Image0, Image1}
+use Rattle.columns.specs.declared.reads.OverlappedRead.{OverlappedRead}
+
+-- how a register is called
+abbrev pub field_text : Field → List ℕ
+field_text Choosing = codes "choosing"
+field_text Ticket = codes "ticket"
+field_text Commit = codes "commit"
+field_text Stamp0 = codes "stamp0"
+field_text Stamp1 = codes "stamp1"
+field_text Image0 = codes "image0"
+field_text Image1 = codes "image1"
+
+-- a bit as a digit
+abbrev pub digit_of : Bool → List ℕ
+digit_of value = decimal (from_bool value)
+
+-- what a read gave
+abbrev pub saw_text : OverlappedRead → List ℕ
+saw_text read = codes "saw " ++ digit_of read.value
+
+-- the bit that it read, and how many reads are not shown
+abbrev pub bit_text : OverlappedRead → List ℕ
+bit_text read =
+    field_text read.field ++ codes "[" ++ decimal read.owner ++ codes "]" ++ cond read.is_wide (codes "." ++ decimal read.bit) [] ++ cond (read.more == 0) [] (codes " +" ++ decimal read.more)
+
+-- who read which bit
+abbrev pub read_text : OverlappedRead → List ℕ
+read_text read = codes "process " ++ decimal read.reader ++ codes " read bit " ++ decimal read.bit ++ codes " of " ++ field_text read.field ++ codes "[" ++ decimal read.owner ++ codes "]"
+
+-- all that is told of a read
+abbrev pub title_text : OverlappedRead → List ℕ
+title_text read = read_text read ++ codes " from event " ++ decimal read.begin ++ codes " to " ++ decimal read.end ++ codes " while it was written: " ++ digit_of read.value
+
+-- where an event stands between two places, each with the number of its event
+abbrev pub between : ℕ → ℕ × ℕ → ℕ × ℕ → ℕ
+between event left right = cond (nat_le event left.1) left.0 (min (left.0 + (right.0 - left.0) * (event - left.1) / (right.1 - left.1)) 65535)

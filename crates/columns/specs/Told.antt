@@ -1,0 +1,68 @@
+-- The lines of a run's text, as values.
+use Rattle.std.specs.Prelude.{ℕ, Bool, true, false, List, ◌++◌, codes, map, Option, None, Some, option_map}
+use Rattle.std.specs.Fmt.{decimal}
+use Rattle.record.specs.Shown.{mark_text, refusal_text}
+use Rattle.record.specs.declared.marks.Mark.{Mark}
+use Rattle.record.specs.declared.marks.Mark.TheVariants.{Taken}
+use Rattle.columns.specs.declared.columns.Column.{Column}
+use Rattle.columns.specs.declared.told.Change.{Change}
+use Rattle.columns.specs.declared.told.Line.{Line}
+use Rattle.columns.specs.declared.told.Saying.{Saying}
+use Rattle.columns.specs.declared.told.Saying.TheVariants.{Marked, Refused, Tired, Shown, Ended}
+
+-- what a line says, where so many events were accepted before it
+abbrev pub saying_text : ℕ → Saying → List ℕ
+saying_text at (Marked p mark change) = decimal at ++ codes " " ++ decimal p ++ codes " " ++ mark_text mark
+saying_text at (Refused p refusal) = codes "- " ++ decimal p ++ codes " refused " ++ refusal_text refusal
+saying_text at (Tired p) = codes "- " ++ decimal p ++ codes " turns"
+saying_text at (Shown words) = codes "show " ++ words.items
+saying_text at (Ended events taken refused) = codes "end events " ++ decimal events ++ codes " taken " ++ decimal taken ++ codes " refused " ++ decimal refused
+
+-- a line, without its end
+abbrev pub text_of : Line → List ℕ
+text_of line = saying_text line.at line.saying
+
+-- lines, without their ends
+abbrev pub texts : List Line → List (List ℕ)
+texts = map text_of
+
+-- the lines of a column
+abbrev pub told_in : Column → List (List ℕ)
+told_in column = texts column.lines.items
+
+-- the process that is told of
+abbrev pub process_told : Saying → Option ℕ
+process_told (Marked p mark change) = Some p
+process_told (Refused p refusal) = Some p
+process_told (Tired p) = Some p
+process_told (Shown words) = None
+process_told (Ended events taken refused) = None
+
+-- the mark that is told
+abbrev pub mark_told : Saying → Option Mark
+mark_told (Marked p mark change) = Some mark
+mark_told _ = None
+
+-- what the command changed that is told of
+abbrev pub change_told : Saying → Option Change
+change_told (Marked p mark change) = change
+change_told _ = None
+
+-- the place in the history that a mark tells
+abbrev pub place_marked : Mark → Option ℕ
+place_marked (Taken place reply) = Some place
+place_marked _ = None
+
+-- the place in the history that is told
+abbrev pub place_told : Saying → Option ℕ
+place_told (Marked p mark change) = place_marked mark
+place_told _ = None
+
+-- whether a refusal is told
+abbrev pub tells_refusal : Saying → Bool
+tells_refusal (Refused p refusal) = true
+tells_refusal _ = false
+
+-- the number of an event that has a mark
+abbrev pub event_told : Line → Option ℕ
+event_told line = option_map (λ mark. line.at) (mark_told line.saying)

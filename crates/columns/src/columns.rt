@@ -1,0 +1,371 @@
+//! Columns: an event with its marks, a line without an event, or a read that a write overlapped.
+ghost use Rattle.std.specs.Prelude.{◌≡◌, ◌++◌, [], ◌∷◌, true, false, codes, cond, filter_map, IfOk, OnOk, map, option_copied, option_to_list, string_bytes};
+ghost use Rattle.std.specs.Fmt.{decimal};
+ghost use Rattle.columns.specs.Columns.{alone, column_of_read, digits_of, joined, joins, knot_width, lane_among, longest_row, pair_of, row_shared, row_shortened, rows_marked, rows_told, seen, settles_and_takes_in, shortened, taken_in, verb, width_below_of, width_of, worded, wording};
+ghost use Rattle.columns.specs.Told.{change_told, text_of, told_in};
+
+use crate::measures::{CHARACTER, DIGIT, LONGEST, PAD, room};
+use crate::reads::OverlappedRead;
+use crate::state::State;
+use crate::told::{Line, Saying};
+use record::Mark;
+use std::alloc::{AllocError, Global};
+
+/// Words of a column, in one row.
+#[derive(Drop)]
+pub struct Row {
+    /// Whether it stands out.
+    pub is_verb: bool,
+    /// Its bytes.
+    pub text: Vec<u8>,
+    /// How many characters it has.
+    pub characters: usize,
+}
+
+/// A column of a band.
+#[derive(Drop)]
+pub struct Column {
+    /// How many events were accepted before it.
+    pub at: u64,
+    /// The number of its event.
+    pub event: Option<u64>,
+    /// The process in whose lane it stands; none in the lane of the history.
+    pub lane: Option<u8>,
+    /// Events since the column before.
+    pub gap: u64,
+    /// One line, or the two marks of an event; none of a read.
+    pub lines: Vec<Line>,
+    /// The read that it shows; none of lines.
+    pub read: Option<OverlappedRead>,
+    /// One row or two.
+    pub rows: Vec<Row>,
+    /// Whom its process frees.
+    pub frees: Option<u8>,
+    /// What was told when its last line was.
+    pub after: State,
+    /// Where it stands.
+    pub x: u16,
+}
+
+impl Row {
+    /// Words that are drawn whole: each byte is a character.
+    pub(crate) fn new(is_verb: bool, text: String) -> Row
+        ensures { wording result ≡ worded is_verb (string_bytes text) }
+    {
+        Row {
+            is_verb,
+            characters: text.len(),
+            text: text.into_bytes(),
+        }
+    }
+}
+
+impl Column {
+    /// The column of a line alone, before it is placed.
+    pub fn new(
+        alloc: Global,
+        line: Line,
+        gap: u64,
+        frees: Option<u8>,
+        after: State,
+    ) -> Result<Column, AllocError>
+        ensures told { IfOk result (λ column. told_in column ≡ text_of line ∷ []) }
+        ensures whole { IfOk result (λ column. seen column ≡ alone line gap frees after) }
+    {
+        let lane = lane_below(after.processes, line.process());
+        let rows = rows_alone(alloc, &line, lane.is_some())?;
+        let at = line.at;
+        let event = line.event();
+        let mut lines = Vec::new(alloc);
+        lines.push(line)?;
+        Ok(Column {
+            at,
+            event,
+            lane,
+            gap,
+            lines,
+            read: None,
+            rows,
+            frees,
+            after,
+            x: 0,
+        })
+    }
+
+    /// The column of a read, before it is placed.
+    pub fn of_read(
+        alloc: Global,
+        read: OverlappedRead,
+        gap: u64,
+        after: State,
+    ) -> Result<Column, AllocError>
+        ensures told { IfOk result (λ column. told_in column ≡ []) }
+        ensures whole { IfOk result (λ column. seen column ≡ column_of_read read gap after) }
+    {
+        Ok(Column {
+            at: read.end,
+            event: Some(read.end),
+            lane: lane_below(after.processes, Some(read.reader)),
+            gap,
+            lines: Vec::new(alloc),
+            read: Some(read),
+            rows: read.rows(alloc)?,
+            frees: None,
+            after,
+            x: 0,
+        })
+    }
+
+    /// Whether a line is a mark of this column's event.
+    pub fn has_room_for(&self, line: &Line) -> bool
+        ensures { result ≡ joins (seen self.now) line.now }
+    {
+        self.read.is_none() && self.event.is_some() && self.event == line.event()
+    }
+
+    /// Adds the second mark of the event: now each mark has a row.
+    pub fn join(
+        &mut self,
+        alloc: Global,
+        line: Line,
+        frees: Option<u8>,
+        after: State,
+    ) -> Result<(), AllocError>
+        ensures told { OnOk result (told_in self.new ≡ told_in self.old ++ text_of line ∷ []) }
+        ensures whole { OnOk result (seen self.new ≡ joined (seen self.old) line frees after) }
+    {
+        self.lines.push(line)?;
+        self.rows = rows_shared(alloc, self.lines.as_slice())?;
+        self.frees = frees.or(self.frees);
+        self.after = after;
+        Ok(())
+    }
+
+    /// The line that tells a place in the history, if one does.
+    pub fn taken(&self) -> Option<&Line>
+        ensures { option_copied result ≡ taken_in (seen self.now) }
+    {
+        self.lines.iter().find(|line| line.place().is_some())
+    }
+
+    /// How many pixels its words take in its lane.
+    pub(crate) fn width(&self, alloc: Global) -> Result<u16, AllocError>
+        ensures { IfOk result (λ width. width ≡ width_of (seen self.now)) }
+    {
+        let number = room(digits(alloc, self.event)?, DIGIT);
+        let words = room(longest(self.rows.as_slice()), CHARACTER);
+        Ok(number.max(words).saturating_add(PAD))
+    }
+
+    /// How many pixels it takes in the lane of the history, if it stands there.
+    pub(crate) fn width_below(&self, alloc: Global) -> Result<Option<u16>, AllocError>
+        ensures { IfOk result (λ width. width ≡ width_below_of (seen self.now)) }
+    {
+        if self.lane.is_none() {
+            return Ok(Some(self.width(alloc)?.saturating_add(4)));
+        }
+        match self.taken() {
+            Some(line) => Ok(Some(width_of_knot(alloc, line)?)),
+            None => Ok(None),
+        }
+    }
+
+    /// Whether it tells that a torn bit was settled, and with it that a command is taken.
+    pub fn settles_and_takes(&self) -> bool
+        ensures { result ≡ settles_and_takes_in (seen self.now) }
+    {
+        self.lines.len() == 2 && self.taken().is_some()
+    }
+}
+
+/// The lane of a process, if its number is below this one.
+fn lane_below(processes: u8, process: Option<u8>) -> Option<u8>
+    ensures { result ≡ lane_among processes process }
+{
+    match process {
+        Some(process) if process < processes => Some(process),
+        _ => None,
+    }
+}
+
+/// How many digits a number has, if there is one.
+fn digits(alloc: Global, number: Option<u64>) -> Result<usize, AllocError>
+    ensures { IfOk result (λ digits. digits ≡ digits_of number) }
+{
+    match number {
+        Some(number) => Ok(number.to_string(alloc)?.len()),
+        None => Ok(0),
+    }
+}
+
+/// How many characters the longest of these rows has.
+fn longest(rows: &[Row]) -> usize
+    ensures { result ≡ longest_row (map wording rows.now) }
+{
+    let mut longest: usize = 0;
+    for row in rows {
+        longest = longest.max(row.characters);
+    }
+    longest
+}
+
+/// How many characters the pair has that the command of a line changed.
+fn pair_length(line: &Line) -> usize
+    ensures { result ≡ pair_of (change_told line.now.saying) }
+{
+    match line.change() {
+        Some(change) => change.pair.len(),
+        None => 0,
+    }
+}
+
+/// How many pixels a line takes in the lane of the history that tells a place in it.
+fn width_of_knot(alloc: Global, line: &Line) -> Result<u16, AllocError>
+    ensures { IfOk result (λ width. width ≡ knot_width line.now) }
+{
+    let knot = room(digits(alloc, line.place())?, DIGIT).saturating_add(14);
+    let words = room(pair_length(line), CHARACTER).saturating_add(2);
+    Ok(knot.max(words).saturating_add(PAD))
+}
+
+/// The rows of lines that share a column: each mark has one.
+fn rows_shared(alloc: Global, lines: &[Line]) -> Result<Vec<Row>, AllocError>
+    ensures { IfOk result (λ rows. map wording rows.items ≡ filter_map row_shared lines.now) }
+{
+    let mut rows = Vec::new(alloc);
+    for line in lines {
+        push_shared(alloc, line, &mut rows)?;
+    }
+    Ok(rows)
+}
+
+/// The row of one more of them, if it tells a mark.
+fn push_shared(alloc: Global, line: &Line, rows: &mut Vec<Row>) -> Result<(), AllocError>
+    ensures { OnOk result (map wording rows.new.items ≡ map wording rows.old.items ++ option_to_list (row_shared line.now)) }
+{
+    if let Some(mark) = line.mark() {
+        rows.push(Row::new(true, mark.to_string(alloc)?))?;
+    }
+    Ok(())
+}
+
+/// The rows of a line alone in its column, in the lane of its process or in that of the history.
+fn rows_alone(alloc: Global, line: &Line, in_lane: bool) -> Result<Vec<Row>, AllocError>
+    ensures { IfOk result (λ rows. map wording rows.items ≡ rows_told in_lane line.now.saying) }
+{
+    match &line.saying {
+        Saying::Marked { mark, .. } => mark_rows(alloc, mark),
+        Saying::Refused { process, refusal } => two_rows(
+            alloc,
+            refused_verb(alloc, *process, in_lane)?,
+            refusal.to_string(alloc)?,
+        ),
+        Saying::Tired(_) => one_row(alloc, String::from_str(alloc, "turns")?),
+        Saying::Shown(words) => shown_rows(alloc, words.as_slice()),
+        Saying::Ended {
+            events,
+            taken,
+            refused,
+        } => two_rows(
+            alloc,
+            format!(in alloc; "end events {events}")?,
+            counts(alloc, *taken, *refused)?,
+        ),
+    }
+}
+
+/// What stands out of a refusal.
+fn refused_verb(alloc: Global, process: u8, in_lane: bool) -> Result<String, AllocError>
+    ensures { IfOk result (λ verb. string_bytes verb ≡ cond in_lane (codes "refused") (decimal process ++ codes " refused")) }
+{
+    if in_lane {
+        return Ok(String::from_str(alloc, "refused")?);
+    }
+    format!(in alloc; "{process} refused")
+}
+
+/// How many commands were taken, and how many events refused.
+#[tactic(auto, using(crate::proofs::Texts::counts_are))]
+fn counts(alloc: Global, taken: u64, refused: u64) -> Result<String, AllocError>
+    ensures { IfOk result (λ text. string_bytes text ≡ codes "taken " ++ decimal taken ++ codes " refused " ++ decimal refused) }
+{
+    format!(in alloc; "taken {taken} refused {refused}")
+}
+
+/// The rows of the newest store.
+fn shown_rows(alloc: Global, words: &[u8]) -> Result<Vec<Row>, AllocError>
+    ensures { IfOk result (λ rows. map wording rows.items ≡ verb (codes "show") ∷ row_shortened words.now ∷ []) }
+{
+    let mut rows = Vec::new(alloc);
+    rows.push(Row::new(true, String::from_str(alloc, "show")?))?;
+    rows.push(cut_row(alloc, words)?)?;
+    Ok(rows)
+}
+
+/// Words that stand out, and others below them.
+fn two_rows(alloc: Global, verb: String, rest: String) -> Result<Vec<Row>, AllocError>
+    ensures { IfOk result (λ rows. map wording rows.items ≡ worded true (string_bytes verb) ∷ worded false (string_bytes rest) ∷ []) }
+{
+    let mut rows = Vec::new(alloc);
+    rows.push(Row::new(true, verb))?;
+    rows.push(Row::new(false, rest))?;
+    Ok(rows)
+}
+
+/// Words that stand out, alone.
+fn one_row(alloc: Global, verb: String) -> Result<Vec<Row>, AllocError>
+    ensures { IfOk result (λ rows. map wording rows.items ≡ worded true (string_bytes verb) ∷ []) }
+{
+    let mut rows = Vec::new(alloc);
+    rows.push(Row::new(true, verb))?;
+    Ok(rows)
+}
+
+/// The rows of a mark alone in its column.
+fn mark_rows(alloc: Global, mark: &Mark) -> Result<Vec<Row>, AllocError>
+    ensures { IfOk result (λ rows. map wording rows.items ≡ rows_marked mark.now) }
+{
+    match mark {
+        Mark::Called(command) => two_rows(
+            alloc,
+            String::from_str(alloc, "call")?,
+            command.to_string(alloc)?,
+        ),
+        Mark::Taken(place, reply) => two_rows(
+            alloc,
+            format!(in alloc; "taken {place}")?,
+            reply.to_string(alloc)?,
+        ),
+        Mark::Answered(answer) => two_rows(
+            alloc,
+            String::from_str(alloc, "answer")?,
+            answer.to_string(alloc)?,
+        ),
+        _ => one_row(alloc, mark.to_string(alloc)?),
+    }
+}
+
+/// A row of words, of which at most so many characters are drawn.
+fn cut_row(alloc: Global, words: &[u8]) -> Result<Row, AllocError>
+    ensures { IfOk result (λ row. wording row ≡ row_shortened words.now) }
+{
+    Ok(Row {
+        is_verb: false,
+        characters: words.len().min(LONGEST),
+        text: cut(alloc, words)?,
+    })
+}
+
+/// The words, or where there are too many, the first of them and three dots.
+pub fn cut(alloc: Global, words: &[u8]) -> Result<Vec<u8>, AllocError>
+    ensures { IfOk result (λ text. text.items ≡ shortened words.now) }
+{
+    let mut text = Vec::new(alloc);
+    if words.len() <= LONGEST {
+        text.extend_from_slice(words)?;
+    } else {
+        text.extend_from_slice(&words[..LONGEST - 1])?;
+        text.extend_from_slice("\u{2026}".as_bytes())?;
+    }
+    Ok(text)
+}

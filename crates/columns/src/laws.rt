@@ -1,0 +1,8 @@
+//! What the lines of a run tell of its record. The law is a function with nothing to do, whose contract is the law.
+ghost use Rattle.columns.specs.Stages.{StagesAreTheRecords};
+
+/// Lines that say the marks of a record lead each process to its stage in that record. These are the stages that a
+/// page keeps from line to line, and from which it draws its bars.
+pub fn stages_are_the_records()
+    ensures { StagesAreTheRecords }
+{}

@@ -1,0 +1,208 @@
+//! How high the lanes of a band are.
+ghost use Rattle.std.specs.Prelude.{◌≡◌, ◌<◌, ◌≤◌, ◌^◌, map, None, Some};
+ghost use Rattle.columns.specs.Columns.{seen};
+ghost use Rattle.columns.specs.Layouts.{bar_of, chain_ends_of, changes, first_lanes, has_column, knot_of, knots_from, lane_height, lane_in, lanes_end, layout_of, room_below_of, top_of, with_knot};
+
+use crate::columns::Column;
+use crate::measures::{LEFT, RIGHT};
+use crate::placing::last_place;
+
+/// The height of the axis.
+pub const AXIS: u16 = 20;
+
+/// Where the lanes of a band lie.
+#[derive(Clone, Copy)]
+pub struct Layout {
+    lanes: [Lane; 16],
+    /// Where the lane of the history begins.
+    pub chain: u16,
+    /// How high the band is.
+    pub height: u16,
+    /// The right end of the lanes.
+    pub end: u16,
+}
+
+/// Where a lane lies.
+#[derive(Clone, Copy)]
+pub struct Lane {
+    /// Where it begins.
+    pub top: u16,
+    /// Whether a column stands in it.
+    pub is_full: bool,
+}
+
+impl Lane {
+    /// Its middle line.
+    pub fn bar(&self) -> u32
+        ensures small { result < 2 ^ 17 }
+        ensures exact { result ≡ bar_of self.now }
+    {
+        u32::from(self.top) + if self.is_full { 49 } else { 9 }
+    }
+}
+
+impl Layout {
+    /// The lanes of a band of these columns.
+    pub fn new(processes: u8, columns: &[Column], is_last: bool) -> Layout
+        ensures { result ≡ layout_of processes (map seen columns.now) is_last }
+    {
+        let chain = top_below(columns, processes.min(16)) + 6;
+        Layout {
+            lanes: lanes(processes, columns),
+            chain,
+            height: chain + 30 + room_below(columns),
+            end: lanes_right(columns, is_last),
+        }
+    }
+
+    /// The lane of a process.
+    pub fn lane(&self, process: u8) -> Lane
+        ensures { result ≡ lane_in self.now process }
+    {
+        match self.lanes.get(usize::from(process)) {
+            Some(lane) => *lane,
+            None => Lane {
+                top: AXIS,
+                is_full: false,
+            },
+        }
+    }
+
+    /// The middle line of the lane of the history.
+    pub fn knot(&self) -> u32
+        ensures small { result < 2 ^ 17 }
+        ensures exact { result ≡ knot_of self.now }
+    {
+        u32::from(self.chain) + 16
+    }
+
+    /// From where to where the chain of the history goes, if there is a knot before these columns or among them: so
+    /// many places were given before them.
+    pub fn chain_ends(&self, places: u64, columns: &[Column], is_last: bool) -> Option<(u16, u16)>
+        ensures { result ≡ chain_ends_of places is_last self.now.end (map seen columns.now) }
+    {
+        match knots(columns) {
+            Some((first, last)) => Some((
+                if places == 0 { first } else { LEFT },
+                if is_last { last } else { self.end },
+            )),
+            None if places == 0 => None,
+            None => Some((LEFT, self.end)),
+        }
+    }
+}
+
+/// Where the first and the last knot of these columns stand.
+fn knots(columns: &[Column]) -> Option<(u16, u16)>
+    ensures { result ≡ knots_from None (map seen columns.now) }
+{
+    let mut ends = None;
+    for column in columns {
+        if column.taken().is_some() {
+            ends = Some(with_last(ends, column.x));
+        }
+    }
+    ends
+}
+
+/// The first and the last of some knots, once there is one more.
+fn with_last(ends: Option<(u16, u16)>, x: u16) -> (u16, u16)
+    ensures { Some result ≡ with_knot ends x }
+{
+    match ends {
+        Some((first, _)) => (first, x),
+        None => (x, x),
+    }
+}
+
+/// The lanes of a band of these columns.
+fn lanes(processes: u8, columns: &[Column]) -> [Lane; 16]
+    ensures { result ≡ first_lanes processes (map seen columns.now) 16 }
+{
+    let mut lanes = [Lane {
+        top: 0,
+        is_full: false,
+    }; 16];
+    for process in 0..16 {
+        lanes[usize::from(process)] = Lane {
+            top: if process < processes {
+                top_below(columns, process)
+            } else {
+                0
+            },
+            is_full: stands_in_lane(columns, process),
+        };
+    }
+    lanes
+}
+
+/// Where the lane of a process begins: below those of the ones before it.
+fn top_below(columns: &[Column], process: u8) -> u16
+    requires { process ≤ 16 }
+    ensures exact { result ≡ top_of (map seen columns.now) process }
+    ensures small { result ≤ 1140 }
+{
+    let mut top = AXIS;
+    for other in 0..process {
+        top += height(stands_in_lane(columns, other));
+    }
+    top
+}
+
+/// How high a lane is.
+fn height(is_full: bool) -> u16
+    ensures exact { result ≡ lane_height is_full }
+    ensures small { result ≤ 70 }
+{
+    if is_full { 70 } else { 18 }
+}
+
+/// Whether a column stands in the lane of a process.
+fn stands_in_lane(columns: &[Column], process: u8) -> bool
+    ensures { result ≡ has_column (map seen columns.now) process }
+{
+    for column in columns {
+        if column.lane == Some(process) {
+            return true;
+        }
+    }
+    false
+}
+
+/// The right end of the lanes.
+fn lanes_right(columns: &[Column], is_last: bool) -> u16
+    ensures { result ≡ lanes_end (map seen columns.now) is_last }
+{
+    if is_last && !columns.is_empty() {
+        last_place(columns).saturating_add(8)
+    } else {
+        RIGHT
+    }
+}
+
+/// What the lane of the history needs below its knots: room for a line of the run, or for a pair.
+fn room_below(columns: &[Column]) -> u16
+    ensures exact { result ≡ room_below_of (map seen columns.now) }
+    ensures small { result ≤ 28 }
+{
+    let mut room = 0;
+    for column in columns {
+        if column.lane.is_none() {
+            return 28;
+        }
+        if changes_the_store(column) {
+            room = 14;
+        }
+    }
+    room
+}
+
+/// Whether a column tells of a command that changed the store.
+fn changes_the_store(column: &Column) -> bool
+    ensures { result ≡ changes (seen column.now) }
+{
+    match column.taken() {
+        Some(line) => line.change().is_some(),
+        None => false,
+    }
+}

@@ -1,0 +1,23 @@
+//! The lines of a run as values, and the reads that writes overlapped; what the lines have told so far; the columns that
+//! show them, where these stand in a band, and where its lanes lie. It draws nothing.
+#![tactic(auto)]
+
+mod columns;
+mod laws;
+mod layout;
+mod marks;
+mod measures;
+mod placing;
+mod reads;
+mod seats;
+mod state;
+mod told;
+
+pub use columns::{Column, Row, cut};
+pub use laws::stages_are_the_records;
+pub use layout::{AXIS, Lane, Layout};
+pub use measures::{DIGIT, LEFT, RIGHT, room};
+pub use placing::{Place, Placing, event_place, stretch};
+pub use reads::OverlappedRead;
+pub use state::{Group, State, Word};
+pub use told::{Change, Line, Saying};

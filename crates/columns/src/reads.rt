@@ -1,0 +1,109 @@
+//! Reads that writes overlapped, as values, and what is said of them.
+ghost use Rattle.std.specs.Prelude.{◌≡◌, [], ◌∷◌, IfOk, map, string_bytes};
+ghost use Rattle.columns.specs.Columns.{rest, verb, wording};
+ghost use Rattle.columns.specs.Overlaps.{bit_text, field_text, read_text, saw_text, title_text};
+
+use crate::columns::Row;
+use safe_number::Field;
+use std::alloc::{AllocError, Global};
+
+/// A read that a write of its bit overlapped.
+#[derive(Clone, Copy, Debug, PartialEq, Eq)]
+pub struct OverlappedRead {
+    pub reader: u8,
+    pub owner: u8,
+    pub field: Field,
+    pub bit: u16,
+    /// Whether the register has more bits than this one.
+    pub is_wide: bool,
+    /// The number of the event in which it began.
+    pub begin: u64,
+    /// The number of the event in which it ended.
+    pub end: u64,
+    /// What it gave.
+    pub value: bool,
+    /// How many reads that ended after it, before the next line of the run, are not shown.
+    pub more: u64,
+}
+
+impl OverlappedRead {
+    /// The rows of its column.
+    pub(crate) fn rows(&self, alloc: Global) -> Result<Vec<Row>, AllocError>
+        ensures { IfOk result (λ rows. map wording rows.items ≡ verb (saw_text self.now) ∷ rest (bit_text self.now) ∷ []) }
+    {
+        let mut rows = Vec::new(alloc);
+        rows.push(Row::new(true, self.saw(alloc)?))?;
+        rows.push(Row::new(false, self.bit_words(alloc)?))?;
+        Ok(rows)
+    }
+
+    /// What it gave, in words.
+    pub fn saw(&self, alloc: Global) -> Result<String, AllocError>
+        ensures { IfOk result (λ text. string_bytes text ≡ saw_text self.now) }
+    {
+        let value = u8::from(self.value);
+        format!(in alloc; "saw {value}")
+    }
+
+    /// The bit that it read, and how many reads are not shown.
+    pub fn bit_words(&self, alloc: Global) -> Result<String, AllocError>
+        ensures { IfOk result (λ text. string_bytes text ≡ bit_text self.now) }
+    {
+        let OverlappedRead {
+            owner,
+            bit,
+            more,
+            ..
+        } = *self;
+        let field = field_name(self.field);
+        let mut text = format!(in alloc; "{field}[{owner}]")?;
+        if self.is_wide {
+            let bit = format!(in alloc; ".{bit}")?;
+            text.push_str(bit.as_str())?;
+        }
+        if more > 0 {
+            let more = format!(in alloc; " +{more}")?;
+            text.push_str(more.as_str())?;
+        }
+        Ok(text)
+    }
+
+    /// All that is told of it: who read which bit, from when to when, and what the read gave.
+    pub fn title(&self, alloc: Global) -> Result<String, AllocError>
+        ensures { IfOk result (λ text. string_bytes text ≡ title_text self.now) }
+    {
+        let OverlappedRead { begin, end, .. } = *self;
+        let read = self.bit_read(alloc)?;
+        let value = u8::from(self.value);
+        format!(in alloc; "{read} from event {begin} to {end} while it was written: {value}")
+    }
+
+    /// Who read which bit.
+    fn bit_read(&self, alloc: Global) -> Result<String, AllocError>
+        ensures { IfOk result (λ text. string_bytes text ≡ read_text self.now) }
+    {
+        let OverlappedRead {
+            reader,
+            owner,
+            bit,
+            ..
+        } = *self;
+        let field = field_name(self.field);
+        format!(in alloc; "process {reader} read bit {bit} of {field}[{owner}]")
+    }
+}
+
+/// How a register is called.
+fn field_name(field: Field) -> &'static str
+    ensures { result.now ≡ field_text field }
+{
+    match field {
+        Field::Choosing => "choosing",
+        Field::Ticket => "ticket",
+        Field::Commit => "commit",
+        Field::Stamp0 => "stamp0",
+        Field::Stamp1 => "stamp1",
+        Field::Image0 => "image0",
+        Field::Image1 => "image1",
+    }
+}

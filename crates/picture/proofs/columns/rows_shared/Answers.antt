@@ -1,9 +1,0 @@
-use Rattle.std.proofs.Common.{◌++◌, ◌∙◌, arith, ap, sym, option_to_list}
-use Rattle.picture.specs.Columns.{row_shared}
-use Rattle.picture.proofs.Lists.{shared_more}
-use Rattle.picture.proofs.columns.rows_shared.Goals as goal
-
-pub loop-line-preserved : goal.loop-line-preserved
-loop-line-preserved c =
-    c.in_ok-push_shared.ensures ∙ ap (λ l. l ++ option_to_list (row_shared c.line-item.result)) c.loop-line.invariant
-    ∙ sym (shared_more c.args.lines.now c.loop-line.line-index c.line-item.result (omega arith) c.line-item.is)

@@ -1,8 +1,0 @@
-use Rattle.std.proofs.Common.{◌≡◌, None, drop, map}
-use Rattle.picture.specs.Columns.{seen}
-use Rattle.picture.specs.Layouts.{knots_from}
-use Rattle.picture.proofs.lanes.knots.Given as goal
-
--- the knots before the present column, and those from there on
-abbrev pub invariant-loop-column : goal.invariant-loop-column
-invariant-loop-column l = knots_from None (map seen l.columns) ≡ knots_from l.ends (map seen (drop l.column-index l.columns))

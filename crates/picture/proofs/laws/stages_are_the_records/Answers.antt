@@ -1,5 +1,0 @@
-use Rattle.picture.proofs.Stages.{stages_are}
-use Rattle.picture.proofs.laws.stages_are_the_records.Goals as goal
-
-pub returns : goal.returns
-returns c = stages_are

@@ -1,8 +1,0 @@
-use Rattle.std.proofs.Common.{◌≡◌, length, map, take}
-use Rattle.picture.specs.Columns.{seen}
-use Rattle.picture.specs.Layouts.{first_lanes}
-use Rattle.picture.proofs.layout.lanes.Given as goal
-
--- the lanes of the processes before the present one
-abbrev pub invariant-loop-process : goal.invariant-loop-process
-invariant-loop-process l = (take l.process l.lanes ≡ first_lanes l.processes (map seen l.columns) l.process) × (length l.lanes ≡ 16)

@@ -1,9 +1,0 @@
-use Rattle.std.proofs.Common.{◌≡◌, ◌≤◌, drop, map}
-use Rattle.picture.specs.Columns.{seen}
-use Rattle.picture.specs.Layouts.{room_below_of}
-use Rattle.picture.proofs.Lists.{room_left}
-use Rattle.picture.proofs.layout.room_below.Given as goal
-
--- what all columns need is what the columns from the present one on need, or what is needed already
-abbrev pub invariant-loop-column : goal.invariant-loop-column
-invariant-loop-column l = (room_below_of (map seen l.columns) ≡ room_left l.room (map seen (drop l.column-index l.columns))) × (l.room ≤ 14)

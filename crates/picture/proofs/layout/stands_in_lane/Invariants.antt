@@ -1,8 +1,0 @@
-use Rattle.std.proofs.Common.{◌≡◌, drop, map}
-use Rattle.picture.specs.Columns.{seen}
-use Rattle.picture.specs.Layouts.{has_column}
-use Rattle.picture.proofs.layout.stands_in_lane.Given as goal
-
--- none of the columns before the present one stands there
-abbrev pub invariant-loop-column : goal.invariant-loop-column
-invariant-loop-column l = has_column (map seen l.columns) l.process ≡ has_column (map seen (drop l.column-index l.columns)) l.process

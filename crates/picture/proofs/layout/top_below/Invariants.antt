@@ -1,8 +1,0 @@
-use Rattle.std.proofs.Common.{◌≡◌, ◌+◌, ◌*◌, ◌≤◌, map}
-use Rattle.picture.specs.Columns.{seen}
-use Rattle.picture.specs.Layouts.{top_of}
-use Rattle.picture.proofs.layout.top_below.Given as goal
-
--- the lanes of the processes before the present one lie above this
-abbrev pub invariant-loop-other : goal.invariant-loop-other
-invariant-loop-other l = (l.top ≡ top_of (map seen l.columns) l.other) × (l.top ≤ 20 + 70 * l.other)

@@ -1,7 +1,0 @@
-use Rattle.std.proofs.Common.{◌∙◌, arith, sym, ap}
-use Rattle.picture.specs.declared.columns.Column.{Column}
-use Rattle.picture.proofs.Lists.{last_more}
-use Rattle.picture.proofs.placing.last_place.Goals as goal
-
-pub loop-column-preserved : goal.loop-column-preserved
-loop-column-preserved c = ap (λ (column : Column). column.x) c.column-item.is ∙ sym (last_more c.args.columns.now c.loop-column.column-index c.column-item.result (omega arith))

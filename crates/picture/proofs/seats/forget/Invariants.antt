@@ -1,8 +1,0 @@
-use Rattle.std.proofs.Common.{◌≡◌}
-use Rattle.picture.specs.States.{not_awaiting}
-use Rattle.picture.proofs.Lists.{first_mapped}
-use Rattle.picture.proofs.seats.forget.Given as goal
-
--- nobody before the present one awaits the process any more
-abbrev pub invariant-loop-seat : goal.invariant-loop-seat
-invariant-loop-seat l = l.seats ≡ first_mapped (not_awaiting l.process) l.seat-index l.fn.seats

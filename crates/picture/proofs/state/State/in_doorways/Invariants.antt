@@ -1,7 +1,0 @@
-use Rattle.std.proofs.Common.{◌≡◌, length, map, take}
-use Rattle.picture.specs.States.{is_in_doorway}
-use Rattle.picture.proofs.state.State.in_doorways.Given as goal
-
--- which of the processes before the present one are in their doorways
-abbrev pub invariant-loop-place : goal.invariant-loop-place
-invariant-loop-place l = (take l.place l.are ≡ map is_in_doorway (take l.place l.self.stages)) × (length l.are ≡ 16)

@@ -1,7 +1,0 @@
-use Rattle.std.proofs.Common.{◌≡◌}
-use Rattle.picture.specs.States.{line_of_first}
-use Rattle.picture.proofs.state.State.queue.Given as goal
-
--- the line of the processes before the present one
-abbrev pub invariant-loop-process : goal.invariant-loop-process
-invariant-loop-process l = l.queue.items ≡ line_of_first l.self l.process

@@ -1,7 +1,0 @@
-use Rattle.std.proofs.Common.{◌≡◌, drop}
-use Rattle.picture.specs.States.{behind_in}
-use Rattle.picture.proofs.state.place_behind.Given as goal
-
--- the process stands at the present place or behind it
-abbrev pub invariant-loop-place : goal.invariant-loop-place
-invariant-loop-place l = behind_in l.process l.queue ≡ behind_in l.process (drop l.place l.queue)

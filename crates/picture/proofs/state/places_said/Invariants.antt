@@ -1,7 +1,0 @@
-use Rattle.std.proofs.Common.{◌≡◌, take}
-use Rattle.picture.specs.States.{group_of, places_from}
-use Rattle.picture.proofs.state.places_said.Given as goal
-
--- those before the present one of which it is said
-abbrev pub invariant-loop-place : goal.invariant-loop-place
-invariant-loop-place l = l.group ≡ group_of (places_from 0 (take l.place l.said))
