@@ -14,7 +14,7 @@ use crate::progress::DoorProgress;
 use crate::runs::{self, Runs};
 use crate::standing::Standing;
 use plain_store::Setup;
-use safe_number::{Access, Field, TornBit, bits_of};
+use safe_number::{Access, Field, Pace, TornBit, bits_of};
 use std::alloc::{AllocError, Global};
 use std::marker::Model;
 
@@ -147,14 +147,14 @@ impl Door {
     /// Makes the next access on the locks' registers as `step` does, where it is within a number access, and tells
     /// nothing: it is of a ticket, and has to be in its turn there.
     #[inline(always)]
-    pub fn step_within(&mut self, locks: &mut Locks, flick: bool)
+    pub fn step_within(&mut self, locks: &mut Locks, flick: bool, pace: Pace)
         requires within { 0 < bits_within self.old }
         requires turn { (next_of self.old false).field ≡ Ticket → let next = answered locks.old flick (next_of self.old false) in CanAccess (lock_of locks.old next.owner) next }
         ensures { GoesOnWithin self.old locks.old flick self.new locks.new }
     {
         let me = self.process;
         match self.standing.read() {
-            Some((owner, _)) => locks.read_on(owner, me, &mut self.runs.read, flick),
+            Some((owner, _)) => locks.read_on(owner, me, &mut self.runs.read, flick, pace),
             None => {
                 let readers = self.setup.processes;
                 locks.write_on(me, readers, &mut self.runs.write, self.standing.written().1);

@@ -16,7 +16,7 @@ ghost use Rattle.bakery.specs.Lending.{LendsLock};
 use plain_store::Setup;
 use reader_copies::Made;
 use safe_bit::Move;
-use safe_number::{Access, Field, NumberFault, ReadRun, Register, WriteRun, bits_of};
+use safe_number::{Access, Field, NumberFault, Pace, ReadRun, Register, WriteRun, bits_of};
 use std::alloc::{AllocError, Global};
 use std::marker::Model;
 
@@ -94,14 +94,14 @@ impl Lock {
 
     /// Makes the next access of a read of the ticket by its reader, whose end gives what the reader's copy answers.
     #[inline(always)]
-    fn read_on(&mut self, reader: u8, run: &mut ReadRun, flick: bool)
+    fn read_on(&mut self, reader: u8, run: &mut ReadRun, flick: bool, pace: Pace)
         requires going { length run.old.bits < run.old.width }
         requires there { HasCell self.old.ticket (length run.old.bits) reader }
         requires turn { (cell_at self.old.ticket (length run.old.bits) reader).reading ≡ run.old.begun }
         ensures lock { self.new ≡ record { choosing = self.old.choosing; ticket = row_after self.old.ticket (length run.old.bits) (next_read reader (bit_read run.old) (loaded self.old.ticket reader run.old flick)) } }
         ensures run { run.new ≡ number_read_after run.old (loaded self.old.ticket reader run.old flick) }
     {
-        self.ticket.read_on(reader, run, flick);
+        self.ticket.read_on(reader, run, flick, pace);
     }
 
     /// Makes the next access of a write of a ticket, with copies for so many readers.
@@ -190,7 +190,14 @@ impl Locks {
     /// Makes the next access of a read of a process's ticket by its reader, whose end gives what the reader's copy
     /// answers.
     #[inline(always)]
-    pub(crate) fn read_on(&mut self, owner: u8, reader: u8, run: &mut ReadRun, flick: bool)
+    pub(crate) fn read_on(
+        &mut self,
+        owner: u8,
+        reader: u8,
+        run: &mut ReadRun,
+        flick: bool,
+        pace: Pace,
+    )
         requires owner { owner < length self.old }
         requires going { length run.old.bits < run.old.width }
         requires there { HasCell (lock_of self.old owner).ticket (length run.old.bits) reader }
@@ -198,7 +205,7 @@ impl Locks {
         ensures locks { self.new ≡ locks_after self.old (access_of owner Ticket (next_of_read reader run.old (loaded (lock_of self.old owner).ticket reader run.old flick))) }
         ensures run { run.new ≡ number_read_after run.old (loaded (lock_of self.old owner).ticket reader run.old flick) }
     {
-        self.own(owner).read_on(reader, run, flick);
+        self.own(owner).read_on(reader, run, flick, pace);
     }
 
     /// Makes the next access of a process's write of its ticket, with copies for so many readers.

@@ -1,5 +1,7 @@
 -- The cursors of one bit: how far an access to all its copies has come, and which access comes next.
-use Rattle.std.specs.Prelude.{ℕ, suc, zero, ◌+◌, ◌*◌, ◌/◌, ◌%◌, ◌==◌, ◌-◌, ◌||◌, drop, Bool, true, false, if◌then◌else◌, Option, Some, None, unwrap_or, List, [], ◌∷◌}
+use Rattle.std.specs.Prelude.{ℕ, suc, zero, ◌+◌, ◌*◌, ◌/◌, ◌%◌, ◌==◌, ◌-◌, ◌||◌, ◌&&◌, drop, Bool, true, false, if◌then◌else◌, Option, Some, None, unwrap_or, List, [], ◌∷◌}
+use Rattle.safe_bit.specs.Cell.{Cell, read_answer}
+use Rattle.safe_bit.specs.declared.moves.Move.{Move}
 use Rattle.safe_bit.specs.declared.moves.Move.TheVariants.{BeginWrite, EndWrite, BeginRead, EndRead, Settle}
 use Rattle.reader_copies.specs.declared.runs.Made.{Made}
 use Rattle.reader_copies.specs.declared.runs.Progress.{Progress}
@@ -52,7 +54,15 @@ write_after n w = record { value = w.value; made = w.made + 1; ended = w.made + 
 abbrev pub next_read : ℕ → Reading → Bool → Made
 next_read reader r v = record { reader = reader; how = if r.begun then EndRead v else BeginRead }
 
--- the read after that access
+-- the next access of a copy's reader, as the copy itself tells it: the end of the read that is open, else the begin of one
+abbrev pub read_move : Cell → Bool → Move
+read_move c flick = if c.reading then EndRead (read_answer c flick) else BeginRead
+
+-- what that access gives: the end what was read, a begin 0
+abbrev pub read_gives : Cell → Bool → Bool
+read_gives c flick = c.reading && read_answer c flick
+
+-- the read after its next access
 abbrev pub read_after : Reading → Bool → Reading
 read_after r v = record { begun = true; value = if r.begun then Some v else r.value }
 

@@ -1,6 +1,7 @@
 ghost use Rattle.std.specs.Prelude.{◌≡◌, ◌<◌, false, length, map, replicate, slice_set, IfOk};
 ghost use Rattle.safe_bit.specs.Cell.{new_cell, cell_after, without_read, read_answer};
 ghost use Rattle.reader_copies.specs.Row.{cell_in};
+ghost use Rattle.reader_copies.specs.Runs.{read_gives, read_move};
 
 use crate::flag_words::Flags;
 use safe_bit::Move;
@@ -43,6 +44,17 @@ impl Copies {
         ensures { self.new ≡ slice_set self.old k (cell_after (cell_in self.old k) how) }
     {
         self.flags[k / 64].go_on(k % 64, how);
+    }
+
+    /// The copy of bit `k` goes on by its reader's next access, without a branch on which it is: the end of the read that
+    /// is open, else the begin of one. The end gives what `answer` does, a begin `false`.
+    #[inline(always)]
+    pub fn read_on(&mut self, k: usize, flick: bool) -> bool
+        requires { k < length self.old }
+        ensures copies { self.new ≡ slice_set self.old k (cell_after (cell_in self.old k) (read_move (cell_in self.old k) flick)) }
+        ensures gives { result ≡ read_gives (cell_in self.old k) flick }
+    {
+        self.flags[k / 64].read_on(k % 64, flick)
     }
 
     /// What the end of the open read of bit `k` gives.

@@ -1,7 +1,7 @@
 ghost use Rattle.std.specs.Prelude.{◌≡◌, ℕ, ◌<◌, ◌≤◌, ◌*◌, ◌==◌, true, false, length, None, IfOk};
 ghost use Rattle.safe_bit.specs.Cell.{without_read, read_answer};
 ghost use Rattle.reader_copies.specs.Row.{cell_at, with_cell, row_after, new_row, preset_row, without_reads, HasCell, CanMake, HaveOneShape, IsClosed};
-ghost use Rattle.reader_copies.specs.Runs.{next_write, write_after, next_read, read_after, next_settle, settle_after, settled_at, progress_of};
+ghost use Rattle.reader_copies.specs.Runs.{next_write, write_after, next_read, read_after, read_gives, read_move, next_settle, settle_after, settled_at, progress_of};
 
 use crate::copies::Copies;
 use crate::runs::{CopyRead, CopyWrite, Made, Progress, Torn};
@@ -66,6 +66,17 @@ impl CopiedRow {
         ensures { result ≡ read_answer (cell_at self.now bit reader) flick }
     {
         self.copies[reader as usize].answer(bit as usize, flick)
+    }
+
+    /// Makes the next access of a read of a bit by its reader, without a branch on which it is: the end of the read that
+    /// is open, else the begin of one. The end gives what `answer` does, a begin `false`.
+    #[inline(always)]
+    pub fn read_on(&mut self, bit: u16, reader: u8, flick: bool) -> bool
+        requires there { HasCell self.old bit reader }
+        ensures row { self.new ≡ row_after self.old bit (record { reader = reader; how = read_move (cell_at self.old bit reader) flick }) }
+        ensures gives { result ≡ read_gives (cell_at self.old bit reader) flick }
+    {
+        self.copies[reader as usize].read_on(bit as usize, flick)
     }
 
     /// Makes the next access of a write of a bit by its writer: 2 for each reader in all.

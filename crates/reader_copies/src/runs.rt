@@ -1,6 +1,6 @@
 //! The cursors of one bit: how far a write, a read or a settling has come. Each tells its next access and
 //! is moved on by it, whatever memory the access is made on.
-ghost use Rattle.std.specs.Prelude.{◌≡◌, ◌+◌, ◌*◌, ◌<◌, ◌==◌, ◌≤◌, true, false, None};
+ghost use Rattle.std.specs.Prelude.{◌≡◌, ◌+◌, ◌*◌, ◌<◌, ◌==◌, ◌≤◌, true, false, not, None};
 ghost use Rattle.reader_copies.specs.Runs.{Writing, Reading, Settling, next_write, write_after, next_read, read_after, next_settle, settle_after, settled_at, torn_of, progress_of};
 
 use safe_bit::Move;
@@ -131,6 +131,18 @@ impl CopyRead {
     {
         CopyRead {
             begun: false,
+            value: None,
+        }
+    }
+
+    /// How far reads that follow one another have come after one more access: a read has begun after a begin, and none
+    /// after an end. What the end gave is not kept.
+    #[inline(always)]
+    pub fn turned(&self) -> CopyRead
+        ensures { result ≡ record { begun = not self.now.begun; value = None } }
+    {
+        CopyRead {
+            begun: !self.begun,
             value: None,
         }
     }

@@ -1,7 +1,7 @@
 ghost use Rattle.std.specs.Prelude.{◌≡◌, [], ◌∷◌, IfOk};
 ghost use Rattle.register_tests.specs.Copies.{written_copy};
 
-use safe_number::{NumberFault, ReadRun, Register, WriteRun, bits_of, number_of};
+use safe_number::{NumberFault, Pace, ReadRun, Register, WriteRun, bits_of, number_of};
 use std::alloc::Global;
 
 // Of the widths only those from 1 to 1728 are accepted, by registers and by reads.
@@ -46,14 +46,14 @@ fn presets_a_register(rt: HostRuntime) -> Result<(), NumberFault> {
     Ok(())
 }
 
-/// Reads a register of one bit and one copy, in which 1 was written, by accesses that tell nothing.
-fn read_untold(alloc: Global, register: &mut Register) -> Result<ReadRun, NumberFault>
+/// Reads a register of one bit and one copy, in which 1 was written, by accesses at this pace that tell nothing.
+fn read_untold(alloc: Global, register: &mut Register, pace: Pace) -> Result<ReadRun, NumberFault>
     requires { register.old ≡ (written_copy ∷ []) ∷ [] }
     ensures { IfOk result (λ read. read.room ≡ 1) }
 {
     let mut read = ReadRun::new(alloc, 1)?;
-    register.read_on(0, &mut read, false);
-    register.read_on(0, &mut read, false);
+    register.read_on(0, &mut read, false, pace);
+    register.read_on(0, &mut read, false, pace);
     Ok(read)
 }
 
@@ -68,11 +68,14 @@ fn written_untold(alloc: Global) -> Result<Register, NumberFault>
     Ok(register)
 }
 
-// A bit that is written and then read by accesses that tell nothing has the value that was written.
+// A bit that is written and then read by accesses that tell nothing has the value that was written, at either pace.
 #[test]
 fn goes_on_untold(rt: HostRuntime) -> Result<(), NumberFault> {
     let mut register = written_untold(rt.alloc())?;
-    let read = read_untold(rt.alloc(), &mut register)?;
+    let read = read_untold(rt.alloc(), &mut register, Pace::Single)?;
+    assert_eq!(rt; number_of(read.bytes()), 1);
+    let mut register = written_untold(rt.alloc())?;
+    let read = read_untold(rt.alloc(), &mut register, Pace::InARow)?;
     assert_eq!(rt; number_of(read.bytes()), 1);
     Ok(())
 }
@@ -96,7 +99,7 @@ fn set_within_a_write(alloc: Global) -> Result<Register, NumberFault>
 fn sets_registers_and_reads(rt: HostRuntime) -> Result<(), NumberFault> {
     let mut register = set_within_a_write(rt.alloc())?;
     assert!(rt; register.bit(0));
-    let read = read_untold(rt.alloc(), &mut register)?;
+    let read = read_untold(rt.alloc(), &mut register, Pace::InARow)?;
     let mut set = ReadRun::new(rt.alloc(), 1)?;
     set.copy_from(&read);
     assert_eq!(rt; number_of(set.bytes()), 1);

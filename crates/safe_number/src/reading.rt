@@ -139,6 +139,21 @@ impl ReadRun {
         self.bit += 1;
     }
 
+    /// Goes on by that access, without a branch on which it is: the end keeps `value` as the bit, and a begin has none,
+    /// which is told by `false`.
+    #[inline(always)]
+    pub(crate) fn go_on(&mut self, value: bool)
+        requires going { length self.old.bits < self.old.width }
+        requires begins { self.old.begun ≡ false → value ≡ false }
+        ensures { self.new ≡ number_read_after self.old value }
+    {
+        let k = self.bit as usize;
+        let begun = self.has_begun();
+        self.bytes[k / 8] = bytes::with_next_bit(self.bytes[k / 8], k % 8, value);
+        self.bit += u16::from(begun);
+        self.run = self.run.turned();
+    }
+
     /// How many bits are read now or later, without the last one.
     #[inline]
     pub fn bits_within(&self) -> u16

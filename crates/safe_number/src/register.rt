@@ -15,6 +15,16 @@ use safe_bit::Move;
 use std::alloc::{AllocError, Global};
 use std::marker::Model;
 
+/// How the accesses of a reader follow one another. What is made of them is the same, but not how quickly.
+#[derive(Clone, Copy, Debug, PartialEq, Eq)]
+pub enum Pace {
+    /// Others' accesses come between, so whether the next one is a begin or an end can't be foreseen: it takes no
+    /// branch on that.
+    Single,
+    /// Begins and ends take turns, as a processor foresees: a branch leads to the few words that each of them needs.
+    InARow,
+}
+
 /// A number of 1 to 1728 bits with one writer and 1 to 16 readers, each bit a safe copy for each reader
 /// (Lamport 1986).
 ///
@@ -128,9 +138,28 @@ impl Register {
         self.apply(bit, made);
     }
 
-    /// Makes the next access of a read by its reader, as `read_step` does, and tells nothing.
+    /// Makes the next access of a read by its reader, as `read_step` does, and tells nothing. It is the same at either
+    /// pace.
     #[inline(always)]
-    pub fn read_on(&mut self, reader: u8, run: &mut ReadRun, flick: bool)
+    pub fn read_on(&mut self, reader: u8, run: &mut ReadRun, flick: bool, pace: Pace)
+        requires going { length run.old.bits < run.old.width }
+        requires there { HasCell self.old (length run.old.bits) reader }
+        requires turn { (cell_at self.old (length run.old.bits) reader).reading ≡ run.old.begun }
+        ensures register { self.new ≡ row_after self.old (length run.old.bits) (next_read reader (bit_read run.old) (loaded self.old reader run.old flick)) }
+        ensures run { run.new ≡ number_read_after run.old (loaded self.old reader run.old flick) }
+    {
+        match pace {
+            Pace::Single => {
+                let value = self.row.read_on(run.bit(), reader, flick);
+                run.go_on(value);
+            }
+            Pace::InARow => self.read_in_a_row(reader, run, flick),
+        }
+    }
+
+    /// The same in its way in a row: a branch on whether the read of the bit has begun.
+    #[inline(always)]
+    fn read_in_a_row(&mut self, reader: u8, run: &mut ReadRun, flick: bool)
         requires going { length run.old.bits < run.old.width }
         requires there { HasCell self.old (length run.old.bits) reader }
         requires turn { (cell_at self.old (length run.old.bits) reader).reading ≡ run.old.begun }

@@ -1,7 +1,7 @@
 use Rattle.std.proofs.Common.{ap, ◌∙◌, true}
 use Rattle.reader_copies.specs.Runs.{Reading}
 use Rattle.safe_number.specs.Bytes.{bits_in}
-use Rattle.safe_number.specs.Runs.{NumberRead, number_read_after}
+use Rattle.safe_number.specs.Runs.{NumberRead}
 use Rattle.safe_number.proofs.Numbers.{read-begins}
 use Rattle.safe_number.proofs.reading.ReadRun.begin.Goals as goal
 

@@ -1,4 +1,4 @@
-use Rattle.std.proofs.Common.{◌≡◌, ℕ, ◌<◌, ◌++◌, ◌∷◌, [], ◌∙◌, ap, length, List, Bool, false, arith}
+use Rattle.std.proofs.Common.{ℕ, ◌<◌, ◌++◌, ◌∷◌, [], ◌∙◌, ap, length, List, Bool, false, arith}
 use Rattle.std.proofs.lemmas.List.{length-set}
 use Rattle.reader_copies.specs.Runs.{Reading}
 use Rattle.safe_number.specs.Bytes.{bits_in}
