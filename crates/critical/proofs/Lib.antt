@@ -6,6 +6,8 @@ pub mod Ends
 -- An access within a number access
 pub mod Within
 pub mod WithinSteps
+pub mod WithinKept
+pub mod SectionWalks
 -- What is written
 pub mod Widths
 pub mod Writings

@@ -1,5 +1,6 @@
 -- A section, the places of its process that it shows, and what it tells.
-use Rattle.std.specs.Prelude.{◌≡◌, ℕ, ◌+◌, ◌-◌, ◌<◌, ◌≤◌, Bool, true, false, cond, List, [], ◌∷◌, length, Option, None, Some}
+use Rattle.flicks.specs.Flicks.{FlickState, after_flick, flick_of}
+use Rattle.std.specs.Prelude.{zero, suc, ◌≡◌, ℕ, ◌+◌, ◌-◌, ◌<◌, ◌≤◌, Bool, true, false, cond, List, [], ◌∷◌, length, Option, None, Some}
 use Rattle.safe_number.specs.declared.Access.{Access}
 use Rattle.safe_number.specs.declared.Field.{Field}
 use Rattle.safe_number.specs.declared.Field.TheVariants.{Commit}
@@ -134,3 +135,13 @@ pub record GoesOnWithin (section : Section) (row : DataRow) (flick : Bool) (then
   pub marks : (c : Call) (at : Place) → section ≡ section_at c at → marks_of c at (value_of access.how) ≡ []
   pub fewer : bits_within section ≤ bits_within then + 1
   pub going : is_going then ≡ true
+
+-- so many accesses may be made one after another, each by the flick that is next
+abbrev pub MayWalk : Section → DataRow → FlickState → ℕ → Type 0
+MayWalk section row flicks zero = Unit {0}
+MayWalk section row flicks (suc n) = MayStep section row (flick_of flicks) × ((then : Section) (row_then : DataRow) → GoesOnWithin section row (flick_of flicks) then row_then → MayWalk then row_then (after_flick flicks) n)
+
+-- so many accesses within a number access, each by the flick that is next, and what they leave
+abbrev pub WalksWithin : Section → DataRow → FlickState → ℕ → Section → DataRow → FlickState → Type 0
+WalksWithin section row flicks zero then row_then flicks_then = (then ≡ section) × (row_then ≡ row) × (flicks_then ≡ flicks)
+WalksWithin section row flicks (suc n) then row_then flicks_then = (mid : Section) × (row_mid : DataRow) × GoesOnWithin section row (flick_of flicks) mid row_mid × WalksWithin mid row_mid (after_flick flicks) n then row_then flicks_then

@@ -14,7 +14,7 @@ use crate::held;
 use crate::image::{self, MOST_IMAGE_BYTES};
 use plain_store::Setup;
 use reader_copies::Made;
-use safe_number::{Field, NumberFault, ReadRun, Register, WriteRun};
+use safe_number::{Field, NumberFault, Pace, ReadRun, Register, WriteRun};
 use std::alloc::{AllocError, Global};
 use std::marker::Model;
 use store_image::Image;
@@ -104,7 +104,14 @@ impl Data {
     /// Makes the next access of a read of a register by its reader, whose end gives what `answer` tells. It is
     /// quick for an image, which has many bits.
     #[inline(always)]
-    pub(crate) fn read_on(&mut self, field: Field, reader: u8, run: &mut ReadRun, flick: bool)
+    pub(crate) fn read_on(
+        &mut self,
+        field: Field,
+        reader: u8,
+        run: &mut ReadRun,
+        flick: bool,
+        pace: Pace,
+    )
         requires going { length run.old.bits < run.old.width }
         requires there { HasCell (register_of self.old field) (length run.old.bits) reader }
         requires turn { (cell_at (register_of self.old field) (length run.old.bits) reader).reading ≡ run.old.begun }
@@ -112,17 +119,24 @@ impl Data {
         ensures run { run.new ≡ number_read_after run.old (loaded (register_of self.old field) reader run.old flick) }
     {
         match field {
-            Field::Image0 => self.image0.read_on(reader, run, flick),
-            Field::Image1 => self.image1.read_on(reader, run, flick),
+            Field::Image0 => self.image0.read_on(reader, run, flick, pace),
+            Field::Image1 => self.image1.read_on(reader, run, flick, pace),
             Field::Choosing | Field::Ticket | Field::Commit | Field::Stamp0 | Field::Stamp1 => {
-                self.read_number_on(field, reader, run, flick);
+                self.read_number_on(field, reader, run, flick, pace);
             }
         }
     }
 
     /// Does the same for any register, in the way of the few bits of a number.
     #[inline(never)]
-    fn read_number_on(&mut self, field: Field, reader: u8, run: &mut ReadRun, flick: bool)
+    fn read_number_on(
+        &mut self,
+        field: Field,
+        reader: u8,
+        run: &mut ReadRun,
+        flick: bool,
+        pace: Pace,
+    )
         requires going { length run.old.bits < run.old.width }
         requires there { HasCell (register_of self.old field) (length run.old.bits) reader }
         requires turn { (cell_at (register_of self.old field) (length run.old.bits) reader).reading ≡ run.old.begun }
@@ -131,11 +145,11 @@ impl Data {
     {
         match field {
             Field::Choosing | Field::Ticket => unreachable!(),
-            Field::Commit => self.commit.read_on(reader, run, flick),
-            Field::Stamp0 => self.stamp0.read_on(reader, run, flick),
-            Field::Stamp1 => self.stamp1.read_on(reader, run, flick),
-            Field::Image0 => self.image0.read_on(reader, run, flick),
-            Field::Image1 => self.image1.read_on(reader, run, flick),
+            Field::Commit => self.commit.read_on(reader, run, flick, pace),
+            Field::Stamp0 => self.stamp0.read_on(reader, run, flick, pace),
+            Field::Stamp1 => self.stamp1.read_on(reader, run, flick, pace),
+            Field::Image0 => self.image0.read_on(reader, run, flick, pace),
+            Field::Image1 => self.image1.read_on(reader, run, flick, pace),
         }
     }
 

@@ -13,7 +13,7 @@ use crate::{held, image};
 use plain_store::Setup;
 use reader_copies::Made;
 use safe_bit::Move;
-use safe_number::{Access, Field, ReadRun, WriteRun};
+use safe_number::{Access, Field, Pace, ReadRun, WriteRun};
 use std::alloc::{AllocError, Global};
 use std::marker::Model;
 use store_image::Image;
@@ -126,6 +126,7 @@ impl DataRow {
         reader: u8,
         run: &mut ReadRun,
         flick: bool,
+        pace: Pace,
     )
         requires owner { owner < length self.old.parts }
         requires going { length run.old.bits < run.old.width }
@@ -134,7 +135,7 @@ impl DataRow {
         ensures register { self.new ≡ with_register_at self.old owner field (row_after (register_at self.old owner field) (length run.old.bits) (next_read reader (bit_read run.old) (loaded (register_at self.old owner field) reader run.old flick))) }
         ensures run { run.new ≡ number_read_after run.old (loaded (register_at self.old owner field) reader run.old flick) }
     {
-        self.parts[usize::from(owner)].read_on(field, reader, run, flick);
+        self.parts[usize::from(owner)].read_on(field, reader, run, flick, pace);
     }
 
     /// Makes the next access of a write of `value` to a register with copies for `readers` readers.

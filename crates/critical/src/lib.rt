@@ -12,6 +12,7 @@ mod newest;
 mod progress;
 mod section;
 mod standing;
+mod walking;
 
 pub use data::Data;
 pub use data_row::DataRow;

@@ -8,17 +8,18 @@ ghost use Rattle.record.specs.Registers.{image_bytes};
 ghost use Rattle.record.specs.Scripts.{Call};
 ghost use Rattle.critical.specs.Keeping.{IsRunOf, run_of, fresh_run, IsStanding};
 ghost use Rattle.critical.specs.Registers.{after_access, answered, is_data, FitsSetup};
-ghost use Rattle.critical.specs.Sections.{is_going, section_at, inside_place, new_section, started, ended, goes_on, progress_at, marks_told, reads_in, after_fail, bits_within, GoesOnWithin, IsInRange, MayStep};
+ghost use Rattle.critical.specs.Sections.{is_going, section_at, inside_place, new_section, started, ended, goes_on, progress_at, marks_told, reads_in, after_fail, bits_within, GoesOnWithin, IsInRange, MayStep, MayWalk, WalksWithin};
 
 use crate::change::{Change, Written};
 use crate::data_row::DataRow;
-use crate::image;
 use crate::progress::SectionProgress;
 use crate::standing::{self, Asked, Called, Standing, Versions};
+use crate::{image, walking};
+use flicks::Flicks;
 use plain_store::{Command, Reply, Setup};
 use reader_copies::Progress;
 use safe_bit::Move;
-use safe_number::{Access, Field, NumberFault, ReadRun, TornBit, WriteRun};
+use safe_number::{Access, Field, NumberFault, Pace, ReadRun, TornBit, WriteRun};
 use std::alloc::{AllocError, Global};
 use std::marker::Model;
 
@@ -220,22 +221,43 @@ impl Section {
     /// Makes the next access as `step` does, where it is within a number access, and tells nothing: so it is the
     /// quickest way through the many bits of an image.
     #[inline(always)]
-    pub fn step_within(&mut self, row: &mut DataRow, flick: bool)
+    pub fn step_within(&mut self, row: &mut DataRow, flick: bool, pace: Pace)
         requires within { 0 < bits_within self.old }
         requires may { MayStep self.old row.old flick }
         ensures { GoesOnWithin self.old row.old flick self.new row.new }
     {
-        let me = self.call.process;
         match &self.standing {
             Standing::Reads { part, versions } => {
-                let (owner, field) = standing::register_asked(part, versions);
-                row.read_on(owner, field, me, &mut self.reading, flick);
+                let asked = standing::register_asked(part, versions);
+                let run = &mut self.reading;
+                walking::read_on(&self.call, part, versions, asked, run, row, flick, pace);
             }
             Standing::Writes { part, change } => {
-                let readers = self.call.setup.processes;
-                change.write_on(*part, row, me, readers, &mut self.writing);
+                walking::write_on(&self.call, *part, change, &mut self.writing, row, flick);
             }
             Standing::Done => unreachable!(),
+        }
+    }
+
+    /// Makes so many of the next accesses as `step_within` makes each, by the flicks that are next, where as many bits
+    /// at least are left: which register it is is looked up once.
+    #[inline]
+    pub fn walk_within(&mut self, row: &mut DataRow, flicks: &mut Flicks, steps: u32)
+        requires within { steps ≤ bits_within self.old }
+        requires may { MayWalk self.old row.old flicks.old steps }
+        ensures { WalksWithin self.old row.old flicks.old steps self.new row.new flicks.new }
+    {
+        match &self.standing {
+            Standing::Reads { part, versions } => {
+                let asked = standing::register_asked(part, versions);
+                let run = &mut self.reading;
+                walking::read_all_on(&self.call, part, versions, asked, run, row, flicks, steps);
+            }
+            Standing::Writes { part, change } => {
+                let run = &mut self.writing;
+                walking::write_all_on(&self.call, *part, change, run, row, flicks, steps);
+            }
+            Standing::Done => {}
         }
     }
 

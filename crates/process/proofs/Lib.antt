@@ -8,6 +8,8 @@ pub mod AtDoor
 pub mod Steps
 pub mod Data
 pub mod DataWithin
+pub mod DataWalks
+pub mod Walks
 pub mod DoorWithin
 pub mod Clears
 pub mod Withdraws

@@ -1,5 +1,6 @@
 -- The registers of all processes, those of the lock and those of the versions, and a process that is served by them.
-use Rattle.std.specs.Prelude.{◌≡◌, ◌+◌, ◌≤◌, Bool, true, false, cond, List, [], Some}
+use Rattle.flicks.specs.Flicks.{FlickState, after_flick, flick_of}
+use Rattle.std.specs.Prelude.{ℕ, zero, suc, ◌≡◌, ◌+◌, ◌≤◌, Bool, true, false, cond, List, [], Some}
 use Rattle.safe_number.specs.declared.Access.{Access}
 use Rattle.plain_store.specs.declared.Setup.{Setup}
 use Rattle.record.specs.Doorways.{is_waiting_stage}
@@ -11,7 +12,7 @@ use Rattle.critical.specs.Registers.{DataRow, after_access, is_data, opening_cel
 use Rattle.laws.specs.Doings.{Doing}
 use Rattle.laws.specs.Steps.{does_then, marks_with, next_of}
 use Rattle.process.specs.Processes.{ProcessState, kept_at, stage_kept}
-use Rattle.process.specs.Steps.{IsAt, bits_to_walk}
+use Rattle.process.specs.Steps.{IsAt, bits_to_walk, is_at_door}
 
 pub record RegistersState : Type 0 where
   pub locks : List LockRows
@@ -50,12 +51,23 @@ pub record MayStep (now : ProcessState) (r : RegistersState) (flick : Bool) : Ty
   pub can : CanMake r (answered r flick next)
 
 -- a step within a number access at the door or at the data, and what it leaves: it has no mark, and the process waits
--- after it exactly if it waited before
+-- after it exactly if it waited before, and is at the door exactly if it was
 pub record StepsWithin (r : RegistersState) (flick : Bool) (now : ProcessState) (r_then : RegistersState) (then : ProcessState) : Type 0 where
   pub access : Access
   pub is_next : (d : Doing) (next : Access) → IsAt now d → next_of now.setup now.process d flick ≡ Some next → access ≡ answered r flick next
   pub then_is : (d : Doing) → IsAt now d → then ≡ record now { kept = kept_at now.setup now.process (does_then now.setup now.process d flick (value_of access.how)) }
   pub stays : is_waiting_stage (stage_kept then.kept) ≡ is_waiting_stage (stage_kept now.kept)
+  pub at_door : is_at_door then.kept ≡ is_at_door now.kept
   pub marks : (d : Doing) → IsAt now d → marks_with now.setup now.process d flick (value_of access.how) ≡ []
   pub fewer : bits_to_walk now.kept ≤ bits_to_walk then.kept + 1
   pub registers : r_then ≡ made r access
+
+-- so many steps may be made one after another, each by the flick that is next
+abbrev pub MayWalk : ProcessState → RegistersState → FlickState → ℕ → Type 0
+MayWalk now r flicks zero = Unit {0}
+MayWalk now r flicks (suc n) = MayStep now r (flick_of flicks) × ((r_then : RegistersState) (then : ProcessState) → StepsWithin r (flick_of flicks) now r_then then → MayWalk then r_then (after_flick flicks) n)
+
+-- so many steps within a number access, each by the flick that is next, and what they leave
+abbrev pub WalksWithin : RegistersState → FlickState → ProcessState → ℕ → RegistersState → FlickState → ProcessState → Type 0
+WalksWithin r flicks now zero r_then flicks_then then = (then ≡ now) × (r_then ≡ r) × (flicks_then ≡ flicks)
+WalksWithin r flicks now (suc n) r_then flicks_then then = (r_mid : RegistersState) × (mid : ProcessState) × StepsWithin r (flick_of flicks) now r_mid mid × WalksWithin r_mid (after_flick flicks) mid n r_then flicks_then then

@@ -1,19 +1,20 @@
 //! A process that is served by registers.
-ghost use Rattle.std.specs.Prelude.{◌≡◌, ◌<◌, true, false, Some};
+ghost use Rattle.std.specs.Prelude.{◌≡◌, ◌<◌, ◌≤◌, true, false, Some};
 ghost use Rattle.record.specs.Places.{value_of};
 ghost use Rattle.record.specs.declared.Stage.TheVariants.{Waiting};
 ghost use Rattle.laws.specs.Doings.{Doing};
 ghost use Rattle.laws.specs.Steps.{does_then, marks_with, next_of};
 ghost use Rattle.process.specs.Drops.{AreOf, dropped};
 ghost use Rattle.process.specs.Processes.{kept_at, stage_kept};
-ghost use Rattle.process.specs.Registers.{MayStep, StepsWithin, answered, made};
+ghost use Rattle.process.specs.Registers.{MayStep, MayWalk, StepsWithin, WalksWithin, answered, made};
 ghost use Rattle.process.specs.Steps.{IsAt, bits_to_walk, bits_within, is_at_door, kept_failing, kept_withdrawing, may_fail, may_step};
 ghost use Rattle.process.specs.Telling.{marks_told};
 
 use super::{Process, Work};
 use crate::registers::{Registers, ended, given};
 use crate::told::Told;
-use safe_number::Access;
+use flicks::Flicks;
+use safe_number::{Access, Pace};
 
 impl Process {
     /// Makes the next access, of the process or of its memory unit, and goes on by it. It answers the access, a read's
@@ -84,38 +85,84 @@ impl Process {
     /// Makes the next access, within a number access at the door or at the data: the quick way through the many bits of
     /// a ticket or of an image.
     #[inline(always)]
-    pub fn step_within(&mut self, registers: &mut Registers, flick: bool)
+    pub fn step_within(&mut self, registers: &mut Registers, flick: bool, pace: Pace)
         requires within { 0 < bits_to_walk self.old.kept }
         requires may { MayStep self.old registers.old flick }
         ensures { StepsWithin registers.old flick self.old registers.new self.new }
     {
         if self.is_at_door() {
-            self.step_at_door(registers, flick);
+            self.step_at_door(registers, flick, pace);
         } else {
-            self.step_at_data(registers, flick);
+            self.step_at_data(registers, flick, pace);
+        }
+    }
+
+    /// Makes so many of the next accesses, one at least, as `step_within` makes each, by the flicks that are next: at the
+    /// data it looks up once which register it is.
+    #[inline]
+    pub fn walk_within(&mut self, registers: &mut Registers, flicks: &mut Flicks, steps: u32)
+        requires some { 0 < steps }
+        requires within { steps ≤ bits_to_walk self.old.kept }
+        requires may { MayWalk self.old registers.old flicks.old steps }
+        ensures { WalksWithin registers.old flicks.old self.old steps registers.new flicks.new self.new }
+    {
+        if self.is_at_door() {
+            self.walk_at_door(registers, flicks, steps);
+        } else {
+            self.walk_at_data(registers, flicks, steps);
         }
     }
 
     /// The same at the door.
     #[inline(always)]
-    fn step_at_door(&mut self, registers: &mut Registers, flick: bool)
+    fn walk_at_door(&mut self, registers: &mut Registers, flicks: &mut Flicks, steps: u32)
+        requires at_door { is_at_door self.old.kept ≡ true }
+        requires within { steps ≤ bits_to_walk self.old.kept }
+        requires may { MayWalk self.old registers.old flicks.old steps }
+        ensures { WalksWithin registers.old flicks.old self.old steps registers.new flicks.new self.new }
+    {
+        let mut made = 0;
+        'steps: while made < steps {
+            let flick = flicks.flick();
+            self.step_at_door(registers, flick, Pace::InARow);
+            made += 1;
+        }
+    }
+
+    /// The same at the data.
+    #[inline(always)]
+    fn walk_at_data(&mut self, registers: &mut Registers, flicks: &mut Flicks, steps: u32)
+        requires elsewhere { is_at_door self.old.kept ≡ false }
+        requires some { 0 < steps }
+        requires within { steps ≤ bits_to_walk self.old.kept }
+        requires may { MayWalk self.old registers.old flicks.old steps }
+        ensures { WalksWithin registers.old flicks.old self.old steps registers.new flicks.new self.new }
+    {
+        let row = &mut registers.versions;
+        self.section.walk_within(row, flicks, steps);
+    }
+
+    /// The same of one step, at the door.
+    #[inline(always)]
+    fn step_at_door(&mut self, registers: &mut Registers, flick: bool, pace: Pace)
         requires at_door { is_at_door self.old.kept ≡ true }
         requires within { 0 < bits_to_walk self.old.kept }
         requires may { MayStep self.old registers.old flick }
         ensures { StepsWithin registers.old flick self.old registers.new self.new }
     {
-        self.door.step_within(&mut registers.locks, flick);
+        self.door.step_within(&mut registers.locks, flick, pace);
     }
 
     /// The same at the data.
     #[inline(always)]
-    fn step_at_data(&mut self, registers: &mut Registers, flick: bool)
+    fn step_at_data(&mut self, registers: &mut Registers, flick: bool, pace: Pace)
         requires elsewhere { is_at_door self.old.kept ≡ false }
         requires within { 0 < bits_to_walk self.old.kept }
         requires may { MayStep self.old registers.old flick }
         ensures { StepsWithin registers.old flick self.old registers.new self.new }
     {
-        self.section.step_within(&mut registers.versions, flick);
+        self.section
+            .step_within(&mut registers.versions, flick, pace);
     }
 
     /// The process gives up waiting: its open read is dropped, and it begins to clear its ticket.

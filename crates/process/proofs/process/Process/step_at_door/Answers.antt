@@ -87,6 +87,7 @@ returns c =
       stays = ap (λ k. is_waiting_stage (stage_kept k)) stays
           ∙ ap (λ (standing : Standing). is_waiting_stage (elim (is_waiting_at standing) as (λ _. Stage) [ true ↦ stage.Waiting | false ↦ stage.Doorway ])) e.standing
           ∙ ap (λ k. is_waiting_stage (stage_kept k)) found.0;
+      at_door = ap is_at_door stays ∙ sym c.requires.at_door;
       marks = λ d is.
           let at = at_this d is in
           ap (λ (state : ProcessState). marks_with state.setup state.process d c.args.flick v) (sym c.self.view_is) ∙ ap (λ d. marks_with f.setup f.process d c.args.flick v) at.is ∙ e.marks k at.accesses at.shown;

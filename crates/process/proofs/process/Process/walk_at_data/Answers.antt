@@ -1,0 +1,72 @@
+-- Steps in a row at the data, by the place of the call.
+use Rattle.std.proofs.Common.{◌≡◌, ◌≤◌, sym, ap, subst, ◌∙◌, arith}
+use Rattle.flicks.specs.Flicks.{flick_of}
+use Rattle.record.specs.Places.{place_of}
+use Rattle.critical.specs.Sections.{Section}
+use Rattle.laws.specs.Doings.{call}
+use Rattle.process.specs.Keeping.{Goes, is_at_data, kept_shown}
+use Rattle.process.specs.Processes.{Kept, ProcessState}
+use Rattle.process.specs.Registers.{MayStep, MayWalk, RegistersState, WalksWithin}
+use Rattle.process.specs.Steps.{bits_to_walk}
+use Rattle.process.proofs.Data.{data-works, here}
+use Rattle.process.proofs.DataWalks.{Caller, at_data, may-walk-data, rows, walk-stays, walks-data}
+use Rattle.process.proofs.DataWithin.{data-to-walk, data-within}
+use Rattle.process.proofs.Walks.{may-first}
+use Rattle.process.proofs.process.Process.walk_at_data.Goals as goal
+
+pub walk_within-requires-clause-within : goal.walk_within-requires-clause-within
+walk_within-requires-clause-within c =
+    let f = c.self.inside in
+    let x : Caller = record { setup = f.setup; process = f.process; command = f.command; number = f.number } in
+    let here_at = data-within c.args.self.now.kept (data-to-walk c.args.self.now.kept c.requires.elsewhere (let some = c.requires.some in let within = c.requires.within in omega (arith, some, within))) in
+    let works = data-works f.work f.door f.section (ap (λ (state : ProcessState). is_at_data state.kept) c.self.view_is ∙ here_at) in
+    let now_is : at_data x f.section ≡ c.args.self.now = ap (λ current. let state : ProcessState = record { setup = f.setup; process = f.process; kept = kept_shown current f.door f.section; command = f.command; number = f.number } in state) (sym works) ∙ c.self.view_is in
+    subst (λ (state : ProcessState). c.args.steps ≤ bits_to_walk state.kept) (sym now_is) c.requires.within
+
+pub walk_within-requires-clause-may : goal.walk_within-requires-clause-may
+walk_within-requires-clause-may c =
+    let f = c.self.inside in
+    let x : Caller = record { setup = f.setup; process = f.process; command = f.command; number = f.number } in
+    let here_at = data-within c.args.self.now.kept (data-to-walk c.args.self.now.kept c.requires.elsewhere (let some = c.requires.some in let within = c.requires.within in omega (arith, some, within))) in
+    let works = data-works f.work f.door f.section (ap (λ (state : ProcessState). is_at_data state.kept) c.self.view_is ∙ here_at) in
+    let now_is : at_data x f.section ≡ c.args.self.now = ap (λ current. let state : ProcessState = record { setup = f.setup; process = f.process; kept = kept_shown current f.door f.section; command = f.command; number = f.number } in state) (sym works) ∙ c.self.view_is in
+    let going = (here f.setup f.process f.command f.number f.work f.door f.section c.args.self.now c.self.view_is c.self.invariant.goes here_at).0 in
+    let may = subst (λ (state : ProcessState). MayWalk state (rows c.registers.inside.locks c.registers.inside.versions) c.args.flicks.now c.args.steps) (sym now_is) (subst (λ (r : RegistersState). MayWalk c.args.self.now r c.args.flicks.now c.args.steps) (sym c.registers.view_is) c.requires.may) in
+    may-walk-data c.args.steps x f.door f.section c.registers.inside.locks c.registers.inside.versions c.args.flicks.now going may
+
+pub invariant_of-self : goal.invariant_of-self
+invariant_of-self c =
+    let f = c.self.inside in
+    let here_at = data-within c.args.self.now.kept (data-to-walk c.args.self.now.kept c.requires.elsewhere (let some = c.requires.some in let within = c.requires.within in omega (arith, some, within))) in
+    let m : MayStep c.args.self.now c.args.registers.now (flick_of c.args.flicks.now) = may-first c.args.steps c.args.self.now c.args.registers.now c.args.flicks.now c.requires.some c.requires.may in
+    let found = here f.setup f.process f.command f.number f.work f.door f.section c.args.self.now c.self.view_is c.self.invariant.goes here_at in
+    let at = found.1 m.doing m.is_at in
+    let k = call f.setup f.process f.command f.number in
+    let stays = walk-stays c.args.steps k f.section c.walk_within.new.self c.registers.inside.versions c.walk_within.new.row c.args.flicks.now c.walk_within.new.flicks (record { place = place_of k at.accesses; shown = at.shown; going = found.0 }) c.walk_within.ensures in
+    record {
+      good = c.self.invariant.good;
+      process = c.self.invariant.process;
+      door_setup = c.self.invariant.door_setup;
+      door_process = c.self.invariant.door_process;
+      section_setup = ap (λ (s : Section). s.call.setup) stays.shown;
+      section_process = ap (λ (s : Section). s.call.process) stays.shown;
+      goes = subst (λ current. Goes f.setup f.process current f.door c.walk_within.new.self) (sym (data-works f.work f.door f.section (ap (λ (state : ProcessState). is_at_data state.kept) c.self.view_is ∙ here_at))) stays.going;
+    }
+
+pub returns : goal.returns
+returns c =
+    let f = c.self.inside in
+    let x : Caller = record { setup = f.setup; process = f.process; command = f.command; number = f.number } in
+    let state_of : Kept → ProcessState = λ kept. record { setup = f.setup; process = f.process; kept = kept; command = f.command; number = f.number } in
+    let here_at = data-within c.args.self.now.kept (data-to-walk c.args.self.now.kept c.requires.elsewhere (let some = c.requires.some in let within = c.requires.within in omega (arith, some, within))) in
+    let works = data-works f.work f.door f.section (ap (λ (state : ProcessState). is_at_data state.kept) c.self.view_is ∙ here_at) in
+    let now_is : at_data x f.section ≡ c.args.self.now = ap (λ current. state_of (kept_shown current f.door f.section)) (sym works) ∙ c.self.view_is in
+    let then_is : at_data x c.walk_within.new.self ≡ state_of (kept_shown f.work f.door c.walk_within.new.self) = ap (λ current. state_of (kept_shown current f.door c.walk_within.new.self)) (sym works) in
+    let going = (here f.setup f.process f.command f.number f.work f.door f.section c.args.self.now c.self.view_is c.self.invariant.goes here_at).0 in
+    let locks = c.registers.inside.locks in
+    let row = c.registers.inside.versions in
+    let may = subst (λ (state : ProcessState). MayWalk state (rows locks row) c.args.flicks.now c.args.steps) (sym now_is) (subst (λ (r : RegistersState). MayWalk c.args.self.now r c.args.flicks.now c.args.steps) (sym c.registers.view_is) c.requires.may) in
+    let walks = walks-data c.args.steps x f.door f.section c.walk_within.new.self locks row c.walk_within.new.row c.args.flicks.now c.walk_within.new.flicks going may c.walk_within.ensures in
+    subst (λ (r : RegistersState). WalksWithin r c.args.flicks.now c.args.self.now c.args.steps (rows locks c.walk_within.new.row) c.walk_within.new.flicks (state_of (kept_shown f.work f.door c.walk_within.new.self))) c.registers.view_is
+    (subst (λ (state : ProcessState). WalksWithin (rows locks row) c.args.flicks.now state c.args.steps (rows locks c.walk_within.new.row) c.walk_within.new.flicks (state_of (kept_shown f.work f.door c.walk_within.new.self))) now_is
+    (subst (λ (then : ProcessState). WalksWithin (rows locks row) c.args.flicks.now (at_data x f.section) c.args.steps (rows locks c.walk_within.new.row) c.walk_within.new.flicks then) then_is walks))
