@@ -1,5 +1,5 @@
 -- A core that shows events with a history keeps, with it, what a world keeps.
-use Rattle.std.proofs.Common.{◌≡◌, ℕ, zero, suc, ◌+◌, ◌<◌, ◌≤◌, Bool, List, [], ◌∷◌, Option, None, Some, length, map, refl, sym, ap, subst, ◌∙◌, add-one, arith}
+use Rattle.std.proofs.Common.{◌≡◌, ℕ, zero, suc, ◌+◌, ◌<◌, ◌≤◌, Bool, List, [], ◌∷◌, Option, None, Some, length, map, refl, sym, ap, subst, ◌∙◌, arith}
 use Rattle.std.specs.Prelude.{slice_index_or, slice_set}
 use Rattle.std.proofs.lemmas.List.{length-map, length-set, length_push}
 use Rattle.plain_store.specs.declared.Command.{Command}
@@ -12,12 +12,11 @@ use Rattle.record.specs.Records.{past_of, process_of, refused}
 use Rattle.process.specs.Processes.{ProcessState}
 use Rattle.process.specs.Refusals.{refusal_of}
 use Rattle.world.specs.Changes.{pending_in, told, with_taken}
-use Rattle.world.specs.Cores.{CoreGoesOn, CoreRefuses, CoreState, CoreStepsQuietly, CoreWalks, KeepsCore, call_in, with_history}
+use Rattle.world.specs.Cores.{CoreGoesOn, CoreRefuses, CoreState, CoreWalks, KeepsCore, call_in, with_history}
 use Rattle.world.specs.Events.{IsRefused}
-use Rattle.flicks.specs.Flicks.{FlickState, after_flick, flick_of}
+use Rattle.flicks.specs.Flicks.{FlickState}
 use Rattle.world.specs.Seats.{Seat}
 use Rattle.world.specs.Shows.{Shows, WorldState}
-use Rattle.world.specs.Walks.{StepsQuietly, Walks}
 use Rattle.world.proofs.WorldEnds.{IsUsed, index-in}
 use Rattle.world.proofs.WorldNew.{refused-told}
 use Rattle.world.proofs.WorldOpen.{is-open, opened}
@@ -98,15 +97,6 @@ pub core_stays : (c d : CoreState) (f : FlickState) (p : ℕ) → c ≡ d → Co
 core_stays c d f p is = record {
   walks = λ taken. ((λ k. with_history (is k) taken), refl);
   pending = let same = ap (λ (x : CoreState). pending_in x.seats) is in omega (arith, same);
-}
-
--- one step more
-pub core_walks_on : (old mid new : CoreState) (f g h : FlickState) (p made : ℕ) (flick : Bool) → CoreWalks old f p made mid g → CoreStepsQuietly mid p flick new → flick ≡ flick_of g → h ≡ after_flick g → CoreWalks old f p (made + 1) new h
-core_walks_on old mid new f g h p made flick first step is after = record {
-  walks = λ taken.
-      subst (λ n. Walks (with_history old taken) f p n (with_history new taken) h) (sym (add-one made))
-      (with_history mid taken, g, first.walks taken, subst (λ flick. StepsQuietly (with_history mid taken) p flick (with_history new taken)) is (step.steps taken), after);
-  pending = let a = first.pending in let b = step.pending in omega (arith, a, b);
 }
 
 pub core_walks : (n : ℕ) (old mid new : CoreState) (f g h : FlickState) (p made : ℕ) → CoreWalks old f p made mid g → CoreWalks mid g p n new h → CoreWalks old f p (made + n) new h

@@ -1,6 +1,7 @@
 -- A step of a core within a number access, by the seat of its process.
-use Rattle.std.proofs.Common.{◌≡◌, ℕ, ◌<◌, ◌||◌, Bool, List, [], length, Some, refl, sym, subst, ◌∙◌}
+use Rattle.std.proofs.Common.{◌≡◌, ℕ, ◌+◌, ◌<◌, ◌≤◌, ◌||◌, Bool, List, [], length, Some, refl, sym, subst, ◌∙◌, arith}
 use Rattle.std.specs.Prelude.{slice_index_or, slice_set}
+use Rattle.std.proofs.lemmas.List.{get_or-set_same, length-set}
 use Rattle.safe_number.specs.declared.Access.{Access}
 use Rattle.record.specs.declared.events.Event.TheVariants.{Step}
 use Rattle.record.specs.declared.history.Taken.{Taken}
@@ -14,9 +15,9 @@ use Rattle.world.specs.Cores.{CoreState, CoreStepsQuietly, KeepsCore, with_histo
 use Rattle.world.specs.Events.{Adds}
 use Rattle.world.specs.Seats.{Seat}
 use Rattle.world.specs.Shows.{WorldState}
-use Rattle.world.specs.Walks.{bits_within_at}
+use Rattle.world.specs.Walks.{KeepOthers, bits_within_at}
 use Rattle.world.proofs.CoreKeeps.{fewer_pending}
-use Rattle.world.proofs.WorldWalks.{bits-at, bits-there, keeps_of, quiet-adds, quiet-ends, quiet-on, room_of, within-may}
+use Rattle.world.proofs.WorldWalks.{bits-at, bits-other, bits-there, keeps_of, quiet-adds, quiet-ends, quiet-on, room_of, within-may}
 
 -- a seat of a core whose process is within a number access
 pub record IsWithin (core : CoreState) (p i : ℕ) (seat : Seat) : Type 0 where
@@ -57,6 +58,20 @@ within-core-steps core p i flick seat registers then h g = record {
       fewer_pending core.seats (slice_set core.seats i then) h.kept.taken (pending_in core.seats)
       (quiet-ends w (room_of w) p i flick seat registers then (keeps_of w h.kept.events h.kept.shows) h.index h.there h.seat_is h.some g.stays g.within).room refl;
 }
+
+-- its process has at most one bit less before the last one
+pub within-core-fewer : (core d : CoreState) (p i : ℕ) (flick : Bool) (seat : Seat) (registers : RegistersState) (then : Seat) → core ≡ d → IsWithin core p i seat → SeatGoes core flick seat registers then → bits_within_at d.seats p ≤ bits_within_at (core_within core i registers then).seats p + 1
+within-core-fewer core d p i flick seat registers then view h g =
+    let here = bits-at core.seats i p seat h.index h.there h.seat_is in
+    let long = length-set core.seats i then in
+    let inside = h.there in
+    let after = bits-at (slice_set core.seats i then) i p then h.index (omega (arith, long, inside)) (sym (get_or-set_same core.seats i then then inside)) in
+    let less = g.within.fewer in
+    subst (λ (x : CoreState). bits_within_at x.seats p ≤ bits_within_at (slice_set core.seats i then) p + 1) view (omega (arith, here, after, less))
+
+-- and each other process as many as before
+pub within-core-others : (core d : CoreState) (p i : ℕ) (registers : RegistersState) (then : Seat) → core ≡ d → i ≡ p → KeepOthers d.seats p (core_within core i registers then).seats
+within-core-others core d p i registers then view index = subst (λ (x : CoreState). KeepOthers x.seats p (slice_set core.seats i then)) view (bits-other core.seats i p then index)
 
 -- the access that a process tells as its next one is that of its step
 pub told-made : (now then : ProcessState) (r r_then : RegistersState) (flick : Bool) (told : Access) → MayStep now r flick → (e : StepsWithin r flick now r_then then) → ((d : Doing) (next : Access) → IsAt now d → next_of now.setup now.process d flick ≡ Some next → told ≡ answered r flick next) → e.access ≡ told

@@ -22,6 +22,7 @@ pub mod WorldMarks
 pub mod WorldHeadline
 pub mod WorldWalks
 pub mod WithinStages
+pub mod WorldRows
 pub mod WorldShows
 pub mod WorldGoes
 pub mod WorldGoesMarked
@@ -29,6 +30,7 @@ pub mod WorldEnds
 -- A world without its history
 pub mod CoreKeeps
 pub mod CoreWithin
+pub mod CoreRows
 pub mod CoreCopies
 pub mod WorldKeeps
 -- What a world is asked

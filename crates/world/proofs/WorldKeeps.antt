@@ -1,5 +1,5 @@
 -- A world is a core and a history: what it keeps after what its core does.
-use Rattle.std.proofs.Common.{◌≡◌, ℕ, zero, suc, ◌+◌, ◌<◌, ◌≤◌, Bool, true, false, true≢false, List, [], ◌∷◌, Option, None, Some, length, refl, sym, ap, subst, ◌∙◌, arith}
+use Rattle.std.proofs.Common.{◌≡◌, ℕ, zero, suc, ◌+◌, ◌<◌, ◌≤◌, Bool, true, false, List, [], ◌∷◌, Option, None, Some, length, refl, sym, ap, subst, ◌∙◌, arith}
 use Rattle.std.specs.Prelude.{IfSome, OnSome}
 use Rattle.safe_number.specs.declared.Access.{Access}
 use Rattle.plain_store.specs.declared.Reply.{Reply}
@@ -90,16 +90,14 @@ walk_keeps n c new h f g p capacity keeps walks =
     let then : (later : List Event) × Shows (with_history new h) later = walks-shown n (with_history c h) (with_history new h) f g p keeps.events (walks.walks h) keeps.shows in
     record { events = then.0; shows = then.1; room = let room = keeps.room in let fewer = walks.pending in omega (arith, room, fewer) }
 
--- after a step without a mark, if one was made
-pub within_keeps : (made : Bool) (c new : CoreState) (h : List Taken) (p : ℕ) (flick : Bool) (capacity : ℕ) → KeepsWorld (with_history c h) capacity → (made ≡ true → CoreStepsQuietly c p flick new) → (made ≡ false → new ≡ c) → KeepsWorld (with_history new h) capacity
-within_keeps true c new h p flick capacity keeps steps same =
-    let quietly = steps refl in
+-- after a step without a mark
+pub quietly_keeps : (c new : CoreState) (h : List Taken) (p : ℕ) (flick : Bool) (capacity : ℕ) → KeepsWorld (with_history c h) capacity → CoreStepsQuietly c p flick new → KeepsWorld (with_history new h) capacity
+quietly_keeps c new h p flick capacity keeps quietly =
     record { events = Step p flick ∷ keeps.events; shows = (quietly.steps h).shows keeps.events keeps.shows; room = let room = keeps.room in let fewer = quietly.pending in omega (arith, room, fewer) }
-within_keeps false c new h p flick capacity keeps steps same = subst (λ core. KeepsWorld (with_history core h) capacity) (sym (same refl)) keeps
 
--- the same of one that tells its access
+-- after one that tells its access, if one was made
 pub told_keeps : (told : Option Access) (c new : CoreState) (h : List Taken) (p : ℕ) (flick : Bool) (capacity : ℕ) → KeepsWorld (with_history c h) capacity → OnSome told (CoreStepsQuietly c p flick new) → (told ≡ None → new ≡ c) → KeepsWorld (with_history new h) capacity
-told_keeps (Some a) c new h p flick capacity keeps steps same = within_keeps true c new h p flick capacity keeps (λ made. steps) (λ unmade. absurd (true≢false unmade))
+told_keeps (Some a) c new h p flick capacity keeps steps same = quietly_keeps c new h p flick capacity keeps steps
 told_keeps None c new h p flick capacity keeps steps same = subst (λ core. KeepsWorld (with_history core h) capacity) (sym (same refl)) keeps
 
 pub told_steps : (told : Option Access) (c new : CoreState) (h : List Taken) (p : ℕ) (flick : Bool) → OnSome told (CoreStepsQuietly c p flick new) → OnSome told (StepsQuietly (with_history c h) p flick (with_history new h))

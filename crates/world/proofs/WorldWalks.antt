@@ -19,7 +19,7 @@ use Rattle.process.specs.Processes.{Kept, stage_kept}
 use Rattle.world.specs.Shows.{Shows, WorldState}
 use Rattle.process.specs.Registers.{MayStep, RegistersState, StepsWithin}
 use Rattle.process.specs.Steps.{bits_to_walk, is_at_door}
-use Rattle.world.specs.Walks.{StepsQuietly, Walks, bits_within_at}
+use Rattle.world.specs.Walks.{KeepOthers, StepsQuietly, Walks, bits_within_at}
 use Rattle.world.proofs.WorldHeadline.{keeps_headline}
 use Rattle.world.proofs.WorldEnds.{IsUsed, step-adds, step-ends, step-on, stepped_world, used-steps}
 use Rattle.world.proofs.WorldNew.{refused-step}
@@ -152,14 +152,22 @@ bits-there seats i p index some = subst (λ p. p < length seats) (sym index) (th
     there (x ∷ seats) zero some = omega arith
     there (x ∷ seats) (suc p) some = let less = there seats p some in omega (arith, less)
 
--- and of a seat that was put in its place
-pub bits-set : (seats : List Seat) (i p : ℕ) (then : Seat) → i ≡ p → i < length seats → bits_within_at (slice_set seats i then) p ≡ bits_to_walk then.process.kept
-bits-set seats i p then index l = subst (λ p. bits_within_at (slice_set seats i then) p ≡ bits_to_walk then.process.kept) index (there seats i l)
+-- another process is as far as it was, once a seat was put in the place of this one's
+pub bits-other : (seats : List Seat) (i p : ℕ) (then : Seat) → i ≡ p → KeepOthers seats p (slice_set seats i then)
+bits-other seats i p then index = subst (λ p. KeepOthers seats p (slice_set seats i then)) index (there seats i)
   where
-    there : (seats : List Seat) (i : ℕ) → i < length seats → bits_within_at (slice_set seats i then) i ≡ bits_to_walk then.process.kept
-    there [] i l = absurd (omega (arith, l))
-    there (x ∷ seats) zero l = refl
-    there (x ∷ seats) (suc i) l = there seats i (omega (arith, l))
+    there : (seats : List Seat) (i : ℕ) → KeepOthers seats i (slice_set seats i then)
+    there [] i q apart = refl
+    there (x ∷ seats) zero zero apart = absurd (apart refl)
+    there (x ∷ seats) zero (suc q) apart = refl
+    there (x ∷ seats) (suc i) zero apart = refl
+    there (x ∷ seats) (suc i) (suc q) apart = there seats i q (λ same. apart (ap suc same))
+
+-- and so is each, once all were told who waits
+pub bits-told : (seats : List Seat) (p q : ℕ) (waited waits : Bool) → bits_within_at (map (told p waited waits) seats) q ≡ bits_within_at seats q
+bits-told [] p q waited waits = refl
+bits-told (x ∷ seats) p zero waited waits = refl
+bits-told (x ∷ seats) p (suc q) waited waits = bits-told seats p q waited waits
 
 -- steps after steps
 pub walks-then : (n : ℕ) (old mid new : WorldState) (f g h : FlickState) (p made : ℕ) → Walks old f p made mid g → Walks mid g p n new h → Walks old f p (made + n) new h

@@ -24,3 +24,7 @@ Walks old flicks p (suc n) new flicks_then = (w : WorldState) × (f : FlickState
 -- how many bits a process at the door or at the data has before the last one of its number access; 0, if there is no such process
 abbrev pub bits_within_at : List Seat → ℕ → ℕ
 bits_within_at seats p = elim (slice_get seats p) [ None ↦ 0 | Some seat ↦ bits_to_walk seat.process.kept ]
+
+-- each process but p has as many bits before its last one as before
+abbrev pub KeepOthers : List Seat → ℕ → List Seat → Type 0
+KeepOthers seats p new = (q : ℕ) → (q ≡ p → ⊥) → bits_within_at new q ≡ bits_within_at seats q

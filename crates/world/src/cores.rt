@@ -1,5 +1,5 @@
 //! N processes over one set of registers, without a history.
-ghost use Rattle.std.specs.Prelude.{◌≡◌, ◌↔◌, ◌+◌, ◌<◌, ◌≤◌, Bool, false, true, List, length, None, Some, IfOk, IfErr, IfSome, IsOk, IsTrue, OnErr, OnOk, Ok, [], option_map};
+ghost use Rattle.std.specs.Prelude.{◌≡◌, ◌+◌, ◌<◌, ◌≤◌, Bool, false, true, List, length, None, Some, IfOk, IfErr, IfSome, IsOk, OnErr, OnOk, Ok, [], option_map};
 ghost use Rattle.plain_store.specs.Setups.{checked};
 ghost use Rattle.plain_store.specs.Commands.{is_command};
 ghost use Rattle.store_image.specs.Image.{image_of};
@@ -16,7 +16,7 @@ ghost use Rattle.world.specs.Cores.{CoreGoesOn, CoreMakes, CoreRefuses, CoreStep
 ghost use Rattle.process.specs.Refusals.{WantsNoMemory};
 ghost use Rattle.world.specs.Events.{Adds, stage_in};
 ghost use Rattle.world.specs.Shows.{Shows};
-ghost use Rattle.world.specs.Walks.{bits_within_at};
+ghost use Rattle.world.specs.Walks.{KeepOthers, bits_within_at};
 
 mod copies;
 mod told;
@@ -28,7 +28,7 @@ use flicks::Flicks;
 use plain_store::{Command, NestedTypes, Reply, Setup};
 use process::{Effect, Registers, Told};
 use record::{Event, Refusal, Stage, Taken};
-use safe_number::Access;
+use safe_number::{Access, Pace};
 use smallvec::SmallVec;
 use std::alloc::{AllocError, Global};
 use std::marker::Model;
@@ -208,6 +208,7 @@ impl Core {
         ensures untold { OnErr result (told.new ≡ told.old) }
         ensures setup { OnOk result (self.new.setup ≡ self.old.setup) }
         ensures through { (taken : List Seen) (events : List Happening) → Shows (with_history self.old taken) events → refused self.old.setup (past_of self.old.setup events) (Step process flick) ≡ None → IsOk result }
+        ensures others { KeepOthers self.old.seats process self.new.seats }
     {
         if 0 < self.bits_within(process) {
             *told = Told::Nothing;
@@ -244,6 +245,7 @@ impl Core {
         ensures shows { CoreSteps self.old process flick told.new self.new }
         ensures pending { pending_in self.new.seats + taking (Steps told.new) ≤ pending_in self.old.seats }
         ensures setup { self.new.setup ≡ self.old.setup }
+        ensures others { KeepOthers self.old.seats process self.new.seats }
     {
         let seat = &mut self.seats[usize::from(process)];
         let waited = waits(seat);
@@ -276,9 +278,10 @@ impl Core {
     }
 
     /// How many bits a process at the door or at the data has before the last one of its number access; 0, if it is
-    /// elsewhere, or there is no such process.
+    /// elsewhere, or there is no such process. So many of its next steps at least are within that access, whatever other
+    /// processes do.
     #[inline]
-    fn bits_within(&self, process: u8) -> u16
+    pub fn bits_within(&self, process: u8) -> u16
         ensures { result ≡ bits_within_at self.now.seats process }
     {
         let at = usize::from(process);
@@ -288,30 +291,16 @@ impl Core {
         self.seats[at].process().bits_to_walk()
     }
 
-    /// One step of a process by this flick, if it is within a number access as those of `walk` are: it has no mark. It
-    /// answers whether it was made; nothing is, where the step is not within one, or there is no such process.
-    #[inline]
-    pub fn step_within(&mut self, process: u8, flick: bool) -> bool
-        ensures whether { IsTrue result ↔ (0 < bits_within_at self.old.seats process) }
-        ensures made { result ≡ true → CoreStepsQuietly self.old process flick self.new }
-        ensures unmade { result ≡ false → self.new ≡ self.old }
-    {
-        if self.bits_within(process) == 0 {
-            return false;
-        }
-        self.make_step_within(process, flick);
-        true
-    }
-
-    /// The step of a process that is within a number access.
+    /// One step, by this flick, of a process that is within a number access as those of `walk` are: it has no mark.
     #[inline(always)]
-    fn make_step_within(&mut self, process: u8, flick: bool)
+    pub fn make_step_within(&mut self, process: u8, flick: bool)
         requires { 0 < bits_within_at self.old.seats process }
         ensures quietly { CoreStepsQuietly self.old process flick self.new }
         ensures fewer { bits_within_at self.old.seats process ≤ bits_within_at self.new.seats process + 1 }
+        ensures others { KeepOthers self.old.seats process self.new.seats }
     {
         let at = usize::from(process);
-        self.seats[at].step_within(&mut self.registers, flick);
+        self.seats[at].step_within(&mut self.registers, flick, Pace::Single);
     }
 
     /// The same, with its access. So few words are looked at that it is quicker than a step which may lead to something.
@@ -321,26 +310,26 @@ impl Core {
         ensures quietly { CoreStepsQuietly self.old process flick self.new }
         ensures accepted { (taken : List Seen) → Adds (with_history self.old taken) (Step process flick) process (record { access = Some result; marks = [] }) }
         ensures there { process < length self.new.seats }
+        ensures fewer { bits_within_at self.old.seats process ≤ bits_within_at self.new.seats process + 1 }
+        ensures others { KeepOthers self.old.seats process self.new.seats }
     {
         let at = usize::from(process);
         let seat = &mut self.seats[at];
         let access = seat.process().answered_within(&self.registers, flick);
-        seat.step_within(&mut self.registers, flick);
+        // The access has told whether a read begins or ends, so a branch on that is foreseen here.
+        seat.step_within(&mut self.registers, flick, Pace::InARow);
         access
     }
 
-    /// So many steps of a process that has as many bits at least before the last one.
+    /// So many steps of a process, one at least, that has as many bits at least before the last one.
     #[inline]
     fn walk_within(&mut self, process: u8, flicks: &mut Flicks, steps: u32)
-        requires { steps ≤ bits_within_at self.old.seats process }
+        requires some { 0 < steps }
+        requires within { steps ≤ bits_within_at self.old.seats process }
         ensures { CoreWalks self.old flicks.old process steps self.new flicks.new }
     {
-        let mut made = 0;
-        'steps: while made < steps {
-            let flick = flicks.flick();
-            self.make_step_within(process, flick);
-            made += 1;
-        }
+        let at = usize::from(process);
+        self.seats[at].walk_within(&mut self.registers, flicks, steps);
     }
 
     /// A call begins.

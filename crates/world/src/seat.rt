@@ -1,5 +1,5 @@
 //! What a world keeps of one process.
-ghost use Rattle.std.specs.Prelude.{◌≡◌, ◌<◌, ◌||◌, Bool, true, false, [], IfOk, Ok, Some};
+ghost use Rattle.std.specs.Prelude.{◌≡◌, ◌<◌, ◌≤◌, ◌||◌, Bool, true, false, [], IfOk, Ok, Some};
 ghost use Rattle.plain_store.specs.Setups.{checked};
 ghost use Rattle.record.specs.Parts.{Raises};
 ghost use Rattle.record.specs.Places.{enter, value_of};
@@ -9,15 +9,16 @@ ghost use Rattle.laws.specs.Steps.{does_then, marks_with, next_of};
 ghost use Rattle.process.specs.Drops.{AreOf, dropped};
 ghost use Rattle.process.specs.Processes.{kept_at, stage_kept};
 ghost use Rattle.process.specs.Processes as kept;
-ghost use Rattle.process.specs.Registers.{MayStep, StepsWithin, answered, made};
+ghost use Rattle.process.specs.Registers.{MayStep, MayWalk, StepsWithin, WalksWithin, answered, made};
 ghost use Rattle.process.specs.Steps.{IsAt, bits_to_walk, is_at_door, kept_failing, kept_withdrawing, may_fail, may_step};
 ghost use Rattle.process.specs.Telling.{marks_told};
 ghost use Rattle.world.specs.Changes.{told};
 ghost use Rattle.world.specs.Seats.{seat_of, with_kept};
 
+use flicks::Flicks;
 use plain_store::{Command, Setup};
 use process::{Process, Registers, Told};
-use safe_number::Access;
+use safe_number::{Access, Pace};
 use std::alloc::{AllocError, Global};
 use std::marker::Model;
 
@@ -131,7 +132,7 @@ impl Seat {
 
     /// Makes the next access, within a number access at the door or at the data.
     #[inline(always)]
-    pub fn step_within(&mut self, registers: &mut Registers, flick: bool)
+    pub fn step_within(&mut self, registers: &mut Registers, flick: bool, pace: Pace)
         requires within { 0 < bits_to_walk self.old.process.kept }
         requires may { MayStep self.old.process registers.old flick }
         ensures seat { self.new ≡ record self.old { process = self.new.process; begun = self.old.begun || is_at_door self.old.process.kept } }
@@ -140,7 +141,22 @@ impl Seat {
         if self.process.is_at_door() {
             self.begun = true;
         }
-        self.process.step_within(registers, flick);
+        self.process.step_within(registers, flick, pace);
+    }
+
+    /// Makes so many of the next accesses, one at least, within a number access at the door or at the data.
+    #[inline(always)]
+    pub fn walk_within(&mut self, registers: &mut Registers, flicks: &mut Flicks, steps: u32)
+        requires some { 0 < steps }
+        requires within { steps ≤ bits_to_walk self.old.process.kept }
+        requires may { MayWalk self.old.process registers.old flicks.old steps }
+        ensures seat { self.new ≡ record self.old { process = self.new.process; begun = self.old.begun || is_at_door self.old.process.kept } }
+        ensures within { WalksWithin registers.old flicks.old self.old.process steps registers.new flicks.new self.new.process }
+    {
+        if self.process.is_at_door() {
+            self.begun = true;
+        }
+        self.process.walk_within(registers, flicks, steps);
     }
 
     /// Becomes as the other, of the same setup. It takes no memory.

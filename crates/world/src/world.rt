@@ -20,7 +20,7 @@ ghost use Rattle.record.specs.Newest.{newest};
 ghost use Rattle.world.specs.Shows.{Shows};
 ghost use Rattle.process.specs.declared.told.Effect.TheVariants.{Steps};
 ghost use Rattle.process.specs.Telling.{act_of};
-ghost use Rattle.world.specs.Walks.{StepsQuietly, Walks, bits_within_at};
+ghost use Rattle.world.specs.Walks.{KeepOthers, StepsQuietly, Walks, bits_within_at};
 
 use crate::cores::Core;
 use flicks::Flicks;
@@ -135,6 +135,7 @@ impl World {
         ensures setup { OnOk result (self.new.setup ≡ self.old.setup) }
         ensures through { (events : List Happening) → Shows self.old events → refused self.old.setup (past_of self.old.setup events) (Step process flick) ≡ None → IsOk result }
         ensures headline { IfOk result (λ access. KeepsTheHeadline self.old process (act_of (length self.old.history) (record { access = Some access; effect = Steps told.new }))) }
+        ensures others { KeepOthers self.old.seats process self.new.seats }
     {
         match self.core.step(process, flick, told) {
             Ok(access) => {
@@ -158,16 +159,26 @@ impl World {
         self.core.walk(process, flicks, most)
     }
 
-    /// One step of a process by this flick, as `step` makes it, if it is within a number access as those of `walk` are:
-    /// it has no mark, and of it the headline holds. It answers whether it was made; nothing is, where the step is not
-    /// within one, or there is no such process.
+    /// How many bits a process at the door or at the data has before the last one of its number access; 0, if it is
+    /// elsewhere, or there is no such process. So many of its next steps at least are within that access, whatever other
+    /// processes do.
     #[inline]
-    pub fn step_within(&mut self, process: u8, flick: bool) -> bool
-        ensures whether { IsTrue result ↔ (0 < bits_within_at self.old.seats process) }
-        ensures made { result ≡ true → StepsQuietly self.old process flick self.new }
-        ensures unmade { result ≡ false → self.new ≡ self.old }
+    pub fn bits_within(&self, process: u8) -> u16
+        ensures { result ≡ bits_within_at self.now.seats process }
     {
-        self.core.step_within(process, flick)
+        self.core.bits_within(process)
+    }
+
+    /// One step, by this flick, of a process that is within a number access as those of `walk` are: as `step` makes it, and
+    /// without a mark; of it the headline holds.
+    #[inline(always)]
+    pub fn make_step_within(&mut self, process: u8, flick: bool)
+        requires { 0 < bits_within_at self.old.seats process }
+        ensures quietly { StepsQuietly self.old process flick self.new }
+        ensures fewer { bits_within_at self.old.seats process ≤ bits_within_at self.new.seats process + 1 }
+        ensures others { KeepOthers self.old.seats process self.new.seats }
+    {
+        self.core.make_step_within(process, flick);
     }
 
     /// Whether the next step of a process is within a number access, as those of `walk` are; not, if there is no such
@@ -179,7 +190,9 @@ impl World {
         self.core.is_within(process)
     }
 
-    /// One step as `step_within` makes it, with its access: a read's end with the value that it gave; none where nothing is made.
+    /// One step of a process by this flick, as `step` makes it, if it is within a number access as those of `walk` are: it
+    /// has no mark, and of it the headline holds. It answers its access, a read's end with the value that it gave; none,
+    /// where the step is not within one, or there is no such process: then nothing is made.
     #[inline]
     pub fn step_told(&mut self, process: u8, flick: bool) -> Option<Access>
         ensures whether { IsSome result ↔ (0 < bits_within_at self.old.seats process) }
@@ -196,6 +209,8 @@ impl World {
         requires { 0 < bits_within_at self.old.seats process }
         ensures quietly { StepsQuietly self.old process flick self.new }
         ensures accepted { Adds self.old (Step process flick) process (record { access = Some result; marks = [] }) }
+        ensures fewer { bits_within_at self.old.seats process ≤ bits_within_at self.new.seats process + 1 }
+        ensures others { KeepOthers self.old.seats process self.new.seats }
     {
         self.core.make_step_told(process, flick)
     }

@@ -19,8 +19,8 @@ impl Core {
         0 < self.bits_within(process)
     }
 
-    /// One step of a process by this flick, as `step_within` makes it, with its access: a read's end with the value that
-    /// it gave. None where the step is not within a number access, or there is no such process: then nothing is made.
+    /// One step of a process by this flick, if it is within a number access as those of `walk` are, with its access: a read's
+    /// end with the value that it gave. None where it is not, or there is no such process: then nothing is made.
     #[inline]
     pub fn step_told(&mut self, process: u8, flick: bool) -> Option<Access>
         ensures whether { IsSome result ↔ (0 < bits_within_at self.old.seats process) }

@@ -7,10 +7,11 @@ use Rattle.process.specs.Telling.{marks_told}
 use Rattle.world.specs.Changes.{pending_in, told, with_taken}
 use Rattle.world.specs.Cores.{CoreState, KeepsCore, with_history}
 use Rattle.world.specs.Shows.{Shows, WorldState}
+use Rattle.world.specs.Walks.{bits_within_at}
 use Rattle.world.proofs.CoreKeeps.{call_set, core_in, core_used, keeps_core, shows_of, taken_length, there_set}
 use Rattle.world.proofs.WorldShows.{SeatSteps, world_with}
 use Rattle.world.proofs.WorldTelling.{told-back}
-use Rattle.world.proofs.WorldWalks.{room_of}
+use Rattle.world.proofs.WorldWalks.{bits-other, bits-told, room_of}
 use Rattle.world.proofs.WorldEnds.{IsUsed, step-adds, step-ends, step-on, used-steps, used-turns}
 use Rattle.world.proofs.cores.Core.make_step.Goals as goal
 
@@ -101,3 +102,14 @@ returns-clause-pending c =
     let seats = ap pending_in (same ∙ (λ n. map (told c.args.process (c.waits-waited.ensures n) (c.waits-now.ensures n)) (slice_set i.seats.items c.from.result c.step-access.new.self))) in
     let before = ap (λ (x : CoreState). pending_in x.seats) c.self.view_is in
     omega (arith, room, more, seats, before)
+
+pub returns-clause-others : goal.returns-clause-others
+returns-clause-others c = λ q apart.
+    let i = c.self.inside in
+    let seats = slice_set i.seats.items c.from.result c.step-access.new.self in
+    let long = length-set i.seats.items c.from.result c.step-access.new.self in
+    let same = told-back (told c.args.process c.waits-waited.result c.waits-now.result) i.seats.len c.tell.new.seats c.deref_mut.result.now seats (drop (length c.tell.new.seats) seats) c.tell.ensures c.deref_mut.ensures.value (omega (arith, long, i.seats.ok.0)) in
+    ap (λ seats. bits_within_at seats q) same
+    ∙ bits-told seats c.args.process q c.waits-waited.result c.waits-now.result
+    ∙ bits-other i.seats.items c.from.result c.args.process c.step-access.new.self c.from.ensures q apart
+    ∙ ap (λ (x : CoreState). bits_within_at x.seats q) c.self.view_is

@@ -1,4 +1,4 @@
-use Rattle.std.proofs.Common.{◌≡◌, ◌<◌, ◌∷◌, [], List, Some, true, sym, subst, arith}
+use Rattle.std.proofs.Common.{◌≡◌, ◌<◌, ◌∷◌, [], List, Some, sym, subst, arith}
 use Rattle.std.proofs.lemmas.List.{length-set}
 use Rattle.record.specs.declared.events.Event.TheVariants.{Step}
 use Rattle.record.specs.declared.history.Taken.{Taken}
@@ -12,7 +12,7 @@ use Rattle.world.specs.Cores.{CoreState, CoreStepsQuietly, with_history}
 use Rattle.world.specs.Events.{Adds}
 use Rattle.world.specs.Walks.{bits_within_at}
 use Rattle.world.proofs.CoreKeeps.{keeps_core}
-use Rattle.world.proofs.CoreWithin.{SeatGoes, core_within, told-made, within-at, within-core-adds, within-core-may, within-core-steps}
+use Rattle.world.proofs.CoreWithin.{SeatGoes, core_within, told-made, within-at, within-core-adds, within-core-fewer, within-core-may, within-core-others, within-core-steps}
 use Rattle.world.proofs.WorldWalks.{bits-there}
 use Rattle.world.proofs.cores.Core.make_step_told.Goals as goal
 
@@ -88,3 +88,18 @@ returns-clause-there c =
     let long = length-set i.seats.items c.from-at.result c.step_within.new.self in
     let here = h.there in
     omega (arith, long, here, c.from-at.ensures)
+
+pub returns-clause-fewer : goal.returns-clause-fewer
+returns-clause-fewer c =
+    let i = c.self.inside in
+    let core : CoreState = record { setup = i.setup; registers = i.registers; seats = i.seats.items } in
+    let seat = c.index_mut-seat.result.now in
+    let h = within-at core c.args.self.now c.args.process c.from-at.result seat c.self.invariant c.self.view_is c.requires c.from-at.ensures c.index_mut-seat.ensures.value in
+    let g : SeatGoes core c.args.flick seat c.step_within.new.registers c.step_within.new.self = record { stays = c.step_within.ensures.seat; within = c.step_within.ensures.within } in
+    within-core-fewer core c.args.self.now c.args.process c.from-at.result c.args.flick seat c.step_within.new.registers c.step_within.new.self c.self.view_is h g
+
+pub returns-clause-others : goal.returns-clause-others
+returns-clause-others c =
+    let i = c.self.inside in
+    let core : CoreState = record { setup = i.setup; registers = i.registers; seats = i.seats.items } in
+    within-core-others core c.args.self.now c.args.process c.from-at.result c.step_within.new.registers c.step_within.new.self c.self.view_is c.from-at.ensures

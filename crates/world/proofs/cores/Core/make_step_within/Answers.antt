@@ -1,11 +1,11 @@
-use Rattle.std.proofs.Common.{◌+◌, ◌<◌, ◌≤◌, ◌∷◌, sym, subst, arith}
+use Rattle.std.proofs.Common.{◌<◌, ◌∷◌, sym, subst, arith}
 use Rattle.std.specs.Prelude.{slice_set}
 use Rattle.record.specs.declared.events.Event.TheVariants.{Step}
 use Rattle.world.specs.Cores.{CoreState, CoreStepsQuietly}
 use Rattle.world.specs.Walks.{bits_within_at}
 use Rattle.world.proofs.CoreKeeps.{keeps_core}
-use Rattle.world.proofs.CoreWithin.{SeatGoes, core_within, within-at, within-core-may, within-core-steps}
-use Rattle.world.proofs.WorldWalks.{bits-at, bits-set, bits-there}
+use Rattle.world.proofs.CoreWithin.{SeatGoes, core_within, within-at, within-core-fewer, within-core-may, within-core-others, within-core-steps}
+use Rattle.world.proofs.WorldWalks.{bits-there}
 use Rattle.world.proofs.cores.Core.make_step_within.Goals as goal
 
 pub index_mut-requires : goal.index_mut-requires
@@ -56,9 +56,14 @@ returns-clause-quietly c =
 pub returns-clause-fewer : goal.returns-clause-fewer
 returns-clause-fewer c =
     let i = c.self.inside in
-    let some : 0 < bits_within_at i.seats.items c.args.process = subst (λ (core : CoreState). 0 < bits_within_at core.seats c.args.process) (sym c.self.view_is) c.requires in
-    let there = bits-there i.seats.items c.from-at.result c.args.process c.from-at.ensures some in
-    let here = bits-at i.seats.items c.from-at.result c.args.process c.index_mut.result.now c.from-at.ensures there c.index_mut.ensures.value in
-    let then = bits-set i.seats.items c.from-at.result c.args.process c.step_within.new.self c.from-at.ensures there in
-    let less = c.step_within.ensures.within.fewer in
-    subst (λ (old : CoreState). bits_within_at old.seats c.args.process ≤ bits_within_at (slice_set i.seats.items c.from-at.result c.step_within.new.self) c.args.process + 1) c.self.view_is (omega (arith, here, then, less))
+    let core : CoreState = record { setup = i.setup; registers = i.registers; seats = i.seats.items } in
+    let seat = c.index_mut.result.now in
+    let h = within-at core c.args.self.now c.args.process c.from-at.result seat c.self.invariant c.self.view_is c.requires c.from-at.ensures c.index_mut.ensures.value in
+    let g : SeatGoes core c.args.flick seat c.step_within.new.registers c.step_within.new.self = record { stays = c.step_within.ensures.seat; within = c.step_within.ensures.within } in
+    within-core-fewer core c.args.self.now c.args.process c.from-at.result c.args.flick seat c.step_within.new.registers c.step_within.new.self c.self.view_is h g
+
+pub returns-clause-others : goal.returns-clause-others
+returns-clause-others c =
+    let i = c.self.inside in
+    let core : CoreState = record { setup = i.setup; registers = i.registers; seats = i.seats.items } in
+    within-core-others core c.args.self.now c.args.process c.from-at.result c.step_within.new.registers c.step_within.new.self c.self.view_is c.from-at.ensures

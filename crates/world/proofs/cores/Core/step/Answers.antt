@@ -1,4 +1,4 @@
-use Rattle.std.proofs.Common.{◌≡◌, [], Some, None, sym, ◌∙◌, arith}
+use Rattle.std.proofs.Common.{◌≡◌, [], Some, None, refl, sym, ◌∙◌, arith}
 use Rattle.world.proofs.cores.Core.step.Goals as goal
 
 pub make_step_told-requires : goal.make_step_told-requires
@@ -18,3 +18,6 @@ returns-in-Some-clause-refused c = c.in-Some.ensures.refused c.args.flick
 
 pub make_step-requires : goal.make_step-requires
 make_step-requires c = c.in_default.ensures.refused c.args.flick
+
+pub returns-in-Some-clause-others : goal.returns-in-Some-clause-others
+returns-in-Some-clause-others c = λ q apart. refl

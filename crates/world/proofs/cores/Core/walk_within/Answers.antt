@@ -1,14 +1,46 @@
-use Rattle.std.proofs.Common.{arith}
-use Rattle.world.proofs.CoreKeeps.{core_walks_on}
+use Rattle.std.proofs.Common.{◌<◌, sym, subst, arith}
+use Rattle.world.specs.Cores.{CoreState, CoreWalks}
+use Rattle.world.specs.Walks.{bits_within_at}
+use Rattle.world.proofs.CoreRows.{rows-at, rows-keep, rows-may, rows-walk}
+use Rattle.world.proofs.CoreWithin.{core_within}
+use Rattle.world.proofs.WorldWalks.{bits-there}
 use Rattle.world.proofs.cores.Core.walk_within.Goals as goal
 
-pub make_step_within-requires : goal.make_step_within-requires
-make_step_within-requires c = omega (arith, c.steps-test.true, c.steps.invariant.left)
+pub index_mut-requires : goal.index_mut-requires
+index_mut-requires c =
+    let i = c.self.inside in
+    let core : CoreState = record { setup = i.setup; registers = i.registers; seats = i.seats.items } in
+    let some : 0 < bits_within_at i.seats.items c.args.process = subst (λ (core : CoreState). 0 < bits_within_at core.seats c.args.process) (sym c.self.view_is) (let some = c.requires.some in let within = c.requires.within in omega (arith, some, within)) in
+    let there = bits-there i.seats.items c.from-at.result c.args.process c.from-at.ensures some in
+    omega (arith, there, i.seats.ok.0)
 
-pub steps-preserved : goal.steps-preserved
-steps-preserved c = record {
-  walks = core_walks_on c.args.self.now c.steps.self c.make_step_within.new.self c.args.flicks.now c.steps.flicks c.flick-flick.new.self c.args.process c.steps.made c.flick-flick.result
-      c.steps.invariant.walks c.make_step_within.ensures.quietly c.flick-flick.ensures.flick c.flick-flick.ensures.after;
-  made = omega (arith, c.steps-test.true);
-  left = omega (arith, c.steps.invariant.left, c.make_step_within.ensures.fewer);
-}
+pub walk_within-requires-clause-within : goal.walk_within-requires-clause-within
+walk_within-requires-clause-within c =
+    let i = c.self.inside in
+    let core : CoreState = record { setup = i.setup; registers = i.registers; seats = i.seats.items } in
+    (rows-at core c.args.self.now c.args.process c.from-at.result c.args.steps c.index_mut.result.now c.self.invariant c.self.view_is c.requires.some c.requires.within c.from-at.ensures c.index_mut.ensures.value).1
+
+pub walk_within-requires-clause-may : goal.walk_within-requires-clause-may
+walk_within-requires-clause-may c =
+    let i = c.self.inside in
+    let core : CoreState = record { setup = i.setup; registers = i.registers; seats = i.seats.items } in
+    let seat = c.index_mut.result.now in
+    let at = rows-at core c.args.self.now c.args.process c.from-at.result c.args.steps seat c.self.invariant c.self.view_is c.requires.some c.requires.within c.from-at.ensures c.index_mut.ensures.value in
+    rows-may c.args.steps core c.args.process c.from-at.result seat c.args.flicks.now at.0 at.1
+
+pub invariant_of-self : goal.invariant_of-self
+invariant_of-self c =
+    let i = c.self.inside in
+    let core : CoreState = record { setup = i.setup; registers = i.registers; seats = i.seats.items } in
+    let seat = c.index_mut.result.now in
+    let at = rows-at core c.args.self.now c.args.process c.from-at.result c.args.steps seat c.self.invariant c.self.view_is c.requires.some c.requires.within c.from-at.ensures c.index_mut.ensures.value in
+    rows-keep c.args.steps core c.args.process c.from-at.result seat c.args.flicks.now c.walk_within.new.flicks c.walk_within.new.registers c.walk_within.new.self c.requires.some at.0 at.1 c.walk_within.ensures.seat c.walk_within.ensures.within
+
+pub returns : goal.returns
+returns c =
+    let i = c.self.inside in
+    let core : CoreState = record { setup = i.setup; registers = i.registers; seats = i.seats.items } in
+    let seat = c.index_mut.result.now in
+    let at = rows-at core c.args.self.now c.args.process c.from-at.result c.args.steps seat c.self.invariant c.self.view_is c.requires.some c.requires.within c.from-at.ensures c.index_mut.ensures.value in
+    subst (λ (old : CoreState). CoreWalks old c.args.flicks.now c.args.process c.args.steps (core_within core c.from-at.result c.walk_within.new.registers c.walk_within.new.self) c.walk_within.new.flicks) c.self.view_is
+    (rows-walk c.args.steps core c.args.process c.from-at.result seat c.args.flicks.now c.walk_within.new.flicks c.walk_within.new.registers c.walk_within.new.self c.requires.some at.0 at.1 c.walk_within.ensures.seat c.walk_within.ensures.within)

@@ -7,6 +7,7 @@ use Rattle.world.specs.Changes.{with_taken}
 use Rattle.world.specs.Cores.{call_in, with_history}
 use Rattle.world.specs.Events.{Adds, GoesOn, IsRefused, KeepsTheHeadline}
 use Rattle.world.specs.Shows.{Shows, WorldState}
+use Rattle.world.specs.Walks.{KeepOthers}
 use Rattle.world.proofs.WorldHeadline.{keeps_headline}
 use Rattle.world.proofs.world.World.step.Goals as goal
 
@@ -37,3 +38,9 @@ returns-in-Ok-clause-headline c =
     subst (λ (w : WorldState). KeepsTheHeadline w c.args.process (act_of (length w.history) (record { access = Some c.in-Ok.access; effect = Steps c.step.new.told }))) c.self.view_is
     (keeps_headline (with_history c.self.inside.core before) (with_history c.step.new.self (with_taken before c.args.process last.0 last.1 (reply_taken (marks_told c.step.new.told)))) (Step c.args.process c.args.flick) c.args.process _
     (c.in-Ok.ensures.accepted before) (c.in-Ok.ensures.shows.goes before) c.in-Ok.ensures.setup)
+
+pub returns-in-Ok-clause-others : goal.returns-in-Ok-clause-others
+returns-in-Ok-clause-others c = subst (λ (w : WorldState). KeepOthers w.seats c.args.process c.step.new.self.seats) c.self.view_is c.step.ensures.others
+
+pub returns-in-Err-clause-others : goal.returns-in-Err-clause-others
+returns-in-Err-clause-others c = subst (λ (w : WorldState). KeepOthers w.seats c.args.process c.step.new.self.seats) c.self.view_is c.step.ensures.others

@@ -1,4 +1,4 @@
-use Rattle.std.proofs.Common.{◌≡◌, ◌↔◌, ◌<◌, [], Some, ap, subst, ◌∙◌}
+use Rattle.std.proofs.Common.{◌↔◌, ◌<◌, [], Some, ap, subst, ◌∙◌}
 use Rattle.std.specs.Prelude.{IfSome, IsSome, OnSome}
 use Rattle.record.specs.declared.events.Event.TheVariants.{Step}
 use Rattle.world.specs.Cores.{with_history}
