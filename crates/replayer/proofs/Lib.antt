@@ -5,6 +5,7 @@ pub mod Walks
 pub mod Goes
 pub mod Movers
 pub mod Wanders
+pub mod Counted
 pub mod Nexts
 pub mod Refusals
 -- What happens in a run, and its text

@@ -1,4 +1,5 @@
 pub mod Audits
+pub mod Counts
 pub mod Courses
 pub mod Happenings
 pub mod Hearing

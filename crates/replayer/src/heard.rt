@@ -1,5 +1,5 @@
 //! A world, and an auditor that hears the entries that it makes.
-ghost use Rattle.std.specs.Prelude.{true, false, ◌≡◌, ◌↔◌, ◌<◌, ◌≤◌, [], IfOk, IfErr, IfSome, IsSome, IsTrue, OnErr, OnOk, OnSome, List, None, Ok, Some, length, map, option_map};
+ghost use Rattle.std.specs.Prelude.{◌≡◌, ◌↔◌, ◌+◌, ◌<◌, ◌≤◌, [], IfOk, IfErr, IfSome, IsSome, IsTrue, OnErr, OnOk, OnSome, List, None, Ok, Some, length, map, option_map};
 ghost use Rattle.plain_store.specs.Setups.{checked};
 ghost use Rattle.store_image.specs.Image.{image_of};
 ghost use Rattle.record.specs.declared.Event.{Event as Happening};
@@ -11,7 +11,7 @@ ghost use Rattle.process.specs.declared.told.Effect.TheVariants.{Steps};
 ghost use Rattle.process.specs.Telling.{act_of, marks_of, marks_told};
 ghost use Rattle.world.specs.Events.{Adds, GoesOn, IsRefused, IsTurnedAway, stage_in};
 ghost use Rattle.world.specs.Shows.{Shows, WorldState};
-ghost use Rattle.world.specs.Walks.{StepsQuietly, Walks, bits_within_at};
+ghost use Rattle.world.specs.Walks.{KeepOthers, StepsQuietly, Walks, bits_within_at};
 ghost use Rattle.auditor.specs.declared.verdicts.Verdict.TheVariants.{Good};
 ghost use Rattle.replayer.specs.Hearing.{AddsEntry, Agrees, Listens};
 
@@ -110,6 +110,7 @@ impl HeardWorld {
         ensures refused { IfErr result (λ refusal. IsRefused self.old (Step process flick) (Some refusal)) }
         ensures unchanged { OnErr result (self.new ≡ self.old) }
         ensures setup { OnOk result (self.new.setup ≡ self.old.setup) }
+        ensures others { KeepOthers self.old.seats process self.new.seats }
     {
         if self.listener.is_none() {
             return self.world.step(process, flick, told);
@@ -164,17 +165,27 @@ impl HeardWorld {
         self.world.is_within(process)
     }
 
-    /// One step of a process within a number access, as `World::step_within` makes it; its entry is heard.
+    /// How many bits a process has before the last one of its number access, as `World::bits_within` tells it.
     #[inline]
-    pub fn step_within(&mut self, process: u8, flick: bool) -> bool
-        ensures whether { IsTrue result ↔ (0 < bits_within_at self.old.seats process) }
-        ensures made { result ≡ true → StepsQuietly self.old process flick self.new }
-        ensures unmade { result ≡ false → self.new ≡ self.old }
+    pub fn bits_within(&self, process: u8) -> u16
+        ensures { result ≡ bits_within_at self.now.seats process }
+    {
+        self.world.bits_within(process)
+    }
+
+    /// The step of a process that is within a number access, as `World::make_step_within` makes it; its entry is heard.
+    #[inline(always)]
+    pub fn make_step_within(&mut self, process: u8, flick: bool)
+        requires { 0 < bits_within_at self.old.seats process }
+        ensures quietly { StepsQuietly self.old process flick self.new }
+        ensures fewer { bits_within_at self.old.seats process ≤ bits_within_at self.new.seats process + 1 }
+        ensures others { KeepOthers self.old.seats process self.new.seats }
     {
         if self.listener.is_none() {
-            return self.world.step_within(process, flick);
+            self.world.make_step_within(process, flick);
+        } else {
+            self.make_step_told(process, flick);
         }
-        self.step_told(process, flick).is_some()
     }
 
     /// One step of a process within a number access, as `World::step_told` makes it, with its access; its entry is heard.
@@ -192,12 +203,14 @@ impl HeardWorld {
         Some(self.make_step_told(process, flick))
     }
 
-    /// The step of a process that is within a number access.
+    /// The step of a process that is within a number access, with its access; its entry is heard.
     #[inline]
     fn make_step_told(&mut self, process: u8, flick: bool) -> Access
         requires { 0 < bits_within_at self.old.seats process }
         ensures quietly { StepsQuietly self.old process flick self.new }
         ensures accepted { Adds self.old (Step process flick) process (record { access = Some result; marks = [] }) }
+        ensures fewer { bits_within_at self.old.seats process ≤ bits_within_at self.new.seats process + 1 }
+        ensures others { KeepOthers self.old.seats process self.new.seats }
     {
         // the world shows some record, to which the entry is added
         self.world.shown();

@@ -32,19 +32,23 @@ fn picks_are_words_modulo_the_number_of_processes(rt: HostRuntime) {
     }
 }
 
-// The words of seed 7 are 2 modulo 3, then 14 modulo 16, then 0 modulo 5. A twin tells the first two, as a pick and a flick,
-// and both go on from the third. Of a constant flick no word is skipped: after the first word of seed 0 comes 0xfc843fd7.
+// The words of seed 7 are 2 modulo 3, then 14 modulo 16, then 0 modulo 5. A twin tells the first two, as a pick and a flick;
+// once the run's own has become as the twin is, both go on from the third. With a constant flick the twin's draw of a step
+// takes one word: after the first word of seed 0 comes 0xfc843fd7.
 #[test]
-fn a_twin_tells_what_comes_and_a_skip_takes_it(rt: HostRuntime) {
+fn a_twin_tells_what_comes_and_its_draws_are_taken_over(rt: HostRuntime) {
     let mut flicks = Flicks::pcg(7);
     let mut twin = flicks.twin();
     assert_eq!(rt; twin.pick(3), 2);
     assert_eq!(rt; twin.flick(), false);
-    flicks.skip_step();
+    flicks.copy_from(&twin);
     assert_eq!(rt; flicks.pick(5), 0);
     assert_eq!(rt; twin.pick(5), 0);
     let mut ones = Flicks::constant(true);
-    ones.skip_step();
+    let mut ahead = ones.twin();
+    assert_eq!(rt; ahead.pick(0x1_0000_0000), 0x11cd_d903);
+    assert_eq!(rt; ahead.flick(), true);
+    ones.copy_from(&ahead);
     assert_eq!(rt; ones.pick(0x1_0000_0000), 0xfc84_3fd7);
 }
 

@@ -4,7 +4,8 @@ ghost use Rattle.std.specs.Prelude.{◌≡◌, ◌+◌, ◌<◌, ◌≤◌, ℕ,
 ghost use Rattle.flicks.specs.Flicks.{after_flick, after_pick, flick_of, pick_of};
 ghost use Rattle.record.specs.Stages.{stage};
 ghost use Rattle.scenario.specs.declared.lines.Line.TheVariants.{Step as StepLine, Go as GoLine, Wander as WanderLine};
-ghost use Rattle.world.specs.Walks.{StepsQuietly};
+ghost use Rattle.world.specs.Walks.{StepsQuietly, bits_within_at};
+ghost use Rattle.replayer.specs.Counts.{IsCounted};
 ghost use Rattle.replayer.specs.Courses.{Follows, MakesQuietly, MakesTurns, course};
 ghost use Rattle.replayer.specs.Runs.{Run, has_step, is_there as is_target, movers, past_in};
 ghost use Rattle.replayer.specs.Telling.{is_quiet as has_no_mark, told_step, with_told};
@@ -92,7 +93,8 @@ impl Course {
 
     /// Turns of `wander`: Steps of picked ones, if there is one to pick. Whose Step comes next is drawn before this one is
     /// made: nobody can foretell where in its access a picked process is, and so a processor that has foretold it wrongly
-    /// begins with what comes after anew, but not with that draw.
+    /// begins with what comes after anew, but not with that draw. For the same reason a process is asked once how many bits
+    /// it has before the last one of its number access, and these are counted down: most Steps ask nothing.
     pub(super) fn wander(&mut self, all: bool) -> Turns
         ensures left { result.quiet + self.new.left ≤ self.old.left }
         ensures less { IfSome result.told (λ _. result.quiet + self.new.left < self.old.left) }
@@ -106,15 +108,17 @@ impl Course {
         }
         let movers = movers.as_slice();
         let mut quiet = 0;
+        let mut left = self.left;
         let mut leads = world::Told::Nothing;
+        let mut within = [0_u16; 256];
         let mut ahead = self.flicks.twin();
         let mut next = drawn(&mut ahead, movers);
-        'steps: while 0 < self.left {
-            self.left -= 1;
+        'steps: while 0 < left {
+            left -= 1;
             let (process, flick) = next;
-            self.flicks.skip_step();
+            self.flicks.copy_from(&ahead);
             next = drawn(&mut ahead, movers);
-            if stride(&mut self.world, process, flick, all) {
+            if stride(&mut self.world, &mut within, process, flick, all) {
                 quiet += 1;
                 continue 'steps;
             }
@@ -122,6 +126,7 @@ impl Course {
             let stepped = self.world.step(process, flick, &mut leads);
             if all || !is_quiet(&stepped, &leads) {
                 let told = told_of(process, flick, place, &stepped, &leads);
+                self.left = left;
                 return Turns {
                     quiet,
                     told: Some(told),
@@ -129,6 +134,7 @@ impl Course {
             }
             quiet += 1;
         }
+        self.left = left;
         Turns { quiet, told: None }
     }
 
@@ -195,17 +201,49 @@ fn drawn(flicks: &mut Flicks, movers: &[u8]) -> (u8, bool)
 }
 
 /// A Step of a process within a number access, which has no mark; none, if it is not within one, or each Step is to be
-/// told.
-#[inline]
-fn stride(world: &mut HeardWorld, process: u8, flick: bool, all: bool) -> bool
+/// told. `within`: so many bits at least each process has before its last one, of which the Step takes one.
+#[inline(always)]
+fn stride(
+    world: &mut HeardWorld,
+    within: &mut [u16; 256],
+    process: u8,
+    flick: bool,
+    all: bool,
+) -> bool
+    requires counted { IsCounted within.old world.old.seats }
+    requires unknown { all ≡ true → slice_index within.old process ≡ 0 }
     ensures made { result ≡ true → StepsQuietly world.old process flick world.new }
-    ensures unmade { result ≡ false → world.new ≡ world.old }
+    ensures unmade { result ≡ false → (world.new ≡ world.old) × (within.new ≡ within.old) }
+    ensures unknown { result ≡ false → slice_index within.old process ≡ 0 }
+    ensures counted { IsCounted within.new world.new.seats }
     ensures all { all ≡ true → result ≡ false }
 {
-    if all {
+    let at = usize::from(process);
+    let known = within[at];
+    let bits = if known == 0 {
+        bits_asked(world, process, all)
+    } else {
+        known
+    };
+    if bits == 0 {
         return false;
     }
-    world.step_within(process, flick)
+    world.make_step_within(process, flick);
+    within[at] = bits - 1;
+    true
+}
+
+/// How many bits a process has before the last one of its number access, by the world, which is not asked if each Step is
+/// to be told.
+#[inline(always)]
+fn bits_asked(world: &HeardWorld, process: u8, all: bool) -> u16
+    ensures within { result ≤ bits_within_at world.now.seats process }
+    ensures all { all ≡ true → result ≡ 0 }
+{
+    if all {
+        return 0;
+    }
+    world.bits_within(process)
 }
 
 /// Whether a process in this stage runs, or its memory unit settles.

@@ -39,8 +39,10 @@ fn walks_are_made_within_a_ticket(rt: HostRuntime) -> Result<(), Fail> {
     assert_eq!(rt; world.walk(0, &mut flicks, 1000), 0);
     pass_last_bit(&rt, &mut world);
     assert_eq!(rt; world.walk(0, &mut flicks, 1), 1);
-    assert!(rt; world.step_within(0, false));
-    assert!(rt; !world.step_within(0, false));
+    assert_eq!(rt; world.bits_within(0), 1);
+    world.make_step_within(0, false);
+    assert_eq!(rt; world.bits_within(0), 0);
+    assert!(rt; world.step_told(0, false).is_none());
     assert_eq!(rt; world.walk(0, &mut flicks, 1000), 0);
     assert!(rt; world.stage(0) == Some(Stage::Doorway));
     Ok(())

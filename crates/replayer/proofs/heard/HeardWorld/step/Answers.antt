@@ -4,6 +4,7 @@ use Rattle.process.specs.declared.told.Effect.TheVariants.{Steps}
 use Rattle.process.specs.Telling.{act_of}
 use Rattle.world.specs.Events.{Adds, GoesOn, IsRefused}
 use Rattle.world.specs.Shows.{WorldState}
+use Rattle.world.specs.Walks.{KeepOthers}
 use Rattle.replayer.proofs.Listeners.{adds_entry}
 use Rattle.replayer.proofs.heard.HeardWorld.step.Goals as goal
 
@@ -33,3 +34,12 @@ returns-then-is_none-clause-shows c = subst (λ (w : WorldState). OnOk c.step.re
 
 pub returns-then-is_none-clause-refused : goal.returns-then-is_none-clause-refused
 returns-then-is_none-clause-refused c = subst (λ (w : WorldState). IfErr c.step.result (λ refusal. IsRefused w (Step c.args.process c.args.flick) (Some refusal))) c.self.view_is c.step.ensures.refused
+
+pub returns-in-Ok-clause-others : goal.returns-in-Ok-clause-others
+returns-in-Ok-clause-others c = subst (λ (w : WorldState). KeepOthers w.seats c.args.process c.step-2.new.self.seats) c.self.view_is c.step-2.ensures.others
+
+pub returns-in-Err-clause-others : goal.returns-in-Err-clause-others
+returns-in-Err-clause-others c = subst (λ (w : WorldState). KeepOthers w.seats c.args.process c.step-2.new.self.seats) c.self.view_is c.step-2.ensures.others
+
+pub returns-then-is_none-clause-others : goal.returns-then-is_none-clause-others
+returns-then-is_none-clause-others c = subst (λ (w : WorldState). KeepOthers w.seats c.args.process c.step.new.self.seats) c.self.view_is c.step.ensures.others
