@@ -1,23 +1,23 @@
 -- A run that goes on while it is drawn: within a line, and from line to line.
-use Rattle.std.proofs.Common.{◌≡◌, ℕ, suc, ◌+◌, ◌≤◌, true, List, [], ◌∷◌, ◌++◌, length, Option, None, Some, is_some, refl, ap, sym, subst, ◌∙◌, append-nil, append_assoc, arith}
+use Rattle.std.proofs.Common.{◌≡◌, ℕ, suc, ◌+◌, List, [], ◌∷◌, ◌++◌, length, Option, None, Some, refl, ap, sym, subst, ◌∙◌, append-nil, append_assoc, arith}
 use Rattle.plain_store.specs.Store.{Contents}
 use Rattle.plain_store.specs.declared.setups.Setup.{Setup}
 use Rattle.record.specs.declared.marks.Mark.{Mark}
 use Rattle.scenario.specs.declared.lines.Line.{Line}
-use Rattle.replayer.specs.Courses.{CourseState, Follows, MakesTurns}
+use Rattle.replayer.specs.Courses.{CourseState, Follows, Makes, MakesTurns}
 use Rattle.replayer.specs.Happenings.{Happening, past_after}
 use Rattle.replayer.specs.Replays.{Moves}
 use Rattle.replayer.specs.Runs.{Run, past_in, run_after, run_at_start, runs}
 use Rattle.replayer.specs.Summaries.{counted, summary_of}
 use Rattle.replayer.specs.Telling.{told_text}
 use Rattle.replayer.specs.Texts.{text_of}
-use Rattle.replayer.specs.Turns.{turns_in}
+use Rattle.replayer.specs.Turns.{turn_of, turns_in}
 use Rattle.replayer.specs.Writing.{Counts}
 use Rattle.replayer.specs.declared.summaries.Summary.{Summary}
 use Rattle.replayer.specs.declared.told.Told.{Told}
 use Rattle.replayer.specs.declared.told.Turns.{Turns}
 use Rattle.replayer.proofs.Onwards.{Onward, onward_end}
-use Rattle.replayer.proofs.Underways.{Underway, underway_ended, underway_on, underway_start, with_events}
+use Rattle.replayer.proofs.Underways.{Said, SaidTurns, said, with_events}
 use Rattle.replayer.proofs.Written.{appends_none}
 use Rattle.picture.specs.Bandings.{Plan}
 use Rattle.picture.specs.Pages.{page_of}
@@ -27,62 +27,100 @@ use Rattle.drawer.specs.Drawings.{Advances, DrawsBands, DrawsLine, DrawsOn, Draw
 use Rattle.drawer.specs.Items.{Gives, SaysEnd, first_line, given_at, given_at_end, given_by, given_from, lines_given, reads_since}
 use Rattle.drawer.specs.declared.overlaps.Overlaps.{Overlaps}
 use Rattle.drawer.proofs.Drawn.{draws_bands, draws_on_both, draws_on_none}
-use Rattle.drawer.proofs.Marked.{Marking, MarksLine, TellsNext, marking_ended, marking_on, marking_start}
+use Rattle.drawer.proofs.Marked.{Marking, MarksLine, TellsNext, marking_ended, marking_on, marking_quiet, marking_start, turns_said}
+use Rattle.drawer.proofs.Overhearing.{Passes}
 
--- within a line: what it has told is drawn, but for what is held back
-pub record Going (mode : Mode) (s : Setup) (n : ℕ) (line : Line) (start : Run) (course : CourseState) (summary : Summary) (store : Contents) (overlaps : Option Overlaps) (had has : Kept) (old new : Option (List ℕ)) : Type 0 where
+-- within a line, after this run: what it has told is drawn, but for what is held back
+pub record Going (mode : Mode) (s : Setup) (n : ℕ) (line : Line) (start : Run) (course : CourseState) (summary : Summary) (store : Contents) (overlaps : Option Overlaps) (had has : Kept) (old new : Option (List ℕ)) (now : Run) : Type 0 where
+  pub follows : Follows course now
+  pub setup : course.world.setup ≡ s
   pub text : List ℕ
   pub marks : List (ℕ × Mark)
   pub gives : List Gives
   pub draws : DrawsOn had has old new text marks gives
-  pub underway : Underway s line start course summary (Some []) (Some text)
-  pub marking : Marking mode s n line start course summary store overlaps marks gives
+  pub marking : Marking mode s n line start course.left now summary store overlaps text marks gives
 
 -- before its first turn
 pub going_start : (mode : Mode) (s : Setup) (n : ℕ) (line : Line) (start : Run) (course : CourseState) (summary : Summary) (store : Contents) (overlaps : Option Overlaps) (had : Kept) (a : Option (List ℕ)) → course.world.setup ≡ s → course.left ≡ turns_in line → Follows course start → Counts s start summary →
-    Recalls mode s start.happened store overlaps → Going mode s n line start course summary store overlaps had had a a
+    Recalls mode s start.happened store overlaps → Going mode s n line start course summary store overlaps had had a a start
 going_start mode s n line start course summary store overlaps had a setup left follows counts recalls = record {
+  follows = follows;
+  setup = setup;
   text = [];
   marks = [];
   gives = [];
   draws = draws_on_none had a;
-  underway = underway_start s line start course summary (Some []) setup left follows counts;
-  marking = marking_start mode s n line start course summary store overlaps setup left follows counts recalls;
+  marking = marking_start mode s n line start course.left summary store overlaps left counts recalls;
 }
 
--- the turns up to one that tells
-pub going_on : (mode : Mode) (s : Setup) (n : ℕ) (line : Line) (start : Run) (course course' : CourseState) (summary : Summary) (store stores : Contents) (overlaps overlapping : Option Overlaps) (turns : Turns) (answer : Told) (had has now : Kept) (a b c : Option (List ℕ)) → course.left ≤ turns_in line →
-    Going mode s n line start course summary store overlaps had has a b → ((run : Run) → Follows course run → MakesTurns course line run turns course') → turns.told ≡ Some answer → (is_some overlaps ≡ true → turns.quiet ≡ 0) →
-    ((before : List Happening) (this : Happening) → IsToDraw mode course' (summary.events + turns.quiet) store overlaps before this answer → DrawsOn has now b c (told_text (summary.events + turns.quiet) answer) (marks_told answer) (given_at mode course'.world.setup n before this)) →
-    ((before : List Happening) (this : Happening) → IsToDraw mode course' (summary.events + turns.quiet) store overlaps before this answer → Recalls mode course'.world.setup (this ∷ before) stores overlapping) →
-    Going mode s n line start course' (counted answer (with_events turns.quiet summary)) stores overlapping had now a c
-going_on mode s n line start course course' summary store stores overlaps overlapping turns answer had has now a b c few g makes told each drew recalls =
-    let text : List ℕ = told_text (summary.events + turns.quiet) answer in
-    let next : TellsNext mode s n line start course' (with_events turns.quiet summary) store overlaps answer g.marks g.gives = marking_on mode s n line start course course' summary store overlaps turns answer g.marks g.gives few g.marking makes told each in
-    let given : List Gives = given_at mode course'.world.setup n next.before next.this in
+-- what a turn tells was drawn, where so many events were accepted before it
+abbrev pub DrawsTold : Mode → ℕ → CourseState → ℕ → Contents → Contents → Option Overlaps → Option Overlaps → Told → Kept → Kept → Option (List ℕ) → Option (List ℕ) → Type 0
+DrawsTold mode n course events store stores overlaps overlapping answer had has old new =
+    (before : List Happening) (this : Happening) → IsToDraw mode course events store overlaps before this answer →
+    DrawsOn had has old new (told_text events answer) (marks_told answer) (given_at mode course.world.setup n before this) × Recalls mode course.world.setup (this ∷ before) stores overlapping
+
+-- a turn that tells
+going_told : (mode : Mode) (s : Setup) (n : ℕ) (line : Line) (start : Run) (left : ℕ) (now : Run) (course : CourseState) (summary : Summary) (store stores : Contents) (overlaps overlapping : Option Overlaps) (answer : Told) (had has then : Kept) (a b c : Option (List ℕ)) (text : List ℕ) (marks : List (ℕ × Mark)) (gives : List Gives) →
+    DrawsOn had has a b text marks gives → Marking mode s n line start left now summary store overlaps text marks gives → Said s line left now (Some answer) course → DrawsTold mode n course summary.events store stores overlaps overlapping answer has then b c →
+    Going mode s n line start course (counted answer summary) stores overlapping had then a c (turn_of s line left now).run
+going_told mode s n line start left now course summary store stores overlaps overlapping answer had has then a b c text marks gives draws marking is drew =
+    let next : TellsNext mode s n line start now.happened course (turn_of s line left now).run summary store overlaps answer text marks gives = marking_on mode s n line start left now course summary store overlaps answer text marks gives marking is in
+    let more = drew now.happened next.this next.draws in
     record {
-      text = g.text ++ text;
-      marks = g.marks ++ marks_told answer;
-      gives = g.gives ++ given;
-      draws = draws_on_both had has now a b c g.text text g.marks (marks_told answer) g.gives given g.draws (drew next.before next.this next.draws);
-      underway = underway_on s line start course course' summary turns answer (Some []) (Some g.text) (Some (g.text ++ text)) few g.underway makes told refl;
-      marking = next.then stores overlapping (recalls next.before next.this next.draws);
+      follows = is.follows;
+      setup = is.setup;
+      text = text ++ told_text summary.events answer;
+      marks = marks ++ marks_told answer;
+      gives = gives ++ given_at mode course.world.setup n now.happened next.this;
+      draws = draws_on_both had has then a b c text (told_text summary.events answer) marks (marks_told answer) gives (given_at mode course.world.setup n now.happened next.this) draws more.0;
+      marking = next.then stores overlapping more.1;
     }
 
--- the turns up to its end
-pub going_ended : (mode : Mode) (s : Setup) (n : ℕ) (line : Line) (start : Run) (course course' : CourseState) (summary : Summary) (store : Contents) (overlaps : Option Overlaps) (turns : Turns) (had has : Kept) (a b : Option (List ℕ)) → course.left ≤ turns_in line →
-    Going mode s n line start course summary store overlaps had has a b → ((run : Run) → Follows course run → MakesTurns course line run turns course') → turns.told ≡ None → (is_some overlaps ≡ true → turns.quiet ≡ 0) →
-    Advances mode s n start (run_after s line start) course' (with_events turns.quiet summary) store overlaps had has a b
-going_ended mode s n line start course course' summary store overlaps turns had has a b few g makes none each =
-    let m : MarksLine mode s n line start store overlaps g.marks g.gives = marking_ended mode s n line start course course' summary store overlaps turns g.marks g.gives few g.marking makes none each in
+-- its end
+going_over : (mode : Mode) (s : Setup) (n : ℕ) (line : Line) (start : Run) (left : ℕ) (now : Run) (course : CourseState) (summary : Summary) (store : Contents) (overlaps : Option Overlaps) (had has : Kept) (a b : Option (List ℕ)) (text : List ℕ) (marks : List (ℕ × Mark)) (gives : List Gives) →
+    DrawsOn had has a b text marks gives → Marking mode s n line start left now summary store overlaps text marks gives → Said s line left now None course → Advances mode s n start (run_after s line start) course summary store overlaps had has a b
+going_over mode s n line start left now course summary store overlaps had has a b text marks gives draws marking is =
+    let m : MarksLine mode s n line start course summary store overlaps text marks gives = marking_ended mode s n line start left now course summary store overlaps text marks gives marking is in
     record {
-      text = g.text;
-      marks = g.marks;
-      draws = subst (λ l. DrawsOn had has a b g.text g.marks l) m.are g.draws;
+      text = text;
+      marks = marks;
+      draws = subst (λ l. DrawsOn had has a b text marks l) m.are draws;
       says = m.says;
-      moves = underway_ended s line start course course' summary turns (Some []) (Some g.text) few g.underway makes none;
+      moves = m.moves;
       recalls = m.recalls;
     }
+
+-- the turns up to one that tells
+pub going_on : (mode : Mode) (s : Setup) (n : ℕ) (line : Line) (start : Run) (course course' : CourseState) (summary : Summary) (store stores : Contents) (overlaps overlapping : Option Overlaps) (turns : Turns) (answer : Told) (had has then : Kept) (a b c : Option (List ℕ)) (now : Run) →
+    Going mode s n line start course summary store overlaps had has a b now → MakesTurns course line now turns course' → turns.told ≡ Some answer → Passes mode turns.quiet → DrawsTold mode n course' (summary.events + turns.quiet) store stores overlaps overlapping answer has then b c →
+    (next : Run) × Going mode s n line start course' (counted answer (with_events turns.quiet summary)) stores overlapping had then a c next
+going_on mode s n line start course course' summary store stores overlaps overlapping turns answer had has then a b c now g makes told each drew =
+    let t : SaidTurns s line course.left now turns course' = turns_said s line now turns course course' g.setup makes in (
+      (turn_of s line t.left t.then).run,
+      going_told mode s n line start t.left t.then course' (with_events turns.quiet summary) store stores overlaps overlapping answer had has then a b c g.text g.marks g.gives g.draws
+          (marking_quiet mode s n line start course.left now turns.quiet t.left t.then summary store overlaps g.text g.marks g.gives g.marking t.quiet each) (subst (λ o. Said s line t.left t.then o course') told t.said) drew,
+    )
+
+-- the turns up to its end
+pub going_ended : (mode : Mode) (s : Setup) (n : ℕ) (line : Line) (start : Run) (course course' : CourseState) (summary : Summary) (store : Contents) (overlaps : Option Overlaps) (turns : Turns) (had has : Kept) (a b : Option (List ℕ)) (now : Run) →
+    Going mode s n line start course summary store overlaps had has a b now → MakesTurns course line now turns course' → turns.told ≡ None → Passes mode turns.quiet →
+    Advances mode s n start (run_after s line start) course' (with_events turns.quiet summary) store overlaps had has a b
+going_ended mode s n line start course course' summary store overlaps turns had has a b now g makes none each =
+    let t : SaidTurns s line course.left now turns course' = turns_said s line now turns course course' g.setup makes in
+    going_over mode s n line start t.left t.then course' (with_events turns.quiet summary) store overlaps had has a b g.text g.marks g.gives g.draws
+    (marking_quiet mode s n line start course.left now turns.quiet t.left t.then summary store overlaps g.text g.marks g.gives g.marking t.quiet each) (subst (λ o. Said s line t.left t.then o course') none t.said)
+
+-- one turn by itself, and the end after it
+pub going_turn : (mode : Mode) (s : Setup) (n : ℕ) (line : Line) (start : Run) (course course' : CourseState) (summary : Summary) (store stores : Contents) (overlaps overlapping : Option Overlaps) (answer : Told) (had has then : Kept) (a b c : Option (List ℕ)) (now : Run) →
+    Going mode s n line start course summary store overlaps had has a b now → Makes course now (turn_of course.world.setup line course.left now) (Some answer) course' → DrawsTold mode n course' summary.events store stores overlaps overlapping answer has then b c →
+    Going mode s n line start course' (counted answer summary) stores overlapping had then a c (turn_of s line course.left now).run
+going_turn mode s n line start course course' summary store stores overlaps overlapping answer had has then a b c now g makes drew =
+    going_told mode s n line start course.left now course' summary store stores overlaps overlapping answer had has then a b c g.text g.marks g.gives g.draws g.marking (said s line now (Some answer) course course' g.setup makes) drew
+
+pub going_stopped : (mode : Mode) (s : Setup) (n : ℕ) (line : Line) (start : Run) (course course' : CourseState) (summary : Summary) (store : Contents) (overlaps : Option Overlaps) (had has : Kept) (a b : Option (List ℕ)) (now : Run) →
+    Going mode s n line start course summary store overlaps had has a b now → Makes course now (turn_of course.world.setup line course.left now) None course' → Advances mode s n start (run_after s line start) course' summary store overlaps had has a b
+going_stopped mode s n line start course course' summary store overlaps had has a b now g makes =
+    going_over mode s n line start course.left now course' summary store overlaps had has a b g.text g.marks g.gives g.draws g.marking (said s line now None course course' g.setup makes)
 
 -- from the start of a run on, between two lines, of which the last one has this number in the printed scenario
 pub record Drawn (plan : Plan) (mode : Mode) (s : Setup) (lines rest : List Line) (source : ℕ) (course : CourseState) (summary : Summary) (store : Contents) (overlaps : Option Overlaps) (has : Kept) (old new : Option (List ℕ)) : Type 0 where

@@ -6,6 +6,7 @@ pub mod InTurn
 mod Marked
 pub mod Shown
 pub mod Drawings
+mod HeardTurns
 pub mod Ends
 pub mod Pictured
 pub mod Chains

@@ -1,5 +1,5 @@
 -- What a turn tells gives the items of what happens.
-use Rattle.std.proofs.Common.{◌≡◌, ◌≤◌, ℕ, ◌+◌, List, [], ◌∷◌, ◌++◌, length, map, take, Option, None, Some, Ok, refl, ap, sym, subst, ◌∙◌, append-nil, arith}
+use Rattle.std.proofs.Common.{◌≡◌, ◌≤◌, ℕ, ◌+◌, List, [], ◌∷◌, ◌++◌, flat_map, length, map, take, Option, None, Some, Ok, refl, ap, sym, subst, ◌∙◌, add-zero, append-nil, arith}
 use Rattle.std.proofs.lemmas.List.{length-append, length-map, take_all}
 use Rattle.std.proofs.Math.Seq.{take-append_seam}
 use Rattle.std.specs.String.{string_bytes}
@@ -13,6 +13,7 @@ use Rattle.record.specs.Records.{entry_of, past_of, process_of, refused}
 use Rattle.record.specs.Spans.{takings}
 use Rattle.record.specs.declared.events.Event.{Event}
 use Rattle.record.specs.declared.history.Taken.{Taken}
+use Rattle.record.specs.declared.marks.Mark.{Mark}
 use Rattle.record.specs.declared.refusals.Refusal.{Refusal}
 use Rattle.record.proofs.Width.{is_good}
 use Rattle.history_laws.specs.HistoryLaws.{taken_with}
@@ -22,17 +23,19 @@ use Rattle.picture.specs.declared.reads.Reads.{Reads as Mode}
 use Rattle.replayer.specs.Courses.{CourseState}
 use Rattle.replayer.specs.Happenings.{Happening, Tries, Lacks, Tires, Looks, past_after, tried}
 use Rattle.replayer.specs.Runs.{Run, past_in}
-use Rattle.replayer.specs.Telling.{TellsOf, entry_made, marks_made}
+use Rattle.replayer.specs.Telling.{TellsOf, entry_made, marks_made, told_text}
+use Rattle.replayer.specs.Texts.{mark_line}
 use Rattle.replayer.specs.declared.told.Accepted.{Accepted}
 use Rattle.replayer.specs.declared.told.Told.{Told}
 use Rattle.replayer.specs.declared.told.Told.TheVariants as told
 use Rattle.replayer.proofs.Refusals.{none_added, past_kept}
-use Rattle.drawer.specs.Drawings.{AreNext, IsAmong, IsToDraw, Recalls, all_take}
+use Rattle.drawer.specs.Drawings.{AreNext, DrawsOn, IsAmong, IsToDraw, Kept, Recalls, all_take, marks_told}
 use Rattle.drawer.specs.Items.{Says, SaysRefusal, SaysStore, SaysTired, given_at, lines_given, read_at, reads_since, said_at, said_of_event, says_mark, waiting}
 use Rattle.drawer.specs.Overlaps.{ComesInTurn, Overhears, overlapped_by}
 use Rattle.drawer.specs.Pictures.{shown_words}
 use Rattle.drawer.specs.declared.overlaps.Overlaps.{Overlaps}
 use Rattle.drawer.proofs.Chains.{few_taken}
+use Rattle.drawer.proofs.Drawn.{draws_on_none}
 use Rattle.drawer.proofs.Giving.{are_next, as_many, waiting_map}
 use Rattle.drawer.proofs.InTurn.{entry_in_turn}
 
@@ -197,3 +200,18 @@ begins_marks mode course source events store overlaps overlapping before this ma
                 (subst (λ (p : Past). Overhears mode s p (waiting (marks_made made) reads) overlaps) (now ∙ sym here) among.waits);
           };
     }
+
+-- an event without a mark that is heard: nothing is drawn of it
+pub heard_step : (mode : Mode) (course : CourseState) (source events : ℕ) (store : Contents) (overlaps overlapping : Option Overlaps) (before : List Happening) (this : Happening) (made : Accepted) (has : Kept) (taken : Option (List ℕ)) → marks_made made ≡ [] →
+    IsToDraw mode course events store overlaps before this (told.Accepted made) →
+    ((mode : Mode) (s : Setup) (past : Past) (reads : List OverlappedRead) → Overhears mode s past reads overlaps → events ≡ length past → ComesInTurn s past (entry_made made) → Overhears mode s (entry_made made ∷ past) (reads ++ overlapped_by s past (entry_made made)) overlapping) →
+    DrawsOn has has taken taken (told_text events (told.Accepted made)) (marks_told (told.Accepted made)) (given_at mode course.world.setup source before this) × Recalls mode course.world.setup (this ∷ before) store overlapping
+heard_step mode course source events store overlaps overlapping before this made has taken none d hears =
+    let s : Setup = course.world.setup in
+    let p : ℕ = process_of made.event in
+    let b : BeginsMarks mode course source events store overlapping before this made = begins_marks mode course source events store overlaps overlapping before this made d hears in
+    let drawn = λ (l : List Mark). DrawsOn has has taken taken (flat_map (mark_line events p) l) (map {B = ℕ × Mark} (λ (mark : Mark). (p, mark)) l) (lines_given mode source events b.reads (map (says_mark s (history s (past_in s b.now)) p) l)) in
+    let among = λ (l : List Mark). IsAmong mode course b.now (waiting l b.reads) (b.n + all_take l) store overlapping in (
+      subst (λ gives. DrawsOn has has taken taken (told_text events (told.Accepted made)) (marks_told (told.Accepted made)) gives) b.gives (subst drawn (sym none) (draws_on_none has taken)),
+      b.ends store overlapping (subst among (sym none) (subst (λ n. IsAmong mode course b.now b.reads n store overlapping) (sym (add-zero b.n)) b.among)),
+    )

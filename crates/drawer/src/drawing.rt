@@ -1,5 +1,5 @@
 //! A run told line by line to a picture, whose bands are written as they are full.
-ghost use Rattle.std.specs.Prelude.{◌≡◌, ◌+◌, ◌-◌, ◌^◌, ◌<◌, ◌≤◌, ℕ, true, List, [], ◌∷◌, ◌++◌, codes, flat_map, length, map, IfErr, IfOk, IfSome, Ok, OnOk};
+ghost use Rattle.std.specs.Prelude.{◌≡◌, ◌+◌, ◌-◌, ◌^◌, ◌<◌, ◌≤◌, ℕ, false, List, [], ◌∷◌, ◌++◌, codes, flat_map, is_some, length, map, IfErr, IfOk, Ok, OnOk};
 ghost use Rattle.plain_store.specs.Setups.{checked};
 ghost use Rattle.plain_store.specs.declared.setups.Setup.{Setup as Given};
 ghost use Rattle.record.specs.Entries.{Past};
@@ -10,13 +10,12 @@ ghost use Rattle.picture.specs.Pages.{held, page_of, seen_page};
 ghost use Rattle.columns.specs.Stages.{marks_in, marks_said};
 ghost use Rattle.columns.specs.Told.{saying_text};
 ghost use Rattle.scenario.specs.Reads.{script};
-ghost use Rattle.replayer.specs.Courses.{Follows, MakesTurns};
+ghost use Rattle.replayer.specs.Courses.{Follows};
 ghost use Rattle.replayer.specs.Happenings.{Happening, past_after};
 ghost use Rattle.replayer.specs.Runs.{Run, happenings, past_in, run_at_start};
 ghost use Rattle.replayer.specs.Summaries.{counted, summary_of};
 ghost use Rattle.replayer.specs.Telling.{told_text};
 ghost use Rattle.replayer.specs.Texts.{end_line, mark_line, replayed};
-ghost use Rattle.replayer.specs.Turns.{turns_in};
 ghost use Rattle.replayer.specs.Writing.{IsWriteFault, failed_write};
 ghost use Rattle.drawer.specs.Changes.{IsNext, takes};
 ghost use Rattle.drawer.specs.Drawings.{AreNext, DrawsBands, DrawsLine, DrawsOn, DrawsRest, IsAmong, IsToDraw, Recalls, all_take, kept, marks_told};
@@ -31,9 +30,9 @@ use onlooker::{Onlooker, Place};
 use picture::{Form, Line, OverlappedRead, Page, Reads, Saying};
 use plain_store::{NestedTypes, Setup};
 use record::Mark;
-use replayer::{Course, Summary, Told, Turns};
+use replayer::{Course, Summary, Told};
 use scenario::{Fault, Scenario, Sink};
-use std::alloc::{AllocError, Global};
+use std::alloc::Global;
 
 /// A run and its picture, on their way.
 #[derive(Drop)]
@@ -122,14 +121,69 @@ impl Drawing {
         ensures fault { IfErr result IsWriteFault }
         ensures failures { W.failures output.new ≡ W.failures output.old + failed_write result }
     {
+        if self.overlaps.is_some() {
+            self.draw_heard_turns(line, output)
+        } else {
+            self.draw_turns(line, output)
+        }
+    }
+
+    /// The same where no reads are shown: the turns up to the first that tells more than a Step without a mark are
+    /// made in a row.
+    fn draw_turns<W: Sink>(&mut self, line: &scenario::Line, output: &mut W) -> Result<(), Fault>
+        requires writes { W.failures output.old < 2 ^ 64 - 1 }
+        requires events { self.old.summary.events < 2 ^ 63 }
+        requires refused { self.old.summary.refused < 2 ^ 63 }
+        requires unheard { is_some self.old.overlaps ≡ false }
+        ensures ok { OnOk result (DrawsLine line.now self.old.source self.old.course self.new.course self.old.summary self.new.summary self.old.changes.store self.new.changes.store self.old.overlaps self.new.overlaps (kept self.old.page) (kept self.new.page) (W.taken output.old) (W.taken output.new)) }
+        ensures source { OnOk result (self.new.source ≡ self.old.source) }
+        ensures events { OnOk result (self.new.summary.events < self.old.summary.events + 2 ^ 32) }
+        ensures refused { OnOk result (self.new.summary.refused < self.old.summary.refused + 2 ^ 32) }
+        ensures fault { IfErr result IsWriteFault }
+        ensures failures { W.failures output.new ≡ W.failures output.old + failed_write result }
+    {
         self.course.begin(line);
         'turns: loop {
-            let turns = next_turns(&mut self.course, line, self.overlaps.is_some())?;
+            let turns = self.course.turns(line)?;
             self.summary.events += u64::from(turns.quiet);
             let Some(told) = turns.told else {
                 return Ok(());
             };
             self.tell(&told, output)?;
+        }
+    }
+
+    /// The same where reads are shown: each turn is heard, a Step within a number access by its access alone. Such a
+    /// Step has no mark, so nothing is drawn of it.
+    fn draw_heard_turns<W: Sink>(
+        &mut self,
+        line: &scenario::Line,
+        output: &mut W,
+    ) -> Result<(), Fault>
+        requires writes { W.failures output.old < 2 ^ 64 - 1 }
+        requires events { self.old.summary.events < 2 ^ 63 }
+        requires refused { self.old.summary.refused < 2 ^ 63 }
+        ensures ok { OnOk result (DrawsLine line.now self.old.source self.old.course self.new.course self.old.summary self.new.summary self.old.changes.store self.new.changes.store self.old.overlaps self.new.overlaps (kept self.old.page) (kept self.new.page) (W.taken output.old) (W.taken output.new)) }
+        ensures source { OnOk result (self.new.source ≡ self.old.source) }
+        ensures events { OnOk result (self.new.summary.events < self.old.summary.events + 2 ^ 32) }
+        ensures refused { OnOk result (self.new.summary.refused < self.old.summary.refused + 2 ^ 32) }
+        ensures fault { IfErr result IsWriteFault }
+        ensures failures { W.failures output.new ≡ W.failures output.old + failed_write result }
+    {
+        self.course.begin(line);
+        let mut steppers = self.course.steppers(line);
+        'turns: loop {
+            let drawn = self.course.draw(&steppers);
+            if let Some(made) = self.course.step_drawn(drawn) {
+                hear(&mut self.overlaps, self.summary.events, Some(made.access))?;
+                self.summary.events += 1;
+                continue 'turns;
+            }
+            let Some(told) = self.course.turn_drawn(line, drawn)? else {
+                return Ok(());
+            };
+            self.tell(&told, output)?;
+            steppers = self.course.steppers(line);
         }
     }
 
@@ -165,7 +219,7 @@ impl Drawing {
         let _nested: NestedTypes = None;
         match told {
             Told::Accepted(made) => {
-                hear(&mut self.overlaps, self.summary.events, made)?;
+                hear(&mut self.overlaps, self.summary.events, made.access)?;
                 let process = made.event.process();
                 self.draw_marks(process, made.marks(self.alloc).as_slice(), output)
             }
@@ -307,21 +361,4 @@ impl Drawing {
         write_band(&full, output)?;
         write_markup(&last, output)
     }
-}
-
-/// The next turn of a line, if each is to be heard; else its turns up to the first that tells more than a Step without
-/// a mark.
-fn next_turns(course: &mut Course, line: &scenario::Line, each: bool) -> Result<Turns, AllocError>
-    requires { course.old.left ≤ turns_in line.now }
-    ensures few { IfOk result (λ turns. turns.quiet ≤ course.old.left) }
-    ensures each { each ≡ true → IfOk result (λ turns. turns.quiet ≡ 0) }
-    ensures less { IfOk result (λ turns. IfSome turns.told (λ _. turns.quiet + course.new.left < course.old.left)) }
-    ensures made { IfOk result (λ turns. (run : Run) → Follows course.old run → MakesTurns course.old line.now run turns course.new) }
-{
-    if each {
-        let told = course.turn(line)?;
-        return Ok(Turns { quiet: 0, told });
-    }
-    let turns = course.turns(line)?;
-    Ok(turns)
 }

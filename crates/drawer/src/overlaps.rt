@@ -1,18 +1,16 @@
-//! The reads of a run that writes overlap: a watch beside the run, which hears each entry.
-ghost use Rattle.std.specs.Prelude.{◌≡◌, ◌<◌, ℕ, [], ◌∷◌, ◌++◌, List, length, nat_lt, set, slice_index, IfOk, Ok, OnOk};
+//! The reads of a run that writes overlap: a watch beside the run, which hears the access of each entry.
+ghost use Rattle.std.specs.Prelude.{◌≡◌, ◌<◌, ℕ, [], ◌∷◌, ◌++◌, List, length, nat_lt, set, slice_index, IfOk, Ok, OnOk, Some};
 ghost use Rattle.safe_bit.specs.declared.Move.TheVariants.{EndRead};
 ghost use Rattle.plain_store.specs.Setups.{checked};
 ghost use Rattle.plain_store.specs.declared.setups.Setup.{Setup as Given};
 ghost use Rattle.record.specs.Entries.{Entry, Past};
 ghost use Rattle.record.specs.Registers.{width};
-ghost use Rattle.replayer.specs.Telling.{entry_made};
 ghost use Rattle.columns.specs.declared.reads.OverlappedRead.{OverlappedRead as Ended};
 ghost use Rattle.picture.specs.declared.reads.Reads.{Reads as Mode};
 ghost use Rattle.drawer.specs.Overlaps.{ComesInTurn, Hears, Overhears, begun_by, first_three, overlapped_by, read_ended, shown_of};
 
 use picture::{OverlappedRead, Reads};
 use plain_store::{NestedTypes, Setup};
-use replayer::Accepted;
 use safe_bit::Move;
 use safe_number::{Access, Field};
 use std::alloc::{AllocError, Global};
@@ -24,7 +22,6 @@ const MOST_SHOWN: usize = 3;
 /// What tells which reads are overlapped.
 #[derive(Drop)]
 pub(crate) struct Overlaps {
-    alloc: Global,
     setup: Setup,
     watch: Watch,
     /// The event in which the last read of each process began.
@@ -44,7 +41,6 @@ impl Overlaps {
             return Ok(None);
         }
         Ok(Some(Overlaps {
-            alloc,
             setup: *setup,
             watch: Watch::new(alloc, setup)?,
             begun: [0; 16],
@@ -52,26 +48,27 @@ impl Overlaps {
         }))
     }
 
-    /// Hears an event, of this number.
-    fn hear(&mut self, number: u64, made: &Accepted) -> Result<(), AllocError>
-        ensures { OnOk result ((s : Given) (past : Past) (reads : List Ended) → Hears s past reads self.old → number ≡ length past → ComesInTurn s past (entry_made made.now) → Hears s (entry_made made.now ∷ past) (reads ++ overlapped_by s past (entry_made made.now)) self.new) }
-    {
-        let _nested: NestedTypes = None;
-        self.hear_access(number, made.access)?;
-        self.watch.hear(&made.entry(self.alloc));
-        Ok(())
-    }
-
-    /// Keeps where a read begins, and that an overlapped one ends.
-    fn hear_access(&mut self, number: u64, access: Option<Access>) -> Result<(), AllocError>
-        ensures setup { self.new.setup ≡ self.old.setup }
-        ensures watch { self.new.watch ≡ self.old.watch }
-        ensures begun { OnOk result ((past : Past) (e : Entry) (p : ℕ) → e.access ≡ access → number ≡ length past → p < 16 → slice_index self.old.begun p ≡ begun_by past p → slice_index self.new.begun p ≡ begun_by (e ∷ past) p) }
-        ensures ended { OnOk result ((s : Given) (past : Past) (reads : List Ended) (e : Entry) → e.access ≡ access → number ≡ length past → Hears s past reads self.old → ComesInTurn s past e → self.new.ended.items ≡ first_three (reads ++ overlapped_by s past e)) }
+    /// Hears an event, of this number, by its access, if it makes one.
+    #[inline]
+    fn hear(&mut self, number: u64, access: Option<Access>) -> Result<(), AllocError>
+        ensures { OnOk result ((s : Given) (past : Past) (reads : List Ended) (e : Entry) → e.access ≡ access → Hears s past reads self.old → number ≡ length past → ComesInTurn s past e → Hears s (e ∷ past) (reads ++ overlapped_by s past e) self.new) }
     {
         let Some(access) = access else {
             return Ok(());
         };
+        self.keep(number, access)?;
+        self.watch.hear_access(access);
+        Ok(())
+    }
+
+    /// Keeps where a read begins, and that an overlapped one ends.
+    #[inline]
+    fn keep(&mut self, number: u64, access: Access) -> Result<(), AllocError>
+        ensures setup { self.new.setup ≡ self.old.setup }
+        ensures watch { self.new.watch ≡ self.old.watch }
+        ensures begun { OnOk result ((past : Past) (e : Entry) (p : ℕ) → e.access ≡ Some access → number ≡ length past → p < 16 → slice_index self.old.begun p ≡ begun_by past p → slice_index self.new.begun p ≡ begun_by (e ∷ past) p) }
+        ensures ended { OnOk result ((s : Given) (past : Past) (reads : List Ended) (e : Entry) → e.access ≡ Some access → number ≡ length past → Hears s past reads self.old → ComesInTurn s past e → self.new.ended.items ≡ first_three (reads ++ overlapped_by s past e)) }
+    {
         match access.how {
             Move::BeginRead => {
                 self.begin(access.reader, number);
@@ -132,16 +129,18 @@ impl Overlaps {
     }
 }
 
-/// Hears an event of this number, if reads are shown.
+/// Hears an event of this number by its access, if reads are shown: a Step that is told by its access alone, or an event
+/// that is told whole.
+#[inline]
 pub(crate) fn hear(
     overlaps: &mut Option<Overlaps>,
     number: u64,
-    made: &Accepted,
+    access: Option<Access>,
 ) -> Result<(), AllocError>
-    ensures { OnOk result ((mode : Mode) (s : Given) (past : Past) (reads : List Ended) → Overhears mode s past reads overlaps.old → number ≡ length past → ComesInTurn s past (entry_made made.now) → Overhears mode s (entry_made made.now ∷ past) (reads ++ overlapped_by s past (entry_made made.now)) overlaps.new) }
+    ensures { OnOk result ((mode : Mode) (s : Given) (past : Past) (reads : List Ended) (e : Entry) → e.access ≡ access → Overhears mode s past reads overlaps.old → number ≡ length past → ComesInTurn s past e → Overhears mode s (e ∷ past) (reads ++ overlapped_by s past e) overlaps.new) }
 {
     match overlaps {
-        Some(overlaps) => overlaps.hear(number, made),
+        Some(overlaps) => overlaps.hear(number, access),
         None => Ok(()),
     }
 }

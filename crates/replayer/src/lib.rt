@@ -34,5 +34,5 @@ pub use sweeper::{
     BadRun, Swept, fails_are_of_whom_stands, steps_are_of_whom_moves, sweep, swept_runs_are_good,
 };
 pub use sweeping::{run_sweep, run_sweep_seen, status_of_sweep};
-pub use told::{Accepted, Told, Turns};
-pub use turns::Course;
+pub use told::{Accepted, Drawn, Stepped, Told, Turns};
+pub use turns::{Course, Steppers};

@@ -28,6 +28,7 @@ use record::{Event, Refusal, Taken};
 use scenario::{Flick, Line};
 use std::alloc::{AllocError, Global};
 use std::marker::Model;
+pub use steps::Steppers;
 use store_image::Image;
 use world::{Effect, Flicks};
 

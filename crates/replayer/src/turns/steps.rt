@@ -19,7 +19,7 @@ use std::alloc::AllocError;
 
 /// Who makes the next Steps of a line, up to one that has a mark.
 #[derive(Drop)]
-pub(crate) enum Steppers {
+pub enum Steppers {
     /// It is not told.
     Untold,
     /// This process, while more than so many turns are left.
@@ -29,8 +29,9 @@ pub(crate) enum Steppers {
 }
 
 impl Course {
-    /// Who makes the next Steps of a line.
-    pub(crate) fn steppers(&self, line: &Line) -> Steppers
+    /// Who makes the next Steps of a line that has begun. They make them as long as [`Course::step_drawn`] makes
+    /// each; after any other turn it is to be asked anew.
+    pub fn steppers(&self, line: &Line) -> Steppers
         ensures { (run : Run) → Follows self.now run → AreNext self.now.world.setup line.now run result }
     {
         match line {
@@ -62,10 +63,11 @@ impl Course {
         Steppers::Alone { process, floor: 1 }
     }
 
-    /// Draws the Step that is the next turn of a line, of one of these: it is to be made next. None, if the line has
-    /// ended, or if who makes it is not told; then nothing is drawn.
+    /// Draws the Step that is the next turn of a line, of one of these, who make its next Steps: it is to be made
+    /// next, by [`Course::step_drawn`], or else by [`Course::turn_drawn`]. None, if the line has ended, or if who
+    /// makes it is not told; then nothing is drawn.
     #[inline]
-    pub(crate) fn draw(&mut self, steppers: &Steppers) -> Option<Drawn>
+    pub fn draw(&mut self, steppers: &Steppers) -> Option<Drawn>
         ensures left { self.new.left + drawn_turns result ≤ self.old.left }
         ensures drawn { (l : LineSeen) (run : Run) → Follows self.old run → AreNext self.old.world.setup l run steppers.now → IsReady self.old l run result self.new }
     {
@@ -113,10 +115,11 @@ impl Course {
         })
     }
 
-    /// Makes the Step that was drawn, if it is within a number access: it has no mark, and the same processes make the next
-    /// Steps. None where it is not within one, or none was drawn; then nothing is made.
+    /// Makes the Step that was drawn, if it is within a number access: it has no mark, and the same processes make
+    /// the next Steps. None where it is not within one, or none was drawn; then nothing is made, and the turn is for
+    /// [`Course::turn_drawn`].
     #[inline]
-    pub(crate) fn step_drawn(&mut self, drawn: Option<Drawn>) -> Option<Stepped>
+    pub fn step_drawn(&mut self, drawn: Option<Drawn>) -> Option<Stepped>
         ensures left { self.new.left ≡ self.old.left }
         ensures some { OnSome result (drawn_turns drawn ≡ 1) }
         ensures made { IfSome result (λ made. (old : CourseState) (l : LineSeen) (run : Run) → Follows old run → IsReady old l run drawn self.old → MakesStep old l run made self.new) }
@@ -131,8 +134,9 @@ impl Course {
     }
 
     /// Makes the turn that was drawn, or the next one of the line if none was, and tells it; none once the line has ended.
+    /// Who makes the Steps after it is to be asked for anew.
     #[inline(never)]
-    pub(crate) fn turn_drawn(
+    pub fn turn_drawn(
         &mut self,
         line: &Line,
         drawn: Option<Drawn>,

@@ -1,4 +1,4 @@
-use Rattle.std.proofs.Common.{◌≡◌, ◌∙◌, ◌+◌, ℕ, List, [], ◌∷◌, Some, add-zero, ap, drop, arith, refl, subst, sym}
+use Rattle.std.proofs.Common.{◌≡◌, ◌∙◌, ◌+◌, ℕ, List, [], ◌∷◌, Some, ap, drop, arith, refl, subst, sym}
 use Rattle.std.proofs.lemmas.List.{drop_all}
 use Rattle.plain_store.specs.declared.setups.Setup.{Setup}
 use Rattle.drawer.specs.Drawings.{kept}
@@ -12,7 +12,7 @@ use Rattle.replayer.specs.declared.summaries.Summary.{Summary}
 use Rattle.replayer.proofs.Onwards.{onward_numbers}
 use Rattle.replayer.proofs.Written.{failed_same}
 use Rattle.drawer.specs.Drawings.{DrawsRest}
-use Rattle.drawer.specs.Items.{SaysEnd, first_line, lines_given, reads_since}
+use Rattle.drawer.specs.Items.{SaysEnd, lines_given, reads_since}
 use Rattle.replayer.specs.Happenings.{past_after}
 use Rattle.drawer.specs.Pictures.{plan_of}
 use Rattle.picture.specs.Bandings.{Plan}

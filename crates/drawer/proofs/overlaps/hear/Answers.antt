@@ -1,5 +1,4 @@
 use Rattle.std.proofs.Common.{◌∷◌, ◌++◌, sym, subst}
-use Rattle.replayer.specs.Telling.{entry_made}
 use Rattle.drawer.specs.Overlaps.{Overhears, overlapped_by}
 use Rattle.std.proofs.lemmas.Result.{on_ok_weaker}
 use Rattle.drawer.proofs.Overhearing.{overhears_nothing, overhears_on}
@@ -7,9 +6,9 @@ use Rattle.drawer.proofs.overlaps.hear.Goals as goal
 
 pub returns-in-Some : goal.returns-in-Some
 returns-in-Some c = on_ok_weaker c.hear.result
-    (λ on. λ mode s past reads h number turn. overhears_on mode s past _ reads _ _ _ (λ before. on s past reads before number turn) (subst (Overhears mode s past reads) c.in-Some.is h)) c.hear.ensures
+    (λ on. λ mode s past reads e is h number turn. overhears_on mode s past _ reads _ _ _ (λ before. on s past reads e is before number turn) (subst (Overhears mode s past reads) c.in-Some.is h)) c.hear.ensures
 
 pub returns-in-None : goal.returns-in-None
-returns-in-None c = λ mode s past reads h number turn.
-    subst (Overhears mode s (entry_made c.args.made.now ∷ past) (reads ++ overlapped_by s past (entry_made c.args.made.now))) (sym c.in-None.is)
+returns-in-None c = λ mode s past reads e is h number turn.
+    subst (Overhears mode s (e ∷ past) (reads ++ overlapped_by s past e)) (sym c.in-None.is)
     (overhears_nothing mode s past _ reads _ (subst (Overhears mode s past reads) c.in-None.is h))

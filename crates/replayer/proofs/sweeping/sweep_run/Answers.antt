@@ -1,5 +1,4 @@
-use Rattle.std.proofs.Common.{◌≡◌, List, ap, ◌∙◌}
-use Rattle.record.specs.declared.events.Event.{Event}
+use Rattle.std.proofs.Common.{◌≡◌, ap, ◌∙◌}
 use Rattle.scenario.specs.Reads.{script}
 use Rattle.replayer.specs.Listings.{accepted_events}
 use Rattle.replayer.specs.Sweepings.{accepted_calls, calls_in}

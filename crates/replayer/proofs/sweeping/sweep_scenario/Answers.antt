@@ -1,4 +1,4 @@
-use Rattle.std.proofs.Common.{◌≡◌, IfOk, ap}
+use Rattle.std.proofs.Common.{ap}
 use Rattle.std.specs.String.{string_bytes}
 use Rattle.scenario.specs.Reads.{script}
 use Rattle.replayer.specs.Sweepings.{swept, swept_lines}

@@ -1,4 +1,4 @@
-use Rattle.std.proofs.Common.{◌≡◌, ℕ, ◌+◌, ◌++◌, List, [], ◌∷◌, ◌∙◌, codes, flat_map, map, ap, subst, sym}
+use Rattle.std.proofs.Common.{◌≡◌, ℕ, ◌+◌, ◌++◌, List, [], ◌∷◌, ◌∙◌, codes, flat_map, map, ap, refl, subst, sym}
 use Rattle.std.specs.Result.{OnOk}
 use Rattle.std.specs.String.{string_bytes}
 use Rattle.plain_store.specs.declared.setups.Setup.{Setup}
@@ -9,7 +9,7 @@ use Rattle.record.specs.declared.marks.Mark.{Mark}
 use Rattle.picture.specs.declared.reads.Reads.{Reads as Mode}
 use Rattle.replayer.specs.Happenings.{Happening, past_after}
 use Rattle.replayer.specs.Runs.{past_in}
-use Rattle.replayer.specs.Telling.{marks_made, told_text}
+use Rattle.replayer.specs.Telling.{entry_made, marks_made, told_text}
 use Rattle.replayer.specs.Texts.{mark_line}
 use Rattle.replayer.specs.declared.told.Told.{Told}
 use Rattle.replayer.specs.declared.told.Told.TheVariants as told
@@ -31,7 +31,7 @@ returns-in_ok-hear-in-Accepted-clause-ok g c =
     DrawsOn (kept self.page) (kept c.draw_marks.new.self.page) (g.W.Sink.taken c.args.output.now) (g.W.Sink.taken c.draw_marks.new.output) (told_text self.summary.events t) (marks_told t) (given_at mode s self.source before this))) (sym c.in-Accepted.is)
     (ok_then c.draw_marks.result
     (λ drew mode before this d.
-    let b : BeginsMarks mode self.course self.source self.summary.events self.changes.store c.hear.new.overlaps before this made = begins_marks mode self.course self.source self.summary.events self.changes.store self.overlaps c.hear.new.overlaps before this made d c.in_ok-hear-in-Accepted.ensures in
+    let b : BeginsMarks mode self.course self.source self.summary.events self.changes.store c.hear.new.overlaps before this made = begins_marks mode self.course self.source self.summary.events self.changes.store self.overlaps c.hear.new.overlaps before this made d (λ mode s past reads. c.in_ok-hear-in-Accepted.ensures mode s past reads (entry_made made) refl) in
     let taken : List Taken = history s (past_in s b.now) in
     let drawn = λ (p : ℕ) (l : List Mark). DrawsOn (kept self.page) (kept c.draw_marks.new.self.page) (g.W.Sink.taken c.args.output.now) (g.W.Sink.taken c.draw_marks.new.output) (flat_map (mark_line self.summary.events p) l) (map {B = ℕ × Mark} (λ (mark : Mark). (p, mark)) l) (lines_given mode self.source self.summary.events b.reads (map (says_mark s taken p) l)) in
     subst (λ l. DrawsOn (kept self.page) (kept c.draw_marks.new.self.page) (g.W.Sink.taken c.args.output.now) (g.W.Sink.taken c.draw_marks.new.output) (flat_map (mark_line self.summary.events (process_of made.event)) (marks_made made)) (map {B = ℕ × Mark} (λ (mark : Mark). (process_of made.event, mark)) (marks_made made)) l) b.gives
@@ -50,7 +50,7 @@ returns-in_ok-hear-in-Accepted-clause-recalls g c =
     Recalls mode s (this ∷ before) c.draw_marks.new.self.changes.store c.draw_marks.new.self.overlaps)) (sym c.in-Accepted.is)
     (ok_then c.draw_marks.result
     (λ among mode before this d.
-    let b : BeginsMarks mode self.course self.source self.summary.events self.changes.store c.hear.new.overlaps before this made = begins_marks mode self.course self.source self.summary.events self.changes.store self.overlaps c.hear.new.overlaps before this made d c.in_ok-hear-in-Accepted.ensures in
+    let b : BeginsMarks mode self.course self.source self.summary.events self.changes.store c.hear.new.overlaps before this made = begins_marks mode self.course self.source self.summary.events self.changes.store self.overlaps c.hear.new.overlaps before this made d (λ mode s past reads. c.in_ok-hear-in-Accepted.ensures mode s past reads (entry_made made) refl) in
     let taken : List Taken = history s (past_in s b.now) in
     b.ends c.draw_marks.new.self.changes.store c.draw_marks.new.self.overlaps
     (subst (λ (l : List Mark). IsAmong mode self.course b.now (waiting l b.reads) (b.n + all_take l) c.draw_marks.new.self.changes.store c.draw_marks.new.self.overlaps) marks

@@ -1,14 +1,15 @@
-use Rattle.std.proofs.Common.{◌∷◌, refl, subst, sym, ap, ◌∙◌}
-use Rattle.record.specs.Entries.{Entry}
+use Rattle.std.proofs.Common.{◌≡◌, Some, subst, sym, ap, ◌∙◌}
 use Rattle.watch.specs.Watching.{HasHeard, WatchState}
-use Rattle.replayer.specs.Telling.{entry_made}
-use Rattle.drawer.proofs.Overhearing.{hears_on}
+use Rattle.drawer.proofs.Overhearing.{hears_none, hears_on}
 use Rattle.drawer.proofs.overlaps.Overlaps.hear.Goals as goal
 
+pub returns-in_default : goal.returns-in_default
+returns-in_default c = λ s past reads e is h number turn. hears_none s past reads e _ (is ∙ c.in_default.is) h
+
 pub returns : goal.returns
-returns c = λ s past reads h number turn.
-    let e : Entry = entry_made c.args.made.now in
-    let same = c.hear_access.ensures.watch in
-    hears_on s past reads e _ _ c.hear_access.ensures.setup (c.hear-2.ensures.setup ∙ ap (λ (w : WatchState). w.setup) same)
-    (λ heard. subst (λ x. HasHeard c.hear-2.new.self (x ∷ past)) c.entry.ensures (c.hear-2.ensures.heard past (subst (λ (w : WatchState). HasHeard w past) (sym same) heard)))
-    (λ p below before. c.in_ok-hear_access.ensures.begun past e p refl number below before) (c.in_ok-hear_access.ensures.ended s past reads e refl number h turn) h
+returns c = λ s past reads e is h number turn.
+    let some : e.access ≡ Some c.in-Some.access = is ∙ c.in-Some.is in
+    let same = c.keep.ensures.watch in
+    hears_on s past reads e _ _ c.keep.ensures.setup (c.hear_access.ensures.setup ∙ ap (λ (w : WatchState). w.setup) same)
+    (λ heard. c.hear_access.ensures.heard past e some (subst (λ (w : WatchState). HasHeard w past) (sym same) heard))
+    (λ p below before. c.in_ok-keep.ensures.begun past e p some number below before) (c.in_ok-keep.ensures.ended s past reads e some number h turn) h

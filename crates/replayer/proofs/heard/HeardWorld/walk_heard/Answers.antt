@@ -1,4 +1,4 @@
-use Rattle.std.proofs.Common.{◌<◌, arith}
+use Rattle.std.proofs.Common.{arith}
 use Rattle.replayer.proofs.Listeners.{walks_on}
 use Rattle.replayer.proofs.heard.HeardWorld.walk_heard.Goals as goal
 

@@ -1,4 +1,4 @@
-use Rattle.std.proofs.Common.{[], Some, true≢false, sym, ◌∙◌}
+use Rattle.std.proofs.Common.{true≢false, sym, ◌∙◌}
 use Rattle.record.specs.Entries.{Entry}
 use Rattle.replayer.proofs.Listeners.{Heard, entry_heard, heard_agrees}
 use Rattle.replayer.proofs.heard.Listener.hear.Goals as goal
