@@ -14,7 +14,7 @@ use engines::{run_bits, run_plain};
 use help::text_of;
 use onlooker::Onlooker;
 use progress::{WatchedInput, Watcher};
-use race_engine::{RunFault, run_fault_status, run_race};
+use race::{RunFault, run_fault_status, run_race};
 use replayer::{replay_seen, run_audit_seen, run_judge, run_record_seen, run_sweep_seen};
 use scenario::{DONE, Fault, FromRead, IntoWrite, Sink, Source, ended};
 use std::env::{self, Env};

@@ -1,6 +1,11 @@
-//! Why a race has no closing.
+//! Why a race has no closing, why a race of a file ended early, and the exit statuses.
+ghost use Rattle.std.specs.Prelude.{◌≡◌};
+ghost use Rattle.race.specs.Statuses.{status_of_race, status_of_run_fault};
+
+use scenario::{DONE, Fault, LineFault, fault_status};
 use std::alloc::AllocError;
 use thiserror::Error;
+use weigh::Weighed;
 
 /// Why a race has no closing. Of several faults the least is told, in this order.
 #[derive(Clone, Copy, Debug, PartialEq, Eq, PartialOrd, Ord, Error)]
@@ -19,5 +24,80 @@ pub enum RaceFault {
 impl From<AllocError> for RaceFault {
     fn from(_: AllocError) -> RaceFault {
         RaceFault::Memory
+    }
+}
+
+/// Why the engine ended early.
+#[derive(Clone, Copy, Debug, PartialEq, Eq, Error)]
+pub enum RunFault {
+    /// A file was at fault, or memory was wanting outside the race.
+    #[error(transparent)]
+    File(Fault),
+    /// The race has no closing.
+    #[error(transparent)]
+    Race(RaceFault),
+}
+
+impl From<Fault> for RunFault {
+    ghost use Rattle.race.specs.declared.faults.RunFault.TheVariants.{File};
+
+    ghost from_gives = { λ fault result. result ≡ File fault };
+
+    fn from(fault: Fault) -> RunFault {
+        RunFault::File(fault)
+    }
+}
+
+impl From<LineFault> for RunFault {
+    ghost use Rattle.files.specs.declared.faults.Fault.TheVariants.{Line};
+    ghost use Rattle.race.specs.declared.faults.RunFault.TheVariants.{File};
+
+    ghost from_gives = { λ fault result. result ≡ File (Line fault) };
+
+    fn from(fault: LineFault) -> RunFault {
+        RunFault::File(Fault::Line(fault))
+    }
+}
+
+impl From<AllocError> for RunFault {
+    ghost use Rattle.files.specs.declared.faults.Fault.TheVariants.{Memory};
+    ghost use Rattle.race.specs.declared.faults.RunFault.TheVariants.{File};
+
+    ghost from_gives = { λ error result. result ≡ File Memory };
+
+    fn from(_: AllocError) -> RunFault {
+        RunFault::File(Fault::Memory)
+    }
+}
+
+impl From<RaceFault> for RunFault {
+    ghost use Rattle.race.specs.declared.faults.RunFault.TheVariants.{Race};
+
+    ghost from_gives = { λ fault result. result ≡ Race fault };
+
+    fn from(fault: RaceFault) -> RunFault {
+        RunFault::Race(fault)
+    }
+}
+
+/// The exit status that a race stands for: 0 for a good verdict, 3 for any other one and for a port that was held, 4
+/// where memory or a thread was wanting.
+pub fn race_status(raced: &Result<Weighed, RaceFault>) -> u8
+    ensures { result ≡ status_of_race raced.now }
+{
+    match raced {
+        Ok(Weighed::Good) => DONE,
+        Ok(Weighed::Bad(..) | Weighed::BadEnd) | Err(RaceFault::Held(_)) => 3,
+        Err(RaceFault::Spawn | RaceFault::Memory) => 4,
+    }
+}
+
+/// The exit status where the engine ended early.
+pub fn run_fault_status(fault: &RunFault) -> u8
+    ensures { result ≡ status_of_run_fault fault.now }
+{
+    match fault {
+        RunFault::File(fault) => fault_status(fault),
+        RunFault::Race(fault) => race_status(&Err(*fault)),
     }
 }

@@ -4,14 +4,23 @@
 //! ```rust
 //! let closing = race(rt, alloc, &scenario.setup, plans.as_slice(), &AlwaysOn)?;
 //! ```
+//!
+//! The engine `race` is here too: the calls of a scenario, each process's by a port on a thread of its own, and then the
+//! answers, the store that is left and the verdict on both.
 #![tactic(auto)]
 
 mod faults;
 mod gates;
+mod plans;
 mod racing;
+mod running;
+mod texts;
 mod workers;
 
 pub use board::Closing;
-pub use faults::RaceFault;
+pub use faults::{RaceFault, RunFault, race_status, run_fault_status};
 pub use gates::{AlwaysOn, Gate, Moment, Pass};
+pub use plans::plans_of;
 pub use racing::race;
+pub use running::run_race;
+pub use weigh::Weighed;

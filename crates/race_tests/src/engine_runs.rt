@@ -1,6 +1,5 @@
 //! The engine `race`: what it writes for files, its faults and its statuses.
-use race::RaceFault;
-use race_engine::{RunFault, Weighed, race_status, run_fault_status, run_race};
+use race::{RaceFault, RunFault, Weighed, race_status, run_fault_status, run_race};
 use scenario::{Fault, FaultKind, FromRead, IntoWrite, LineFault};
 use std::alloc::Global;
 use std::process::Abort;

@@ -1,8 +1,8 @@
 use Rattle.std.proofs.Common.{◌≡◌, take}
 use Rattle.std.specs.String.{string_bytes}
 use Rattle.weigh.specs.Weighing.{lists_of}
-use Rattle.race_engine.specs.Texts.{answers_from}
-use Rattle.race_engine.proofs.texts.answer_lines.Given as goal
+use Rattle.race.specs.Texts.{answers_from}
+use Rattle.race.proofs.texts.answer_lines.Given as goal
 
 -- the answers of the lists before the present one
 abbrev pub invariant-loop-process : goal.invariant-loop-process

@@ -1,6 +1,6 @@
 use Rattle.std.proofs.Common.{◌≡◌, take}
-use Rattle.race_engine.specs.Texts.{plan_in}
-use Rattle.race_engine.proofs.plans.plan_of.Given as goal
+use Rattle.race.specs.Texts.{plan_in}
+use Rattle.race.proofs.plans.plan_of.Given as goal
 
 -- the commands of the lines before the present one
 abbrev pub invariant-loop-line : goal.invariant-loop-line

@@ -1,9 +1,9 @@
 use Rattle.std.proofs.Common.{◌≡◌, ℕ, List, ap, ◌∙◌}
 use Rattle.race.specs.Races.{plans_of}
 use Rattle.scenario.specs.declared.lines.Line.{Line}
-use Rattle.race_engine.specs.Texts.{plan_in}
-use Rattle.race_engine.proofs.PlanLists.{plans_more}
-use Rattle.race_engine.proofs.plans.plans_of.Goals as goal
+use Rattle.race.specs.Texts.{plan_in}
+use Rattle.race.proofs.PlanLists.{plans_more}
+use Rattle.race.proofs.plans.plans_of.Goals as goal
 
 pub loop-process-preserved : goal.loop-process-preserved
 loop-process-preserved c =

@@ -1,7 +1,7 @@
 use Rattle.std.proofs.Common.{◌≡◌, take}
 use Rattle.std.specs.String.{string_bytes}
-use Rattle.race_engine.specs.Texts.{refused_lines}
-use Rattle.race_engine.proofs.texts.refused_lines.Given as goal
+use Rattle.race.specs.Texts.{refused_lines}
+use Rattle.race.proofs.texts.refused_lines.Given as goal
 
 -- what is printed for the lines before the present one
 abbrev pub invariant-loop-line : goal.invariant-loop-line

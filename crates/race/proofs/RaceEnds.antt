@@ -12,10 +12,10 @@ use Rattle.files.specs.declared.faults.LineFault.{LineFault}
 use Rattle.scenario.proofs.CutTexts.{scenario_tells_at_limit}
 use Rattle.scenario.specs.Reading.{Script, scenario_of}
 use Rattle.weigh.specs.declared.verdicts.Weighed.{Weighed}
-use Rattle.race_engine.specs.Ends.{IsFaultOfRacing, OfInput, RanRace, TellsRace, WritesRace, WritesRaceFront}
-use Rattle.race_engine.specs.Statuses.{status_of_race}
-use Rattle.race_engine.specs.declared.faults.RunFault.{RunFault}
-use Rattle.race_engine.specs.declared.faults.RunFault.TheVariants.{File, Race}
+use Rattle.race.specs.Ends.{IsFaultOfRacing, OfInput, RanRace, TellsRace, WritesRace, WritesRaceFront}
+use Rattle.race.specs.Statuses.{status_of_race}
+use Rattle.race.specs.declared.faults.RunFault.{RunFault}
+use Rattle.race.specs.declared.faults.RunFault.TheVariants.{File, Race}
 
 -- what holds of the scenario that was read holds of that of the whole input
 of_input : (P : Script → Type 0) (bytes : List ℕ) (said : Script) (old new : Option (List ℕ)) → ReadsInput old new bytes → scenario_of bytes ≡ Ok said → P said → OfInput old P

@@ -8,7 +8,7 @@ use Rattle.plain_store.specs.Shown.{answer_text}
 use Rattle.plain_store.specs.declared.commands.Answer.{Answer}
 use Rattle.weigh.specs.Weighing.{lists_of}
 use Rattle.weigh.specs.declared.calls.Placed.{Placed}
-use Rattle.race_engine.specs.Texts.{answer_line, answers_from, list_text}
+use Rattle.race.specs.Texts.{answer_line, answers_from, list_text}
 
 -- one item more
 pub items_more : {X A : Type 0} (f : X → List A) (xs : List X) (k : ℕ) (x : X) → k < length xs → x ≡ get_or xs k x → flat_map f (take (k + 1) xs) ≡ flat_map f (take k xs) ++ f x

@@ -5,8 +5,8 @@ use Rattle.race.specs.declared.faults.RaceFault.{RaceFault}
 use Rattle.race.specs.declared.faults.RaceFault.TheVariants.{Spawn, Held, Memory}
 use Rattle.weigh.specs.declared.verdicts.Weighed.{Weighed}
 use Rattle.weigh.specs.declared.verdicts.Weighed.TheVariants.{Good, Bad, BadEnd}
-use Rattle.race_engine.specs.declared.faults.RunFault.{RunFault}
-use Rattle.race_engine.specs.declared.faults.RunFault.TheVariants.{File, Race}
+use Rattle.race.specs.declared.faults.RunFault.{RunFault}
+use Rattle.race.specs.declared.faults.RunFault.TheVariants.{File, Race}
 
 -- 0 for a good verdict, 3 for any other, and for a port that was held; 4 where memory or a thread was wanting
 abbrev pub status_of_race : Result Weighed RaceFault → ℕ

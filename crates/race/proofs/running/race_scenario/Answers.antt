@@ -5,9 +5,9 @@ use Rattle.scenario.specs.Reading.{Script}
 use Rattle.scenario.specs.Reads.{script}
 use Rattle.weigh.specs.declared.calls.Placed.{Placed}
 use Rattle.weigh.specs.Weighing.{lists_of}
-use Rattle.race_engine.specs.Texts.{plans_in}
-use Rattle.race_engine.proofs.PlanLists.{plans_each, raced_lists_short, raced_plans_short}
-use Rattle.race_engine.proofs.running.race_scenario.Goals as goal
+use Rattle.race.specs.Texts.{plans_in}
+use Rattle.race.proofs.PlanLists.{plans_each, raced_lists_short, raced_plans_short}
+use Rattle.race.proofs.running.race_scenario.Goals as goal
 
 pub race-requires-clause-all : goal.race-requires-clause-all
 race-requires-clause-all g c = λ κs outlives. ap length c.as_slice.ensures.value ∙ plans_each c.in_ok-plans.plans.items (script c.args.scenario.now) c.in_ok-plans.ensures

@@ -3,12 +3,13 @@ ghost use Rattle.std.specs.Prelude.{◌≡◌, ◌-◌, ◌^◌, ◌<◌, IfErr,
 ghost use Rattle.std.specs.String.{string_bytes};
 ghost use Rattle.files.specs.Streams.{ReadsFront};
 ghost use Rattle.scenario.specs.Reads.{script};
-ghost use Rattle.race_engine.specs.Ends.{IsFaultOfRacing, RanRace, TellsRace};
+ghost use Rattle.race.specs.Ends.{IsFaultOfRacing, RanRace, TellsRace};
 
 use crate::faults::{RunFault, race_status};
+use crate::gates::AlwaysOn;
 use crate::plans::plans_of;
+use crate::racing::race;
 use crate::texts::race_text;
-use race::{AlwaysOn, race};
 use scenario::{Scenario, Sink, Source, read_input, read_scenario, write_all};
 use std::alloc::Global;
 use std::sync::Wait;

@@ -1,8 +1,8 @@
 use Rattle.std.proofs.Common.{◌≡◌, map}
 use Rattle.std.specs.List.{range_with_len}
 use Rattle.race.specs.Races.{plans_of}
-use Rattle.race_engine.specs.Texts.{plan_in}
-use Rattle.race_engine.proofs.plans.plans_of.Given as goal
+use Rattle.race.specs.Texts.{plan_in}
+use Rattle.race.proofs.plans.plans_of.Given as goal
 
 -- the plans of the processes before the present one
 abbrev pub invariant-loop-process : goal.invariant-loop-process

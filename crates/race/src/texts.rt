@@ -3,7 +3,7 @@ ghost use Rattle.std.specs.Prelude.{◌≡◌, IfOk, None, Some};
 ghost use Rattle.std.specs.String.{string_bytes};
 ghost use Rattle.scenario.specs.Reads.{script};
 ghost use Rattle.weigh.specs.Weighing.{lists_of};
-ghost use Rattle.race_engine.specs.Texts.{answer_line as line_of_answer, answers_from, call_text, list_text, race_text as text_of_race, refused_lines as lines_of_refused, refused_text, verdict_line as line_of_verdict};
+ghost use Rattle.race.specs.Texts.{answer_line as line_of_answer, answers_from, call_text, list_text, race_text as text_of_race, refused_lines as lines_of_refused, refused_text, verdict_line as line_of_verdict};
 
 use engines::no_process_line;
 use plain_store::{Answer, NestedTypes, Setup, show_line};

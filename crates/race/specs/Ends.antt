@@ -11,10 +11,10 @@ use Rattle.race.specs.Races.{IsRaced}
 use Rattle.weigh.specs.Weighing.{IsWeighed}
 use Rattle.weigh.specs.declared.calls.Placed.{Placed}
 use Rattle.weigh.specs.declared.verdicts.Weighed.{Weighed}
-use Rattle.race_engine.specs.Statuses.{status_of_race}
-use Rattle.race_engine.specs.Texts.{plans_in, race_text}
-use Rattle.race_engine.specs.declared.faults.RunFault.{RunFault}
-use Rattle.race_engine.specs.declared.faults.RunFault.TheVariants.{File, Race}
+use Rattle.race.specs.Statuses.{status_of_race}
+use Rattle.race.specs.Texts.{plans_in, race_text}
+use Rattle.race.specs.declared.faults.RunFault.{RunFault}
+use Rattle.race.specs.declared.faults.RunFault.TheVariants.{File, Race}
 
 -- a race of a scenario: its plans were raced, and this is the verdict on what that left
 pub record Raced (said : Script) : Type 0 where

@@ -1,7 +1,7 @@
 use Rattle.std.proofs.Common.{◌≡◌, take}
 use Rattle.std.specs.String.{string_bytes}
-use Rattle.race_engine.specs.Texts.{list_text}
-use Rattle.race_engine.proofs.texts.list_lines.Given as goal
+use Rattle.race.specs.Texts.{list_text}
+use Rattle.race.proofs.texts.list_lines.Given as goal
 
 -- what is printed for the calls before the present one
 abbrev pub invariant-loop-call : goal.invariant-loop-call

@@ -1,9 +1,9 @@
 use Rattle.std.proofs.Common.{◌≡◌, ℕ, List, ◌++◌, ap, sym, ◌∙◌, rules, take}
 use Rattle.std.specs.String.{string_bytes}
 use Rattle.weigh.specs.Weighing.{lists_of}
-use Rattle.race_engine.specs.Texts.{answers_from, list_text}
-use Rattle.race_engine.proofs.Parts.{answers_more}
-use Rattle.race_engine.proofs.texts.answer_lines.Goals as goal
+use Rattle.race.specs.Texts.{answers_from, list_text}
+use Rattle.race.proofs.Parts.{answers_more}
+use Rattle.race.proofs.texts.answer_lines.Goals as goal
 
 pub loop-process-preserved : goal.loop-process-preserved
 loop-process-preserved c =

@@ -2,8 +2,8 @@ use Rattle.std.proofs.Common.{◌≡◌, sym}
 use Rattle.std.specs.String.{string_bytes}
 use Rattle.files.proofs.EngineEnds.{kept}
 use Rattle.scenario.specs.Reads.{script}
-use Rattle.race_engine.proofs.RaceEnds.{ran_to_cut, ran_to_end, ran_to_fault, ran_to_no_text}
-use Rattle.race_engine.proofs.running.run_race.Goals as goal
+use Rattle.race.proofs.RaceEnds.{ran_to_cut, ran_to_end, ran_to_fault, ran_to_no_text}
+use Rattle.race.proofs.running.run_race.Goals as goal
 
 pub returns-in_err-scenario-clause-ran : goal.returns-in_err-scenario-clause-ran
 returns-in_err-scenario-clause-ran g c =

@@ -2,7 +2,7 @@
 ghost use Rattle.std.specs.Prelude.{◌≡◌, ◌++◌, IfOk, OnOk};
 ghost use Rattle.scenario.specs.Reads.{script};
 ghost use Rattle.race.specs.Races.{plans_of as plans_listed};
-ghost use Rattle.race_engine.specs.Texts.{called_of, plan_in, plans_in};
+ghost use Rattle.race.specs.Texts.{called_of, plan_in, plans_in};
 
 use plain_store::{Command, NestedTypes};
 use scenario::{Line, Scenario};

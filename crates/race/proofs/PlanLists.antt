@@ -13,7 +13,7 @@ use Rattle.weigh.specs.declared.calls.Placed.{Placed}
 use Rattle.scenario.specs.declared.lines.Line.{Line}
 use Rattle.scenario.specs.declared.lines.Line.TheVariants as line
 use Rattle.scenario.specs.Reading.{Script}
-use Rattle.race_engine.specs.Texts.{called_of, plan_in, plans_in}
+use Rattle.race.specs.Texts.{called_of, plan_in, plans_in}
 
 -- one plan more
 pub plans_more : (had : List (Vec Command)) (plan : Vec Command) (lines : List Line) (p : ℕ) → plans_of had ≡ map (plan_in lines) (range_with_len 0 p) → plan.items ≡ plan_in lines p →
