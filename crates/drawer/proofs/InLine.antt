@@ -34,9 +34,9 @@ use Rattle.columns.specs.Stages.{StagesAreTheRecords, marks_in, stage_among}
 use Rattle.picture.specs.Standings.{sayings}
 use Rattle.columns.specs.States.{at_first, before_in, line_of_first, state_told, ticket_in}
 use Rattle.columns.specs.declared.state.State.{State}
-use Rattle.ticket_laws.specs.Lines.{ticket_told}
-use Rattle.ticket_laws.proofs.FirstInLine.{first_inside}
-use Rattle.ticket_laws.proofs.HeldTickets.{insiders}
+use Rattle.laws.specs.Lines.{ticket_told}
+use Rattle.laws.proofs.FirstInLine.{first_inside}
+use Rattle.laws.proofs.HeldTickets.{insiders}
 use Rattle.drawer.specs.InLine.{IsFirstInLine, WaitsNoMore, WhoEntersIsFirst, WhoIsInsideIsDrawnFirst, WhoIsInsideIsFirst, state_of_lines}
 use Rattle.drawer.proofs.Insides as insides
 use Rattle.drawer.proofs.LineOrder.{Below, HasTicket, stands_before}

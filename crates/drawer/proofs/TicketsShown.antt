@@ -26,7 +26,7 @@ use Rattle.laws.proofs.Frame.{Happens, a_call, a_withdrawal, a_failure, a_restar
 use Rattle.laws.proofs.FrameEvents.{accepted}
 use Rattle.laws.proofs.FrameInside.{stage-is}
 use Rattle.columns.specs.Stages.{marks_in}
-use Rattle.ticket_laws.specs.Lines.{ticket_after, ticket_told}
+use Rattle.laws.specs.Lines.{ticket_after, ticket_told}
 
 -- what is shown after a mark
 abbrev pub shown_after : ℕ → Mark → ℕ

@@ -58,3 +58,7 @@ pub mod Theorems
 pub mod AheadLists
 pub mod FullAnswers
 pub mod Takings
+-- Who is first in the line of tickets
+pub mod PartTickets
+pub mod HeldTickets
+pub mod FirstInLine

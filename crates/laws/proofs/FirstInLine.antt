@@ -21,9 +21,9 @@ use Rattle.laws.proofs.FrameInside.{inside-is, stage-is}
 use Rattle.laws.proofs.Invariant.{Inv}
 use Rattle.laws.proofs.Notes.{notes}
 use Rattle.laws.proofs.Theorems.{Enters, WaitsAt, below, enters, insider, is_process, waiter, waiter-holds}
-use Rattle.ticket_laws.specs.Lines.{StandsBefore, ticket_told}
-use Rattle.ticket_laws.proofs.HeldTickets.{TicketIs, after_event, insiders, tickets}
-use Rattle.ticket_laws.proofs.PartTickets.{TicketAt}
+use Rattle.laws.specs.Lines.{StandsBefore, ticket_told}
+use Rattle.laws.proofs.HeldTickets.{TicketIs, after_event, insiders, tickets}
+use Rattle.laws.proofs.PartTickets.{TicketAt}
 
 -- the order of pairs of a ticket and a process, as the lock tests it
 below-test : (a j b p : ℕ) → (a < b) ⊎ ((a ≡ b) × (j < p)) → is_below a j b p ≡ true

@@ -14,7 +14,7 @@ use Rattle.record.specs.Registers.{others, processes}
 use Rattle.record.specs.Scripts.{Call}
 use Rattle.laws.specs.Doings.{is_inside_at}
 use Rattle.laws.proofs.Notes.{ticket_by}
-use Rattle.ticket_laws.specs.Lines.{ticket_after}
+use Rattle.laws.specs.Lines.{ticket_after}
 
 -- what is known of the ticket at a part, where this one is noted and that one was told last
 abbrev pub TicketAt : Part → (noted told : ℕ) → Type 0

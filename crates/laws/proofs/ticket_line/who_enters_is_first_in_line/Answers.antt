@@ -1,7 +1,7 @@
 -- Who enters is first in line.
 use Rattle.record.proofs.Width.{is_good}
-use Rattle.ticket_laws.proofs.FirstInLine.{first_inside, first_to_enter}
-use Rattle.ticket_laws.proofs.who_enters_is_first_in_line.Goals as goal
+use Rattle.laws.proofs.FirstInLine.{first_inside, first_to_enter}
+use Rattle.laws.proofs.ticket_line.who_enters_is_first_in_line.Goals as goal
 
 pub returns : goal.returns
 returns x = record {

@@ -24,8 +24,8 @@ use Rattle.laws.proofs.FrameEvents.{accepted}
 use Rattle.laws.proofs.FrameInside.{inside-is, inside-runs}
 use Rattle.laws.proofs.Notes.{Notes, notes, notes_after, ticket_by}
 use Rattle.laws.proofs.Theorems.{of_entered}
-use Rattle.ticket_laws.specs.Lines.{ticket_after, ticket_told}
-use Rattle.ticket_laws.proofs.PartTickets.{TicketAt, inside-told, place-on, placed-tells}
+use Rattle.laws.specs.Lines.{ticket_after, ticket_told}
+use Rattle.laws.proofs.PartTickets.{TicketAt, inside-told, place-on, placed-tells}
 
 -- Looking back.
 

@@ -1,15 +1,6 @@
 //! The law of tickets, of every record of a list of events, whatever the flicks: those that wait get inside in the line of
-//! their tickets. The law is a function with nothing to do, whose contract is the law.
-//!
-//! ```rust
-//! pub fn who_enters_is_first_in_line()
-//!     ensures entering { WhoEntersIsFirstInLine }
-//!     ensures inside { WhoIsInsideIsFirstInLine }
-//! {}
-//! ```
-#![tactic(auto)]
-
-ghost use Rattle.ticket_laws.specs.Lines.{WhoEntersIsFirstInLine, WhoIsInsideIsFirstInLine};
+//! their tickets.
+ghost use Rattle.laws.specs.Lines.{WhoEntersIsFirstInLine, WhoIsInsideIsFirstInLine};
 
 /// Who gets inside is first in the line of tickets. While another process waits, its ticket is above that of one that gets
 /// inside; or it is the same one, and of the two processes the one that waits has the greater number. So it stays while a
