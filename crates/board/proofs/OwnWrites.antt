@@ -19,7 +19,7 @@ use Rattle.record.specs.declared.history.Taken.{Taken}
 use Rattle.record.specs.Histories.{store_after}
 use Rattle.history_laws.proofs.CountedChanges.{then}
 use Rattle.board.specs.Lists.{PlacedAsAnswered, StandsIn, caller_of, change_at, store_at}
-use Rattle.weigh.specs.declared.calls.Placed.{Placed}
+use Rattle.record.specs.declared.calls.Placed.{Placed}
 
 -- the store at the next place is that after the change
 take-next : {X : Type 0} (xs : List X) (k : ℕ) (x : X) → slice_get xs k ≡ Some x → take (suc k) xs ≡ take k xs ++ x ∷ []

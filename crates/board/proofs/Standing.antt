@@ -16,7 +16,7 @@ use Rattle.record.specs.Headline.{IsAnswerTo}
 use Rattle.record.specs.Histories.{store_after}
 use Rattle.board.specs.Calls.{and_then, called}
 use Rattle.board.specs.Lists.{PlacedAsAnswered, StandsAt, StandsIn, caller_of, change_at, place_after, store_at}
-use Rattle.weigh.specs.declared.calls.Placed.{Placed}
+use Rattle.record.specs.declared.calls.Placed.{Placed}
 use Rattle.board.proofs.Stands.{ComesLast, behind_all, comes_last, last_is, stands_front, stands_longer, stands_push, store-longer}
 
 -- a stage in which no call is under way

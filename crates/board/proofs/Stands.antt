@@ -10,7 +10,7 @@ use Rattle.record.specs.Histories.{store_after}
 use Rattle.record.proofs.Singles.{get-left}
 use Rattle.board.specs.Calls.{IsPrefix, and_then}
 use Rattle.board.specs.Lists.{PlacedAsAnswered, StandsAt, StandsIn, caller_of, place_after, store_at}
-use Rattle.weigh.specs.declared.calls.Placed.{Placed}
+use Rattle.record.specs.declared.calls.Placed.{Placed}
 
 -- In a longer list.
 

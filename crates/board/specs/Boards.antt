@@ -8,7 +8,7 @@ use Rattle.plain_store.specs.Store.{are_pairs}
 use Rattle.board.specs.declared.layout.Layout.{Layout}
 use Rattle.board.specs.Ports.{PortState}
 use Rattle.board.specs.Words.{layout_of, words_in}
-use Rattle.weigh.specs.declared.calls.Placed.{Placed}
+use Rattle.record.specs.declared.calls.Placed.{Placed}
 
 -- the table of its words, and its setup
 pub record BoardState : Type 0 where

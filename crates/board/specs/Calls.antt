@@ -11,7 +11,7 @@ use Rattle.record.specs.declared.marks.Mark.TheVariants as mark
 use Rattle.record.specs.Entries.{Past}
 use Rattle.record.specs.Histories.{history}
 use Rattle.history_laws.specs.Stamps.{changes_taken}
-use Rattle.weigh.specs.declared.calls.Placed.{Placed}
+use Rattle.record.specs.declared.calls.Placed.{Placed}
 
 -- those of these commands, taken one after the other, that change the store
 abbrev pub changing : Contents → List Taken → List Taken

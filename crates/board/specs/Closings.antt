@@ -25,7 +25,7 @@ use Rattle.board.specs.Lists.{StandsIn}
 use Rattle.board.specs.Ports.{PortState}
 use Rattle.board.specs.Views.{OwnView, ViewState, stage_in}
 use Rattle.board.specs.Words.{word_of}
-use Rattle.weigh.specs.declared.calls.Placed.{Placed}
+use Rattle.record.specs.declared.calls.Placed.{Placed}
 
 -- the bits that words show of a register, by the copies of reader 0
 abbrev pub bits_shown : Setup → List ℕ → ℕ → Field → List Bool

@@ -14,7 +14,7 @@ use Rattle.record.specs.Histories.{store_after}
 use Rattle.record.specs.Records.{past_of}
 use Rattle.board.specs.Calls.{IsPrefix, and_then, changes_of}
 use Rattle.board.specs.Views.{ViewState}
-use Rattle.weigh.specs.declared.calls.Placed.{Placed}
+use Rattle.record.specs.declared.calls.Placed.{Placed}
 
 -- who makes call k of process p, counted from 0: in version 2 its number is k + 1, in version 1 it is 0
 abbrev pub caller_of : Setup → ℕ → ℕ → Caller

@@ -12,9 +12,9 @@ use crate::steps::Place;
 use atomic_table::Table;
 use plain_store::Setup;
 use process::Process;
+use record::Placed;
 use std::alloc::{AllocError, Global};
 use std::marker::Model;
-use weigh::Placed;
 
 /// The words of all single-reader bits, which the ports share.
 #[derive(Drop)]

@@ -4,13 +4,13 @@ ghost use Rattle.record.specs.declared.Mark.TheVariants.{Called};
 ghost use Rattle.process.specs.Telling.{marks_told};
 ghost use Rattle.board.specs.Calls.{and_then, calls_after, no_calls};
 ghost use Rattle.board.specs.Listing.{IsPlace};
-ghost use Rattle.weigh.specs.declared.calls.Placed.{Placed as Call};
+ghost use Rattle.record.specs.declared.calls.Placed.{Placed as Call};
 
 use plain_store::{Answer, Command, NestedTypes};
 use process::Told;
+use record::Placed;
 use std::alloc::{AllocError, Global};
 use std::marker::Model;
-use weigh::Placed;
 
 /// The list of a port, with room for the call that is not finished.
 #[derive(Drop)]

@@ -2,15 +2,15 @@
 ghost use Rattle.std.specs.Prelude.{◌≡◌, ◌≤◌, ◌+◌, ◌<◌, ◌↔◌, ◌∷◌, ◌++◌, ℕ, IsOk, IfOk, IfErr, IsTrue, Some, false, length, slice_get, vec_capacity, vec_len};
 ghost use Rattle.board.specs.Closings.{AreFirstPortsOf, AreOthers, AreQuiet, EachStandsInRecord, HasJoined, IsStill, Leaves, StandsInRecord, done_calls};
 ghost use Rattle.board.specs.Ports.{PortState};
-ghost use Rattle.weigh.specs.Weighing.{lists_of};
+ghost use Rattle.record.specs.CallLists.{lists_of};
 
 use crate::board::Board;
 use crate::port::Port;
 use crate::rule::Return;
 use crate::shown_image::image_shown;
 use crate::steps::{Place, Words};
+use record::Placed;
 use store_image::Image;
-use weigh::Placed;
 
 /// What a board leaves: the image of its store, and the lists of its ports' finished calls, by the number of the process.
 #[derive(Drop)]

@@ -32,4 +32,4 @@ pub use laws_of_boards::{
     words_are_of_single_bits,
 };
 pub use port::Port;
-pub use weigh::Placed;
+pub use record::Placed;

@@ -16,10 +16,9 @@ use crate::pending::Pending;
 use crate::steps::{Place, step_within, word_step};
 use plain_store::Command;
 use process::{Process, Told};
-use record::{Event, Refusal, Stage};
+use record::{Event, Placed, Refusal, Stage};
 use std::alloc::Global;
 use std::marker::Model;
-use weigh::Placed;
 
 /// What runs one process of a board: its seat at the words, the process, what joins its next word step, and the list of
 /// its calls.

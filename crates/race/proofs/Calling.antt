@@ -23,7 +23,7 @@ use Rattle.process.specs.Processes as kept
 use Rattle.process.specs.Processes.{Kept, kept_at, kept_in, stage_kept}
 use Rattle.bakery.specs.Doors.{is_waiting}
 use Rattle.process.specs.Steps.{may_step}
-use Rattle.weigh.specs.declared.calls.Placed.{Placed}
+use Rattle.record.specs.declared.calls.Placed.{Placed}
 use Rattle.board.specs.Calls.{Calls, and_then, calls_after}
 use Rattle.board.specs.Driving.{Drives, EndsWith, Walks, flicks_after}
 use Rattle.board.specs.declared.driving.Driven.{Driven}

@@ -4,7 +4,7 @@ use Rattle.std.proofs.lemmas.List.{map-append}
 use Rattle.plain_store.specs.declared.Answer.{Answer}
 use Rattle.plain_store.specs.declared.Command.{Command}
 use Rattle.plain_store.specs.declared.Setup.{Setup}
-use Rattle.weigh.specs.declared.calls.Placed.{Placed}
+use Rattle.record.specs.declared.calls.Placed.{Placed}
 use Rattle.board.specs.Boards.{BoardState, IsOf}
 use Rattle.board.specs.Ports.{PortState, SamePort}
 use Rattle.board.specs.Calls.{Calls}

@@ -6,8 +6,8 @@ use Rattle.std.specs.Fmt.{decimal}
 use Rattle.std.specs.Global.{Vec}
 use Rattle.plain_store.specs.Shown.{answer_text}
 use Rattle.plain_store.specs.declared.commands.Answer.{Answer}
-use Rattle.weigh.specs.Weighing.{lists_of}
-use Rattle.weigh.specs.declared.calls.Placed.{Placed}
+use Rattle.record.specs.CallLists.{lists_of}
+use Rattle.record.specs.declared.calls.Placed.{Placed}
 use Rattle.race.specs.Texts.{answer_line, answers_from, list_text}
 
 -- one item more

@@ -9,7 +9,7 @@ use Rattle.std.specs.List.{range_with_len}
 use Rattle.plain_store.specs.declared.commands.Command.{Command}
 use Rattle.race.specs.Races.{IsRaced, plans_of}
 use Rattle.plain_store.specs.Store.{Contents}
-use Rattle.weigh.specs.declared.calls.Placed.{Placed}
+use Rattle.record.specs.declared.calls.Placed.{Placed}
 use Rattle.scenario.specs.declared.lines.Line.{Line}
 use Rattle.scenario.specs.declared.lines.Line.TheVariants as line
 use Rattle.scenario.specs.Reading.{Script}

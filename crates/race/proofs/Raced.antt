@@ -9,7 +9,7 @@ use Rattle.plain_store.specs.Setups.{checked}
 use Rattle.plain_store.specs.Store.{Contents}
 use Rattle.plain_store.proofs.GoodSetups.{few-processes}
 use Rattle.record.specs.Records.{past_of}
-use Rattle.weigh.specs.declared.calls.Placed.{Placed}
+use Rattle.record.specs.declared.calls.Placed.{Placed}
 use Rattle.board.specs.Boards.{ArePortsOf, BoardState}
 use Rattle.board.specs.Calls.{changes_of}
 use Rattle.board.specs.Closings.{AreFirstPortsOf, AreQuiet, EachStandsInRecord, Leaves, done_calls}

@@ -10,7 +10,7 @@ use Rattle.board.specs.Views.{OwnView, ViewState, stage_in}
 use Rattle.board.specs.WordSteps.{goes}
 use Rattle.race.specs.declared.workers.Reached.{Reached}
 use Rattle.race.specs.declared.workers.Reached.TheVariants as reached
-use Rattle.weigh.specs.declared.calls.Placed.{Placed}
+use Rattle.record.specs.declared.calls.Placed.{Placed}
 
 -- no failure has cut what the process does, and it has not withdrawn
 abbrev pub is_uncut : Doing → Bool

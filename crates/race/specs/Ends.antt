@@ -9,7 +9,7 @@ use Rattle.files.specs.declared.faults.LineFault.{LineFault}
 use Rattle.scenario.specs.Reading.{Script, scenario_of}
 use Rattle.race.specs.Races.{IsRaced}
 use Rattle.weigh.specs.Weighing.{IsWeighed}
-use Rattle.weigh.specs.declared.calls.Placed.{Placed}
+use Rattle.record.specs.declared.calls.Placed.{Placed}
 use Rattle.weigh.specs.declared.verdicts.Weighed.{Weighed}
 use Rattle.race.specs.Statuses.{status_of_race}
 use Rattle.race.specs.Texts.{plans_in, race_text}

@@ -17,7 +17,7 @@ use Rattle.board.specs.Closings.{EachStandsInRecord}
 use Rattle.board.specs.Lists.{StandsIn}
 use Rattle.board.specs.Ports.{PortState}
 use Rattle.board.specs.Views.{new_own, stage_in}
-use Rattle.weigh.specs.declared.calls.Placed.{Placed}
+use Rattle.record.specs.declared.calls.Placed.{Placed}
 
 -- the plans: list p is that of process p
 abbrev pub plans_of : List (Vec Command) → List (List Command)

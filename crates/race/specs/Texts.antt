@@ -13,7 +13,7 @@ use Rattle.scenario.specs.declared.lines.Line.{Line}
 use Rattle.scenario.specs.declared.lines.Line.TheVariants as line
 use Rattle.engines.specs.Plain.{refusal_line}
 use Rattle.weigh.specs.Shown.{verdict_text}
-use Rattle.weigh.specs.declared.calls.Placed.{Placed}
+use Rattle.record.specs.declared.calls.Placed.{Placed}
 use Rattle.weigh.specs.declared.verdicts.Weighed.{Weighed}
 
 -- the command that a line calls of process p, if it does

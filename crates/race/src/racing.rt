@@ -6,7 +6,7 @@ ghost use Rattle.board.specs.Views.{new_own};
 ghost use Rattle.plain_store.specs.Setups.{checked};
 ghost use Rattle.plain_store.specs.declared.Command.{Command as Asked};
 ghost use Rattle.race.specs.Races.{AllHaveMade, AreNew, HasMade, IsFor, IsRaced, plans_of};
-ghost use Rattle.weigh.specs.Weighing.{lists_of};
+ghost use Rattle.record.specs.CallLists.{lists_of};
 
 use crate::faults::RaceFault;
 use crate::gates::Gate;

@@ -1,4 +1,5 @@
 pub mod Acts
+pub mod CallLists
 pub mod Calls
 pub mod Closings
 pub mod Cuts

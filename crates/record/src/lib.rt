@@ -4,6 +4,7 @@
 #![tactic(auto)]
 
 mod acts;
+mod calls;
 mod events;
 mod history;
 mod laws;
@@ -14,6 +15,7 @@ mod shown;
 mod stages;
 
 pub use acts::Act;
+pub use calls::Placed;
 pub use events::Event;
 pub use history::Taken;
 pub use laws::{

@@ -8,9 +8,10 @@ use Rattle.std.specs.Global.{Vec}
 use Rattle.std.specs.List.{slice_get}
 use Rattle.plain_store.specs.declared.Setup.{Setup}
 use Rattle.weigh.specs.declared.calls.Call.{Call}
-use Rattle.weigh.specs.declared.calls.Placed.{Placed}
+use Rattle.record.specs.declared.calls.Placed.{Placed}
 use Rattle.weigh.specs.Following.{AreFew, ArePart, IsFew}
-use Rattle.weigh.specs.Weighing.{all_calls, all_calls_from, calls_from, lists_of}
+use Rattle.record.specs.CallLists.{lists_of}
+use Rattle.weigh.specs.Weighing.{all_calls, all_calls_from, calls_from}
 use Rattle.weigh.proofs.Followed.{from_some, none_some}
 use Rattle.weigh.proofs.Places.{get_back, get_front}
 

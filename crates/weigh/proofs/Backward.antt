@@ -8,7 +8,7 @@ use Rattle.std.proofs.lemmas.Option.{get_or_from_slice_get, slice_get_within}
 use Rattle.plain_store.specs.declared.Setup.{Setup}
 use Rattle.plain_store.specs.Store.{Contents, changes, reply_to}
 use Rattle.weigh.specs.declared.calls.Call.{Call}
-use Rattle.weigh.specs.declared.calls.Placed.{Placed}
+use Rattle.record.specs.declared.calls.Placed.{Placed}
 use Rattle.weigh.specs.SaidOverLists.{ComesBefore, AreGood, IsOfItsStore, fits_place, is_change, number_of_changes, store_below}
 use Rattle.weigh.specs.Weighing.{IsBad, above, several, falling, wrong_reply, without_place, with_place, HasWrongReply, IsEnd, NoneIsBad, all_calls, caller_of, changes_at, falls, is_above, is_past, is_place, store_at}
 use Rattle.weigh.proofs.Orders.{change_is, falls_is, fits_other, fits_reply, order_to, past_is}

@@ -11,11 +11,12 @@ use Rattle.plain_store.specs.declared.Setup.{Setup}
 use Rattle.plain_store.specs.Setups.{checked}
 use Rattle.plain_store.specs.Store.{Contents}
 use Rattle.plain_store.proofs.GoodSetups.{few-processes, good-checked}
-use Rattle.weigh.specs.declared.calls.Placed.{Placed}
+use Rattle.record.specs.declared.calls.Placed.{Placed}
 use Rattle.weigh.specs.declared.notes.Note.{Note}
 use Rattle.weigh.specs.declared.verdicts.Weighed.{Weighed}
 use Rattle.weigh.specs.Following.{AreFew, IsFollowed}
-use Rattle.weigh.specs.Weighing.{IsBadAt, IsBadIn, IsLowestBad, IsVerdict, IsWeighed, NoneIsBad, all_calls, lists_of}
+use Rattle.record.specs.CallLists.{lists_of}
+use Rattle.weigh.specs.Weighing.{IsBadAt, IsBadIn, IsLowestBad, IsVerdict, IsWeighed, NoneIsBad, all_calls}
 use Rattle.weigh.proofs.Followed.{from_some}
 use Rattle.weigh.proofs.AllCalls.{all_few}
 

@@ -6,7 +6,7 @@ use Rattle.std.proofs.lemmas.Option.{slice_get-get_or}
 use Rattle.plain_store.specs.declared.Setup.{Setup}
 use Rattle.plain_store.specs.Store.{Contents, reply_to}
 use Rattle.weigh.specs.declared.calls.Call.{Call}
-use Rattle.weigh.specs.declared.calls.Placed.{Placed}
+use Rattle.record.specs.declared.calls.Placed.{Placed}
 use Rattle.weigh.specs.SaidOverLists.{ComesBefore, AreGood, IsOfItsStore, fits_place, is_change, number_of_changes, store_below}
 use Rattle.weigh.specs.Weighing.{IsBad, above, several, falling, wrong_reply, without_place, with_place, IsEnd, NoneIsBad, all_calls, caller_of, changes_at, is_one_of_several, is_past, store_at}
 use Rattle.weigh.proofs.Counting.{none_above, number_is}

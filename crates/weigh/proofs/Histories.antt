@@ -8,7 +8,7 @@ use Rattle.plain_store.specs.Setups.{opening_store}
 use Rattle.plain_store.specs.Store.{Contents, changes, reply_to}
 use Rattle.store_image.specs.Image.{image_of}
 use Rattle.weigh.specs.declared.calls.Call.{Call}
-use Rattle.weigh.specs.declared.calls.Placed.{Placed}
+use Rattle.record.specs.declared.calls.Placed.{Placed}
 use Rattle.weigh.specs.OneHistory.{AreAnsweredFrom, GoodIsOneHistory, IsAnsweredBy, IsHistoryOf, call_lists}
 use Rattle.weigh.specs.SaidOverLists.{AreGood, IsImageAfter, IsOfItsStore, fits_place, number_of_changes, store_below, store_through}
 use Rattle.weigh.specs.Weighing.{all_calls, caller_of, changes_at, is_place}

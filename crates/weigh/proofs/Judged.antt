@@ -10,7 +10,7 @@ use Rattle.plain_store.specs.declared.Reply.{Reply}
 use Rattle.plain_store.specs.declared.Setup.{Setup}
 use Rattle.plain_store.specs.Store.{Contents, reply_to}
 use Rattle.weigh.specs.declared.calls.Call.{Call}
-use Rattle.weigh.specs.declared.calls.Placed.{Placed}
+use Rattle.record.specs.declared.calls.Placed.{Placed}
 use Rattle.weigh.specs.declared.notes.Note.{Note}
 use Rattle.weigh.specs.Following.{ArePart, IsFollowed, IsJudged, IsLeast, IsNote}
 use Rattle.weigh.specs.Weighing.{HasWrongReply, IsBad, IsBadIn, above, several, falling, wrong_reply, without_place, with_place, caller_of, falls, is_above, is_one_of_several, is_other_with_place, is_reply_without_place}

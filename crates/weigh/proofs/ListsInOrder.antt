@@ -5,7 +5,7 @@ use Rattle.std.proofs.lemmas.List.Elements.{All-head, All-tail, filter-append}
 use Rattle.plain_store.specs.declared.Setup.{Setup}
 use Rattle.plain_store.specs.Store.{changes}
 use Rattle.weigh.specs.declared.calls.Call.{Call}
-use Rattle.weigh.specs.declared.calls.Placed.{Placed}
+use Rattle.record.specs.declared.calls.Placed.{Placed}
 use Rattle.weigh.specs.OneHistory.{call_lists_from}
 use Rattle.weigh.specs.SaidOverLists.{ComesBefore, is_change_from, store_below}
 use Rattle.weigh.specs.Weighing.{all_calls_from, calls_from}

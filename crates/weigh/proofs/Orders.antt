@@ -10,7 +10,7 @@ use Rattle.plain_store.specs.declared.Answer.TheVariants.{Reply, TicketsFull, St
 use Rattle.plain_store.specs.declared.Setup.{Setup}
 use Rattle.plain_store.specs.Store.{Contents, changes}
 use Rattle.weigh.specs.declared.calls.Call.{Call}
-use Rattle.weigh.specs.declared.calls.Placed.{Placed}
+use Rattle.record.specs.declared.calls.Placed.{Placed}
 use Rattle.weigh.specs.SaidOverLists.{fits_place, is_change_from, store_below}
 use Rattle.weigh.specs.Weighing.{changes_there, falls, is_above, is_other_answer, is_past, is_reply, store_at}
 

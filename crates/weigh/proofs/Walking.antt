@@ -8,11 +8,12 @@ use Rattle.std.specs.List.{slice_get}
 use Rattle.plain_store.specs.declared.Setup.{Setup}
 use Rattle.plain_store.specs.Store.{Contents, changes}
 use Rattle.weigh.specs.declared.calls.Call.{Call}
-use Rattle.weigh.specs.declared.calls.Placed.{Placed}
+use Rattle.record.specs.declared.calls.Placed.{Placed}
 use Rattle.weigh.specs.declared.chains.Link.{Link}
 use Rattle.weigh.specs.declared.notes.Note.{Note}
 use Rattle.weigh.specs.Following.{AreChains, AreFew, AreNotedAt, AreNotedFrom, IsFew, IsLast, IsLink, IsNoteBy, IsOf}
-use Rattle.weigh.specs.Weighing.{all_calls, calls_at, is_place, lists_of}
+use Rattle.record.specs.CallLists.{lists_of}
+use Rattle.weigh.specs.Weighing.{all_calls, calls_at, is_place}
 use Rattle.weigh.proofs.AllCalls.{IsThere, there_in}
 use Rattle.weigh.proofs.Followed.{from_some, none_some}
 use Rattle.weigh.proofs.Places.{get_set_other, get_set_same, same_or_not}

@@ -10,7 +10,7 @@ use Rattle.plain_store.specs.declared.Setup.{Setup}
 use Rattle.plain_store.specs.Setups.{callers_of}
 use Rattle.plain_store.specs.Store.{Contents, changes, reply_to, after}
 use Rattle.weigh.specs.declared.calls.Call.{Call}
-use Rattle.weigh.specs.declared.calls.Placed.{Placed}
+use Rattle.record.specs.declared.calls.Placed.{Placed}
 use Rattle.weigh.specs.declared.chains.Link.{Link}
 use Rattle.weigh.specs.declared.notes.Changes.{Changes}
 use Rattle.weigh.specs.declared.notes.Changes.TheVariants.{Nothing, One, Several}

@@ -6,7 +6,7 @@ use Rattle.plain_store.specs.Setups.{opening_store}
 use Rattle.plain_store.specs.Store.{Contents, reply_to, after}
 use Rattle.store_image.specs.Image.{image_of}
 use Rattle.weigh.specs.declared.calls.Call.{Call}
-use Rattle.weigh.specs.declared.calls.Placed.{Placed}
+use Rattle.record.specs.declared.calls.Placed.{Placed}
 use Rattle.weigh.specs.declared.verdicts.Weighed.TheVariants.{Good}
 use Rattle.weigh.specs.Merges.{IsMerge}
 use Rattle.weigh.specs.SaidOverLists.{store_through}

@@ -9,7 +9,7 @@ use Rattle.plain_store.specs.Setups.{opening_store}
 use Rattle.plain_store.specs.Store.{Contents, changes, reply_to, after}
 use Rattle.store_image.specs.Image.{image_of}
 use Rattle.weigh.specs.declared.calls.Call.{Call}
-use Rattle.weigh.specs.declared.calls.Placed.{Placed}
+use Rattle.record.specs.declared.calls.Placed.{Placed}
 use Rattle.weigh.specs.declared.verdicts.Weighed.TheVariants.{Good, BadEnd}
 use Rattle.weigh.specs.Weighing.{all_calls, caller_of, changes_at, IsWeighed}
 

@@ -1,6 +1,5 @@
 -- What weighing finds in the ports' lists of finished calls: list p is that of process p, its oldest call first. A place counts the changes taken before a call.
-use Rattle.std.specs.Prelude.{◌≡◌, ◌≢◌, ◌⊎◌, ℕ, zero, suc, ◌+◌, ◌<◌, ◌==◌, nat_lt, nat_le, Bool, true, false, ◌&&◌, ◌||◌, if◌then◌else◌, List, [], ◌∷◌, ◌++◌, length, map, take, filter, slice_get, Option, None, Some, is_none, is_some, IsTrue}
-use Rattle.std.specs.Global.{Vec}
+use Rattle.std.specs.Prelude.{◌≡◌, ◌≢◌, ◌⊎◌, ℕ, zero, suc, ◌+◌, ◌<◌, ◌==◌, nat_lt, nat_le, Bool, true, false, ◌&&◌, ◌||◌, if◌then◌else◌, List, [], ◌∷◌, ◌++◌, length, take, filter, slice_get, Option, None, Some, is_none, is_some, IsTrue}
 use Rattle.std.specs.List.{list_any}
 use Rattle.plain_store.specs.declared.Answer.{Answer}
 use Rattle.plain_store.specs.declared.Answer.TheVariants as answer
@@ -11,15 +10,11 @@ use Rattle.plain_store.specs.Setups.{opening_store}
 use Rattle.plain_store.specs.Store.{Contents, changes, reply_to, after}
 use Rattle.store_image.specs.Image.{image_of}
 use Rattle.weigh.specs.declared.calls.Call.{Call}
-use Rattle.weigh.specs.declared.calls.Placed.{Placed}
+use Rattle.record.specs.declared.calls.Placed.{Placed}
 use Rattle.weigh.specs.declared.verdicts.Weighed.{Weighed}
 use Rattle.weigh.specs.declared.verdicts.Weighed.TheVariants.{Good, Bad, BadEnd}
 
 -- The calls.
-
--- the lists of calls
-abbrev pub lists_of : List (Vec Placed) → List (List Placed)
-lists_of vecs = map (λ (v : Vec Placed). v.items) vecs
 
 -- the calls of list p, from call i on
 abbrev pub calls_from : ℕ → ℕ → List Placed → List Call

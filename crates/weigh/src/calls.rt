@@ -1,14 +1,5 @@
-//! Finished calls.
-use plain_store::{Answer, Command};
-
-/// A finished call. It has no answer if a failure cut it, and a place if it was taken: how many changes of the store
-/// were taken before it.
-#[derive(Clone, Copy, Debug, PartialEq, Eq)]
-pub struct Placed {
-    pub command: Command,
-    pub answer: Option<Answer>,
-    pub place: Option<u32>,
-}
+//! The calls of the ports' lists.
+use record::Placed;
 
 /// A call of the ports' lists: which list it stands in, and its index there.
 #[derive(Clone, Copy, Debug)]

@@ -2,9 +2,10 @@
 ghost use Rattle.std.specs.Prelude.{◌≡◌, ◌+◌, ◌++◌, ◌∷◌, [], ℕ, List, Some, length, IfOk, OnOk};
 ghost use Rattle.weigh.specs.declared.calls.Call.{Call as Given};
 ghost use Rattle.weigh.specs.Following.{AreChains, AreNothing};
-ghost use Rattle.weigh.specs.Weighing.{all_calls, calls_from, lists_of};
+ghost use Rattle.record.specs.CallLists.{lists_of};
+ghost use Rattle.weigh.specs.Weighing.{all_calls, calls_from};
 
-use crate::calls::Placed;
+use record::Placed;
 use std::alloc::{AllocError, Global};
 
 /// A call: which list it stands in, its index there, and how many calls there are up to the one before it with the same

@@ -3,13 +3,13 @@ ghost use Rattle.std.specs.Prelude.{◌≡◌, ◌↔◌, ◌≤◌, ◌+◌, �
 ghost use Rattle.plain_store.specs.declared.Setup.{Setup as Made};
 ghost use Rattle.store_image.specs.Image.{image_of};
 ghost use Rattle.weigh.specs.declared.calls.Call.{Call as Given};
-ghost use Rattle.weigh.specs.declared.calls.Placed.{Placed as Finished};
+ghost use Rattle.record.specs.declared.calls.Placed.{Placed as Finished};
 ghost use Rattle.weigh.specs.Following.{ArePart, IsFirstBad, IsFollowed, IsLeast, IsNote};
 ghost use Rattle.weigh.specs.Weighing.{IsBad, falls, is_above, is_one_of_several, is_other_with_place, is_reply_without_place};
 
-use crate::calls::Placed;
 use crate::notes::{Followed, Note};
 use plain_store::Answer;
+use record::Placed;
 use store_image::Image;
 
 impl Followed {

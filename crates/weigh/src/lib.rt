@@ -16,9 +16,9 @@ mod shown;
 mod verdicts;
 mod weighing;
 
-pub use calls::Placed;
 pub use laws_of_weighing::{
     bad_end_is_said_over_lists, good_is_one_history, good_is_said_over_lists, verdict_is_one,
 };
+pub use record::Placed;
 pub use verdicts::Weighed;
 pub use weighing::weigh;

@@ -4,11 +4,13 @@ ghost use Rattle.plain_store.specs.Setups.{callers_of, checked};
 ghost use Rattle.plain_store.specs.Store.{changes, reply_to};
 ghost use Rattle.weigh.specs.declared.calls.Call.{Call as Given};
 ghost use Rattle.weigh.specs.Following.{AreChains, AreFew, AreNotedAt, IsCaller, IsFew, AreBlank, IsFollowed, IsOf, IsWrongBy, changes_of};
-ghost use Rattle.weigh.specs.Weighing.{all_calls, caller_of, changes_at, lists_of};
+ghost use Rattle.record.specs.CallLists.{lists_of};
+ghost use Rattle.weigh.specs.Weighing.{all_calls, caller_of, changes_at};
 
-use crate::calls::{Call, Placed};
+use crate::calls::Call;
 use crate::chains::{Chains, Link, chain};
 use plain_store::{Answer, Caller, Command, NestedTypes, Reply, Setup, Store, opened};
+use record::Placed;
 use std::alloc::{AllocError, Global};
 use store_image::Image;
 

@@ -1,12 +1,13 @@
 ghost use Rattle.std.specs.Prelude.{◌≡◌, ◌≤◌, All, IfOk, List, Ok, length};
 ghost use Rattle.plain_store.specs.Setups.{checked};
-ghost use Rattle.weigh.specs.declared.calls.Placed.{Placed as Finished};
-ghost use Rattle.weigh.specs.Weighing.{IsWeighed, lists_of};
+ghost use Rattle.record.specs.declared.calls.Placed.{Placed as Finished};
+ghost use Rattle.record.specs.CallLists.{lists_of};
+ghost use Rattle.weigh.specs.Weighing.{IsWeighed};
 
-use crate::calls::Placed;
 use crate::notes::Followed;
 use crate::verdicts::Weighed;
 use plain_store::Setup;
+use record::Placed;
 use std::alloc::{AllocError, Global};
 use store_image::Image;
 

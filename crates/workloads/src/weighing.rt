@@ -1,8 +1,8 @@
 //! How long weighing takes, of the largest lists of finished calls.
 ghost use Rattle.std.specs.Prelude.{◌≡◌, ◌≤◌, All, IfOk, IsTrue, List, Ok, length};
 ghost use Rattle.plain_store.specs.Setups.{checked};
-ghost use Rattle.weigh.specs.declared.calls.Placed.{Placed as Finished};
-ghost use Rattle.weigh.specs.Weighing.{lists_of};
+ghost use Rattle.record.specs.declared.calls.Placed.{Placed as Finished};
+ghost use Rattle.record.specs.CallLists.{lists_of};
 
 mod histories;
 
@@ -10,9 +10,10 @@ use crate::counters::{counter, counting};
 use anyhow::{Result, bail};
 use histories::{Calls, History};
 use plain_store::Setup;
+use record::Placed;
 use std::rt::Clock;
 use std::time::Instant;
-use weigh::{Placed, weigh};
+use weigh::weigh;
 
 /// The most calls of a process in version 2.
 const MOST_CALLS: u32 = 65_535;

@@ -5,9 +5,9 @@ ghost use Rattle.plain_store.specs.Setups.{checked};
 
 use anyhow::{Result, bail};
 use plain_store::{Answer, Caller, Command, Name, NestedTypes, Reply, Setup, Store, Value, opened};
+use record::Placed;
 use std::alloc::{AllocError, Global};
 use store_image::Image;
-use weigh::Placed;
 
 /// What the processes of a history call.
 #[derive(Clone, Copy, Debug)]

@@ -9,8 +9,8 @@ use Rattle.board.specs.Agreement.{IsIn}
 use Rattle.board.specs.Closings.{IsStill, StandsInRecord, done_calls}
 use Rattle.board.specs.Ports.{PortState}
 use Rattle.board.specs.Views.{OwnView, ViewState, with_joined}
-use Rattle.weigh.specs.declared.calls.Placed.{Placed}
-use Rattle.weigh.specs.Weighing.{lists_of}
+use Rattle.record.specs.declared.calls.Placed.{Placed}
+use Rattle.record.specs.CallLists.{lists_of}
 use Rattle.board.proofs.Closings.{joins_still}
 use Rattle.board.proofs.PortLists.{all_push, first_and_rest, item_at, rest_of}
 use Rattle.board.proofs.closing.join_all.Goals as goal

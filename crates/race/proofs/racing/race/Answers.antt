@@ -1,6 +1,6 @@
 use Rattle.std.proofs.Common.{◌≡◌, false, true, subst, sym, true≢false}
 use Rattle.plain_store.specs.declared.Setup.{Setup}
-use Rattle.weigh.specs.Weighing.{lists_of}
+use Rattle.record.specs.CallLists.{lists_of}
 use Rattle.race.specs.Races.{IsRaced, plans_of}
 use Rattle.race.proofs.Raced.{all_there, are_new, closes, plans_all, quiet, raced}
 use Rattle.race.proofs.racing.race.Goals as goal

@@ -3,8 +3,8 @@ use Rattle.std.specs.Global.{Vec}
 use Rattle.race.specs.Races.{IsRaced, plans_of}
 use Rattle.scenario.specs.Reading.{Script}
 use Rattle.scenario.specs.Reads.{script}
-use Rattle.weigh.specs.declared.calls.Placed.{Placed}
-use Rattle.weigh.specs.Weighing.{lists_of}
+use Rattle.record.specs.declared.calls.Placed.{Placed}
+use Rattle.record.specs.CallLists.{lists_of}
 use Rattle.race.specs.Texts.{plans_in}
 use Rattle.race.proofs.PlanLists.{plans_each, raced_lists_short, raced_plans_short}
 use Rattle.race.proofs.running.race_scenario.Goals as goal

@@ -1,6 +1,6 @@
 use Rattle.std.proofs.Common.{◌≡◌, ℕ, List, ◌++◌, ap, sym, ◌∙◌, rules, take}
 use Rattle.std.specs.String.{string_bytes}
-use Rattle.weigh.specs.Weighing.{lists_of}
+use Rattle.record.specs.CallLists.{lists_of}
 use Rattle.race.specs.Texts.{answers_from, list_text}
 use Rattle.race.proofs.Parts.{answers_more}
 use Rattle.race.proofs.texts.answer_lines.Goals as goal

@@ -1,6 +1,6 @@
 use Rattle.std.proofs.Common.{◌≡◌, take}
 use Rattle.std.specs.String.{string_bytes}
-use Rattle.weigh.specs.Weighing.{lists_of}
+use Rattle.record.specs.CallLists.{lists_of}
 use Rattle.race.specs.Texts.{answers_from}
 use Rattle.race.proofs.texts.answer_lines.Given as goal
 

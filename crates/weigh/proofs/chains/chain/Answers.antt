@@ -1,9 +1,10 @@
 use Rattle.std.proofs.Common.{ℕ, List, [], ◌++◌, length, take, sym, subst}
 use Rattle.weigh.specs.declared.calls.Call.{Call}
-use Rattle.weigh.specs.declared.calls.Placed.{Placed}
+use Rattle.record.specs.declared.calls.Placed.{Placed}
 use Rattle.weigh.specs.declared.chains.Link.{Link}
 use Rattle.weigh.specs.Following.{AreChains}
-use Rattle.weigh.specs.Weighing.{all_calls, calls_from, lists_of}
+use Rattle.record.specs.CallLists.{lists_of}
+use Rattle.weigh.specs.Weighing.{all_calls, calls_from}
 use Rattle.weigh.proofs.AllCalls.{all_more}
 use Rattle.weigh.proofs.Linking.{chains_none}
 use Rattle.weigh.proofs.chains.chain.Goals as goal

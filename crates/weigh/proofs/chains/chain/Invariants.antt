@@ -1,6 +1,7 @@
 use Rattle.std.proofs.Common.{length, take}
 use Rattle.weigh.specs.Following.{AreChains}
-use Rattle.weigh.specs.Weighing.{all_calls, lists_of}
+use Rattle.record.specs.CallLists.{lists_of}
+use Rattle.weigh.specs.Weighing.{all_calls}
 use Rattle.weigh.proofs.chains.chain.Given as goal
 
 -- the calls of the lists before the present one are chained

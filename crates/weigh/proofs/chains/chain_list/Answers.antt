@@ -1,7 +1,7 @@
 use Rattle.std.proofs.Common.{ℕ, ◌≤◌, List, [], ◌∷◌, ◌++◌, length, take, refl, sym, ap, subst, ◌∙◌, arith, append-nil, append_assoc}
 use Rattle.std.proofs.lemmas.List.{take_all}
 use Rattle.weigh.specs.declared.calls.Call.{Call}
-use Rattle.weigh.specs.declared.calls.Placed.{Placed}
+use Rattle.record.specs.declared.calls.Placed.{Placed}
 use Rattle.weigh.specs.Following.{AreChains}
 use Rattle.weigh.specs.Weighing.{calls_from}
 use Rattle.weigh.proofs.AllCalls.{calls_more}

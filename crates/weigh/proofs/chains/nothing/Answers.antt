@@ -1,7 +1,8 @@
 use Rattle.std.proofs.Common.{ℕ, ◌≡◌, ◌+◌, ◌++◌, List, length, take, ap, arith, length-append}
 use Rattle.weigh.specs.declared.calls.Call.{Call}
-use Rattle.weigh.specs.declared.calls.Placed.{Placed}
-use Rattle.weigh.specs.Weighing.{all_calls, calls_from, lists_of}
+use Rattle.record.specs.declared.calls.Placed.{Placed}
+use Rattle.record.specs.CallLists.{lists_of}
+use Rattle.weigh.specs.Weighing.{all_calls, calls_from}
 use Rattle.weigh.proofs.AllCalls.{all_more, length-calls_from}
 use Rattle.weigh.proofs.chains.nothing.Goals as goal
 

@@ -3,7 +3,8 @@ use Rattle.std.proofs.lemmas.Option.{slice_get_read}
 use Rattle.std.specs.List.{slice_get}
 use Rattle.weigh.specs.declared.calls.Call.{Call}
 use Rattle.weigh.specs.Following.{AreNotedFrom, IsFew, IsLast, IsNoteBy, changes_of}
-use Rattle.weigh.specs.Weighing.{all_calls, lists_of}
+use Rattle.record.specs.CallLists.{lists_of}
+use Rattle.weigh.specs.Weighing.{all_calls}
 use Rattle.weigh.proofs.Walking.{changes_from, few_there, found_more, found_none, linked, noted_all, noted_more, noted_none}
 use Rattle.weigh.proofs.notes.note_place.Goals as goal
 

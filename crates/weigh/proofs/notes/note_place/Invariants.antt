@@ -4,7 +4,8 @@ use Rattle.plain_store.specs.Setups.{callers_of}
 use Rattle.plain_store.specs.Store.{changes}
 use Rattle.weigh.specs.declared.calls.Call.{Call}
 use Rattle.weigh.specs.Following.{AreFew, AreNotedFrom, changes_of}
-use Rattle.weigh.specs.Weighing.{all_calls, calls_at, lists_of}
+use Rattle.record.specs.CallLists.{lists_of}
+use Rattle.weigh.specs.Weighing.{all_calls, calls_at}
 use Rattle.weigh.proofs.notes.note_place.Given as goal
 
 -- the calls with the place are noted from the present one on

@@ -1,9 +1,10 @@
 use Rattle.std.proofs.Common.{◌≡◌, ◌<◌, ◌≤◌, ◌+◌, ℕ, List, length, refl, sym, subst, ◌∙◌, arith, true≢false}
 use Rattle.weigh.specs.declared.calls.Call.{Call}
-use Rattle.weigh.specs.declared.calls.Placed.{Placed}
+use Rattle.record.specs.declared.calls.Placed.{Placed}
 use Rattle.weigh.specs.declared.verdicts.Weighed.TheVariants.{Good, Bad, BadEnd}
 use Rattle.weigh.specs.Following.{ArePart, IsFollowed}
-use Rattle.weigh.specs.Weighing.{IsBadIn, all_calls, lists_of}
+use Rattle.record.specs.CallLists.{lists_of}
+use Rattle.weigh.specs.Weighing.{IsBadIn, all_calls}
 use Rattle.weigh.proofs.AllCalls.{before_more, before_within, part_there}
 use Rattle.weigh.proofs.Finding.{few_all, lowest_bad, none_at_all, none_more, weighed}
 use Rattle.weigh.proofs.weighing.weigh.Goals as goal

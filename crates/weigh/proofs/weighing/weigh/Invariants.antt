@@ -1,6 +1,7 @@
 use Rattle.std.proofs.Common.{◌≡◌, ℕ, ◌<◌, length, take}
 use Rattle.weigh.specs.Following.{IsFollowed}
-use Rattle.weigh.specs.Weighing.{IsBadAt, all_calls, lists_of}
+use Rattle.record.specs.CallLists.{lists_of}
+use Rattle.weigh.specs.Weighing.{IsBadAt, all_calls}
 use Rattle.weigh.proofs.weighing.weigh.Given as goal
 
 -- so many calls stand in the lists before the present one, and none of them is bad

@@ -4,7 +4,7 @@ use Rattle.board.specs.Agreement.{Agree}
 use Rattle.board.specs.Boards.{BoardState}
 use Rattle.board.specs.Closings.{EachStandsInRecord, IsStill, Leaves}
 use Rattle.board.specs.Views.{OwnView}
-use Rattle.weigh.specs.Weighing.{lists_of}
+use Rattle.record.specs.CallLists.{lists_of}
 use Rattle.board.proofs.Closings.{closes}
 use Rattle.board.proofs.board.Board.shut.Goals as goal
 

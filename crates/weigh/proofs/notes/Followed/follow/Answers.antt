@@ -3,7 +3,8 @@ use Rattle.plain_store.specs.declared.Setup.{Setup}
 use Rattle.plain_store.specs.Store.{Contents}
 use Rattle.weigh.specs.declared.calls.Call.{Call}
 use Rattle.weigh.specs.Following.{AreBlank, AreFew, AreNotedBelow, IsFollowed}
-use Rattle.weigh.specs.Weighing.{all_calls, lists_of}
+use Rattle.record.specs.CallLists.{lists_of}
+use Rattle.weigh.specs.Weighing.{all_calls}
 use Rattle.weigh.proofs.Followed.{callers_of_store}
 use Rattle.weigh.proofs.Stores.{ended_after_all, ended_at_nothing, ended_at_several, next_store, none_noted, noted_below}
 use Rattle.weigh.proofs.notes.Followed.follow.Goals as goal

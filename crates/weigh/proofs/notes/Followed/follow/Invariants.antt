@@ -1,6 +1,7 @@
 use Rattle.std.proofs.Common.{◌≡◌, Some, length}
 use Rattle.weigh.specs.Following.{AreFew, AreNotedBelow}
-use Rattle.weigh.specs.Weighing.{all_calls, lists_of, store_at}
+use Rattle.record.specs.CallLists.{lists_of}
+use Rattle.weigh.specs.Weighing.{all_calls, store_at}
 use Rattle.weigh.proofs.notes.Followed.follow.Given as goal
 
 -- so far there is one change at each place, and its calls are noted

@@ -1,5 +1,5 @@
 use Rattle.std.proofs.Common.{◌≡◌, Option, ℕ, refl, sym, ap, ◌∙◌, true≢false}
-use Rattle.weigh.specs.declared.calls.Placed.{Placed}
+use Rattle.record.specs.declared.calls.Placed.{Placed}
 use Rattle.weigh.specs.Weighing.{above, several, falling, wrong_reply, without_place, with_place, falls, is_above, is_other_with_place, is_reply_without_place}
 use Rattle.weigh.proofs.Judged.{bad_at_last}
 use Rattle.weigh.proofs.notes.Followed.is_bad.Goals as goal
