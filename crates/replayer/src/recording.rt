@@ -12,7 +12,7 @@ ghost use Rattle.replayer.specs.Writing.{IsWriteFault, failed_write};
 
 use crate::told::{Stepped, Told};
 use crate::turns::Course;
-use onlooker::{Nobody, Onlooker, Place};
+use files::progress::{Nobody, Onlooker, Place};
 use record::Entry;
 use record_file::{StepLine, print_entry, print_setup};
 use scenario::{Fault, Line, Scenario, Sink, Source, read_input, read_scenario, write_all};

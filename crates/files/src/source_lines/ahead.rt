@@ -2,10 +2,11 @@
 ghost use Rattle.std.specs.Prelude.{◌≡◌, ◌+◌, ◌^◌, ◌-◌, ◌<◌, [], true, false, length, IfErr, IfOk, IfSome};
 ghost use Rattle.std.specs.List.{position};
 ghost use Rattle.files.specs.Streams.{IsReadFault, failed_reading};
-ghost use Rattle.source_lines.specs.Lines.{ends_line, MovesAll, MovesEnded};
-ghost use Rattle.source_lines.specs.Streams.{ComesToEnd, EndHolds, Stays, coming};
+ghost use Rattle.files.specs.Lines.{ends_line, MovesAll, MovesEnded};
+ghost use Rattle.files.specs.SourceLines.{ComesToEnd, EndHolds, Stays, coming};
 
-use files::{Failed, Fault, Source};
+use crate::faults::Fault;
+use crate::streams::{Failed, Source};
 use memchr::memchr;
 use std::alloc::{AllocError, Global};
 use std::marker::Model;
@@ -23,7 +24,7 @@ pub(crate) struct Ahead {
 
 impl Model for Ahead {
     ghost use Rattle.std.specs.Prelude.{◌≤◌, drop, length};
-    ghost use Rattle.source_lines.specs.Streams.{Given};
+    ghost use Rattle.files.specs.SourceLines.{Given};
 
     ghost Value = { Given };
 
@@ -108,7 +109,7 @@ impl Ahead {
 }
 
 /// How many bytes stand before the first 0x0A, if there is one.
-#[tactic(auto, using(crate::proofs::Ends::place_is))]
+#[tactic(auto, using(crate::proofs::LineEnds::place_is))]
 fn place_of_end(bytes: &[u8]) -> Option<usize>
     ensures place { result ≡ position ends_line bytes.now }
     ensures within { IfSome result (λ at. at < length bytes.now) }

@@ -4,7 +4,7 @@ use Rattle.std.specs.Io.KnownBytes.{IsAtEnd, Keeps, prepend_known}
 use Rattle.files.specs.declared.faults.Fault.{Fault}
 use Rattle.files.specs.declared.faults.Fault.TheVariants as fault
 use Rattle.files.specs.declared.faults.FaultKind.TheVariants.{TooLong}
-use Rattle.source_lines.specs.Lines.{IsTooLong, TakesLine}
+use Rattle.files.specs.Lines.{IsTooLong, TakesLine}
 
 -- the bytes that a source has given and that no line has taken, and whether the source has told its end
 pub record Given : Type 0 where

@@ -1,9 +1,9 @@
 use Rattle.std.proofs.Common.{rules, arith, ◌≡◌, ◌++◌, ◌-◌, ◌≤◌, length, take, drop, None, subst}
 use Rattle.std.specs.List.{position}
-use Rattle.source_lines.specs.Lines.{MovesAll, ends_line}
-use Rattle.source_lines.specs.Streams.{Given}
-use Rattle.source_lines.proofs.Blocks.{moves_all}
-use Rattle.source_lines.proofs.ahead.Ahead.move_to.Goals as goal
+use Rattle.files.specs.Lines.{MovesAll, ends_line}
+use Rattle.files.specs.SourceLines.{Given}
+use Rattle.files.proofs.Blocks.{moves_all}
+use Rattle.files.proofs.source_lines.ahead.Ahead.move_to.Goals as goal
 
 -- all bytes that waited were moved
 pub returns-in_ok-extend_from_slice-in-None-clause-all : goal.returns-in_ok-extend_from_slice-in-None-clause-all

@@ -4,7 +4,7 @@ use Rattle.std.proofs.lemmas.Bool.Decides.{nat_tests}
 use Rattle.std.proofs.lemmas.List.Sums.{position_or_len_is}
 use Rattle.std.specs.List.{position, position_or_len}
 use Rattle.memchr.specs.Find.{IsFirstByte, is_byte}
-use Rattle.source_lines.specs.Lines.{ends_line}
+use Rattle.files.specs.Lines.{ends_line}
 
 no_true : (b : Bool) → ¬ (b ≡ true) → b ≡ false
 no_true true not = absurd (not refl)

@@ -9,8 +9,8 @@ use Rattle.std.specs.Io.{ReadsAtMost}
 use Rattle.std.specs.Io.KnownBytes.{Consumes, IsAtEnd, ReadConsumes, prepend_known}
 use Rattle.std.specs.List.{list_all, position, position_or_len}
 use Rattle.files.specs.declared.streams.Failed.{Failed}
-use Rattle.source_lines.specs.Lines.{MovesAll, MovesEnded, ends_line, is_inner}
-use Rattle.source_lines.specs.Streams.{ComesToEnd, Stays, coming}
+use Rattle.files.specs.Lines.{MovesAll, MovesEnded, ends_line, is_inner}
+use Rattle.files.specs.SourceLines.{ComesToEnd, Stays, coming}
 
 -- Of the bytes that wait.
 

@@ -7,8 +7,8 @@ use Rattle.std.proofs.lemmas.List.Folds.{list_all-append}
 use Rattle.std.specs.Io.KnownBytes.{Consumes, IsAtEnd, prepend_known}
 use Rattle.std.specs.List.{list_all}
 use Rattle.files.specs.Words.{lines, onto, begins_with}
-use Rattle.source_lines.specs.Lines.{IsTooLong, MovesAll, MovesEnded, TakesLine, is_inner, without_return}
-use Rattle.source_lines.specs.Streams.{ComesToEnd, Given, Stays, Told, coming, unless_ended}
+use Rattle.files.specs.Lines.{IsTooLong, MovesAll, MovesEnded, TakesLine, is_inner, without_return}
+use Rattle.files.specs.SourceLines.{ComesToEnd, Given, Stays, Told, coming, unless_ended}
 
 -- the lines of a byte and those behind it, where it is no 0x0A
 behind : (b : ℕ) (bs : List ℕ) → (b == 10) ≡ false → lines (b ∷ bs) ≡ (if (b == 13) && begins_with 10 bs then lines bs else onto b (lines bs))

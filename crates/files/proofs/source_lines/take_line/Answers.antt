@@ -1,8 +1,8 @@
 use Rattle.std.proofs.Common.{ℕ, List, not, ap, sym, subst, ◌∙◌, arith}
-use Rattle.source_lines.specs.Lines.{TakesLine}
-use Rattle.source_lines.specs.Streams.{Told, coming}
-use Rattle.source_lines.proofs.FirstLines.{cut_long, ended, fed, fed_long}
-use Rattle.source_lines.proofs.lines.take_line.Goals as goal
+use Rattle.files.specs.Lines.{TakesLine}
+use Rattle.files.specs.SourceLines.{Told, coming}
+use Rattle.files.proofs.FirstLines.{cut_long, ended, fed, fed_long}
+use Rattle.files.proofs.source_lines.take_line.Goals as goal
 
 -- the end of the input ends a line that has begun
 pub returns-then-not-branch-clause-line : goal.returns-then-not-branch-clause-line

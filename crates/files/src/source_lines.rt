@@ -1,20 +1,21 @@
-//! The lines of a source, one at a time.
+//! The lines of a source, one at a time: a file of any length is read in memory that does not grow.
 ghost use Rattle.std.specs.Prelude.{◌≡◌, ◌+◌, ◌^◌, ◌-◌, ◌<◌, ◌≤◌, [], true, false, length, IfErr, IfOk, IfSome};
 ghost use Rattle.std.specs.Io.KnownBytes.{IsAtEnd};
 ghost use Rattle.files.specs.Streams.{IsReadFault, failed_reading};
-ghost use Rattle.source_lines.specs.Lines.{IsTooLong, TakesLine, without_return};
-ghost use Rattle.source_lines.specs.Streams.{EndHolds, GoesToNext, Told, coming};
+ghost use Rattle.files.specs.Lines.{IsTooLong, TakesLine, without_return};
+ghost use Rattle.files.specs.SourceLines.{EndHolds, GoesToNext, Told, coming};
 
-use crate::ahead::Ahead;
-use files::{Fault, FaultKind, LineFault, Source};
+mod ahead;
+
+use crate::faults::{Fault, FaultKind, LineFault};
+use crate::reading::MOST_BYTES;
+use crate::source_lines::ahead::Ahead;
+use crate::streams::Source;
 use std::alloc::Global;
 use std::marker::Model;
 
-/// The most bytes of a line, without its end.
-const MOST_BYTES: usize = 128;
-
 /// The most bytes of a line with its end, which are 0x0D and 0x0A.
-const MOST_WITH_END: usize = 130;
+const MOST_WITH_END: usize = MOST_BYTES + 2;
 
 /// As many lines as 64 bits can number, and the line behind them too.
 const MOST_LINES: u64 = u64::MAX - 1;
@@ -30,7 +31,7 @@ pub struct Lines {
 
 impl Model for Lines {
     ghost use Rattle.std.specs.Prelude.{◌<◌, ◌^◌, ◌-◌};
-    ghost use Rattle.source_lines.specs.Streams.{LineState};
+    ghost use Rattle.files.specs.SourceLines.{LineState};
 
     ghost Value = { LineState };
 

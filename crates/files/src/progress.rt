@@ -1,10 +1,37 @@
-//! Lines of a file that is run.
+//! How far an engine is: it tells an onlooker, which is no part of what it writes, and of which no contract speaks.
+//!
+//! ```rust
+//! onlooker.reached(place.begin_line(summary.events));
+//! ```
 ghost use Rattle.std.specs.Prelude.{Err};
 
-use crate::onlookers::Reached;
+use crate::faults::FaultKind;
+use crate::reading::{FromLines, read_any_line};
 use bstr::ByteSlice;
-use files::{FaultKind, FromLines, read_any_line};
 use std::alloc::Global;
+
+/// How far an engine is.
+#[derive(Clone, Copy, Debug)]
+pub enum Reached<'a> {
+    /// A line of the file is to be run.
+    Line(Place<'a>),
+    /// A sweep has gone along so many of its events.
+    Swept { events: u64, of: u64 },
+}
+
+/// Who looks on while an engine runs.
+pub trait Onlooker {
+    /// The engine has come so far.
+    fn reached(&mut self, reached: Reached<'_>);
+}
+
+/// Nobody looks on.
+#[derive(Drop)]
+pub struct Nobody;
+
+impl Onlooker for Nobody {
+    fn reached(&mut self, _reached: Reached<'_>) {}
+}
 
 /// A line of a file that is run, or the place before the first one. The lines that are run are the last of those that
 /// are not skipped.
