@@ -9,6 +9,8 @@ pub mod Printed
 pub mod NoSigns
 pub mod ReadBack
 pub mod PrintedWords
+-- The lines of printed entries
+pub mod EntryLines
 -- What was read has the words that are printed for it
 pub mod Spelled
 -- The line of a Step

@@ -3,3 +3,4 @@ pub mod Given
 pub mod Keywords
 pub mod Printing
 pub mod Reading
+pub mod RecordFiles

@@ -36,8 +36,8 @@ use Rattle.scenario.proofs.ShortLines.{heading_fits, script_printable, small_hea
 use Rattle.scenario.proofs.Spaced.{is_printable, is_word, length-spaced, lines_of_words, printable_words, size, words_of_spaced}
 use Rattle.record_file.proofs.PrintedWords.{entry_is_words}
 use Rattle.record_file.specs.Printing.{entry_words, head_words, record_text}
-use Rattle.record_reader.specs.RecordFiles.{Progress, cleared, entry_in, first_read, head_read, line_read, lines_read, pair_read, record_grammar, record_of, said_by}
-use Rattle.record_reader.proofs.EntryLines.{entry_of_words}
+use Rattle.record_file.specs.RecordFiles.{Progress, cleared, entry_in, first_read, head_read, line_read, lines_read, pair_read, record_grammar, record_of, said_by}
+use Rattle.record_file.proofs.EntryLines.{entry_of_words}
 use Rattle.record_laws.specs.ReadAgain.{FitLines, IsSetupOfFile}
 
 -- One line.

@@ -11,7 +11,7 @@ use Rattle.scenario.specs.Printing.{spaced}
 use Rattle.scenario.specs.Scripts.{IsScenario}
 use Rattle.record_file.specs.Given.{IsEntry}
 use Rattle.record_file.specs.Printing.{entry_words, record_text}
-use Rattle.record_reader.specs.RecordFiles as reader
+use Rattle.record_file.specs.RecordFiles as reader
 
 -- a setup as a scenario may have it: it is good, and its opening pairs are pairs with different names
 abbrev pub IsSetupOfFile : Setup → Type 0

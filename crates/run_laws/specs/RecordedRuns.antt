@@ -2,7 +2,7 @@
 use Rattle.std.specs.Prelude.{◌≡◌, Ok}
 use Rattle.scenario.specs.Reading.{Script}
 use Rattle.scenario.specs.Scripts.{IsScenario}
-use Rattle.record_reader.specs.RecordFiles.{record_of}
+use Rattle.record_file.specs.RecordFiles.{record_of}
 use Rattle.replayer.specs.Audits.{run_record}
 use Rattle.replayer.specs.Recordings.{recorded}
 

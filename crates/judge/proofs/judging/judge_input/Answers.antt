@@ -1,7 +1,7 @@
 use Rattle.std.proofs.Common.{◌≡◌, ℕ, Bool, List, Ok, Err, sym, subst, arith}
 use Rattle.files.specs.Reads.{UnlessMemory}
 use Rattle.files.specs.declared.faults.Fault.{Fault}
-use Rattle.record_reader.specs.RecordFiles.{line_read}
+use Rattle.record_file.specs.RecordFiles.{line_read}
 use Rattle.files.specs.SourceLines.{GoesToNext, coming}
 use Rattle.judge.specs.Judgements.{IsInputFault}
 use Rattle.judge.specs.Trials.{GoesOn}

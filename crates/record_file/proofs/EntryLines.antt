@@ -19,8 +19,8 @@ use Rattle.record_file.proofs.PrintedWords.{entry_is_words}
 use Rattle.record_file.proofs.ReadBack.{entry_words_again}
 use Rattle.record_file.specs.Given.{IsEntry, is_access, is_mark}
 use Rattle.record_file.specs.Printing.{access_words, entry_words, signed_words}
-use Rattle.record_reader.specs.RecordFiles.{Progress, begins_with_digit, kind_in, line_said, record_grammar}
-use Rattle.record_reader.specs.declared.kinds.LineKind.TheVariants as kind
+use Rattle.record_file.specs.RecordFiles.{Progress, begins_with_digit, kind_in, line_said, record_grammar}
+use Rattle.record_file.specs.declared.line_kinds.LineKind.TheVariants as kind
 
 -- the first word of an entry is a number: it begins with a digit
 begins_so : (ds : List ℕ) → 0 < length ds → are_digits ds ≡ true → (begins_with_digit ds ≡ true) × (begins_with 35 ds ≡ false)

@@ -1,6 +1,6 @@
 //! What the lines of a record file are.
 ghost use Rattle.std.specs.Prelude.{◌≡◌};
-ghost use Rattle.record_reader.specs.RecordFiles.{begins_with_digit as digit_first, kind_in as those_of_records, kind_of};
+ghost use Rattle.record_file.specs.RecordFiles.{begins_with_digit as digit_first, kind_in as those_of_records, kind_of};
 
 use scenario::keywords::{Heading, Opener};
 

@@ -3,13 +3,13 @@ ghost use Rattle.std.specs.Prelude.{◌≡◌, MatchOption, None, Ok, Some};
 ghost use Rattle.plain_store.specs.Setups.{checked};
 ghost use Rattle.files.specs.Reads.{Makes, Takes};
 ghost use Rattle.files.specs.Words.{texts};
-ghost use Rattle.record_reader.specs.RecordFiles.{entry_read, first_read, head_read, line_said, pair_read};
+ghost use Rattle.record_file.specs.RecordFiles.{entry_read, first_read, head_read, line_said, pair_read};
 
-use crate::kinds::LineKind;
+use crate::entries::read_entry;
+use crate::line_kinds::LineKind;
 use files::{FaultKind, FromLines};
 use plain_store::{NestedTypes, Setup};
 use record::Entry;
-use record_file::read_entry;
 use scenario::Reader;
 use scenario::keywords::Heading;
 use std::alloc::Global;
@@ -26,7 +26,7 @@ pub struct RecordReader {
 }
 
 impl Model for RecordReader {
-    ghost use Rattle.record_reader.specs.RecordFiles.{Progress};
+    ghost use Rattle.record_file.specs.RecordFiles.{Progress};
 
     ghost Value = { Progress };
 
@@ -34,7 +34,7 @@ impl Model for RecordReader {
 }
 
 impl FromLines for RecordReader {
-    ghost use Rattle.record_reader.specs.RecordFiles.{record_grammar};
+    ghost use Rattle.record_file.specs.RecordFiles.{record_grammar};
 
     ghost grammar = { record_grammar };
 

@@ -19,8 +19,8 @@ use Rattle.scenario.specs.declared.keywords.Heading.{Heading}
 use Rattle.scenario.specs.declared.keywords.Opener.{Opener}
 use Rattle.scenario.specs.declared.keywords.Opener.TheVariants as opener
 use Rattle.record_file.specs.Reading.{entry_of}
-use Rattle.record_reader.specs.declared.kinds.LineKind.{LineKind}
-use Rattle.record_reader.specs.declared.kinds.LineKind.TheVariants as kind
+use Rattle.record_file.specs.declared.line_kinds.LineKind.{LineKind}
+use Rattle.record_file.specs.declared.line_kinds.LineKind.TheVariants as kind
 
 -- what was read last: the headings and opening pairs so far, whether an entry has ended them, and the entry of this line, if it is one
 pub record Progress : Type 0 where
