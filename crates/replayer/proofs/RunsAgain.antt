@@ -1,16 +1,19 @@
 -- The text of a scenario's run is read again.
-use Rattle.std.proofs.Common.{◌≡◌, ◌+◌, ◌*◌, ◌≤◌, List, length, refl, arith}
+use Rattle.std.proofs.Common.{◌≡◌, ℕ, ◌+◌, ◌*◌, ◌≤◌, List, length, Option, Result, Ok, Err, OnOk, refl, arith}
 use Rattle.std.proofs.lemmas.List.{length-reverse}
+use Rattle.std.specs.Io.KnownBytes.{Appends}
 use Rattle.record.specs.declared.events.Event.{Event}
-use Rattle.record_laws.specs.ReadAgain.{IsSetupOfFile}
-use Rattle.record_laws.proofs.FitRecords.{events_reversed, records_again}
-use Rattle.scenario.specs.Reading.{Script}
+use Rattle.record_file.specs.ReadAgain.{IsSetupOfFile}
+use Rattle.replayer.proofs.FitRecords.{events_reversed, records_again}
+use Rattle.scenario.specs.Reading.{Script, scenario_of}
 use Rattle.scenario.specs.Scripts.{IsScenario}
+use Rattle.scenario.proofs.TextSaid.{script_said}
 use Rattle.replayer.specs.Happenings.{accepted}
 use Rattle.replayer.specs.Listings.{accepted_events}
 use Rattle.replayer.specs.Runs.{run_at_start, runs}
-use Rattle.run_laws.specs.RecordedRuns.{RecordedRunsAreReadAgain}
-use Rattle.run_laws.proofs.FewEvents.{AreFew, accepted_few, lines_few, tries}
+use Rattle.replayer.specs.RecordedRuns.{RecordedRunsAreReadAgain, WritesRecord}
+use Rattle.replayer.specs.Recordings.{recorded}
+use Rattle.replayer.proofs.FewEvents.{AreFew, accepted_few, lines_few, tries}
 
 -- the events of a run that are accepted, the newest first
 abbrev chosen : Script → List Event
@@ -32,3 +35,8 @@ run_again said is =
     let lines : length said.lines ≤ 4000 = is.few in
     let same : length (accepted_events said) ≡ length (chosen said) = length-reverse (chosen said) in
     records_again said.setup (setup_of_file said is) (accepted_events said) (events_reversed (chosen said) are.given) (omega (arith, few, lines, same))
+
+-- So is what was written of a scenario that was read.
+pub written_again : {A E : Type 0} (result : Result A E) (bytes : List ℕ) (said : Script) (old new : Option (List ℕ)) → scenario_of bytes ≡ Ok said → OnOk result (Appends old new (recorded said)) → OnOk result (WritesRecord said old new)
+written_again (Ok done) bytes said old new good written = record { text = recorded said; written = written; read = run_again said (script_said bytes said good).scenario }
+written_again (Err e) bytes said old new good written = tt

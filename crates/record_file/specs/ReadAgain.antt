@@ -1,5 +1,5 @@
 -- Which records a file may say as they are printed, and that they are read again.
-use Rattle.std.specs.Prelude.{◌≡◌, ◌<◌, ◌≤◌, ◌^◌, true, List, [], length, Ok}
+use Rattle.std.specs.Prelude.{◌≡◌, ℕ, ◌<◌, ◌≤◌, ◌^◌, true, List, [], ◌++◌, length, flat_map, Ok}
 use Rattle.std.specs.List.{AllByRecursion, list_all}
 use Rattle.plain_store.specs.Setups.{checked}
 use Rattle.plain_store.specs.declared.setups.Setup.{Setup}
@@ -10,7 +10,7 @@ use Rattle.record.specs.declared.events.Event.{Event}
 use Rattle.scenario.specs.Printing.{spaced}
 use Rattle.scenario.specs.Scripts.{IsScenario}
 use Rattle.record_file.specs.Given.{IsEntry}
-use Rattle.record_file.specs.Printing.{entry_words, record_text}
+use Rattle.record_file.specs.Printing.{entry_line, entry_words, record_text}
 use Rattle.record_file.specs.RecordFiles as reader
 
 -- a setup as a scenario may have it: it is good, and its opening pairs are pairs with different names
@@ -25,6 +25,10 @@ pub record FitsLine (e : Entry) : Type 0 where
 -- each of them is one
 abbrev pub FitLines : List Entry → Type 0
 FitLines = AllByRecursion FitsLine
+
+-- a text is read as a record of this setup: with the lines of any entries that fit theirs behind it, as that setup and those entries
+abbrev pub BeginsRecord : Setup → List ℕ → Type 0
+BeginsRecord s text = (entries : List Entry) → FitLines entries → reader.record_of (text ++ flat_map entry_line entries) ≡ Ok (record { setup = s; entries = entries })
 
 -- What is printed for a setup and entries whose lines fit is read as that setup and those entries.
 abbrev pub PrintedRecordsAreReadAgain : Type 0

@@ -1,4 +1,4 @@
--- What a process is doing holds replies and answers that fit, whatever its entries are.
+-- What a process goes on with holds replies and answers that fit.
 use Rattle.std.proofs.Common.{◌≡◌, ℕ, zero, suc, ◌+◌, ◌≤◌, ◌==◌, not, nat_lt, Bool, true, false, cond, List, [], ◌∷◌, ◌++◌, filter, Option, Some, None, refl, arith}
 use Rattle.std.proofs.lemmas.Bool.{and_from, and_parts}
 use Rattle.std.proofs.lemmas.Bool.Decides.{nat_tests}
@@ -25,10 +25,9 @@ use Rattle.record.specs.Scripts.{Call, caller}
 use Rattle.record.specs.Unit.{is_commit, last_read, last_write, unfinished, value_written}
 use Rattle.record.specs.declared.marks.Mark.{Mark}
 use Rattle.record.specs.declared.marks.Mark.TheVariants.{Called, Waiting, Entered, Taken, Left, Answered, Failed, Settled, Down, Withdrew, Restarted}
-use Rattle.laws.specs.Doings.{Doing, Rests, Lies, Runs, Closes, call, closes, does_after, doing, goes_on, runs}
 use Rattle.reader_copies.specs.Runs as copies
 use Rattle.record_file.specs.Given.{is_answer, is_reply}
-use Rattle.record_laws.proofs.SoundReplies.{index_small, is_sound, read_sound, reply_sound}
+use Rattle.record_file.proofs.SoundReplies.{index_small, is_sound, read_sound, reply_sound}
 
 -- what a part holds fits
 abbrev pub is_sound_part : Part → Bool
@@ -47,11 +46,6 @@ is_sound_taken (Some r) = is_reply r
 abbrev pub is_sound_closing : Closing → Bool
 is_sound_closing (Settles field bit begun taken is t) = is_sound_taken taken
 is_sound_closing _ = true
-
-abbrev pub is_sound_doing : Doing → Bool
-is_sound_doing (Runs command number at) = is_sound_part at.part
-is_sound_doing (Closes command number at) = is_sound_closing at
-is_sound_doing _ = true
 
 -- Parts.
 
@@ -113,7 +107,7 @@ sound_part_after c (WritesCommit vs st) value few sound = reply_sound st c.comma
 sound_part_after c (Clears a) value few sound = refl
 sound_part_after c Over value few sound = refl
 
-sound_place : (c : Call) (at : Place) (v : Bool) → c.setup.processes ≤ 256 → is_sound_part at.part ≡ true → is_sound_part (place_after c at v).part ≡ true
+pub sound_place : (c : Call) (at : Place) (v : Bool) → c.setup.processes ≤ 256 → is_sound_part at.part ≡ true → is_sound_part (place_after c at v).part ≡ true
 sound_place c at v few sound = by (is_last c at.part at.run)
   where
     next : Part
@@ -132,14 +126,14 @@ sound_with c field value = by (is_commit field)
     by true = reply_sound (store_read c value) c.command (caller c) (read_sound c value)
     by false = refl
 
-sound_failing : (c : Call) (past : Past) → is_sound_closing (failing c past) ≡ true
+pub sound_failing : (c : Call) (past : Past) → is_sound_closing (failing c past) ≡ true
 sound_failing c past = by (unfinished c.setup.processes (last_write past))
   where
     by : (torn : Option Access) → is_sound_closing (settling_from c past torn) ≡ true
     by None = refl
     by (Some a) = sound_with c a.field (last_read (read_so_far c.setup (since is_called past)).finished)
 
-sound_closing_after : (c : Call) (at : Closing) (flick : Bool) → is_sound_closing at ≡ true → is_sound_closing (closing_after c at flick) ≡ true
+pub sound_closing_after : (c : Call) (at : Closing) (flick : Bool) → is_sound_closing at ≡ true → is_sound_closing (closing_after c at flick) ≡ true
 sound_closing_after c (Withdraws w) flick sound = by (is_last_written c (no_ticket c) w)
   where
     by : (b : Bool) → is_sound_closing (cond b Quit (Withdraws (write_moved c.setup.processes (no_ticket c) w))) ≡ true
@@ -162,52 +156,3 @@ sound_closing_after c (Lowers w) flick sound = by (is_last_written c (false ∷ 
     by false = refl
 sound_closing_after c Quit flick sound = refl
 sound_closing_after c Ended flick sound = refl
-
--- What a process is doing.
-
-sound_runs : (command : Command) (number : ℕ) (at : Place) → is_sound_part at.part ≡ true → is_sound_doing (runs command number at) ≡ true
-sound_runs command number at sound = by (is_over at.part)
-  where
-    by : (b : Bool) → is_sound_doing (cond b Rests (Runs command number at)) ≡ true
-    by true = refl
-    by false = sound
-
-sound_closes : (command : Command) (number : ℕ) (at : Closing) → is_sound_closing at ≡ true → is_sound_doing (closes command number at) ≡ true
-sound_closes command number (Withdraws w) sound = refl
-sound_closes command number (Settles field bit begun taken is t) sound = sound
-sound_closes command number (Frees is w) sound = refl
-sound_closes command number (Lowers w) sound = refl
-sound_closes command number Quit sound = refl
-sound_closes command number Ended sound = refl
-
-sound_goes_on : (s : Setup) (p : ℕ) (e : Entry) (a : Option Access) (d : Doing) → s.processes ≤ 256 → is_sound_doing d ≡ true → is_sound_doing (goes_on s p e a d) ≡ true
-sound_goes_on s p e None d few sound = refl
-sound_goes_on s p e (Some a) Rests few sound = refl
-sound_goes_on s p e (Some a) Lies few sound = refl
-sound_goes_on s p e (Some a) (Runs command number at) few sound =
-    sound_runs command number (place_after (call s p command number) at (value_of a.how)) (sound_place (call s p command number) at (value_of a.how) few sound)
-sound_goes_on s p e (Some a) (Closes command number at) few sound =
-    sound_closes command number (closing_after (call s p command number) at (value_written e)) (sound_closing_after (call s p command number) at (value_written e) sound)
-
-sound_does_after : (s : Setup) (p : ℕ) (mine : Past) (e : Entry) (begins : Option Mark) (d : Doing) → s.processes ≤ 256 → is_sound_doing d ≡ true → is_sound_doing (does_after s p mine e begins d) ≡ true
-sound_does_after s p mine e None d few sound = sound_goes_on s p e e.access d few sound
-sound_does_after s p mine e (Some (Called command)) d few sound = refl
-sound_does_after s p mine e (Some Withdrew) d few sound = refl
-sound_does_after s p mine e (Some Failed) d few sound = sound_failing (last_call s p mine) mine
-sound_does_after s p mine e (Some (Waiting t)) d few sound = sound_goes_on s p e e.access d few sound
-sound_does_after s p mine e (Some Entered) d few sound = sound_goes_on s p e e.access d few sound
-sound_does_after s p mine e (Some (Taken k r)) d few sound = sound_goes_on s p e e.access d few sound
-sound_does_after s p mine e (Some Left) d few sound = sound_goes_on s p e e.access d few sound
-sound_does_after s p mine e (Some (Answered a)) d few sound = sound_goes_on s p e e.access d few sound
-sound_does_after s p mine e (Some (Settled v)) d few sound = sound_goes_on s p e e.access d few sound
-sound_does_after s p mine e (Some Down) d few sound = sound_goes_on s p e e.access d few sound
-sound_does_after s p mine e (Some Restarted) d few sound = sound_goes_on s p e e.access d few sound
-
--- what is done fits
-pub doing_sound : (s : Setup) (p : ℕ) (past : Past) → s.processes ≤ 256 → is_sound_doing (doing s p past) ≡ true
-doing_sound s p [] few = refl
-doing_sound s p (e ∷ past) few = by (e.process == p) (doing_sound s p past few)
-  where
-    by : (b : Bool) → is_sound_doing (doing s p past) ≡ true → is_sound_doing (cond b (does_after s p (own p past) e (start_in e.marks) (doing s p past)) (doing s p past)) ≡ true
-    by true before = sound_does_after s p (own p past) e (start_in e.marks) (doing s p past) few before
-    by false before = before

@@ -41,9 +41,9 @@ use Rattle.laws.proofs.Invariant.{Own, StandsAt, Wires, next_time, wires}
 use Rattle.laws.proofs.Notes.{Notes, notes}
 use Rattle.history_laws.proofs.CountedChanges.{history-none, history-takes, taken_at}
 use Rattle.record_file.specs.Given.{is_access, is_entry, is_mark}
-use Rattle.record_laws.proofs.FewMarks.{AreFew, closing_few, placed_few, step_few}
-use Rattle.record_laws.proofs.SoundDoings.{doing_sound, is_sound_doing}
-use Rattle.record_laws.proofs.SoundMarks.{TicketFits, closing_sound, placed_sound, step_sound}
+use Rattle.record_file.proofs.FewMarks.{AreFew, closing_few, placed_few, step_few}
+use Rattle.replayer.proofs.SoundDoings.{doing_sound, is_sound_doing}
+use Rattle.record_file.proofs.SoundMarks.{TicketFits, closing_sound, placed_sound, step_sound}
 
 -- marks that fit
 pub record AreGood (ms : List Mark) : Type 0 where

@@ -1,20 +1,24 @@
 -- The record of events has entries that fit their lines, and so it is read again.
 use Rattle.std.proofs.Common.{◌≡◌, ◌<◌, ◌≤◌, ◌^◌, true, List, [], ◌∷◌, ◌++◌, length, reverse, Option, Some, None, Ok, refl, sym, ap, subst, ◌∙◌, arith}
 use Rattle.std.proofs.lemmas.Bool.{and_from, and_parts}
-use Rattle.std.proofs.lemmas.List.{length-reverse, reverse-append}
+use Rattle.std.proofs.lemmas.List.{length-reverse, reverse-append, reverse-reverse}
 use Rattle.std.proofs.lemmas.List.Folds.{list_all-append}
 use Rattle.std.specs.List.{AllByRecursion, list_all}
+use Rattle.plain_store.specs.Pairs.{is_pair}
 use Rattle.plain_store.specs.Setups.{checked}
+use Rattle.plain_store.specs.Store.{names_differ}
 use Rattle.plain_store.specs.declared.Setup.{Setup}
 use Rattle.record.specs.Entries.{Entry, Past}
-use Rattle.record.specs.Given.{is_event}
+use Rattle.record.specs.Given.{AreGiven, is_event}
 use Rattle.record.specs.Histories.{history}
 use Rattle.record.specs.Records.{entry_of, past_of, record_of}
 use Rattle.record.specs.declared.events.Event.{Event}
-use Rattle.record_laws.specs.ReadAgain.{FitLines, FitsLine, RecordsAreReadAgain, RecordsFitLines}
-use Rattle.record_laws.proofs.ReadBack.{record_again}
-use Rattle.record_laws.proofs.ShortWords.{short_fits}
-use Rattle.record_laws.proofs.SoundEntries.{entry_fits, few_taken}
+use Rattle.record_file.specs.Printing.{record_text}
+use Rattle.record_file.specs.ReadAgain.{FitLines, FitsLine, IsSetupOfFile, RecordsAreReadAgain, RecordsFitLines}
+use Rattle.record_file.specs.RecordFiles as reader
+use Rattle.record_file.proofs.RecordsAgain.{record_again}
+use Rattle.record_file.proofs.ShortWords.{short_fits}
+use Rattle.replayer.proofs.SoundEntries.{entry_fits, few_taken}
 
 -- Lists turned round.
 
@@ -55,3 +59,17 @@ records_fit s h events given few =
 
 pub records_again : RecordsAreReadAgain
 records_again s is events given few = record_again s (record_of s events) is (records_fit s is.good events given few)
+
+-- and where the setup is given with its opening, it is a file's
+pub given_again : (s : Setup) → checked s ≡ Ok tt → (events : List Event) → AreGiven s (reverse events) → length events < 2 ^ 64 → (made : List Entry) → made ≡ record_of s events →
+    FitLines made × (reader.record_of (record_text s made) ≡ Ok (record { setup = s; entries = made }))
+given_again s h events given few made is = subst (λ (l : List Entry). FitLines l × (reader.record_of (record_text s l) ≡ Ok (record { setup = s; entries = l }))) (sym is) (records_fit s h events commands few, records_again s setup events commands few)
+  where
+    commands : list_all is_event events ≡ true
+    commands = ap (list_all is_event) (sym (reverse-reverse events)) ∙ events_reversed (reverse events) given.commands
+
+    both : (list_all is_pair s.opening ≡ true) × (names_differ s.opening ≡ true)
+    both = and_parts (list_all is_pair s.opening) (names_differ s.opening) given.opening
+
+    setup : IsSetupOfFile s
+    setup = record { good = h; pairs = both.0; differ = both.1; few = omega arith; lines = refl; allowed = refl }

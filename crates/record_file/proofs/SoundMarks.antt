@@ -17,8 +17,8 @@ use Rattle.record.specs.Scripts.{Call, Next, caller}
 use Rattle.record.specs.declared.marks.Mark.{Mark}
 use Rattle.record.specs.declared.marks.Mark.TheVariants.{Called, Waiting, Taken, Left, Answered, Down}
 use Rattle.record_file.specs.Given.{is_mark, is_reply}
-use Rattle.record_laws.proofs.SoundReplies.{read_sound, reply_sound}
-use Rattle.record_laws.proofs.SoundDoings.{is_sound_closing, is_sound_part, is_sound_taken}
+use Rattle.record_file.proofs.SoundReplies.{read_sound, reply_sound}
+use Rattle.record_file.proofs.SoundParts.{is_sound_closing, is_sound_part, is_sound_taken}
 
 -- the ticket with which a doorway ends has 32 bits
 abbrev pub TicketFits : Part → Type 0

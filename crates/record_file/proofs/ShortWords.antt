@@ -29,8 +29,8 @@ use Rattle.scenario.proofs.Spaced.{length-spaced, size}
 use Rattle.scenario.proofs.Spelled.{integer_short, name_short, number_short, value_short}
 use Rattle.record_file.specs.Given.{is_access, is_answer, is_entry, is_mark, is_reply}
 use Rattle.record_file.specs.Printing.{access_words, answer_words, entry_words, field_word, move_words, reply_words, signed_words}
-use Rattle.record_laws.specs.ReadAgain.{FitsLine}
-use Rattle.record_laws.proofs.FewMarks.{AreFew, room, room_of}
+use Rattle.record_file.specs.ReadAgain.{FitsLine}
+use Rattle.record_file.proofs.FewMarks.{AreFew, room, room_of}
 
 -- Numbers.
 

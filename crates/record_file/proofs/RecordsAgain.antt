@@ -11,7 +11,8 @@ use Rattle.std.specs.List.{list_all}
 use Rattle.plain_store.proofs.GoodSetups.{IsGood, few-opening, good-checked}
 use Rattle.plain_store.specs.Pairs.{Pair, is_pair}
 use Rattle.plain_store.specs.Shown.{value_text}
-use Rattle.plain_store.specs.Store.{names_differ}
+use Rattle.plain_store.specs.Setups.{checked}
+use Rattle.plain_store.specs.Store.{are_pairs, names_differ}
 use Rattle.plain_store.specs.declared.setups.Setup.{Setup}
 use Rattle.files.specs.Checks.{◌>>=◌, fault_if}
 use Rattle.files.specs.Files.{at_line, words_read}
@@ -35,10 +36,10 @@ use Rattle.scenario.proofs.ReadBack.{heading_said_again, open_again, version_aga
 use Rattle.scenario.proofs.ShortLines.{heading_fits, script_printable, small_heading}
 use Rattle.scenario.proofs.Spaced.{is_printable, is_word, length-spaced, lines_of_words, printable_words, size, words_of_spaced}
 use Rattle.record_file.proofs.PrintedWords.{entry_is_words}
-use Rattle.record_file.specs.Printing.{entry_words, head_words, record_text}
+use Rattle.record_file.specs.Printing.{entry_line, entry_words, head_words, record_text}
 use Rattle.record_file.specs.RecordFiles.{Progress, cleared, entry_in, first_read, head_read, line_read, lines_read, pair_read, record_grammar, record_of, said_by}
 use Rattle.record_file.proofs.EntryLines.{entry_of_words}
-use Rattle.record_laws.specs.ReadAgain.{FitLines, IsSetupOfFile}
+use Rattle.record_file.specs.ReadAgain.{BeginsRecord, FitLines, IsSetupOfFile}
 
 -- One line.
 
@@ -243,3 +244,13 @@ record_again s entries is are =
     whole = line_on 1 (codes "record" ∷ decimal s.version ∷ []) (map spaced (map heading_words (headings_of s)) ++ rest) None (at_head none_given (default_setup s.version)) [] (short_of (codes "record" ∷ decimal s.version ∷ []) (head_printed s is).first) (version_line s.version good.version)
         ∙ headings_on (headings_of s) rest none_given (default_setup s.version) (Ok (Some (behind (begun_with s) entries), entries)) refl (all_free (headings_of s)) refl
         (λ h. ap (λ n. is_in_range 1 (most_of h s.version) n) (number_of h) ∙ heading_fits s good h) (head_printed s is).headings behind_headings 2
+
+-- So the head of a record begins it.
+pub head_begins : (s : Setup) (head : List ℕ) → checked s ≡ Ok tt → are_pairs s.opening ≡ true → head ≡ flat_map printed_line (head_words s) → BeginsRecord s head
+head_begins s head good pairs is = λ entries fit. ap (λ (l : List ℕ). record_of (l ++ flat_map entry_line entries)) is ∙ record_again s entries setup fit
+  where
+    both : (list_all is_pair s.opening ≡ true) × (names_differ s.opening ≡ true)
+    both = and_parts (list_all is_pair s.opening) (names_differ s.opening) pairs
+
+    setup : IsSetupOfFile s
+    setup = record { good = good; pairs = both.0; differ = both.1; few = omega arith; lines = refl; allowed = refl }
