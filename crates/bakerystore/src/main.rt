@@ -12,7 +12,7 @@ mod words;
 use drawer::{draw, draw_svg};
 use engines::{run_bits, run_plain};
 use help::text_of;
-use onlooker::Onlooker;
+use files::progress::Onlooker;
 use progress::{WatchedInput, Watcher};
 use race::{RunFault, run_fault_status, run_race};
 use replayer::{replay_seen, run_audit_seen, run_judge, run_record_seen, run_sweep_seen};

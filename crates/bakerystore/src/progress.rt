@@ -1,7 +1,7 @@
 //! The line that shows how far a run is, on standard error.
 ghost use Rattle.std.specs.Prelude.{◌≡◌};
 
-use onlooker::{Onlooker, Reached};
+use files::progress::{Onlooker, Reached};
 use scenario::{Failed, Source};
 use std::alloc::Global;
 use std::time::{Clock, Duration};

@@ -26,7 +26,7 @@ ghost use Rattle.drawer.specs.Pictures.{plan_of};
 use crate::changes::{Changes, words_shown};
 use crate::overlaps::{Overlaps, hear, take_ended};
 use crate::writing::{write_band, write_markup};
-use onlooker::{Onlooker, Place};
+use files::progress::{Onlooker, Place};
 use picture::{Form, Line, OverlappedRead, Page, Reads, Saying};
 use plain_store::{NestedTypes, Setup};
 use record::Mark;

@@ -13,7 +13,7 @@ use crate::changes::Changes;
 use crate::drawing::draw_bands;
 use crate::nowhere::Nowhere;
 use crate::writing::write_markup;
-use onlooker::Onlooker;
+use files::progress::Onlooker;
 use picture::{FIRST_BAND, Form, Reads, page_end, page_head, picture_end, picture_head};
 use replayer::Summary;
 use scenario::{Fault, Scenario, Sink, Source, print_scenario, read_input, read_scenario};

@@ -3,7 +3,9 @@ pub mod Cuts
 pub mod Engines
 pub mod Files
 pub mod Limits
+pub mod Lines
 pub mod Reads
+pub mod SourceLines
 pub mod Statuses
 pub mod Streams
 pub mod Words

@@ -1,10 +1,13 @@
-//! What every engine needs of its files: lines and their words, read by any grammar, the faults that a file can
-//! have, the streams that engines read and write, and the statuses that they end with.
+//! A file while it is read and written: its lines and their words, read by any grammar, whole or line by line from a
+//! source; the faults that it can have; the streams that engines read and write, how far they are, and the statuses
+//! that they end with.
 #![tactic(auto)]
 
 mod faults;
+pub mod progress;
 mod reading;
 mod retries;
+pub mod source_lines;
 mod statuses;
 mod streams;
 mod words;

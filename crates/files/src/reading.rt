@@ -14,7 +14,7 @@ use std::alloc::Global;
 const MOST_LINES: u64 = 4096;
 
 /// The most bytes of a line, without its end.
-const MOST_BYTES: usize = 128;
+pub(crate) const MOST_BYTES: usize = 128;
 
 /// The most lines that a file has behind its headings.
 const MOST_KEPT: usize = 4000;

@@ -12,9 +12,9 @@ use Rattle.files.specs.Words.{lines}
 use Rattle.files.specs.declared.faults.FaultKind.{FaultKind}
 use Rattle.files.specs.declared.faults.FaultKind.TheVariants.{NotFirst, TooLong}
 use Rattle.record.specs.Entries.{Entry}
-use Rattle.record_reader.specs.RecordFiles.{Progress, cleared, entry_in, line_read, lines_read, record_of, rest_read, said_by}
-use Rattle.source_lines.specs.Lines.{IsTooLong, TakesLine}
-use Rattle.source_lines.specs.Streams.{EndHolds, Given, LineState, TakesNext, Told, coming, unless_ended}
+use Rattle.record_file.specs.RecordFiles.{Progress, cleared, entry_in, line_read, lines_read, record_of, rest_read, said_by}
+use Rattle.files.specs.Lines.{IsTooLong, TakesLine}
+use Rattle.files.specs.SourceLines.{EndHolds, Given, LineState, TakesNext, Told, coming, unless_ended}
 use Rattle.judge.specs.Judgements.{IsJudged}
 use Rattle.judge.specs.Judging.{JudgeState}
 use Rattle.judge.specs.Trials.{GoesOn, Hears, HearsAt, Stands, TrialState, count_of}

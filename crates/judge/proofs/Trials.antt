@@ -19,10 +19,10 @@ use Rattle.safe_number.specs.declared.Access.{Access}
 use Rattle.scenario.specs.Printing.{spaced}
 use Rattle.scenario.specs.Reading.{at_version, heading_read, open_read}
 use Rattle.scenario.specs.Reading.{Progress as Head}
-use Rattle.record_reader.proofs.EntryLines.{entry_of_line}
-use Rattle.record_reader.specs.RecordFiles.{Progress, cleared, entry_in, kind_of, first_read, head_read, pair_read, line_said, line_read, record_grammar}
-use Rattle.record_reader.specs.declared.kinds.LineKind.{LineKind}
-use Rattle.record_reader.specs.declared.kinds.LineKind.TheVariants as kind
+use Rattle.record_file.proofs.EntryLines.{entry_of_line}
+use Rattle.record_file.specs.RecordFiles.{Progress, cleared, entry_in, kind_of, first_read, head_read, pair_read, line_said, line_read, record_grammar}
+use Rattle.record_file.specs.declared.line_kinds.LineKind.{LineKind}
+use Rattle.record_file.specs.declared.line_kinds.LineKind.TheVariants as kind
 use Rattle.judge.specs.Judging.{HasJudged, JudgeState}
 use Rattle.judge.specs.Trials.{GoesOn, Hears, HearsAt, LineEnds, Stands, TrialState}
 

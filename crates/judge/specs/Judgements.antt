@@ -11,7 +11,7 @@ use Rattle.files.specs.Reads.{UnlessMemory}
 use Rattle.files.specs.Streams.{WritesFront}
 use Rattle.files.specs.declared.faults.Fault.{Fault}
 use Rattle.files.specs.declared.faults.Fault.TheVariants as fault
-use Rattle.record_reader.specs.RecordFiles.{Said, record_of}
+use Rattle.record_file.specs.RecordFiles.{Said, record_of}
 
 -- the line of a verdict on so many entries
 abbrev pub verdict_line : ℕ → Verdict → List ℕ

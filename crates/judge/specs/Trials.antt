@@ -4,7 +4,7 @@ use Rattle.plain_store.specs.declared.setups.Setup.{Setup}
 use Rattle.files.specs.Reads.{UnlessMemory}
 use Rattle.files.specs.declared.faults.FaultKind.{FaultKind}
 use Rattle.record.specs.Entries.{Entry}
-use Rattle.record_reader.specs.RecordFiles.{Progress, cleared, entry_in}
+use Rattle.record_file.specs.RecordFiles.{Progress, cleared, entry_in}
 use Rattle.judge.specs.Judging.{HasJudged, JudgeState}
 
 -- what was read, and a judge, once there is an entry

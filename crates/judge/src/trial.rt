@@ -3,7 +3,7 @@ ghost use Rattle.plain_store.specs.declared.setups.Setup.{Setup as Given};
 ghost use Rattle.plain_store.specs.Setups.{checked};
 ghost use Rattle.auditor.specs.Verdicts.{IsVerdict};
 ghost use Rattle.record.specs.Entries.{Entry as Noted};
-ghost use Rattle.record_reader.specs.RecordFiles.{Progress, line_read};
+ghost use Rattle.record_file.specs.RecordFiles.{Progress, line_read};
 ghost use Rattle.judge.specs.Trials.{GoesOn, Hears, LineEnds, Stands, count_of};
 
 use crate::judge::Judge;
@@ -11,8 +11,7 @@ use auditor::{Audited, Verdict};
 use files::{FaultKind, read_any_line};
 use plain_store::{NestedTypes, Setup};
 use record::Entry;
-use record_file::read_step;
-use record_reader::RecordReader;
+use record_file::{RecordReader, read_step};
 use std::alloc::{AllocError, Global};
 use std::marker::Model;
 

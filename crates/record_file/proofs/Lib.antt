@@ -9,7 +9,16 @@ pub mod Printed
 pub mod NoSigns
 pub mod ReadBack
 pub mod PrintedWords
+-- The lines of printed entries, and printed records
+pub mod EntryLines
+pub mod RecordsAgain
 -- What was read has the words that are printed for it
 pub mod Spelled
 -- The line of a Step
 pub mod StepWords
+-- Entries whose parts are in range, and whose marks are few, fit their lines
+pub mod SoundReplies
+pub mod SoundParts
+pub mod SoundMarks
+pub mod FewMarks
+pub mod ShortWords

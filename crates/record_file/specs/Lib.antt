@@ -2,4 +2,6 @@ pub mod Faults
 pub mod Given
 pub mod Keywords
 pub mod Printing
+pub mod ReadAgain
 pub mod Reading
+pub mod RecordFiles

@@ -1,4 +1,4 @@
-//! Records as text: how an entry is spelled, how a record is printed, and how one is read line by line.
+//! Records as text: how an entry is spelled, how a record is printed, and what each line of a record file says.
 #![tactic(auto)]
 
 mod accesses;
@@ -6,14 +6,18 @@ mod entries;
 mod faults;
 mod keywords;
 mod laws;
+mod line_kinds;
 mod marks;
 mod printing;
+mod reader;
 mod sound;
 mod step_reading;
 mod steps;
 
 pub use entries::read_entry;
 pub use laws::{entries_are_spelled_in_one_way, printed_entries_are_read_again};
+pub use line_kinds::LineKind;
 pub use printing::{print_entry, print_setup};
+pub use reader::RecordReader;
 pub use step_reading::read_step;
 pub use steps::StepLine;

@@ -1,10 +1,12 @@
 //! How a record is printed: its head, and then each entry as a line.
-ghost use Rattle.std.specs.Prelude.{◌≡◌, ◌++◌, flat_map, IfOk, OnOk, true};
+ghost use Rattle.std.specs.Prelude.{◌≡◌, ◌++◌, flat_map, IfOk, Ok, OnOk, true};
 ghost use Rattle.std.specs.Fmt.{decimal};
 ghost use Rattle.std.specs.String.{string_bytes};
 ghost use Rattle.scenario.specs.Printing.{printed_line};
 ghost use Rattle.record_file.specs.Printing.{access_words, behind_spaces, entry_line, head_words, signed_words};
+ghost use Rattle.plain_store.specs.Setups.{checked};
 ghost use Rattle.record_file.specs.Given.{is_entry};
+ghost use Rattle.record_file.specs.ReadAgain.{BeginsRecord, PrintedRecordsAreReadAgain};
 
 use crate::sound::sound_entry;
 use crate::steps::StepLine;
@@ -15,10 +17,15 @@ use safe_number::Access;
 use scenario::printing::{print_opening, setup_lines};
 use std::alloc::{AllocError, Global};
 
-/// The lines before the entries: the version, the four headings, all of them, and the opening pairs.
+/// The lines before the entries: the version, the four headings, all of them, and the opening pairs. With the lines of
+/// any entries behind them, each of which fits its line, they are read as that setup and those entries; and what is
+/// printed for whatever setup and entries that fit is read as these.
 pub fn print_setup(alloc: Global, setup: &Setup) -> Result<Vec<u8>, AllocError>
-    ensures { IfOk result (λ bytes. bytes.items ≡ flat_map printed_line (head_words setup.now)) }
+    ensures lines { IfOk result (λ bytes. bytes.items ≡ flat_map printed_line (head_words setup.now)) }
+    ensures read_again { checked setup.now ≡ Ok tt → IfOk result (λ bytes. BeginsRecord setup.now bytes.items) }
+    ensures law { PrintedRecordsAreReadAgain }
 {
+    setup.opening.pairs_are_sound();
     let mut text = setup_lines(alloc, "record", setup)?;
     print_opening(alloc, &setup.opening, &mut text)?;
     Ok(text.into_bytes())

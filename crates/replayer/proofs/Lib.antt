@@ -17,6 +17,12 @@ pub mod Images
 pub mod Listed
 pub mod Recorded
 pub mod Recordings
+-- Records of events fit their lines, and are read again
+pub mod SoundDoings
+pub mod SoundEntries
+pub mod FitRecords
+pub mod FewEvents
+pub mod RunsAgain
 -- What the auditor of a run hears
 pub mod Listeners
 -- What a sweep finds

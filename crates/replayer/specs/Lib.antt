@@ -4,6 +4,7 @@ pub mod Courses
 pub mod Happenings
 pub mod Hearing
 pub mod Listings
+pub mod RecordedRuns
 pub mod Recordings
 pub mod Replays
 pub mod Runs

@@ -16,7 +16,7 @@ use crate::turns::Course;
 use crate::writing::write_line;
 use auditor::Audited;
 use judge::{status_of, verdict_line};
-use onlooker::{Nobody, Onlooker, Place};
+use files::progress::{Nobody, Onlooker, Place};
 use scenario::{Fault, Line, Scenario, Sink, Source, read_input, read_scenario};
 use std::alloc::{AllocError, Global};
 

@@ -5,6 +5,9 @@ ghost use Rattle.record.specs.declared.Refusal.TheVariants.{Memory};
 ghost use Rattle.record.specs.Given.{AreGiven, is_event};
 ghost use Rattle.record.specs.Headline.{KeepsHeadlineThroughout};
 ghost use Rattle.record.specs.Records.{record_of as record_made};
+ghost use Rattle.record_file.specs.Printing.{record_text};
+ghost use Rattle.record_file.specs.ReadAgain.{FitLines};
+ghost use Rattle.record_file.specs.RecordFiles.{record_of as record_read};
 ghost use Rattle.scenario.specs.Reads.{script};
 ghost use Rattle.replayer.specs.Listings.{ListsLine, RecordsEvent, accepted_events, event_told};
 
@@ -51,12 +54,15 @@ fn list(told: Told, events: &mut Vec<Event>) -> Result<(), AllocError>
 }
 
 /// The record of a list of events: an entry for each that is accepted. The one fault is want of memory. Names,
-/// values and counts of the events are what their types allow, and of each entry of the record the headline holds.
+/// values and counts of the events are what their types allow, and of each entry of the record the headline holds. Each
+/// fits its line in a record file, and what is printed for the record is read as its setup and that record.
 pub fn record_of(alloc: Global, setup: &Setup, events: &[Event]) -> Result<Record, AllocError>
     requires { checked setup.now ≡ Ok tt }
     ensures entries { IfOk result (λ made. made ≡ record_made setup.now events.now) }
     ensures given { OnOk result (AreGiven setup.now (reverse events.now)) }
     ensures headline { IfOk result (λ made. KeepsHeadlineThroughout setup.now (reverse made)) }
+    ensures fit { IfOk result (λ made. FitLines made) }
+    ensures read_again { IfOk result (λ made. record_read (record_text setup.now made) ≡ Ok (record { setup = setup.now; entries = made })) }
 {
     let mut world = World::new(alloc, setup)?;
     let mut entries = Vec::new(alloc);

@@ -5,21 +5,25 @@ ghost use Rattle.std.specs.Io.KnownBytes.{Appends};
 ghost use Rattle.files.specs.Engines.{Ran};
 ghost use Rattle.files.specs.Streams.{ReadsFront, WritesFront};
 ghost use Rattle.record_file.specs.Printing.{entry_line, step_entry};
+ghost use Rattle.record_file.specs.ReadAgain.{RecordsAreReadAgain, RecordsFitLines};
 ghost use Rattle.scenario.specs.Reads.{script};
+ghost use Rattle.replayer.specs.RecordedRuns.{InputWritesRecord, RecordedRunsAreReadAgain};
 ghost use Rattle.replayer.specs.Recordings.{CopiesLine, CutsCopy, entry_told, recorded, recording_text};
 ghost use Rattle.replayer.specs.Replays.{ended};
 ghost use Rattle.replayer.specs.Writing.{IsWriteFault, failed_write};
 
 use crate::told::{Stepped, Told};
 use crate::turns::Course;
-use onlooker::{Nobody, Onlooker, Place};
+use files::progress::{Nobody, Onlooker, Place};
 use record::Entry;
 use record_file::{StepLine, print_entry, print_setup};
 use scenario::{Fault, Line, Scenario, Sink, Source, read_input, read_scenario, write_all};
 use std::alloc::{AllocError, Global};
 
 /// Reads a whole scenario file, and then writes the record of its run, as it is made: the setup, and a line for each
-/// entry. However it ends, at most `INPUT_LIMIT` bytes are taken from the front of the input.
+/// entry. However it ends, at most `INPUT_LIMIT` bytes are taken from the front of the input. What is written of a
+/// scenario is read, as `judge` reads it, as its setup and the record of its run: the record of whatever events, each of
+/// whose entries fits its line, is read again.
 pub fn run_record<R: Source, W: Sink>(
     alloc: Global,
     input: &mut R,
@@ -31,11 +35,16 @@ pub fn run_record<R: Source, W: Sink>(
         (record { to_come = R.to_come input.old; taken = W.taken output.old; read_failures = R.failures input.old; write_failures = W.failures output.old })
         (record { to_come = R.to_come input.new; taken = W.taken output.new; read_failures = R.failures input.new; write_failures = W.failures output.new }) }
     ensures input { ReadsFront (R.to_come input.old) (R.to_come input.new) }
+    ensures read_again { OnOk result (InputWritesRecord (R.to_come input.old) (W.taken output.old) (W.taken output.new)) }
+    ensures runs { RecordedRunsAreReadAgain }
+    ensures records { RecordsAreReadAgain }
+    ensures fit { RecordsFitLines }
 {
     run_record_seen(alloc, input, output, &mut Nobody)
 }
 
 /// The same before an onlooker, who hears how far it is.
+#[tactic(auto, using(crate::proofs::RunsAgain::run_again, crate::proofs::FitRecords::records_again, crate::proofs::FitRecords::records_fit))]
 pub fn run_record_seen<R: Source, W: Sink, L: Onlooker>(
     alloc: Global,
     input: &mut R,
@@ -48,6 +57,10 @@ pub fn run_record_seen<R: Source, W: Sink, L: Onlooker>(
         (record { to_come = R.to_come input.old; taken = W.taken output.old; read_failures = R.failures input.old; write_failures = W.failures output.old })
         (record { to_come = R.to_come input.new; taken = W.taken output.new; read_failures = R.failures input.new; write_failures = W.failures output.new }) }
     ensures input { ReadsFront (R.to_come input.old) (R.to_come input.new) }
+    ensures read_again { OnOk result (InputWritesRecord (R.to_come input.old) (W.taken output.old) (W.taken output.new)) }
+    ensures runs { RecordedRunsAreReadAgain }
+    ensures records { RecordsAreReadAgain }
+    ensures fit { RecordsFitLines }
 {
     let file = read_input(alloc, input)?;
     let scenario = read_scenario(alloc, file.as_slice())?;

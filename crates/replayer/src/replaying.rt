@@ -13,7 +13,7 @@ ghost use Rattle.replayer.specs.Writing.{IsWriteFault, failed_write};
 use crate::summaries::Summary;
 use crate::turns::Course;
 use crate::writing::{tell, write_end};
-use onlooker::{Nobody, Onlooker, Place};
+use files::progress::{Nobody, Onlooker, Place};
 use scenario::{Fault, Line, Scenario, Sink, Source, read_input, read_scenario};
 use std::alloc::Global;
 

@@ -13,7 +13,7 @@ use crate::listing::events_of;
 use crate::writing::write_line;
 use auditor::Verdict;
 use judge::status_of;
-use onlooker::{Nobody, Onlooker};
+use files::progress::{Nobody, Onlooker};
 use plain_store::{Command, NestedTypes};
 use record::Event;
 use scenario::{Fault, Scenario, Sink, Source, read_input, read_scenario};

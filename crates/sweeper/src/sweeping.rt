@@ -10,7 +10,7 @@ ghost use Rattle.sweeper.specs.Tallies.{AreFew, Counts, HasSwept};
 
 use crate::runner::Runner;
 use crate::swept::Swept;
-use onlooker::{Nobody, Onlooker, Reached};
+use files::progress::{Nobody, Onlooker, Reached};
 use plain_store::{Command, Setup};
 use record::Event;
 use std::alloc::{AllocError, Global};

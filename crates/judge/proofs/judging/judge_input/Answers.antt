@@ -1,8 +1,8 @@
 use Rattle.std.proofs.Common.{◌≡◌, ℕ, Bool, List, Ok, Err, sym, subst, arith}
 use Rattle.files.specs.Reads.{UnlessMemory}
 use Rattle.files.specs.declared.faults.Fault.{Fault}
-use Rattle.record_reader.specs.RecordFiles.{line_read}
-use Rattle.source_lines.specs.Streams.{GoesToNext, coming}
+use Rattle.record_file.specs.RecordFiles.{line_read}
+use Rattle.files.specs.SourceLines.{GoesToNext, coming}
 use Rattle.judge.specs.Judgements.{IsInputFault}
 use Rattle.judge.specs.Trials.{GoesOn}
 use Rattle.judge.proofs.Ends.{onwards_fault, onwards_judged, onwards_on, read_some}

@@ -1,5 +1,5 @@
 use Rattle.std.proofs.Common.{◌≡◌, ◌-◌, ◌^◌}
-use Rattle.source_lines.specs.Streams.{EndHolds, coming}
+use Rattle.files.specs.SourceLines.{EndHolds, coming}
 use Rattle.judge.proofs.Ends.{Onwards}
 use Rattle.judge.proofs.judging.judge_input.Given as goal
 

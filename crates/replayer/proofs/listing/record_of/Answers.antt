@@ -8,6 +8,7 @@ use Rattle.record.specs.Records.{past_of}
 use Rattle.history_laws.proofs.Headlines.{throughout}
 use Rattle.world.specs.Shows.{Shows}
 use Rattle.replayer.specs.Listings.{Records}
+use Rattle.replayer.proofs.FitRecords.{given_again}
 use Rattle.replayer.proofs.Recorded.{events_more}
 use Rattle.replayer.proofs.listing.record_of.Goals as goal
 
@@ -35,3 +36,23 @@ returns-clause-headline c =
     let given : AreGiven s (reverse all) = subst (λ (l : List Event). AreGiven s (reverse l)) whole (subst (λ (s : Setup). AreGiven s (reverse (take c.loop-event.event-index all))) c.loop-event.invariant.setup shows.given) in
     let is : c.loop-event.entries.items ≡ reverse (past_of s (reverse all)) = c.loop-event.invariant.entries ∙ ap (λ (l : List Event). reverse (past_of s (reverse l))) whole in
     subst (KeepsHeadlineThroughout s) (sym (ap reverse is ∙ reverse-reverse (past_of s (reverse all)))) (throughout s c.requires (reverse all) given)
+
+pub returns-clause-fit : goal.returns-clause-fit
+returns-clause-fit c =
+    let s : Setup = c.args.setup.now in
+    let all : List Event = c.args.events.now in
+    let shows : Shows c.loop-event.world (reverse (take c.loop-event.event-index all)) = c.loop-event.invariant.shows in
+    let whole : take c.loop-event.event-index all ≡ all = take_all c.loop-event.event-index all (omega arith) in
+    let given : AreGiven s (reverse all) = subst (λ (l : List Event). AreGiven s (reverse l)) whole (subst (λ (s : Setup). AreGiven s (reverse (take c.loop-event.event-index all))) c.loop-event.invariant.setup shows.given) in
+    let is : c.loop-event.entries.items ≡ reverse (past_of s (reverse all)) = c.loop-event.invariant.entries ∙ ap (λ (l : List Event). reverse (past_of s (reverse l))) whole in
+    (given_again s c.requires all given (omega arith) c.loop-event.entries.items is).0
+
+pub returns-clause-read_again : goal.returns-clause-read_again
+returns-clause-read_again c =
+    let s : Setup = c.args.setup.now in
+    let all : List Event = c.args.events.now in
+    let shows : Shows c.loop-event.world (reverse (take c.loop-event.event-index all)) = c.loop-event.invariant.shows in
+    let whole : take c.loop-event.event-index all ≡ all = take_all c.loop-event.event-index all (omega arith) in
+    let given : AreGiven s (reverse all) = subst (λ (l : List Event). AreGiven s (reverse l)) whole (subst (λ (s : Setup). AreGiven s (reverse (take c.loop-event.event-index all))) c.loop-event.invariant.setup shows.given) in
+    let is : c.loop-event.entries.items ≡ reverse (past_of s (reverse all)) = c.loop-event.invariant.entries ∙ ap (λ (l : List Event). reverse (past_of s (reverse l))) whole in
+    (given_again s c.requires all given (omega arith) c.loop-event.entries.items is).1

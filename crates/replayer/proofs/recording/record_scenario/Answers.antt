@@ -12,7 +12,7 @@ loop-line-init g c =
     let s : Setup = c.args.scenario.now.setup in
     record {
       copied = copied_start s c.args.scenario.now.lines.items c.in_ok-course.course _ _ c.in_ok-course.ensures.setup c.in_ok-course.ensures.follows
-          (line_whole (λ bytes. vec_items bytes) _ _ c.print_setup.result (head_text s) c.print_setup.ensures c.in_ok-write_bytes.ensures.made c.in_ok-write_bytes.ensures.ok);
+          (line_whole (λ bytes. vec_items bytes) _ _ c.print_setup.result (head_text s) c.print_setup.ensures.lines c.in_ok-write_bytes.ensures.made c.in_ok-write_bytes.ensures.ok);
       whole = omega (arith, c.in_ok-write_bytes.ensures.failures);
     }
 
@@ -33,7 +33,7 @@ loop-line-preserved g c =
 pub returns-in_err-write_bytes-clause-front : goal.returns-in_err-write_bytes-clause-front
 returns-in_err-write_bytes-clause-front g c =
     let s : Setup = c.args.scenario.now.setup in
-    head_torn s c.args.scenario.now.lines.items _ _ (line_front (λ bytes. vec_items bytes) _ _ c.print_setup.result (head_text s) c.print_setup.ensures c.in_err-write_bytes.ensures.front c.in_err-write_bytes.ensures.none)
+    head_torn s c.args.scenario.now.lines.items _ _ (line_front (λ bytes. vec_items bytes) _ _ c.print_setup.result (head_text s) c.print_setup.ensures.lines c.in_err-write_bytes.ensures.front c.in_err-write_bytes.ensures.none)
 
 pub returns-in_err-record_line-clause-front : goal.returns-in_err-record_line-clause-front
 returns-in_err-record_line-clause-front g c =

@@ -6,7 +6,9 @@ use Rattle.scenario.specs.Reads.{script}
 use Rattle.files.specs.declared.faults.Fault.TheVariants.{Line}
 use Rattle.replayer.specs.Recordings.{recorded}
 use Rattle.replayer.specs.Replays.{ended}
-use Rattle.replayer.proofs.ReplayEnds.{ended_err, engine_ran}
+use Rattle.replayer.specs.RecordedRuns.{WritesRecord}
+use Rattle.replayer.proofs.ReplayEnds.{ended_err, engine_ran, input_answer}
+use Rattle.replayer.proofs.RunsAgain.{written_again}
 use Rattle.replayer.proofs.recording.run_record_seen.Goals as goal
 
 pub returns-in_err-scenario-clause-ran : goal.returns-in_err-scenario-clause-ran
@@ -18,3 +20,9 @@ pub returns-clause-ran : goal.returns-clause-ran
 returns-clause-ran g c =
     engine_ran recorded c.record_scenario.result c.in_ok-file.file.items (script c.in_ok-scenario.scenario) _ _
     c.in_ok-file.ensures.ok (rw c.as_slice.ensures.value at c.in_ok-scenario.ensures) c.record_scenario.ensures.ok c.record_scenario.ensures.front c.record_scenario.ensures.fault c.record_scenario.ensures.failures
+
+pub returns-clause-read_again : goal.returns-clause-read_again
+returns-clause-read_again g c =
+    let good = rw c.as_slice.ensures.value at c.in_ok-scenario.ensures in
+    input_answer c.record_scenario.result (λ said done. WritesRecord said (g.W.Sink.taken c.args.output.now) (g.W.Sink.taken c.record_scenario.new.output)) c.in_ok-file.file.items (script c.in_ok-scenario.scenario) _ _
+    c.in_ok-file.ensures.ok good (written_again c.record_scenario.result c.in_ok-file.file.items (script c.in_ok-scenario.scenario) _ _ good c.record_scenario.ensures.ok)

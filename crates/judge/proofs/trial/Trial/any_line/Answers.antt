@@ -4,7 +4,7 @@ use Rattle.plain_store.specs.declared.setups.Setup.{Setup}
 use Rattle.files.specs.Files.{words_read}
 use Rattle.files.specs.Words.{words_of}
 use Rattle.record.specs.Entries.{Entry}
-use Rattle.record_reader.specs.RecordFiles.{Progress, cleared, entry_in, line_read, record_grammar}
+use Rattle.record_file.specs.RecordFiles.{Progress, cleared, entry_in, line_read, record_grammar}
 use Rattle.judge.specs.Trials.{GoesOn, Hears, Stands, TrialState}
 use Rattle.judge.proofs.Trials.{ends_heard, ends_quiet, quiet_is_cleared}
 use Rattle.judge.proofs.trial.Trial.any_line.Goals as goal

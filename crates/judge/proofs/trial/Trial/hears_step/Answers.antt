@@ -1,6 +1,6 @@
 use Rattle.std.proofs.Common.{List, Option, Some, refl, subst}
 use Rattle.record.specs.Entries.{Entry}
-use Rattle.record_reader.specs.RecordFiles.{Progress, line_read}
+use Rattle.record_file.specs.RecordFiles.{Progress, line_read}
 use Rattle.judge.specs.Trials.{GoesOn, Stands, TrialState}
 use Rattle.judge.proofs.Trials.{ends_stepped}
 use Rattle.judge.proofs.trial.Trial.hears_step.Goals as goal

@@ -1,0 +1,66 @@
+-- What a call that takes the next line of a source does.
+use Rattle.std.specs.Prelude.{◌≡◌, ℕ, ◌+◌, ◌≤◌, Bool, true, false, List, [], length, Option, Some, None, IfSome, Result, Ok, Err}
+use Rattle.std.specs.Io.KnownBytes.{IsAtEnd, Keeps, prepend_known}
+use Rattle.files.specs.declared.faults.Fault.{Fault}
+use Rattle.files.specs.declared.faults.Fault.TheVariants as fault
+use Rattle.files.specs.declared.faults.FaultKind.TheVariants.{TooLong}
+use Rattle.files.specs.Lines.{IsTooLong, TakesLine}
+
+-- the bytes that a source has given and that no line has taken, and whether the source has told its end
+pub record Given : Type 0 where
+  pub bytes : List ℕ
+  pub ended : Bool
+
+-- how many lines were taken, the bytes of the last one, and what the source has given beyond it
+pub record LineState : Type 0 where
+  pub taken : ℕ
+  pub line : List ℕ
+  pub ahead : Given
+
+-- the bytes that a source still has: none once it has told its end
+abbrev pub unless_ended : Bool → Option (List ℕ) → Option (List ℕ)
+unless_ended false to_come = to_come
+unless_ended true to_come = Some []
+
+-- the bytes to come: those that a source has given already, and behind them those that it still has
+abbrev pub coming : Given → Option (List ℕ) → Option (List ℕ)
+coming ahead to_come = prepend_known ahead.bytes (unless_ended ahead.ended to_come)
+
+-- a source that has told its end has no bytes to come
+abbrev pub EndHolds : Given → Option (List ℕ) → Type 0
+EndHolds ahead to_come = ahead.ended ≡ true → IsAtEnd to_come
+
+-- the bytes to come are the same
+abbrev pub Stays : Option (List ℕ) → Option (List ℕ) → Type 0
+Stays old new = Keeps old new
+
+-- there were none to come, and now it is told that there are none
+abbrev pub ComesToEnd : Option (List ℕ) → Option (List ℕ) → Type 0
+ComesToEnd old new = IsAtEnd old × (new ≡ Some [])
+
+-- a fact on the bytes to come before a call and after it, where they are told
+abbrev pub Told : Option (List ℕ) → Option (List ℕ) → (List ℕ → List ℕ → Type 0) → Type 0
+Told None rest P = Unit {0}
+Told (Some text) None P = ⊥
+Told (Some text) (Some rest) P = P text rest
+
+-- the next line was taken
+pub record TakesNext (old new : LineState) (to_come rest : Option (List ℕ)) : Type 0 where
+  pub taken : new.taken ≡ old.taken + 1
+  pub short : length new.line ≤ 128
+  pub line : Told to_come rest (λ text left. TakesLine text new.line left)
+
+-- there was none
+pub record FindsEnd (old new : LineState) (to_come rest : Option (List ℕ)) : Type 0 where
+  pub taken : new.taken ≡ old.taken
+  pub before : IsAtEnd to_come
+  pub behind : IsAtEnd rest
+
+-- How a call ends that takes the next line: the line is there, or none is, or it is too long; or a call failed, or memory was wanted.
+abbrev pub GoesToNext : Result Bool Fault → LineState → LineState → Option (List ℕ) → Option (List ℕ) → Type 0
+GoesToNext (Ok true) old new to_come rest = TakesNext old new to_come rest
+GoesToNext (Ok false) old new to_come rest = FindsEnd old new to_come rest
+GoesToNext (Err (fault.Line f)) old new to_come rest = (f ≡ record { line = old.taken + 1; kind = TooLong }) × IfSome to_come IsTooLong
+GoesToNext (Err fault.Read) old new to_come rest = Unit {0}
+GoesToNext (Err fault.Memory) old new to_come rest = Unit {0}
+GoesToNext (Err fault.Write) old new to_come rest = ⊥

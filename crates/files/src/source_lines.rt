@@ -1,0 +1,150 @@
+//! The lines of a source, one at a time: a file of any length is read in memory that does not grow.
+ghost use Rattle.std.specs.Prelude.{◌≡◌, ◌+◌, ◌^◌, ◌-◌, ◌<◌, ◌≤◌, [], true, false, length, IfErr, IfOk, IfSome};
+ghost use Rattle.std.specs.Io.KnownBytes.{IsAtEnd};
+ghost use Rattle.files.specs.Streams.{IsReadFault, failed_reading};
+ghost use Rattle.files.specs.Lines.{IsTooLong, TakesLine, without_return};
+ghost use Rattle.files.specs.SourceLines.{EndHolds, GoesToNext, Told, coming};
+
+mod ahead;
+
+use crate::faults::{Fault, FaultKind, LineFault};
+use crate::reading::MOST_BYTES;
+use crate::source_lines::ahead::Ahead;
+use crate::streams::Source;
+use std::alloc::Global;
+use std::marker::Model;
+
+/// The most bytes of a line with its end, which are 0x0D and 0x0A.
+const MOST_WITH_END: usize = MOST_BYTES + 2;
+
+/// As many lines as 64 bits can number, and the line behind them too.
+const MOST_LINES: u64 = u64::MAX - 1;
+
+/// The lines of a source: how many were taken, and the bytes of the last one. The source is asked for blocks, so bytes
+/// behind that line may have left it. However long a line is, no more of it is held than two blocks of a kilobyte.
+#[derive(Drop)]
+pub struct Lines {
+    taken: u64,
+    bytes: Vec<u8>,
+    ahead: Ahead,
+}
+
+impl Model for Lines {
+    ghost use Rattle.std.specs.Prelude.{◌<◌, ◌^◌, ◌-◌};
+    ghost use Rattle.files.specs.SourceLines.{LineState};
+
+    ghost Value = { LineState };
+
+    ghost view = { λ l. record { taken = l.taken; line = l.bytes.items; ahead = l.ahead } };
+
+    ghost invariant = { λ l. l.taken < 2 ^ 64 - 1 };
+}
+
+impl Lines {
+    /// No line yet.
+    pub fn new(alloc: Global) -> Lines
+        ensures taken { result.taken ≡ 0 }
+        ensures ahead { result.ahead.bytes ≡ [] }
+        ensures ended { result.ahead.ended ≡ false }
+    {
+        Lines {
+            taken: 0,
+            bytes: Vec::new(alloc),
+            ahead: Ahead::new(alloc),
+        }
+    }
+
+    /// How many lines were taken, which is the number of the last one.
+    pub fn taken(&self) -> u64
+        ensures taken { result ≡ self.now.taken }
+        ensures few { result < 2 ^ 64 - 1 }
+    {
+        self.taken
+    }
+
+    /// The bytes of the line that was taken last, without its end.
+    pub fn line(&self) -> &[u8]
+        ensures { result.now ≡ self.now.line }
+    {
+        self.bytes.as_slice()
+    }
+
+    /// Takes the next line; `false` if there is none. A line of more than 128 bytes is a fault. A file of 2^64 - 1 lines
+    /// or more, whose numbers want more than 64 bits, ends with `Memory`. After an `Err` no more is to be taken. Once the
+    /// source has told its end it is not asked again, so a last line without an end asks a terminal no more than once.
+    pub fn next<R: Source>(&mut self, input: &mut R) -> Result<bool, Fault>
+        requires { R.failures input.old < 2 ^ 64 - 1 }
+        ensures next { GoesToNext result self.old self.new (coming self.old.ahead (R.to_come input.old)) (coming self.new.ahead (R.to_come input.new)) }
+        ensures ended { IfOk result (λ some. some ≡ false → self.new.ahead.ended ≡ true) }
+        ensures holds { EndHolds self.old.ahead (R.to_come input.old) → EndHolds self.new.ahead (R.to_come input.new) }
+        ensures left_alone { self.old.ahead.ended ≡ true → (self.new.ahead.ended ≡ true) × (input.new ≡ input.old) }
+        ensures failures { R.failures input.new ≡ R.failures input.old + failed_reading result }
+    {
+        if !take_line(input, &mut self.ahead, &mut self.bytes)? {
+            return Ok(false);
+        }
+        if self.bytes.len() > MOST_BYTES {
+            return Err(self.behind(FaultKind::TooLong));
+        }
+        if self.taken + 1 >= MOST_LINES {
+            return Err(Fault::Memory);
+        }
+        self.taken += 1;
+        Ok(true)
+    }
+
+    /// A fault of the line that was taken last.
+    pub fn here(&self, kind: FaultKind) -> Fault
+        ensures { result ≡ Fault.Line (record { line = self.now.taken; kind = kind }) }
+    {
+        Fault::Line(LineFault {
+            line: self.taken,
+            kind,
+        })
+    }
+
+    /// A fault of the line behind it.
+    pub fn behind(&self, kind: FaultKind) -> Fault
+        ensures { result ≡ Fault.Line (record { line = self.now.taken + 1; kind = kind }) }
+    {
+        Fault::Line(LineFault {
+            line: self.taken + 1,
+            kind,
+        })
+    }
+}
+
+/// Takes the bytes of the first line without its end, or more than 128 of them; `false` if there is no line.
+fn take_line<R: Source>(input: &mut R, ahead: &mut Ahead, line: &mut Vec<u8>) -> Result<bool, Fault>
+    requires { R.failures input.old < 2 ^ 64 - 1 }
+    ensures line { IfOk result (λ some. some ≡ true → length line.new.items ≤ 128 → Told (coming ahead.old (R.to_come input.old)) (coming ahead.new (R.to_come input.new)) (λ text rest. TakesLine text line.new.items rest)) }
+    ensures long { IfOk result (λ some. some ≡ true → 128 < length line.new.items → IfSome (coming ahead.old (R.to_come input.old)) IsTooLong) }
+    ensures end { IfOk result (λ some. some ≡ false → IsAtEnd (coming ahead.old (R.to_come input.old)) × IsAtEnd (coming ahead.new (R.to_come input.new))) }
+    ensures ended { IfOk result (λ some. some ≡ false → ahead.new.ended ≡ true) }
+    ensures holds { EndHolds ahead.old (R.to_come input.old) → EndHolds ahead.new (R.to_come input.new) }
+    ensures left_alone { ahead.old.ended ≡ true → (ahead.new.ended ≡ true) × (input.new ≡ input.old) }
+    ensures fault { IfErr result IsReadFault }
+    ensures failures { R.failures input.new ≡ R.failures input.old + failed_reading result }
+{
+    line.clear();
+    'parts: while line.len() < MOST_WITH_END {
+        if !ahead.fill(input)? {
+            return Ok(!line.is_empty());
+        }
+        if ahead.move_to(line)? {
+            drop_return(line);
+            return Ok(true);
+        }
+    }
+    Ok(true)
+}
+
+/// Drops a 0x0D at the end.
+#[tactic(auto, using(crate::proofs::Returns::with_return, crate::proofs::Returns::with_none))]
+fn drop_return(line: &mut Vec<u8>)
+    ensures { line.new.items ≡ without_return line.old.items }
+{
+    if line.last() == Some(&b'\r') {
+        line.pop();
+    }
+}

@@ -1,0 +1,44 @@
+-- Which records a file may say as they are printed, and that they are read again.
+use Rattle.std.specs.Prelude.{◌≡◌, ℕ, ◌<◌, ◌≤◌, ◌^◌, true, List, [], ◌++◌, length, flat_map, Ok}
+use Rattle.std.specs.List.{AllByRecursion, list_all}
+use Rattle.plain_store.specs.Setups.{checked}
+use Rattle.plain_store.specs.declared.setups.Setup.{Setup}
+use Rattle.record.specs.Entries.{Entry}
+use Rattle.record.specs.Given.{is_event}
+use Rattle.record.specs.Records.{record_of}
+use Rattle.record.specs.declared.events.Event.{Event}
+use Rattle.scenario.specs.Printing.{spaced}
+use Rattle.scenario.specs.Scripts.{IsScenario}
+use Rattle.record_file.specs.Given.{IsEntry}
+use Rattle.record_file.specs.Printing.{entry_line, entry_words, record_text}
+use Rattle.record_file.specs.RecordFiles as reader
+
+-- a setup as a scenario may have it: it is good, and its opening pairs are pairs with different names
+abbrev pub IsSetupOfFile : Setup → Type 0
+IsSetupOfFile s = IsScenario (record { setup = s; lines = [] })
+
+-- an entry that a line may say, of at most 128 bytes
+pub record FitsLine (e : Entry) : Type 0 where
+  pub entry : IsEntry e
+  pub short : length (spaced (entry_words e)) ≤ 128
+
+-- each of them is one
+abbrev pub FitLines : List Entry → Type 0
+FitLines = AllByRecursion FitsLine
+
+-- a text is read as a record of this setup: with the lines of any entries that fit theirs behind it, as that setup and those entries
+abbrev pub BeginsRecord : Setup → List ℕ → Type 0
+BeginsRecord s text = (entries : List Entry) → FitLines entries → reader.record_of (text ++ flat_map entry_line entries) ≡ Ok (record { setup = s; entries = entries })
+
+-- What is printed for a setup and entries whose lines fit is read as that setup and those entries.
+abbrev pub PrintedRecordsAreReadAgain : Type 0
+PrintedRecordsAreReadAgain = (s : Setup) (entries : List Entry) → IsSetupOfFile s → FitLines entries → reader.record_of (record_text s entries) ≡ Ok (record { setup = s; entries = entries })
+
+-- In the record of fewer than 2^64 events, whose commands are commands, each entry fits its line.
+abbrev pub RecordsFitLines : Type 0
+RecordsFitLines = (s : Setup) → checked s ≡ Ok tt → (events : List Event) → list_all is_event events ≡ true → length events < 2 ^ 64 → FitLines (record_of s events)
+
+-- So what is printed for that record is read as its setup and that record.
+abbrev pub RecordsAreReadAgain : Type 0
+RecordsAreReadAgain = (s : Setup) → IsSetupOfFile s → (events : List Event) → list_all is_event events ≡ true → length events < 2 ^ 64 →
+    reader.record_of (record_text s (record_of s events)) ≡ Ok (record { setup = s; entries = record_of s events })

@@ -1,0 +1,49 @@
+//! What the lines of a record file are.
+ghost use Rattle.std.specs.Prelude.{◌≡◌};
+ghost use Rattle.record_file.specs.RecordFiles.{begins_with_digit as digit_first, kind_in as those_of_records, kind_of};
+
+use scenario::keywords::{Heading, Opener};
+
+/// What the first word of a line says that it is.
+#[derive(Clone, Copy, Debug, PartialEq, Eq)]
+pub enum LineKind {
+    Record,
+    Heading(Heading),
+    Open,
+    Entry,
+}
+
+impl LineKind {
+    /// What the first word of a line means: an entry begins with a digit.
+    pub fn of(word: &[u8]) -> Option<LineKind>
+        ensures { result ≡ kind_of word.now }
+    {
+        if begins_with_digit(word) {
+            return Some(LineKind::Entry);
+        }
+        if word == b"record".as_slice() {
+            return Some(LineKind::Record);
+        }
+        kind_in(Opener::of(word))
+    }
+}
+
+fn begins_with_digit(word: &[u8]) -> bool
+    ensures { result ≡ digit_first word.now }
+{
+    match word {
+        [] => false,
+        [first, ..] => first.is_ascii_digit(),
+    }
+}
+
+/// Of the first words of scenario files those that record files have.
+fn kind_in(opener: Option<Opener>) -> Option<LineKind>
+    ensures { result ≡ those_of_records opener }
+{
+    match opener {
+        Some(Opener::Heading(heading)) => Some(LineKind::Heading(heading)),
+        Some(Opener::Open) => Some(LineKind::Open),
+        Some(Opener::Bakery | Opener::Line(_)) | None => None,
+    }
+}

@@ -1,0 +1,145 @@
+//! What the lines of a record file say.
+ghost use Rattle.std.specs.Prelude.{◌≡◌, MatchOption, None, Ok, Some};
+ghost use Rattle.plain_store.specs.Setups.{checked};
+ghost use Rattle.files.specs.Reads.{Makes, Takes};
+ghost use Rattle.files.specs.Words.{texts};
+ghost use Rattle.record_file.specs.RecordFiles.{entry_read, first_read, head_read, line_said, pair_read};
+
+use crate::entries::read_entry;
+use crate::line_kinds::LineKind;
+use files::{FaultKind, FromLines};
+use plain_store::{NestedTypes, Setup};
+use record::Entry;
+use scenario::Reader;
+use scenario::keywords::Heading;
+use std::alloc::Global;
+use std::marker::Model;
+
+/// What has been read of a record file: its headings and opening pairs so far, whether an entry has ended them, and the
+/// entry of the last line, which is to be taken before the next one is read.
+#[derive(Drop)]
+pub struct RecordReader {
+    alloc: Global,
+    head: Reader,
+    ended: bool,
+    entry: Option<Entry>,
+}
+
+impl Model for RecordReader {
+    ghost use Rattle.record_file.specs.RecordFiles.{Progress};
+
+    ghost Value = { Progress };
+
+    ghost view = { λ r. record { head = r.head; ended = r.ended; entry = r.entry } };
+}
+
+impl FromLines for RecordReader {
+    ghost use Rattle.record_file.specs.RecordFiles.{record_grammar};
+
+    ghost grammar = { record_grammar };
+
+    fn first(alloc: Global, word: &[u8], words: &[&[u8]]) -> Result<RecordReader, FaultKind> {
+        RecordReader::new(alloc, word, words)
+    }
+
+    fn later(&mut self, word: &[u8], words: &[&[u8]]) -> Result<(), FaultKind> {
+        let _nested: NestedTypes = None;
+        match LineKind::of(word) {
+            None => Err(FaultKind::Unknown),
+            Some(kind) => self.line(kind, word, words),
+        }
+    }
+}
+
+impl RecordReader {
+    /// The setup so far.
+    pub fn setup(&self) -> &Setup
+        ensures value { result.now ≡ self.now.head.setup }
+        ensures good { checked result.now ≡ Ok tt }
+    {
+        self.head.setup()
+    }
+
+    /// The entry of the last line, if it is one.
+    pub fn last_entry(&self) -> Option<&Entry>
+        ensures { MatchOption result (self.now.entry ≡ None) (λ entry. self.now.entry ≡ Some entry.now) }
+    {
+        self.entry.as_ref()
+    }
+
+    /// Lets the entry of the last line go.
+    pub fn forget_entry(&mut self)
+        ensures { self.new ≡ record self.old { entry = None } }
+    {
+        let _nested: NestedTypes = None;
+        self.entry = None;
+    }
+
+    /// The first line: `record 1` or `record 2`.
+    #[tactic(auto, unfolding(crate::specs::RecordFiles::first_read))]
+    fn new(alloc: Global, word: &[u8], words: &[&[u8]]) -> Result<RecordReader, FaultKind>
+        ensures { Makes result (first_read word.now (texts words.now)) }
+    {
+        if word != b"record".as_slice() || words.len() != 1 {
+            return Err(FaultKind::NotFirst);
+        }
+        let head = Reader::at_version(alloc, words[0])?;
+        Ok(RecordReader {
+            alloc,
+            head,
+            ended: false,
+            entry: None,
+        })
+    }
+
+    /// A later line, by what its first word means.
+    fn line(&mut self, kind: LineKind, word: &[u8], words: &[&[u8]]) -> Result<(), FaultKind>
+        ensures { Takes result (line_said kind word.now (texts words.now) self.old) self.new }
+    {
+        let _nested: NestedTypes = None;
+        match kind {
+            LineKind::Record => Err(FaultKind::NotFirst),
+            LineKind::Heading(heading) => self.heading(heading, words),
+            LineKind::Open => self.open(words),
+            LineKind::Entry => self.entry(word, words),
+        }
+    }
+
+    /// A heading, before all entries.
+    #[tactic(auto, unfolding(crate::specs::RecordFiles::head_read))]
+    fn heading(&mut self, heading: Heading, words: &[&[u8]]) -> Result<(), FaultKind>
+        ensures { Takes result (head_read heading (texts words.now) self.old) self.new }
+    {
+        let _nested: NestedTypes = None;
+        if self.ended {
+            return Err(FaultKind::NotFirst);
+        }
+        self.head.heading(heading, words)
+    }
+
+    /// An opening pair, before all entries.
+    #[tactic(auto, unfolding(crate::specs::RecordFiles::pair_read))]
+    fn open(&mut self, words: &[&[u8]]) -> Result<(), FaultKind>
+        ensures { Takes result (pair_read (texts words.now) self.old) self.new }
+    {
+        let _nested: NestedTypes = None;
+        if self.head.setup().version != 2 {
+            return Err(FaultKind::Unknown);
+        }
+        if self.ended {
+            return Err(FaultKind::NotFirst);
+        }
+        self.head.open(words)
+    }
+
+    /// An entry, behind which there is no heading and no opening pair.
+    fn entry(&mut self, word: &[u8], words: &[&[u8]]) -> Result<(), FaultKind>
+        ensures { Takes result (entry_read word.now (texts words.now) self.old) self.new }
+    {
+        let _nested: NestedTypes = None;
+        let entry = read_entry(self.alloc, word, words)?;
+        self.ended = true;
+        self.entry = Some(entry);
+        Ok(())
+    }
+}

@@ -1,2 +1,0 @@
--- The lines of printed entries
-pub mod EntryLines

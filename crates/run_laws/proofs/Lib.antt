@@ -1,2 +1,0 @@
-pub mod FewEvents
-pub mod RunsAgain
