@@ -1,8 +1,8 @@
 //! The line that shows how far a run is, on standard error.
 ghost use Rattle.std.specs.Prelude.{◌≡◌};
 
+use files::{Failed, Source};
 use onlooker::{Onlooker, Reached};
-use scenario::{Failed, Source};
 use std::alloc::Global;
 use std::time::{Clock, Duration};
 
