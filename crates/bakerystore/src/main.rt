@@ -3,17 +3,13 @@
 
 ghost use Rattle.std.specs.Prelude.{◌-◌, ◌<◌, ◌^◌};
 
-mod help;
-mod progress;
-mod terminal;
-mod usage;
-mod words;
-
-use drawer::{draw, draw_svg};
+use command_line::{
+    Asked, Engine, Output, Page, Request, Terminals, USAGE, USAGE_STATUS, WatchedInput, Watcher,
+    WordsFault, read_words, text_of,
+};
+use drawer::{Reads, draw, draw_svg};
 use engines::{run_bits, run_plain};
-use help::text_of;
 use files::progress::Onlooker;
-use progress::{WatchedInput, Watcher};
 use race::{RunFault, run_fault_status, run_race};
 use replayer::{replay_seen, run_audit_seen, run_judge, run_record_seen, run_sweep_seen};
 use scenario::{DONE, Fault, FromRead, IntoWrite, Sink, Source, ended};
@@ -25,9 +21,6 @@ use std::process::ExitCode;
 use std::sync::Wait;
 use std::thread::Threads;
 use std::time::Clock;
-use terminal::{Output, Terminals};
-use usage::{USAGE, USAGE_STATUS, WordsFault};
-use words::{Asked, Engine, Page, Request, read_words};
 
 fn main(rt: HostRuntime) -> ExitCode {
     let terminals = Terminals {
@@ -154,10 +147,19 @@ fn run_engine<T: AllocGlobal + Threads + Wait + Sync, R: Source, W: Sink, L: Onl
         Engine::Record => ended(run_record_seen(alloc, input, output, onlooker)),
         Engine::Judge => run_judge(alloc, input, output),
         Engine::Race => return run_race(rt, alloc, input, output),
-        Engine::Draw => ended(draw(alloc, request.reads, input, output, onlooker)),
-        Engine::DrawSvg => ended(draw_svg(alloc, request.reads, input, output, onlooker)),
+        Engine::Draw => ended(draw(alloc, reads_of(request), input, output, onlooker)),
+        Engine::DrawSvg => ended(draw_svg(alloc, reads_of(request), input, output, onlooker)),
     };
     Ok(ran?)
+}
+
+/// Whether the picture that is asked for shows the reads that writes overlapped.
+fn reads_of(request: &Request<'_>) -> Reads {
+    if request.reads {
+        Reads::Shown
+    } else {
+        Reads::Hidden
+    }
 }
 
 /// Tells a fault on standard error, and answers the exit status.

@@ -2,7 +2,7 @@
 ghost use Rattle.std.specs.Prelude.{◌≡◌};
 
 use files::progress::{Onlooker, Reached};
-use scenario::{Failed, Source};
+use files::{Failed, Source};
 use std::alloc::Global;
 use std::time::{Clock, Duration};
 

@@ -1,6 +1,5 @@
 //! The program's words.
 use crate::usage::{WordsFault, unknown_command};
-use drawer::Reads;
 use std::alloc::Global;
 
 /// What runs a file.
@@ -59,7 +58,7 @@ pub struct Request<'a> {
     /// The path of the file; `-` is standard input.
     pub file: &'a str,
     /// Whether the picture shows the reads that writes overlapped.
-    pub reads: Reads,
+    pub reads: bool,
     /// Whether nothing is to be shown of how far the run is.
     pub quiet: bool,
 }
@@ -95,7 +94,7 @@ struct Sorted<'a> {
     unknown: Option<&'a str>,
     help: bool,
     version: bool,
-    reads: Reads,
+    reads: bool,
     quiet: bool,
     /// Whether a word `--` came, behind which no word is an option.
     ended: bool,
@@ -111,7 +110,7 @@ impl<'a> Sorted<'a> {
             unknown: None,
             help: false,
             version: false,
-            reads: Reads::Hidden,
+            reads: false,
             quiet: false,
             ended: false,
         }
@@ -127,7 +126,7 @@ impl<'a> Sorted<'a> {
             "--" => self.ended = true,
             "--help" | "-h" => self.help = true,
             "--version" => self.version = true,
-            "--reads" => self.reads = Reads::Shown,
+            "--reads" => self.reads = true,
             "--quiet" => self.quiet = true,
             _ => self.unknown = self.unknown.or(Some(word)),
         }
@@ -151,7 +150,7 @@ impl<'a> Sorted<'a> {
         engine: Engine,
         file: &'a str,
     ) -> Result<Request<'a>, WordsFault<'a>> {
-        if self.reads == Reads::Shown && !engine.draws() {
+        if self.reads && !engine.draws() {
             return Err(WordsFault::ReadsOfAnother(command));
         }
         Ok(Request {
