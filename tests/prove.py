@@ -16,7 +16,9 @@ import tempfile
 import time
 from concurrent.futures import FIRST_COMPLETED, ThreadPoolExecutor, wait
 
-TOP = pathlib.Path(__file__).resolve().parent.parent
+from lib.crates import all_below, libraries, lines
+from lib.places import TOP
+
 PROGRAM = "bakerystore"
 CORES = len(os.sched_getaffinity(0))
 
@@ -24,32 +26,6 @@ CORES = len(os.sched_getaffinity(0))
 def tell(text):
     """Tells how far it is, beside what the program prints."""
     print(text, file=sys.stderr, flush=True)
-
-
-def lines():
-    """The line of crates.txt of each crate of the repository."""
-    told = [line.partition("#")[0] for line in (TOP / "crates.txt").read_text().splitlines()]
-    return {line.split(":")[0].split()[0]: line for line in told if ":" in line}
-
-
-def libraries():
-    """Each crate of the repository with those of its crates that its line names."""
-    told = lines()
-    return {name: [it for it in line.partition(":")[2].split() if it in told] for name, line in told.items()}
-
-
-def all_below(stands_on):
-    """For each crate those that it stands on, directly or not."""
-    found = {}
-
-    def below(name):
-        if name not in found:
-            found[name] = set(stands_on[name]).union(*map(below, stands_on[name]))
-        return found[name]
-
-    for name in stands_on:
-        below(name)
-    return found
 
 
 def room_for(name, under, rooms):
