@@ -16,10 +16,9 @@ import tempfile
 import time
 from concurrent.futures import FIRST_COMPLETED, ThreadPoolExecutor, wait
 
-from lib.crates import all_below, libraries, lines
+from lib.crates import PROGRAM, all_below, crates
 from lib.places import TOP
 
-PROGRAM = "bakerystore"
 CORES = len(os.sched_getaffinity(0))
 
 
@@ -30,7 +29,7 @@ def tell(text):
 
 def room_for(name, under, rooms):
     """A folder with the sources of a crate and of those under it, and with what was proved of these."""
-    room, told = pathlib.Path(rooms) / name, lines()
+    room, told = pathlib.Path(rooms) / name, crates()
     for crate in [name, *under]:
         source, copy = TOP / "crates" / crate, room / "crates" / crate
         for part in ["src", "specs", "proofs"]:
@@ -38,7 +37,7 @@ def room_for(name, under, rooms):
                 shutil.copytree(source / part, copy / part)
         if (source / "out" / "rlib").is_dir():
             shutil.copytree(source / "out" / "rlib", copy / "out" / "rlib", copy_function=os.link)
-    (room / "crates.txt").write_text("".join(f"{told[it]}\n" for it in [name, *under]))
+    (room / "crates.txt").write_text("".join(f"{told[it].line}\n" for it in [name, *under]))
     return room / "crates" / name
 
 
@@ -103,7 +102,7 @@ def prove_all(below, rooms):
 def main():
     # (on the same disk as the repository, so that what was proved is linked and not copied)
     with tempfile.TemporaryDirectory(prefix="prove-", dir=TOP / ".git") as rooms:
-        if not prove_all(all_below(libraries()), rooms):
+        if not prove_all(all_below({name: crate.stands_on for name, crate in crates().items()}), rooms):
             sys.exit(1)
     tell("proved: all libraries; now the program")
     sys.exit(subprocess.run(["rt", "run", "--jobs", str(CORES), "--", *sys.argv[1:]], cwd=TOP / "crates" / PROGRAM).returncode)

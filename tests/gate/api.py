@@ -14,7 +14,7 @@ import sys
 sys.path.insert(0, str(pathlib.Path(__file__).resolve().parents[1]))
 
 from lib.counting import Counter
-from lib.crates import names_of_crates
+from lib.crates import crates
 from lib.places import TOP
 
 PAGE = TOP / "docs" / "API.md"
@@ -215,9 +215,9 @@ def thin_pages():
 
 def lost_quotes():
     """What is quoted and stands nowhere."""
-    crates = TOP / "crates"
-    sources = [stripped(path.read_text()) for path in [*crates.glob("*/src/**/*.rt"), crates / "tour" / "stdout"]]
-    pages = [(TOP / "docs" / "LIBRARY.md").read_text(), *(root_page(Source(root_of(crate))) for crate in names_of_crates())]
+    folder = TOP / "crates"
+    sources = [stripped(path.read_text()) for path in [*folder.glob("*/src/**/*.rt"), folder / "tour" / "stdout"]]
+    pages = [(TOP / "docs" / "LIBRARY.md").read_text(), *(root_page(Source(root_of(crate))) for crate in crates())]
     for page in pages:
         for quote in re.findall(r"^```(?:rust|text)\n(.*?)^```$", page, re.M | re.S):
             if not any(stripped(quote) in source for source in sources):
@@ -225,7 +225,7 @@ def lost_quotes():
 
 
 def page(faults):
-    known = names_of_crates()
+    known = list(crates())
     lines = HEAD.rstrip("\n").split("\n")
     for crate in known:
         lines += crate_lines(crate, known, faults)
