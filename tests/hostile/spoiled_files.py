@@ -3,7 +3,7 @@ of its lines doubled, dropped and exchanged with the next.
 
 Each command must tell the one fault that a second reading of the file finds (`second/scenario_files.py`,
 `second/record_files.py`), and write nothing. Where it finds none, `plain`, `bits` and `judge` must write what a second reading
-of what the file does gives (`second/plain_and_bits.py`, `second/judge.py`); `replay` must end well, `audit` and `record` must
+of what the file does gives (`second/engines.py`, `second/judge.py`); `replay` must end well, `audit` and `record` must
 have as many entries as it has events, `record` the setup of the file, and a race must be good.
 """
 
@@ -11,10 +11,7 @@ import random
 import re
 
 from lib.running import CHUNK, SCENARIO_COMMANDS, counted, files_of, runner, workers
-from second.judge import Setup, judged
-from second.plain_and_bits import bits_text, plain_text
-from second.record_files import read_record
-from second.scenario_files import Fault, read_bits, read_scenario
+from second.engines import head_of, wanted
 
 SPOILING_BYTES = {"0x00": b"\0", "0x0D": b"\r", "0xFF": b"\xff"}
 MOST_RECORD_BYTES = 2000
@@ -50,37 +47,6 @@ def spoiled(files):
         for how, other in [*spoiled_bytes(text), *spoiled_lines(text)]:
             texts.setdefault(other, how)
     return [(how, text) for text, how in texts.items()]
-
-
-def judge_text(record):
-    head, entries = record
-    return judged(Setup(head), entries).encode()
-
-
-READINGS = {
-    **dict.fromkeys(SCENARIO_COMMANDS, read_scenario),
-    "bits": read_bits,
-    "judge": read_record,
-}
-TEXTS = {"plain": plain_text, "bits": bits_text, "judge": judge_text}
-
-
-def wanted(command, text):
-    """The status, the output and the faults that are wanted of a command whose text is known, and what the file says."""
-    try:
-        said = READINGS[command](text)
-    except Fault as fault:
-        return (1, b"", f"{fault}\n".encode()), None
-    if command not in TEXTS:
-        return None, said
-    printed = TEXTS[command](said)
-    return (3 if printed.startswith(b"bad") else 0, printed, b""), said
-
-
-def head_of(scenario):
-    """The lines with which the record of a scenario begins."""
-    lines = [f"record {scenario.version}", *(f"{name} {number}" for name, number in scenario.headings.items())]
-    return "".join(f"{line}\n" for line in [*lines, *(f"open {name} {value}" for name, value in scenario.opening)]).encode()
 
 
 def whole_runs(text, scenario):

@@ -1,8 +1,12 @@
-"""A second reading of what `plain` and `bits` print, of a file as `scenario_files.py` reads it.
+"""A second reading of what `plain`, `bits` and `judge` write, and of the fault that any command tells of its file.
 
 It is written from docs/MODEL.md alone, and shares nothing with the programs that it is held against.
 """
 
+from lib.running import SCENARIO_COMMANDS
+from second.judge import Setup, judged
+from second.record_files import read_record
+from second.scenario_files import Fault, read_bits, read_scenario
 from second.store import Call, Store
 
 
@@ -53,3 +57,34 @@ def bits_text(lines):
             text += [str(operand if met == "a write" else value)] * (first == "value")
             met = None
     return "".join(f"{line}\n" for line in text).encode()
+
+
+def judge_text(record):
+    head, entries = record
+    return judged(Setup(head), entries).encode()
+
+
+READINGS = {
+    **dict.fromkeys(SCENARIO_COMMANDS, read_scenario),
+    "bits": read_bits,
+    "judge": read_record,
+}
+TEXTS = {"plain": plain_text, "bits": bits_text, "judge": judge_text}
+
+
+def wanted(command, text):
+    """The status, the output and the faults that are wanted of a command whose text is known, and what the file says."""
+    try:
+        said = READINGS[command](text)
+    except Fault as fault:
+        return (1, b"", f"{fault}\n".encode()), None
+    if command not in TEXTS:
+        return None, said
+    printed = TEXTS[command](said)
+    return (3 if printed.startswith(b"bad") else 0, printed, b""), said
+
+
+def head_of(scenario):
+    """The lines with which the record of a scenario begins."""
+    lines = [f"record {scenario.version}", *(f"{name} {number}" for name, number in scenario.headings.items())]
+    return "".join(f"{line}\n" for line in [*lines, *(f"open {name} {value}" for name, value in scenario.opening)]).encode()
