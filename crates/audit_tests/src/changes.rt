@@ -1,9 +1,8 @@
 //! What is changed of an entry, each change with its kind.
 use auditor::Entry;
 use plain_store::{Answer, BadName, Command, Name, NestedTypes, Reply};
-use record::{Act, Mark};
+use record::{Access, Act, Field, Mark};
 use safe_bit::Move;
-use safe_number::{Access, Field};
 use smallvec::SmallVec;
 use std::alloc::{AllocError, Global};
 

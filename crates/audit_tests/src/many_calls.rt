@@ -6,9 +6,8 @@ use crate::changes::entry_of;
 use crate::slow_judge::SlowJudge;
 use auditor::{Entry, Law, Record, Verdict, audit};
 use plain_store::{Command, NestedTypes, Setup};
-use record::Mark;
+use record::{Access, Field, Mark};
 use safe_bit::Move;
-use safe_number::{Access, Field};
 use std::alloc::{AllocError, Global};
 use std::test::Fail;
 

@@ -2,9 +2,8 @@
 use crate::records::{record_of_file, verdict_on_file};
 use auditor::{Entry, Law, Verdict, audit};
 use plain_store::{Answer, NestedTypes, Reply};
-use record::Mark;
+use record::{Access, Mark};
 use safe_bit::Move;
-use safe_number::Access;
 use smallvec::SmallVec;
 use std::alloc::{AllocError, Global};
 use std::test::Fail;

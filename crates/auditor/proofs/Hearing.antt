@@ -18,7 +18,7 @@ use Rattle.record.specs.Stages.{stage}
 use Rattle.record.proofs.World.{entry-accepted}
 use Rattle.std.specs.Prelude.{◌↔◌, zero, suc}
 use Rattle.std.proofs.lemmas.List.{length_push}
-use Rattle.safe_number.specs.declared.Access.{Access}
+use Rattle.record.specs.declared.access.Access.{Access}
 use Rattle.record.specs.declared.history.Taken.{Taken}
 use Rattle.record.specs.Histories.{reply_taken}
 use Rattle.process.specs.declared.told.Effect.{Effect}

@@ -11,9 +11,8 @@ ghost use Rattle.auditor.specs.Hearing.{AreAt, stepped_as};
 ghost use Rattle.auditor.specs.Verdicts.{IsAlike};
 
 use plain_store::{Answer, Command, Name, Reply, Text, Value};
-use record::{Entry, Event, Mark};
+use record::{Access, Entry, Event, Field, Mark};
 use safe_bit::Move;
-use safe_number::{Access, Field};
 use std::alloc::Global;
 use world::Told;
 

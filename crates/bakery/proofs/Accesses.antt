@@ -5,10 +5,10 @@ use Rattle.safe_bit.specs.declared.Move.{Move}
 use Rattle.safe_bit.specs.declared.Move.TheVariants.{BeginWrite, EndWrite, BeginRead, EndRead, Settle}
 use Rattle.reader_copies.specs.declared.Made.{Made}
 use Rattle.reader_copies.specs.Runs.{Settling, Writing as CopyWriting}
-use Rattle.safe_number.specs.declared.Access.{Access}
-use Rattle.safe_number.specs.declared.Field.{Field}
-use Rattle.safe_number.specs.declared.TornBit.{TornBit}
-use Rattle.safe_number.specs.Accesses.{access_of}
+use Rattle.record.specs.declared.access.Access.{Access}
+use Rattle.record.specs.declared.access.Field.{Field}
+use Rattle.record.specs.declared.access.TornBit.{TornBit}
+use Rattle.record.specs.Accesses.{access_of}
 use Rattle.safe_number.specs.Bytes.{bits_of_number}
 use Rattle.safe_number.specs.Runs.{NumberWrite, NumberRead, next_of_read, torn_with, torn_run as torn_of_bit}
 use Rattle.plain_store.specs.declared.Setup.{Setup}

@@ -4,10 +4,10 @@ use Rattle.std.proofs.lemmas.Bool.Decides.{nat_tests}
 use Rattle.safe_bit.specs.Cell.{Cell, MayMove}
 use Rattle.safe_bit.specs.declared.Move.TheVariants.{BeginRead, EndRead}
 use Rattle.reader_copies.specs.Runs as copies
-use Rattle.safe_number.specs.declared.Access.{Access}
-use Rattle.safe_number.specs.declared.Field.{Field}
-use Rattle.safe_number.specs.declared.Field.TheVariants.{Ticket}
-use Rattle.safe_number.specs.Accesses.{access_of}
+use Rattle.record.specs.declared.access.Access.{Access}
+use Rattle.record.specs.declared.access.Field.{Field}
+use Rattle.record.specs.declared.access.Field.TheVariants.{Ticket}
+use Rattle.record.specs.Accesses.{access_of}
 use Rattle.safe_number.specs.Bytes.{bits_of_number}
 use Rattle.safe_number.specs.Runs.{NumberRead, NumberWrite, next_of_read, number_read_after, write_on}
 use Rattle.safe_number.specs.Written.{loaded}

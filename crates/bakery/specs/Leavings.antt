@@ -1,8 +1,8 @@
 -- The cursor of the clearing of the ticket: by a process that was inside, and by one that withdrew.
 use Rattle.std.specs.Prelude.{ℕ, ◌*◌, ◌<◌, ◌≤◌, ◌≡◌, nat_lt, Bool, [], None}
-use Rattle.safe_number.specs.declared.Access.{Access}
-use Rattle.safe_number.specs.declared.Field.TheVariants.{Ticket}
-use Rattle.safe_number.specs.Accesses.{access_of}
+use Rattle.record.specs.declared.access.Access.{Access}
+use Rattle.record.specs.declared.access.Field.TheVariants.{Ticket}
+use Rattle.record.specs.Accesses.{access_of}
 use Rattle.safe_number.specs.Bytes.{bits_of_number}
 use Rattle.safe_number.specs.Runs.{NumberWrite, new_write}
 use Rattle.plain_store.specs.declared.Setup.{Setup}

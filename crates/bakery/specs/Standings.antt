@@ -1,7 +1,7 @@
 -- How a process goes through the door, by what it keeps: not the numbers that it has read, but the greatest of them and the lowest full process.
 use Rattle.std.specs.Prelude.{ℕ, ◌+◌, ◌==◌, ◌||◌, nat_lt, max, cond, Option, None, Some, unwrap_or, []}
-use Rattle.safe_number.specs.declared.Field.{Field}
-use Rattle.safe_number.specs.declared.Field.TheVariants.{Choosing, Ticket}
+use Rattle.record.specs.declared.access.Field.{Field}
+use Rattle.record.specs.declared.access.Field.TheVariants.{Choosing, Ticket}
 use Rattle.record.specs.Parts as part
 use Rattle.record.specs.Parts.{Part}
 use Rattle.record.specs.Program.{max_of, is_below}

@@ -1,6 +1,6 @@
 ghost use Rattle.std.specs.Prelude.{◌≡◌, ◌<◌, List, [], ◌∷◌, true, false, Ok, IfOk, IfSome};
-ghost use Rattle.safe_number.specs.declared.Access.{Access};
-ghost use Rattle.safe_number.specs.declared.Field.TheVariants.{Ticket};
+ghost use Rattle.record.specs.declared.access.Access.{Access};
+ghost use Rattle.record.specs.declared.access.Field.TheVariants.{Ticket};
 ghost use Rattle.plain_store.specs.Setups.{checked};
 ghost use Rattle.record.specs.Cuts.{torn_at, IsTornOf};
 ghost use Rattle.record.specs.Moves.{ended_with};
@@ -14,7 +14,8 @@ use crate::progress::DoorProgress;
 use crate::runs::{self, Runs};
 use crate::standing::Standing;
 use plain_store::Setup;
-use safe_number::{Access, Field, Pace, TornBit, bits_of};
+use record::{Access, Field, TornBit};
+use safe_number::{Pace, bits_of};
 use std::alloc::{AllocError, Global};
 use std::marker::Model;
 

@@ -14,7 +14,8 @@ use crate::lock::Lock;
 use crate::runs;
 use plain_store::Setup;
 use reader_copies::Progress;
-use safe_number::{Access, Field, TornBit, WriteRun, bits_of};
+use record::{Access, Field, TornBit};
+use safe_number::{WriteRun, bits_of};
 use std::marker::Model;
 
 /// The clearing of a process's ticket, with which a call ends (Lamport 1974): a write of 0. It serves a process

@@ -3,8 +3,8 @@ ghost use Rattle.std.specs.Borrow.{sem};
 ghost use Rattle.safe_bit.specs.Cell.{read_answer};
 ghost use Rattle.reader_copies.specs.Row.{cell_at, new_row, row_after, without_reads, CanMake, HasCell};
 ghost use Rattle.reader_copies.specs.Runs.{next_read, next_write};
-ghost use Rattle.safe_number.specs.declared.Field.TheVariants.{Ticket};
-ghost use Rattle.safe_number.specs.Accesses.{access_of};
+ghost use Rattle.record.specs.declared.access.Field.TheVariants.{Ticket};
+ghost use Rattle.record.specs.Accesses.{access_of};
 ghost use Rattle.safe_number.specs.Bytes.{bits_of_number};
 ghost use Rattle.safe_number.specs.Runs.{bit_read, next_of_read, number_read_after};
 ghost use Rattle.safe_number.specs.Written.{loaded};
@@ -15,8 +15,9 @@ ghost use Rattle.bakery.specs.Lending.{LendsLock};
 
 use plain_store::Setup;
 use reader_copies::Made;
+use record::{Access, Field};
 use safe_bit::Move;
-use safe_number::{Access, Field, NumberFault, Pace, ReadRun, Register, WriteRun, bits_of};
+use safe_number::{NumberFault, Pace, ReadRun, Register, WriteRun, bits_of};
 use std::alloc::{AllocError, Global};
 use std::marker::Model;
 

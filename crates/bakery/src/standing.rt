@@ -8,7 +8,7 @@ ghost use Rattle.bakery.specs.Standings.{part_of, standing_after, number_written
 
 use crate::progress::DoorProgress;
 use plain_store::Setup;
-use safe_number::Field;
+use record::Field;
 
 /// A number access, with what the process keeps of the numbers that it has read.
 #[derive(Clone, Copy, Debug, PartialEq, Eq)]

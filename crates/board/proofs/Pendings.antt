@@ -3,7 +3,7 @@ use Rattle.std.proofs.lemmas.Bool.Decides.{nat_tests}
 use Rattle.std.proofs.Common.{◌≡◌, ℕ, ◌<◌, ◌&&◌, ◌==◌, arith, eq-eqb, Bool, true, false, cond, [], ◌∷◌, refl, sym, ap, ◌∙◌, subst, Option, Some, None}
 use Rattle.std.specs.Prelude.{nat_le, Ok, Err, Result}
 use Rattle.atomic_table.specs.Seated.{TableId}
-use Rattle.safe_number.specs.declared.TornBit.{TornBit}
+use Rattle.record.specs.declared.access.TornBit.{TornBit}
 use Rattle.plain_store.specs.Commands.{is_command}
 use Rattle.plain_store.specs.declared.Command.{Command}
 use Rattle.plain_store.specs.declared.Command.TheVariants.{Ask}

@@ -5,7 +5,7 @@ use Rattle.atomic_table.specs.Table.{State, Me, Allows}
 use Rattle.safe_bit.specs.declared.Move.{Move}
 use Rattle.safe_bit.specs.declared.Move.TheVariants.{BeginWrite, EndWrite, BeginRead, EndRead, Settle}
 use Rattle.reader_copies.specs.Written.{IsWrite}
-use Rattle.safe_number.specs.declared.Access.{Access}
+use Rattle.record.specs.declared.access.Access.{Access}
 use Rattle.plain_store.specs.declared.Setup.{Setup}
 use Rattle.laws.specs.Doings.{Doing}
 use Rattle.record.specs.Stages.{stage_after}

@@ -4,7 +4,7 @@ use mathlib.Core.Option.{some}
 use lib.ListN.{get_elem?}
 use Rattle.safe_bit.specs.declared.Move.{Move}
 use Rattle.safe_bit.specs.declared.Move.TheVariants.{BeginRead, EndRead}
-use Rattle.safe_number.specs.declared.Access.{Access}
+use Rattle.record.specs.declared.access.Access.{Access}
 use Rattle.plain_store.specs.declared.Setup.{Setup}
 use Rattle.plain_store.specs.Setups.{checked}
 use Rattle.record.specs.declared.events.Event.{Event}

@@ -1,7 +1,7 @@
 -- The headline of a record, clause by clause, as a board keeps it.
 use Rattle.std.specs.Prelude.{◌≡◌, ℕ, ◌==◌, ◌+◌, ◌<◌, ◌++◌, ◌∷◌, nat_lt, take, true, None, slice_get, Some, IsTrue, IsFalse, Contains, ◌↔◌}
 use Rattle.safe_bit.specs.SafeRule.{is_overlapped}
-use Rattle.safe_number.specs.declared.Access.{Access}
+use Rattle.record.specs.declared.access.Access.{Access}
 use Rattle.plain_store.specs.declared.Answer.TheVariants.{StampsFull, TicketsFull}
 use Rattle.plain_store.specs.declared.Command.TheVariants.{Ask}
 use Rattle.plain_store.specs.declared.Reply.TheVariants.{Last}

@@ -2,7 +2,7 @@
 use Rattle.std.specs.Prelude.{◌≡◌, ◌⊎◌, ℕ, Bool, true, false, List, [], length, None, Some, fold}
 use Rattle.safe_bit.specs.declared.Move.TheVariants.{BeginRead, BeginWrite, EndRead, EndWrite}
 use Rattle.safe_bit.specs.declared.Move.{Move}
-use Rattle.safe_number.specs.declared.Access.{Access}
+use Rattle.record.specs.declared.access.Access.{Access}
 use Rattle.reader_copies.specs.Written.{IsWrite}
 use Rattle.plain_store.specs.declared.Setup.{Setup}
 use Rattle.record.specs.declared.history.Taken.{Taken}

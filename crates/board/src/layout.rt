@@ -6,7 +6,7 @@ ghost use Rattle.board.specs.Words.{first_bit, layout_of, word_of};
 
 use crate::words::{first_bit, row_bits};
 use plain_store::Setup;
-use safe_number::{Access, Field};
+use record::{Access, Field};
 
 /// What the word of a bit goes by.
 #[derive(Clone, Copy, Debug)]

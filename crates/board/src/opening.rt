@@ -7,7 +7,7 @@ ghost use Rattle.board.specs.Words.{opening_word, row_bits, words_in};
 
 use crate::words::{bit_of, row_bits, words_in};
 use plain_store::{Setup, opened};
-use safe_number::Field;
+use record::Field;
 use std::alloc::{AllocError, Global};
 use store_image::Image;
 

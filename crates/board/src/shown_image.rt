@@ -12,8 +12,8 @@ ghost use Rattle.board.specs.Words.{words_in};
 use crate::layout::Layout;
 use atomic_table::Closed;
 use plain_store::Setup;
+use record::{Access, Field};
 use safe_bit::Move;
-use safe_number::{Access, Field};
 use std::alloc::Global;
 use store_image::Image;
 

@@ -3,7 +3,7 @@ ghost use Rattle.std.specs.Prelude.{◌≡◌, ◌<◌, ℕ, Bool, Option, Some,
 ghost use Rattle.atomic_table.specs.Table.{Allows};
 ghost use Rattle.reader_copies.specs.Written.{IsWrite};
 ghost use Rattle.safe_bit.specs.declared.Move.TheVariants.{BeginRead};
-ghost use Rattle.safe_number.specs.declared.Access.{Access as Made};
+ghost use Rattle.record.specs.declared.access.Access.{Access as Made};
 ghost use Rattle.process.specs.Steps.{bits_within, may_step};
 ghost use Rattle.process.specs.declared.told.Told.TheVariants as tells;
 ghost use Rattle.board.specs.Agreement.{Agree};

@@ -4,7 +4,7 @@ ghost use Rattle.columns.specs.Columns.{rest, verb, wording};
 ghost use Rattle.columns.specs.Overlaps.{bit_text, field_text, read_text, saw_text, title_text};
 
 use crate::columns::Row;
-use safe_number::Field;
+use record::Field;
 use std::alloc::{AllocError, Global};
 
 /// A read that a write of its bit overlapped.

@@ -44,7 +44,7 @@ written-field c at written.Commit change same = let t = at-change c at written.C
 pub written-bits : (c : Call) (at : Part) (part : Written) (change : Change) (w : ℕ) → standing_at c at ≡ Writes part change → w ≡ width c.setup (change_field part change) → (written_at c at).1 ≡ change_bits part change w
 written-bits c at written.Image change w same wide =
     let t = at-change c at written.Image change same in
-    ap (λ p. (written_at c p).1) t.2 ∙ ap (λ (d : Change). bits_in (image_of d.store) (width c.setup Rattle.safe_number.specs.declared.Field.TheVariants.Image0)) t.3
+    ap (λ p. (written_at c p).1) t.2 ∙ ap (λ (d : Change). bits_in (image_of d.store) (width c.setup Rattle.record.specs.declared.access.Field.TheVariants.Image0)) t.3
     ∙ ap (bits_in (image_of change.store)) (sym (wide ∙ width-image c.setup change.commit))
 written-bits c at written.Stamp change w same wide =
     let t = at-change c at written.Stamp change same in

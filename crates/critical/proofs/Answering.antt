@@ -4,7 +4,7 @@ use Rattle.safe_bit.specs.Cell.{read_answer}
 use Rattle.safe_bit.specs.declared.Move.{Move}
 use Rattle.safe_bit.specs.declared.Move.TheVariants.{BeginWrite, EndWrite, BeginRead, EndRead, Settle}
 use Rattle.reader_copies.specs.Row.{cell_at}
-use Rattle.safe_number.specs.declared.Access.{Access}
+use Rattle.record.specs.declared.access.Access.{Access}
 use Rattle.record.specs.Moves.{ended, ended_with}
 use Rattle.critical.specs.Registers.{DataRow, answered, register_at}
 

@@ -59,7 +59,7 @@ pub place-read : (called : Called) (part : Asked) (versions : Versions) (r : Num
 place-read called part versions r w v at ends same =
     let c = call_of called in
     let standing = ap (λ (s : Section). s.standing) (sym same) in
-    read-done c at r v (run-read called part versions r w c at same) (ends.wide ∙ ap (λ (f : ℕ × Rattle.safe_number.specs.declared.Field.Field). width c.setup f.1) (sym (read-asked c at.part called.setup.processes part versions standing))) ends.inside ends.done
+    read-done c at r v (run-read called part versions r w c at same) (ends.wide ∙ ap (λ (f : ℕ × Rattle.record.specs.declared.access.Field.Field). width c.setup f.1) (sym (read-asked c at.part called.setup.processes part versions standing))) ends.inside ends.done
 
 -- where a write ends
 pub place-write : (called : Called) (part : Written) (change : Change) (r : NumberRead) (w : NumberWrite) (v : Bool) (at : Place) → w.width ≡ width called.setup (change_field part change) →

@@ -8,9 +8,9 @@ use Rattle.safe_bit.specs.Cell.{Cell, new_cell}
 use Rattle.reader_copies.specs.Row.{new_row, cell_at, IsClosed, IsRow}
 use Rattle.safe_number.specs.Bytes.{bit_in, bits_in}
 use Rattle.safe_number.specs.Runs.{preset_number}
-use Rattle.safe_number.specs.declared.Access.{Access}
-use Rattle.safe_number.specs.declared.Field.{Field}
-use Rattle.safe_number.specs.declared.Field.TheVariants.{Choosing, Ticket, Commit, Stamp0, Stamp1, Image0, Image1}
+use Rattle.record.specs.declared.access.Access.{Access}
+use Rattle.record.specs.declared.access.Field.{Field}
+use Rattle.record.specs.declared.access.Field.TheVariants.{Choosing, Ticket, Commit, Stamp0, Stamp1, Image0, Image1}
 use Rattle.safe_number.proofs.Numbers.{range_same, get-bits}
 use Rattle.store_image.specs.Image.{image_of}
 use Rattle.plain_store.specs.Setups.{opening_store}

@@ -5,9 +5,9 @@ use Rattle.safe_bit.specs.declared.Move.{Move}
 use Rattle.safe_bit.specs.declared.Move.TheVariants.{BeginWrite, EndWrite, BeginRead, EndRead}
 use Rattle.reader_copies.specs.Row.{cell_at}
 use Rattle.reader_copies.specs.Runs as copies
-use Rattle.safe_number.specs.Accesses.{access_of}
-use Rattle.safe_number.specs.declared.Access.{Access}
-use Rattle.safe_number.specs.declared.Field.{Field}
+use Rattle.record.specs.Accesses.{access_of}
+use Rattle.record.specs.declared.access.Access.{Access}
+use Rattle.record.specs.declared.access.Field.{Field}
 use Rattle.safe_number.specs.Runs.{NumberRead, NumberWrite, bit_read, next_of_read, number_read_after}
 use Rattle.safe_number.specs.Written.{loaded}
 use Rattle.record.specs.Moves.{ended, ended_with}

@@ -1,8 +1,8 @@
 -- The writing of a change, register by register.
 use Rattle.std.specs.Prelude.{◌≡◌, ℕ, ◌+◌, ◌*◌, ◌≤◌, Bool, if◌then◌else◌, List, length, Option, None, Some}
 use Rattle.reader_copies.specs.Runs.{Writing}
-use Rattle.safe_number.specs.declared.Field.{Field}
-use Rattle.safe_number.specs.declared.Field.TheVariants as field
+use Rattle.record.specs.declared.access.Field.{Field}
+use Rattle.record.specs.declared.access.Field.TheVariants as field
 use Rattle.safe_number.specs.Bytes.{bits_in, bits_of_number}
 use Rattle.safe_number.specs.Runs.{NumberWrite}
 use Rattle.store_image.specs.Image.{image_of}

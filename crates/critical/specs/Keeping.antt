@@ -2,8 +2,8 @@
 use Rattle.std.specs.Prelude.{◌≡◌, ℕ, ◌+◌, ◌*◌, ◌^◌, ◌<◌, Bool, false, [], length, Ok}
 use Rattle.safe_bit.specs.declared.Move.TheVariants.{BeginRead}
 use Rattle.reader_copies.specs.declared.Made.{Made}
-use Rattle.safe_number.specs.declared.Field.{Field}
-use Rattle.safe_number.specs.declared.Field.TheVariants as field
+use Rattle.record.specs.declared.access.Field.{Field}
+use Rattle.record.specs.declared.access.Field.TheVariants as field
 use Rattle.safe_number.specs.Runs.{NumberRead, NumberWrite, new_write, next_of_read}
 use Rattle.plain_store.specs.Setups.{checked, callers_of}
 use Rattle.plain_store.specs.declared.Setup.{Setup}

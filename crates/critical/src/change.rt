@@ -1,6 +1,6 @@
 ghost use Rattle.std.specs.Prelude.{◌≡◌, ◌<◌, ◌==◌, ◌*◌, ◌≤◌};
 ghost use Rattle.reader_copies.specs.Runs.{progress_of};
-ghost use Rattle.safe_number.specs.Accesses.{access_of};
+ghost use Rattle.record.specs.Accesses.{access_of};
 ghost use Rattle.record.specs.Places.{next_written, write_moved};
 ghost use Rattle.record.specs.Program.{stamp_field, image_field, max_of};
 ghost use Rattle.critical.specs.Changes.{change_field, change_bits, number_written, made_so_far, FitsWidth};
@@ -9,8 +9,8 @@ ghost use Rattle.critical.specs.Registers.{after_access, MayMake};
 use crate::data_row::DataRow;
 use plain_store::Reply;
 use reader_copies::{Made, Progress};
-use record::bytes_go_by_their_bits;
-use safe_number::{Access, Field, WriteRun, bits_of};
+use record::{Access, Field, bytes_go_by_their_bits};
+use safe_number::{WriteRun, bits_of};
 use store_image::Image;
 
 /// Which register of a change is written: part G writes them in this order.

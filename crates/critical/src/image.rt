@@ -6,8 +6,7 @@ ghost use Rattle.plain_store.specs.Setups.{checked, callers_of};
 ghost use Rattle.record.specs.Registers.{image_bytes, bytes_of_bits, width};
 
 use plain_store::Setup;
-use record::bytes_go_by_their_bits;
-use safe_number::Field;
+use record::{Field, bytes_go_by_their_bits};
 use store_image::Image;
 
 /// The bytes of the longest image: 8 slots, and 16 callers.

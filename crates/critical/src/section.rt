@@ -18,8 +18,9 @@ use crate::{image, walking};
 use flicks::Flicks;
 use plain_store::{Command, Reply, Setup};
 use reader_copies::Progress;
+use record::{Access, Field, TornBit};
 use safe_bit::Move;
-use safe_number::{Access, Field, NumberFault, Pace, ReadRun, TornBit, WriteRun};
+use safe_number::{NumberFault, Pace, ReadRun, WriteRun};
 use std::alloc::{AllocError, Global};
 use std::marker::Model;
 

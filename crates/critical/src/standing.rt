@@ -18,7 +18,8 @@ use crate::newest::Newest;
 use crate::progress::SectionProgress;
 use plain_store::{Caller, Command, Reply, Setup, Store, Value};
 use reader_copies::Made;
-use safe_number::{Field, ReadRun, WriteRun, number_of};
+use record::Field;
+use safe_number::{ReadRun, WriteRun, number_of};
 use store_image::Image;
 
 /// A call inside the critical section.

@@ -12,7 +12,8 @@ use crate::change::{Change, Written};
 use crate::data_row::DataRow;
 use crate::standing::{Asked, Called, Versions};
 use flicks::Flicks;
-use safe_number::{Field, Pace, ReadRun, WriteRun};
+use record::Field;
+use safe_number::{Pace, ReadRun, WriteRun};
 
 /// One access of a read, of the register that is asked for.
 #[inline(always)]

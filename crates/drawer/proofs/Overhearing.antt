@@ -1,6 +1,6 @@
 -- What is heard and not heard of a run whose reads are shown or hidden.
 use Rattle.std.proofs.Common.{◌≡◌, ℕ, ◌<◌, ◌==◌, ◌&&◌, Bool, false, cond, List, [], ◌∷◌, ◌++◌, length, Option, None, Some, is_some, true≢false, slice_index, ap, sym, ◌∙◌, append-nil, arith}
-use Rattle.safe_number.specs.declared.Access.{Access}
+use Rattle.record.specs.declared.access.Access.{Access}
 use Rattle.plain_store.specs.declared.Setup.{Setup}
 use Rattle.plain_store.proofs.GoodSetups.{few-processes}
 use Rattle.record.specs.Entries.{Entry, Past}

@@ -11,8 +11,8 @@ ghost use Rattle.drawer.specs.Overlaps.{ComesInTurn, Hears, Overhears, begun_by,
 
 use picture::{OverlappedRead, Reads};
 use plain_store::{NestedTypes, Setup};
+use record::{Access, Field};
 use safe_bit::Move;
-use safe_number::{Access, Field};
 use std::alloc::{AllocError, Global};
 use watch::Watch;
 

@@ -1,8 +1,8 @@
 -- What a unit does is what the closing machine does, at whatever closing it shows.
 use Rattle.std.proofs.Common.{◌≡◌, ℕ, ◌/◌, ◌<◌, ◌≤◌, ◌==◌, ◌&&◌, Bool, true, false, cond, List, [], ◌∷◌, Option, None, Some, refl, sym, ap, subst, ◌∙◌, arith}
 use Rattle.reader_copies.specs.Runs.{settled_at, settle_after}
-use Rattle.safe_number.specs.declared.Access.{Access}
-use Rattle.safe_number.specs.declared.TornBit.{TornBit}
+use Rattle.record.specs.declared.access.Access.{Access}
+use Rattle.record.specs.declared.access.TornBit.{TornBit}
 use Rattle.safe_number.specs.Bytes.{bits_of_number}
 use Rattle.safe_number.specs.Runs.{NumberWrite, new_write}
 use Rattle.plain_store.specs.declared.Setup.{Setup}

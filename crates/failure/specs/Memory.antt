@@ -2,9 +2,9 @@
 use Rattle.std.specs.Prelude.{List}
 use Rattle.safe_bit.specs.Cell.{Cell}
 use Rattle.reader_copies.specs.Row.{row_after, CanMake}
-use Rattle.safe_number.specs.declared.Access.{Access}
-use Rattle.safe_number.specs.declared.Field.{Field}
-use Rattle.safe_number.specs.declared.Field.TheVariants.{Choosing, Ticket}
+use Rattle.record.specs.declared.access.Access.{Access}
+use Rattle.record.specs.declared.access.Field.{Field}
+use Rattle.record.specs.declared.access.Field.TheVariants.{Choosing, Ticket}
 use Rattle.bakery.specs.Locks.{LockRows, made_by}
 use Rattle.critical.specs.Registers.{Data, register_of, with_register}
 

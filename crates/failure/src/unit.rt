@@ -15,7 +15,7 @@ use bakery::Lock;
 use critical::Data;
 use plain_store::Setup;
 use reader_copies::Made;
-use safe_number::{Access, Field, TornBit};
+use record::{Access, Field, TornBit};
 use std::marker::Model;
 
 /// The memory unit of a failed process. It settles the torn bit, if there is one: on each copy by begin and

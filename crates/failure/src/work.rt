@@ -1,6 +1,6 @@
 //! What a memory unit does, part by part.
 ghost use Rattle.std.specs.Prelude.{◌≡◌, ◌<◌, ◌≤◌, ◌*◌, ◌==◌, List, Bool, true, false, [], cond, Some, None, IfSome, slice_index_or};
-ghost use Rattle.safe_number.specs.Accesses.{access_of};
+ghost use Rattle.record.specs.Accesses.{access_of};
 ghost use Rattle.record.specs.Places.{bit_written, next_written, write_moved};
 ghost use Rattle.record.specs.Cuts.{IsTornOf};
 ghost use Rattle.failure.specs.Units.{whole_work, next_of_work, work_after, remains, goes, IsWork};
@@ -8,7 +8,8 @@ ghost use Rattle.failure.specs.Units.{whole_work, next_of_work, work_after, rema
 use crate::progress::UnitProgress;
 use plain_store::Setup;
 use reader_copies::Progress;
-use safe_number::{Access, Field, TornBit, WriteRun};
+use record::{Access, Field, TornBit};
+use safe_number::WriteRun;
 
 /// The bytes of the number 0, to which a lock's register is cleared.
 const CLEAR: [u8; 4] = [0; 4];

@@ -1,6 +1,6 @@
 -- An accepted entry with an access: which call it is of, whose commit bits are being written then, and what it keeps of the data, where it takes a change or takes nothing.
 use Rattle.std.proofs.Common.{◌≡◌, ℕ, ◌<◌, Bool, true, cond, List, ◌∷◌, None, Some, refl, sym, ap, subst, ◌∙◌}
-use Rattle.safe_number.specs.declared.Access.{Access}
+use Rattle.record.specs.declared.access.Access.{Access}
 use Rattle.plain_store.specs.declared.Command.{Command}
 use Rattle.plain_store.specs.declared.Reply.{Reply}
 use Rattle.plain_store.specs.declared.Setup.{Setup}

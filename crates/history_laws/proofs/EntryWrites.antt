@@ -1,6 +1,6 @@
 -- An entry with an access writes one field of its process at most.
 use Rattle.std.proofs.Common.{◌≡◌, ℕ, ◌∷◌, Some}
-use Rattle.safe_number.specs.declared.Access.{Access}
+use Rattle.record.specs.declared.access.Access.{Access}
 use Rattle.plain_store.specs.declared.Setup.{Setup}
 use Rattle.record.specs.Entries.{Entry, Past}
 use Rattle.laws.proofs.FrameCells.{EntryBy}

@@ -2,8 +2,8 @@
 use Rattle.std.proofs.Common.{◌≡◌, ◌≢◌, ◌⊎◌, ℕ, ◌+◌, ◌<◌, ◌==◌, ◌&&◌, Bool, true, false, not, [], ◌∷◌, Option, Some, None, refl, sym, ap, subst, ◌∙◌, true≢false, inl, inr}
 use Rattle.std.proofs.lemmas.Bool.{cases_eq, ne_eqb}
 use Rattle.reader_copies.specs.Runs as copies
-use Rattle.safe_number.specs.declared.Field.{Field}
-use Rattle.safe_number.specs.declared.Field.TheVariants.{Choosing, Ticket, Commit, Stamp0, Stamp1, Image0, Image1}
+use Rattle.record.specs.declared.access.Field.{Field}
+use Rattle.record.specs.declared.access.Field.TheVariants.{Choosing, Ticket, Commit, Stamp0, Stamp1, Image0, Image1}
 use Rattle.plain_store.specs.declared.Answer.{Answer}
 use Rattle.plain_store.specs.declared.Answer.TheVariants as answer
 use Rattle.plain_store.specs.declared.Reply.{Reply}

@@ -12,7 +12,7 @@ use Rattle.plain_store.proofs.GoodSetups.{good-checked, few-opening}
 use Rattle.record.proofs.Width.{is_good}
 use Rattle.record.specs.declared.events.Event.{Event}
 use Rattle.safe_number.specs.Bytes.{bits_of_number}
-use Rattle.safe_number.specs.declared.Field.TheVariants.{Commit, Stamp0}
+use Rattle.record.specs.declared.access.Field.TheVariants.{Commit, Stamp0}
 use Rattle.laws.proofs.Invariant.{Closed, bit, wires}
 use Rattle.history_laws.proofs.Sound.{IsStoreOf}
 use Rattle.record.specs.Given.{AreGiven}

@@ -1,8 +1,8 @@
 -- A write of a register that isn't committed leaves all that is kept of the data.
 use Rattle.std.proofs.Common.{◌≡◌, ◌≢◌, ◌⊎◌, ℕ, ◌<◌, Bool, true, false, List, not, refl, sym, ap, subst, ◌∙◌, arith, inl, inr, true≢false}
 use Rattle.std.proofs.lemmas.Bool.{cases_eq}
-use Rattle.safe_number.specs.declared.Field.{Field}
-use Rattle.safe_number.specs.declared.Field.TheVariants.{Commit, Stamp0, Stamp1, Image0, Image1}
+use Rattle.record.specs.declared.access.Field.{Field}
+use Rattle.record.specs.declared.access.Field.TheVariants.{Commit, Stamp0, Stamp1, Image0, Image1}
 use Rattle.plain_store.specs.declared.Setup.{Setup}
 use Rattle.plain_store.specs.Store.{Contents}
 use Rattle.record.specs.Headline.{is_version}

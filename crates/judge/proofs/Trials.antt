@@ -15,7 +15,7 @@ use Rattle.record.specs.Entries.{Entry}
 use Rattle.record_file.specs.Reading.{entry_of}
 use Rattle.record_file.specs.Given.{is_entry}
 use Rattle.record_file.specs.Printing.{entry_words, step_entry}
-use Rattle.safe_number.specs.declared.Access.{Access}
+use Rattle.record.specs.declared.access.Access.{Access}
 use Rattle.scenario.specs.Printing.{spaced}
 use Rattle.scenario.specs.Reading.{at_version, heading_read, open_read}
 use Rattle.scenario.specs.Reading.{Progress as Head}

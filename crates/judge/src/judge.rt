@@ -9,8 +9,7 @@ ghost use Rattle.judge.specs.Judging.{BothHeard, HasJudged, found as verdict_fou
 
 use auditor::{Audited, Auditor, Law, Verdict};
 use plain_store::Setup;
-use record::Entry;
-use safe_number::Access;
+use record::{Access, Entry};
 use std::alloc::{AllocError, Global};
 use std::marker::Model;
 use watch::Watch;

@@ -5,8 +5,8 @@ use Rattle.std.specs.Prelude.{unwrap_or}
 use Rattle.std.specs.List.{list_any}
 use Rattle.reader_copies.specs.Runs as copies
 use Rattle.safe_bit.specs.declared.Move.TheVariants.{BeginWrite, EndWrite}
-use Rattle.safe_number.specs.declared.Access.{Access}
-use Rattle.safe_number.specs.declared.Field.TheVariants.{Choosing}
+use Rattle.record.specs.declared.access.Access.{Access}
+use Rattle.record.specs.declared.access.Field.TheVariants.{Choosing}
 use Rattle.record.specs.declared.marks.Mark.TheVariants.{Taken}
 use Rattle.record.specs.Doorways.{raises, begins_doorway}
 use Rattle.record.specs.Entries.{Entry, is_waiting}

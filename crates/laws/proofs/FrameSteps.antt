@@ -5,9 +5,9 @@ use Rattle.safe_bit.specs.SafeRule.{read_value}
 use Rattle.safe_bit.specs.declared.Move.{Move}
 use Rattle.safe_bit.specs.declared.Move.TheVariants.{BeginWrite, EndWrite, BeginRead, EndRead, Settle}
 use Rattle.reader_copies.specs.Runs as copies
-use Rattle.safe_number.specs.declared.Access.{Access}
-use Rattle.safe_number.specs.declared.Field.{Field}
-use Rattle.safe_number.specs.declared.Field.TheVariants.{Ticket}
+use Rattle.record.specs.declared.access.Access.{Access}
+use Rattle.record.specs.declared.access.Field.{Field}
+use Rattle.record.specs.declared.access.Field.TheVariants.{Ticket}
 use Rattle.safe_number.specs.Runs.{NumberWrite}
 use Rattle.plain_store.specs.declared.Command.{Command}
 use Rattle.plain_store.specs.declared.Setup.{Setup}

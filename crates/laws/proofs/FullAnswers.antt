@@ -8,7 +8,7 @@ use Rattle.safe_bit.specs.SafeRule.{read_value}
 use Rattle.safe_bit.specs.declared.Move.TheVariants.{BeginWrite, EndWrite}
 use Rattle.safe_number.specs.Bytes.{number_of_bits}
 use Rattle.safe_number.proofs.Bits.{number-fits}
-use Rattle.safe_number.specs.declared.Access.{Access}
+use Rattle.record.specs.declared.access.Access.{Access}
 use Rattle.plain_store.specs.declared.Answer.{Answer}
 use Rattle.plain_store.specs.declared.Answer.TheVariants as answer
 use Rattle.plain_store.specs.declared.Command.{Command}

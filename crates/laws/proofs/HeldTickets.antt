@@ -2,7 +2,7 @@
 use Rattle.std.proofs.Common.{◌≡◌, ◌≢◌, ℕ, suc, Bool, true, false, cond, List, [], ◌∷◌, Some, None, length, refl, sym, ap, subst, ◌∙◌, true≢false, eq-eqb, ne_eqb}
 use Rattle.std.specs.Prelude.{fold}
 use Rattle.std.specs.List.{list_any}
-use Rattle.safe_number.specs.declared.Access.{Access}
+use Rattle.record.specs.declared.access.Access.{Access}
 use Rattle.plain_store.specs.declared.Command.{Command}
 use Rattle.plain_store.specs.declared.Setup.{Setup}
 use Rattle.record.specs.declared.events.Event.{Event}

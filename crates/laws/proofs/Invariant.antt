@@ -1,8 +1,8 @@
 -- The invariant of the lock. Own part: what each process knows of itself and its registers. Pair part: what a reader has seen of an owner, whatever the reader is doing.
 use Rattle.std.specs.Prelude.{◌≡◌, ◌≢◌, ◌⊎◌, ℕ, suc, ◌+◌, ◌*◌, ◌/◌, ◌%◌, ◌^◌, ◌<◌, ◌≤◌, Bool, true, false, List, [], ◌∷◌, ◌++◌, length, slice_index_or, flat_map}
 use Rattle.safe_bit.specs.Cell.{Cell}
-use Rattle.safe_number.specs.declared.Field.{Field}
-use Rattle.safe_number.specs.declared.Field.TheVariants.{Choosing, Ticket}
+use Rattle.record.specs.declared.access.Field.{Field}
+use Rattle.record.specs.declared.access.Field.TheVariants.{Choosing, Ticket}
 use Rattle.safe_number.specs.Bytes.{bits_of_number}
 use Rattle.safe_number.specs.Runs.{NumberWrite}
 use Rattle.plain_store.specs.declared.Setup.{Setup}

@@ -1,8 +1,8 @@
 -- The history variables of a process: what it has shown to the others and what it has seen of them, and when. No step of a program reads them. A time is the number of an entry plus one.
 use Rattle.std.specs.Prelude.{ℕ, suc, ◌==◌, Bool, false, cond, ◌&&◌, List, [], ◌∷◌, length, Option, None, Some}
-use Rattle.safe_number.specs.declared.Access.{Access}
-use Rattle.safe_number.specs.declared.Field.{Field}
-use Rattle.safe_number.specs.declared.Field.TheVariants.{Choosing, Ticket}
+use Rattle.record.specs.declared.access.Access.{Access}
+use Rattle.record.specs.declared.access.Field.{Field}
+use Rattle.record.specs.declared.access.Field.TheVariants.{Choosing, Ticket}
 use Rattle.safe_number.specs.Bytes.{number_of_bits}
 use Rattle.plain_store.specs.declared.Setup.{Setup}
 use Rattle.record.specs.Closings.{Closing, Withdraws, Settles, Frees, Quit, Ended}

@@ -1,7 +1,7 @@
 -- The read of a bit begins. If its register is whole, no write of the copy is open, so the read begins clean.
 use Rattle.std.specs.Prelude.{◌≡◌, ℕ, ◌<◌, Bool, true, false, List, length}
 use Rattle.std.proofs.Common.{refl, ◌∙◌, subst}
-use Rattle.safe_number.specs.declared.Field.TheVariants.{Choosing, Ticket}
+use Rattle.record.specs.declared.access.Field.TheVariants.{Choosing, Ticket}
 use Rattle.plain_store.specs.declared.Command.{Command}
 use Rattle.plain_store.specs.declared.Setup.{Setup}
 use Rattle.record.specs.Entries.{Past}

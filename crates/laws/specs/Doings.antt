@@ -1,6 +1,6 @@
 -- What each process is doing, as its entries tell: it rests, it lies down, it is at a place of its call, or at a place of a closing.
 use Rattle.std.specs.Prelude.{ℕ, Bool, true, false, ◌==◌, ◌&&◌, cond, [], ◌∷◌, Option, None, Some}
-use Rattle.safe_number.specs.declared.Access.{Access}
+use Rattle.record.specs.declared.access.Access.{Access}
 use Rattle.plain_store.specs.declared.Command.{Command}
 use Rattle.plain_store.specs.declared.Setup.{Setup}
 use Rattle.record.specs.declared.marks.Mark.{Mark}

@@ -3,7 +3,7 @@ use Rattle.std.specs.Prelude.{◌≡◌, ℕ, ◌<◌, ◌==◌, Bool, true, fal
 use Rattle.safe_bit.specs.declared.Move.TheVariants.{EndWrite}
 use Rattle.safe_bit.specs.Cell.{Cell, BitCall, Makes, Drops, cell_of_calls, read_answer, MayMove}
 use Rattle.safe_bit.specs.SafeRule.{read_value}
-use Rattle.safe_number.specs.declared.Access.{Access}
+use Rattle.record.specs.declared.access.Access.{Access}
 use Rattle.plain_store.specs.declared.Command.{Command}
 use Rattle.plain_store.specs.declared.Setup.{Setup}
 use Rattle.record.specs.declared.marks.Mark.{Mark}

@@ -3,7 +3,7 @@ use Rattle.std.specs.Prelude.{◌≡◌, ◌↔◌, ℕ, ◌<◌, Bool, true, fa
 use Rattle.safe_bit.specs.declared.Move.TheVariants.{EndRead}
 use Rattle.safe_bit.specs.SafeRule.{MayEndWith, read_value}
 use Rattle.reader_copies.specs.Written.{IsWrite}
-use Rattle.safe_number.specs.declared.Access.{Access}
+use Rattle.record.specs.declared.access.Access.{Access}
 use Rattle.plain_store.specs.declared.Answer.TheVariants as answer
 use Rattle.plain_store.specs.declared.Setup.{Setup}
 use Rattle.plain_store.specs.Setups.{checked}

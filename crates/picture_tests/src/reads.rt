@@ -1,6 +1,6 @@
 //! A read that a write overlapped, in a band of its own with the last line.
 use picture::{Form, Line, OverlappedRead, Page, Saying};
-use safe_number::Field;
+use record::Field;
 use std::test::Fail;
 
 /// The picture of a read and a line, as another program draws it that was written before this one.

@@ -1,6 +1,6 @@
 -- An access that a process tells as its next one.
 use Rattle.std.proofs.Common.{◌≡◌, Bool, Some, sym, ap, subst, ◌∙◌, unwrap_or}
-use Rattle.safe_number.specs.declared.Access.{Access}
+use Rattle.record.specs.declared.access.Access.{Access}
 use Rattle.laws.specs.Doings.{Doing}
 use Rattle.laws.specs.Steps.{next_of}
 use Rattle.process.specs.Processes.{ProcessState}

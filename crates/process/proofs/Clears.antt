@@ -5,7 +5,7 @@ use Rattle.std.specs.Prelude.{Option, None, Some, nat_lt}
 use Rattle.reader_copies.specs.declared.Progress.TheVariants.{Going}
 use Rattle.reader_copies.specs.Runs.{progress_of}
 use Rattle.reader_copies.specs.Runs as copies
-use Rattle.safe_number.specs.declared.Access.{Access}
+use Rattle.record.specs.declared.access.Access.{Access}
 use Rattle.safe_number.specs.Runs.{NumberWrite}
 use Rattle.plain_store.specs.declared.Answer.{Answer}
 use Rattle.plain_store.specs.declared.Command.{Command}

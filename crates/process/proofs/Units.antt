@@ -3,7 +3,7 @@ use Rattle.std.proofs.Common.{◌≡◌, ℕ, ◌+◌, ◌&&◌, ◌||◌, Bool,
 use Rattle.std.specs.Prelude.{Option, None, Some, option_map, unwrap_or}
 use Rattle.reader_copies.specs.Runs as copies
 use Rattle.reader_copies.specs.Runs.{Settling, settle_after, settled_at}
-use Rattle.safe_number.specs.declared.Field.{Field}
+use Rattle.record.specs.declared.access.Field.{Field}
 use Rattle.safe_number.specs.Runs.{NumberWrite, new_write}
 use Rattle.plain_store.specs.declared.Command.{Command}
 use Rattle.plain_store.specs.declared.Reply.{Reply}

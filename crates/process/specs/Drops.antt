@@ -1,6 +1,6 @@
 -- The registers once a process has dropped the read that it has open.
 use Rattle.std.specs.Prelude.{◌≡◌, ℕ, ◌<◌, true, false, cond, List, length, Option, None, Some}
-use Rattle.safe_number.specs.declared.Field.{Field}
+use Rattle.record.specs.declared.access.Field.{Field}
 use Rattle.plain_store.specs.declared.Setup.{Setup}
 use Rattle.bakery.specs.Locks.{LockRows, lock_of, row_in, locks_without_reads}
 use Rattle.critical.specs.Registers.{FitsSetup, is_data, register_at, without_reads_at}

@@ -1,6 +1,6 @@
 -- What a failure makes of what is kept of a process.
 use Rattle.std.specs.Prelude.{ℕ, Bool, false, cond, Option, None, Some}
-use Rattle.safe_number.specs.declared.TornBit.{TornBit}
+use Rattle.record.specs.declared.access.TornBit.{TornBit}
 use Rattle.plain_store.specs.declared.Command.TheVariants.{Ask}
 use Rattle.plain_store.specs.declared.Reply.{Reply}
 use Rattle.plain_store.specs.declared.Setup.{Setup}

@@ -1,7 +1,7 @@
 -- The registers of all processes, those of the lock and those of the versions, and a process that is served by them.
 use Rattle.flicks.specs.Flicks.{FlickState, after_flick, flick_of}
 use Rattle.std.specs.Prelude.{ℕ, zero, suc, ◌≡◌, ◌+◌, ◌≤◌, Bool, true, false, cond, List, [], Some}
-use Rattle.safe_number.specs.declared.Access.{Access}
+use Rattle.record.specs.declared.access.Access.{Access}
 use Rattle.plain_store.specs.declared.Setup.{Setup}
 use Rattle.record.specs.Doorways.{is_waiting_stage}
 use Rattle.record.specs.Places.{value_of}

@@ -19,8 +19,7 @@ use bakery::{Door, Leaving};
 use critical::Section;
 use failure::Unit;
 use plain_store::{Answer, Command, Reply, Setup};
-use record::Stage;
-use safe_number::Field;
+use record::{Field, Stage};
 use std::alloc::{AllocError, Global};
 use std::marker::Model;
 

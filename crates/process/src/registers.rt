@@ -11,8 +11,8 @@ ghost use Rattle.process.specs.Registers.{AreAlike, CanMake, answered, made, new
 use bakery::Locks;
 use critical::DataRow;
 use plain_store::Setup;
+use record::{Access, Field};
 use safe_bit::Move;
-use safe_number::{Access, Field};
 use std::alloc::{AllocError, Global};
 use std::marker::Model;
 use store_image::Image;

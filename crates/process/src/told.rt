@@ -10,8 +10,7 @@ ghost use Rattle.process.specs.Telling.{act_of, changes_told, marks_of, marks_to
 use bakery::DoorProgress;
 use critical::SectionProgress;
 use plain_store::{Answer, Command, Reply};
-use record::{Act, Mark};
-use safe_number::Access;
+use record::{Access, Act, Mark};
 use smallvec::SmallVec;
 use std::alloc::Global;
 

@@ -2,8 +2,8 @@
 use Rattle.std.specs.Prelude.{◌≡◌, ◌⊎◌, refl, ℕ, zero, suc, ◌+◌, ◌-◌, ◌<◌, ◌≤◌, ◌==◌, nat_lt, Bool, true, false, cond, not, ◌&&◌, List, [], ◌∷◌, ◌++◌, length, map, fold, flat_map, replicate, slice_get, Option, None, Some}
 use Rattle.std.proofs.Common.{sym, ◌∙◌, ap, subst, arith, inl, inr, length-append, eqb-true}
 use Rattle.std.specs.List.{list_any}
-use Rattle.safe_number.specs.declared.Access.{Access}
-use Rattle.safe_number.specs.declared.Field.TheVariants.{Choosing, Ticket}
+use Rattle.record.specs.declared.access.Access.{Access}
+use Rattle.record.specs.declared.access.Field.TheVariants.{Choosing, Ticket}
 use Rattle.plain_store.specs.declared.Setup.{Setup}
 use Rattle.record.specs.declared.events.Event.{Event}
 use Rattle.record.specs.declared.events.Event.TheVariants.{Call, Step, Fail, Withdraw, Restart}
@@ -32,7 +32,8 @@ use Rattle.std.proofs.lemmas.List.{length-map}
 use Rattle.safe_bit.specs.declared.Move.TheVariants.{BeginWrite, EndWrite, Settle}
 use Rattle.reader_copies.specs.declared.Made.{Made}
 use Rattle.reader_copies.specs.Runs.{settles_from, is_open_at}
-use Rattle.safe_number.specs.Accesses.{access_of, at_bit}
+use Rattle.safe_number.specs.Accesses.{at_bit}
+use Rattle.record.specs.Accesses.{access_of}
 
 -- the unit makes as many accesses whatever it settles at
 pub length-settles : (m r n : ℕ) (v w : Bool) → length (settles_from m r n v) ≡ length (settles_from m r n w)

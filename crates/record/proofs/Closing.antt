@@ -6,9 +6,10 @@ use Rattle.std.specs.Prelude.{slice_get, fold, unwrap_or}
 use Rattle.reader_copies.specs.declared.Made.{Made}
 use Rattle.reader_copies.specs.Runs as copies
 use Rattle.reader_copies.proofs.Orders.{rest-settle}
-use Rattle.safe_number.specs.declared.Access.{Access}
-use Rattle.safe_number.specs.declared.Field.TheVariants.{Choosing, Ticket}
-use Rattle.safe_number.specs.Accesses.{access_of, at_bit}
+use Rattle.record.specs.declared.access.Access.{Access}
+use Rattle.record.specs.declared.access.Field.TheVariants.{Choosing, Ticket}
+use Rattle.safe_number.specs.Accesses.{at_bit}
+use Rattle.record.specs.Accesses.{access_of}
 use Rattle.safe_number.specs.Runs.{NumberWrite, new_write}
 use Rattle.safe_number.proofs.Bits.{length-bits_of_number}
 use Rattle.plain_store.specs.declared.Answer.TheVariants as answer

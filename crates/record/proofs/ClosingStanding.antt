@@ -6,7 +6,7 @@ use Rattle.std.proofs.lemmas.List.{length-map}
 use Rattle.reader_copies.specs.Runs as copies
 use Rattle.safe_bit.specs.declared.Move.{Move}
 use Rattle.safe_bit.specs.declared.Move.TheVariants.{BeginWrite, EndWrite, Settle}
-use Rattle.safe_number.specs.declared.Access.{Access}
+use Rattle.record.specs.declared.access.Access.{Access}
 use Rattle.plain_store.specs.declared.Setup.{Setup}
 use Rattle.record.specs.declared.events.Event.{Event}
 use Rattle.record.specs.declared.marks.Mark.{Mark}
@@ -219,7 +219,7 @@ pub flick-free : (c : Call) (at : Closing) → IsChosen at → (w flick : Bool) 
 flick-free c (Withdraws x) h w flick = refl
 flick-free c (Settles field bit begun taken is t) h w flick =
     ap (λ v. Some (let n : Next = record {
-      access = Rattle.safe_number.specs.Accesses.access_of c.process field (bit, copies.next_settle t v);
+      access = Rattle.record.specs.Accesses.access_of c.process field (bit, copies.next_settle t v);
       marks = cond (is_last_settled c t v) (Rattle.record.specs.Closings.settled_marks begun taken v) [];
     } in n)) (ap (λ o. unwrap_or o w) h.1 ∙ sym (ap (λ o. unwrap_or o flick) h.1))
 flick-free c (Frees is x) h w flick = refl

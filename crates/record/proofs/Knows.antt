@@ -1,7 +1,7 @@
 -- What a call knows while it writes a change: the store is the one of the image that it has read last.
 use Rattle.std.proofs.Common.{◌≡◌, ℕ, ◌+◌, ◌==◌, ◌%◌, Bool, true, false, cond, List, [], ◌∷◌, ◌++◌, Some, length, refl, sym, ap, subst, ◌∙◌, true≢false}
 use Rattle.safe_bit.specs.declared.Move.TheVariants.{BeginWrite, EndWrite}
-use Rattle.safe_number.specs.declared.Access.{Access}
+use Rattle.record.specs.declared.access.Access.{Access}
 use Rattle.plain_store.specs.Store.{Contents, changes}
 use Rattle.record.specs.Calls.{ReadSoFar, with_access}
 use Rattle.record.specs.Moves.{ended_with}

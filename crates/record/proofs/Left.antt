@@ -4,10 +4,10 @@ use Rattle.std.proofs.lemmas.Bool.{cases_eq, eqb-true, eqb-false, ne_eqb, eq-eqb
 use Rattle.std.specs.Prelude.{option_map, slice_index_or}
 use Rattle.safe_bit.specs.declared.Move.TheVariants.{BeginWrite, EndWrite}
 use Rattle.reader_copies.specs.Runs as copies
-use Rattle.safe_number.specs.declared.Access.{Access}
-use Rattle.safe_number.specs.declared.Field.{Field}
-use Rattle.safe_number.specs.declared.TornBit.{TornBit}
-use Rattle.safe_number.specs.Accesses.{access_of}
+use Rattle.record.specs.declared.access.Access.{Access}
+use Rattle.record.specs.declared.access.Field.{Field}
+use Rattle.record.specs.declared.access.TornBit.{TornBit}
+use Rattle.record.specs.Accesses.{access_of}
 use Rattle.safe_number.specs.Runs.{NumberWrite, new_write, torn_with}
 use Rattle.record.specs.Closings.{Closing, Withdraws, Settles, Frees, Lowers, Quit, Ended, freeing, withdrawing, no_ticket, is_last_written, is_last_settled, closing_after, closing_of}
 use Rattle.record.specs.Cuts.{named, torn_in, torn_at, torn_run}

@@ -1,8 +1,8 @@
 -- The marks that a script has at a place are those of the place.
 use Rattle.std.specs.Prelude.{◌≡◌, ◌⊎◌, refl, ℕ, zero, suc, ◌+◌, ◌*◌, ◌<◌, ◌==◌, Bool, true, false, cond, List, [], ◌∷◌, ◌++◌, length, slice_get, Some, ◌≢◌}
 use Rattle.std.proofs.Common.{sym, ◌∙◌, ap, arith, append-nil, ne_eqb, eq-eqb, inl, inr}
-use Rattle.safe_number.specs.declared.Access.{Access}
-use Rattle.safe_number.specs.declared.Field.{Field}
+use Rattle.record.specs.declared.access.Access.{Access}
+use Rattle.record.specs.declared.access.Field.{Field}
 use Rattle.record.specs.declared.marks.Mark.{Mark}
 use Rattle.record.proofs.Singles
 use Rattle.record.proofs.Singles.{get-append, get-left, length-single, length-reads_from, Half, begins, ends, read-at, is_write, AllWrites-write_of, AllWrites-get}

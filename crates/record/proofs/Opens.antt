@@ -7,10 +7,10 @@ use Rattle.safe_bit.specs.SafeRule.{is_write_open}
 use Rattle.safe_bit.specs.declared.Move.{Move}
 use Rattle.safe_bit.specs.declared.Move.TheVariants.{BeginWrite, EndWrite, BeginRead, EndRead, Settle}
 use Rattle.reader_copies.specs.Runs as copies
-use Rattle.safe_number.specs.declared.Access.{Access}
-use Rattle.safe_number.specs.declared.Field.{Field}
-use Rattle.safe_number.specs.declared.TornBit.{TornBit}
-use Rattle.safe_number.specs.Accesses.{access_of}
+use Rattle.record.specs.declared.access.Access.{Access}
+use Rattle.record.specs.declared.access.Field.{Field}
+use Rattle.record.specs.declared.access.TornBit.{TornBit}
+use Rattle.record.specs.Accesses.{access_of}
 use Rattle.safe_number.specs.Runs.{NumberWrite}
 use Rattle.record.specs.Cuts.{torn_in, torn_at}
 use Rattle.record.specs.Entries.{Entry, Past}

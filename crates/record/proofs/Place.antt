@@ -1,7 +1,7 @@
 -- Where a process stands in its local program: which number access it is making, with what it knows.
 use Rattle.std.specs.Prelude.{◌≡◌, refl, ℕ, ◌+◌, ◌==◌, Bool, true, false, cond, List, [], ◌∷◌, ◌++◌}
 use Rattle.std.proofs.Common.{sym, ap}
-use Rattle.safe_number.specs.declared.Field.TheVariants.{Choosing, Ticket}
+use Rattle.record.specs.declared.access.Field.TheVariants.{Choosing, Ticket}
 use Rattle.plain_store.specs.declared.Answer.TheVariants.{Reply, TicketsFull, StampsFull}
 use Rattle.record.specs.declared.marks.Mark.TheVariants.{Waiting, Answered}
 use Rattle.plain_store.specs.Store.{Contents, changes}

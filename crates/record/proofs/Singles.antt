@@ -1,14 +1,15 @@
 -- Laws of the single accesses of a number, and of the entries of a script.
 use Rattle.std.specs.Prelude.{◌≡◌, refl, ℕ, zero, suc, ◌+◌, ◌*◌, ◌<◌, Bool, true, false, List, [], ◌∷◌, ◌++◌, length, map, replicate, slice_get, Option, None, Some}
 use Rattle.std.proofs.Common.{sym, subst, ap, arith, zero-add, suc-add}
-use Rattle.safe_number.specs.declared.Access.{Access}
-use Rattle.safe_number.specs.declared.Field.{Field}
+use Rattle.record.specs.declared.access.Access.{Access}
+use Rattle.record.specs.declared.access.Field.{Field}
 use Rattle.safe_bit.specs.declared.Move.{Move}
 use Rattle.safe_bit.specs.declared.Move.TheVariants.{BeginWrite, EndWrite, BeginRead, EndRead, Settle}
 use Rattle.plain_store.specs.declared.Setup.{Setup}
 use Rattle.record.specs.declared.marks.Mark.{Mark}
 use Rattle.record.specs.Registers.{write_of}
-use Rattle.safe_number.specs.Accesses.{access_of, at_bit}
+use Rattle.safe_number.specs.Accesses.{at_bit}
+use Rattle.record.specs.Accesses.{access_of}
 use Rattle.safe_number.specs.Accesses as number
 use Rattle.reader_copies.specs.Runs as copies
 use Rattle.reader_copies.specs.Written.{IsWrite}

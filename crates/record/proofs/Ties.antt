@@ -4,8 +4,9 @@ use Rattle.std.proofs.lemmas.Bool.{eqb-true, eqb-false, ne_eqb, eq-eqb}
 use Rattle.std.proofs.lemmas.List.{length-map, length_push}
 use Rattle.std.specs.Prelude.{slice_get, slice_index_or, is_none, ◌⊎◌}
 use Rattle.reader_copies.specs.declared.Made.{Made}
-use Rattle.safe_number.specs.declared.Access.{Access}
-use Rattle.safe_number.specs.Accesses.{access_of, number_writes, number_reads}
+use Rattle.record.specs.declared.access.Access.{Access}
+use Rattle.safe_number.specs.Accesses.{number_writes, number_reads}
+use Rattle.record.specs.Accesses.{access_of}
 use Rattle.safe_number.specs.Bytes.{bits_of_number}
 use Rattle.safe_number.specs.Runs.{NumberWrite, new_write}
 use Rattle.safe_number.proofs.Numbers.{length_bits}

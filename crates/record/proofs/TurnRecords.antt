@@ -5,8 +5,8 @@ use Rattle.safe_bit.specs.Cell.{Cell, cell_of, MayWrite, AreWritesInTurn}
 use Rattle.safe_bit.specs.SafeRule.{is_write_open}
 use Rattle.safe_bit.specs.declared.Move.{Move}
 use Rattle.safe_bit.specs.declared.Move.TheVariants.{BeginWrite, EndWrite, BeginRead, EndRead, Settle}
-use Rattle.safe_number.specs.declared.Access.{Access}
-use Rattle.safe_number.specs.declared.TornBit.{TornBit}
+use Rattle.record.specs.declared.access.Access.{Access}
+use Rattle.record.specs.declared.access.TornBit.{TornBit}
 use Rattle.plain_store.specs.declared.Setup.{Setup}
 use Rattle.record.specs.declared.events.Event.{Event}
 use Rattle.record.specs.declared.events.Event.TheVariants.{Call as Calls, Step, Fail, Withdraw, Restart}
@@ -69,7 +69,7 @@ waiting-left c part run made bits f o h (reads r t) = refl
 
 -- what the last write has left open is where the unit begins
 torn-settling : (c : Call) (mine : Past) (torn : Option Access) (a : Access) → open_torn c.process torn a ≡ open_closing c (settling_from c mine torn) a
-torn-settling c mine None a = sym (new-closed c.process Rattle.safe_number.specs.declared.Field.TheVariants.Ticket (Rattle.record.specs.Closings.no_ticket c) c.setup.ticket_bits a)
+torn-settling c mine None a = sym (new-closed c.process Rattle.record.specs.declared.access.Field.TheVariants.Ticket (Rattle.record.specs.Closings.no_ticket c) c.setup.ticket_bits a)
 torn-settling c mine (Some b) a = refl
 
 not_late : (c : Call) (mine : Past) (torn : Option Access) → IsLate (settling_from c mine torn) → ⊥
@@ -159,7 +159,7 @@ added-out s g events (Withdraw p) e h (runs_at command b r w t) a =
     let d : record { process = p; access = None; marks = Withdrew ∷ [] } ≡ e = cc in
     subst (λ (e : Entry). Out s p (own p past) e (fold stage_after (stage p past) e.marks)) d (record {
       turns = no_turn (own p past) p Withdrew;
-      opens = leaves refl refl (λ a. none a ∙ sym (new-closed p Rattle.safe_number.specs.declared.Field.TheVariants.Ticket (Rattle.record.specs.Closings.no_ticket c) s.ticket_bits a)) (record { torn = kept p s.processes (own p past) Withdrew None (subst (Torn s.processes p (own p past)) left t.torn); begun = λ t h. cc });
+      opens = leaves refl refl (λ a. none a ∙ sym (new-closed p Rattle.record.specs.declared.access.Field.TheVariants.Ticket (Rattle.record.specs.Closings.no_ticket c) s.ticket_bits a)) (record { torn = kept p s.processes (own p past) Withdrew None (subst (Torn s.processes p (own p past)) left t.torn); begun = λ t h. cc });
     })
 added-out s g events (Restart p) e h (closed (inl i) w t) a = let f : refused_at (Restart p) Idle ≡ None = ap (refused_at (Restart p)) (sym i) ∙ h in cc
 added-out s g events (Restart p) e h (closed (inr i) w t) a = let d : record { process = p; access = None; marks = Restarted ∷ [] } ≡ e = cc in

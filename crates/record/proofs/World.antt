@@ -2,10 +2,10 @@
 use Rattle.std.specs.Prelude.{◌≡◌, ◌⊎◌, refl, ℕ, zero, suc, ◌==◌, nat_lt, Bool, true, false, cond, not, ◌&&◌, List, [], ◌∷◌, ◌++◌, length, map, fold, slice_get, if◌then◌else◌, Option, None, Some}
 use Rattle.std.proofs.Common.{sym, ◌∙◌, ap, subst, inl, inr, append-nil, eqb-true}
 use Rattle.std.specs.List.{list_any}
-use Rattle.safe_number.specs.declared.Access.{Access}
+use Rattle.record.specs.declared.access.Access.{Access}
 use Rattle.plain_store.specs.declared.Setup.{Setup}
 use Rattle.plain_store.specs.declared.Answer.TheVariants.{Withdrawn}
-use Rattle.safe_number.specs.declared.Field.TheVariants.{Choosing, Ticket}
+use Rattle.record.specs.declared.access.Field.TheVariants.{Choosing, Ticket}
 use Rattle.record.specs.declared.events.Event.{Event}
 use Rattle.record.specs.declared.events.Event.TheVariants.{Call, Step, Fail, Withdraw, Restart}
 use Rattle.record.specs.declared.refusals.Refusal.{Refusal}

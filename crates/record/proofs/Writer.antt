@@ -1,9 +1,9 @@
 -- Every bit has one writer: who makes a write move owns the bit.
 use Rattle.std.specs.Prelude.{◌≡◌, refl, ℕ, zero, suc, ◌+◌, ◌==◌, nat_lt, Bool, true, false, cond, ◌&&◌, List, [], ◌∷◌, ◌++◌, length, map, slice_get, Option, None, Some}
 use Rattle.std.proofs.Common.{sym, ◌∙◌, ap, subst, true≢false, eqb-true, eq-eqb}
-use Rattle.safe_number.specs.declared.Access.{Access}
-use Rattle.safe_number.specs.declared.Field.{Field}
-use Rattle.safe_number.specs.declared.Field.TheVariants.{Choosing, Ticket}
+use Rattle.record.specs.declared.access.Access.{Access}
+use Rattle.record.specs.declared.access.Field.{Field}
+use Rattle.record.specs.declared.access.Field.TheVariants.{Choosing, Ticket}
 use Rattle.safe_bit.specs.declared.Move.{Move}
 use Rattle.safe_bit.specs.declared.Move.TheVariants.{BeginWrite, EndWrite, BeginRead, EndRead, Settle}
 use Rattle.plain_store.specs.declared.Setup.{Setup}
@@ -29,7 +29,8 @@ use Rattle.record.specs.Stages.{inside, stage}
 use Rattle.record.specs.Unit.{made_with, is_finished, last_write, settle, settles_at, unfinished, unit_program}
 use Rattle.safe_bit.specs.SafeRule.{is_write_open}
 use Rattle.record.specs.Parts.{is_read, read_at, written_at, doing}
-use Rattle.safe_number.specs.Accesses.{access_of, at_bit}
+use Rattle.safe_number.specs.Accesses.{at_bit}
+use Rattle.record.specs.Accesses.{access_of}
 use Rattle.safe_number.specs.Accesses as number
 use Rattle.reader_copies.specs.Runs.{settles_from, is_open_at}
 use Rattle.reader_copies.specs.Runs as copies

@@ -1,6 +1,6 @@
 -- What an event did, as contracts see it.
 use Rattle.std.specs.Prelude.{List, Option}
-use Rattle.safe_number.specs.declared.Access.{Access}
+use Rattle.record.specs.declared.access.Access.{Access}
 use Rattle.record.specs.declared.marks.Mark.{Mark}
 
 -- at most one access, and the marks in their order

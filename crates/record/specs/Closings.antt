@@ -1,10 +1,10 @@
 -- How a call ends that was withdrawn or cut by a failure: the machine beside the withdrawal's script and the memory unit's. It is moved on by one flick.
 use Rattle.std.specs.Prelude.{ℕ, ◌==◌, Bool, false, ◌&&◌, not, cond, if◌then◌else◌, List, [], ◌∷◌, length, map, Option, None, Some, is_none}
 use Rattle.reader_copies.specs.Runs as copies
-use Rattle.safe_number.specs.declared.Access.{Access}
-use Rattle.safe_number.specs.declared.Field.{Field}
-use Rattle.safe_number.specs.declared.Field.TheVariants.{Choosing, Ticket}
-use Rattle.safe_number.specs.Accesses.{access_of}
+use Rattle.record.specs.declared.access.Access.{Access}
+use Rattle.record.specs.declared.access.Field.{Field}
+use Rattle.record.specs.declared.access.Field.TheVariants.{Choosing, Ticket}
+use Rattle.record.specs.Accesses.{access_of}
 use Rattle.safe_number.specs.Bytes.{bits_of_number}
 use Rattle.safe_number.specs.Runs.{NumberWrite, new_write}
 use Rattle.plain_store.specs.declared.Answer.TheVariants as answer

@@ -1,9 +1,9 @@
 -- What a failure finds at a place of a call or of a withdrawal: the torn bit, and the change that is pending.
 use Rattle.std.specs.Prelude.{ℕ, ◌<◌, Bool, not, List, Option, None, Some, option_map}
 use Rattle.reader_copies.specs.Runs as copies
-use Rattle.safe_number.specs.declared.Field.{Field}
-use Rattle.safe_number.specs.declared.Field.TheVariants.{Ticket}
-use Rattle.safe_number.specs.declared.TornBit.{TornBit}
+use Rattle.record.specs.declared.access.Field.{Field}
+use Rattle.record.specs.declared.access.Field.TheVariants.{Ticket}
+use Rattle.record.specs.declared.access.TornBit.{TornBit}
 use Rattle.safe_number.specs.Runs.{NumberWrite, torn_bit}
 use Rattle.plain_store.specs.declared.Reply.{Reply}
 use Rattle.plain_store.specs.declared.Setup.{Setup}

@@ -1,7 +1,7 @@
 -- Entries, and a past: the entries so far, the newest first.
 use Rattle.std.specs.Prelude.{ℕ, ◌==◌, Bool, true, false, List, [], ◌∷◌, filter, Option}
 use Rattle.std.specs.List.{list_any}
-use Rattle.safe_number.specs.declared.Access.{Access}
+use Rattle.record.specs.declared.access.Access.{Access}
 use Rattle.record.specs.declared.marks.Mark.{Mark}
 use Rattle.record.specs.declared.marks.Mark.TheVariants.{Called, Waiting, Entered, Failed, Withdrew}
 

@@ -1,7 +1,7 @@
 -- The memory unit that a failure starts, by the place where it cuts a call or a withdrawal. It stands beside the look-back of the failure rule.
 use Rattle.std.specs.Prelude.{Bool, false, cond, slice_index_or, Option, None, Some, option_map}
-use Rattle.safe_number.specs.declared.Field.{Field}
-use Rattle.safe_number.specs.declared.TornBit.{TornBit}
+use Rattle.record.specs.declared.access.Field.{Field}
+use Rattle.record.specs.declared.access.TornBit.{TornBit}
 use Rattle.plain_store.specs.declared.Reply.{Reply}
 use Rattle.record.specs.Closings.{Closing, Withdraws, Settles, freeing, no_ticket}
 use Rattle.record.specs.Cuts.{Change, pending_at, torn_at, torn_closing}

@@ -1,3 +1,4 @@
+pub mod Accesses
 pub mod Acts
 pub mod CallLists
 pub mod Calls

@@ -3,9 +3,9 @@ use Rattle.std.specs.Prelude.{ℕ, Bool, false, List, map, slice_index_or, cond,
 use Rattle.std.specs.List.{range_with_len, list_any}
 use Rattle.safe_bit.specs.Cell.{Cell, cell_of}
 use Rattle.safe_bit.specs.declared.Move.TheVariants.{BeginRead}
-use Rattle.safe_number.specs.declared.Access.{Access}
-use Rattle.safe_number.specs.declared.Field.{Field}
-use Rattle.safe_number.specs.declared.Field.TheVariants.{Commit}
+use Rattle.record.specs.declared.access.Access.{Access}
+use Rattle.record.specs.declared.access.Field.{Field}
+use Rattle.record.specs.declared.access.Field.TheVariants.{Commit}
 use Rattle.safe_number.specs.Bytes.{number_of_bits}
 use Rattle.plain_store.specs.declared.Setup.{Setup}
 use Rattle.store_image.specs.Image.{image_of}

@@ -1,10 +1,11 @@
 -- The registers of all processes: their widths, their opening values, and the accesses of a whole number.
 use Rattle.std.specs.Prelude.{ℕ, zero, suc, ◌+◌, ◌*◌, ◌==◌, Bool, false, not, List, [], ◌∷◌, filter, map, slice_index_or, take, drop, replicate}
 use Rattle.std.specs.List.{range_with_len}
-use Rattle.safe_number.specs.declared.Access.{Access}
-use Rattle.safe_number.specs.declared.Field.{Field}
-use Rattle.safe_number.specs.declared.Field.TheVariants.{Choosing, Ticket, Commit, Stamp0, Stamp1, Image0, Image1}
-use Rattle.safe_number.specs.Accesses.{access_of, number_writes, number_reads}
+use Rattle.record.specs.declared.access.Access.{Access}
+use Rattle.record.specs.declared.access.Field.{Field}
+use Rattle.record.specs.declared.access.Field.TheVariants.{Choosing, Ticket, Commit, Stamp0, Stamp1, Image0, Image1}
+use Rattle.safe_number.specs.Accesses.{number_writes, number_reads}
+use Rattle.record.specs.Accesses.{access_of}
 use Rattle.safe_number.specs.Bytes.{bits_in, number_of_bits}
 use Rattle.plain_store.specs.declared.Setup.{Setup}
 use Rattle.plain_store.specs.Setups.{callers_of, opening_store}

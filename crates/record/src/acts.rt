@@ -1,5 +1,5 @@
+use crate::access::Access;
 use crate::marks::Mark;
-use safe_number::Access;
 use smallvec::SmallVec;
 use std::marker::Model;
 

@@ -3,6 +3,7 @@
 //! this project's own profile.
 #![tactic(auto)]
 
+mod access;
 mod acts;
 mod calls;
 mod events;
@@ -14,6 +15,7 @@ mod refusals;
 mod shown;
 mod stages;
 
+pub use access::{Access, Field, TornBit};
 pub use acts::Act;
 pub use calls::Placed;
 pub use events::Event;

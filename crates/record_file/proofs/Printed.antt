@@ -1,7 +1,7 @@
 -- What `format!` puts together is what is printed.
 use Rattle.std.proofs.Common.{◌≡◌, ℕ, ◌+◌, ◌<◌, true, false, List, [], ◌∷◌, ◌++◌, length, drop, get_or, flat_map, codes, Some, None, refl, ap, sym, ◌∙◌, append_assoc, append-nil}
 use Rattle.std.specs.Fmt.{decimal}
-use Rattle.safe_number.specs.declared.Access.{Access}
+use Rattle.record.specs.declared.access.Access.{Access}
 use Rattle.plain_store.specs.Shown.{command_text, reply_text, answer_text}
 use Rattle.plain_store.specs.declared.commands.Answer.{Answer}
 use Rattle.plain_store.specs.declared.commands.Answer.TheVariants as answer

@@ -6,8 +6,8 @@ use Rattle.std.specs.Fmt.{decimal}
 use Rattle.std.specs.List.{list_all}
 use Rattle.safe_bit.specs.declared.Move.{Move}
 use Rattle.safe_bit.specs.declared.Move.TheVariants as move
-use Rattle.safe_number.specs.declared.Access.{Access}
-use Rattle.safe_number.specs.declared.Field.{Field}
+use Rattle.record.specs.declared.access.Access.{Access}
+use Rattle.record.specs.declared.access.Field.{Field}
 use Rattle.plain_store.specs.declared.commands.Answer.{Answer}
 use Rattle.plain_store.specs.declared.commands.Answer.TheVariants as answer
 use Rattle.plain_store.specs.declared.commands.Reply.{Reply}

@@ -1,7 +1,7 @@
 -- What the types of an entry say of its parts.
 use Rattle.std.specs.Prelude.{◌≡◌, ◌≤◌, ◌^◌, Bool, true, nat_lt, ◌&&◌, Option, Some, None, length}
 use Rattle.std.specs.List.{list_all}
-use Rattle.safe_number.specs.declared.Access.{Access}
+use Rattle.record.specs.declared.access.Access.{Access}
 use Rattle.plain_store.specs.Commands.{is_command}
 use Rattle.plain_store.specs.Values.{fits_i64, is_value}
 use Rattle.plain_store.specs.declared.commands.Answer.{Answer}

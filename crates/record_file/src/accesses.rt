@@ -7,8 +7,8 @@ ghost use Rattle.record_file.specs.Reading.{access_of, dotted, lone_move_of, mov
 
 use crate::keywords::field as field_named;
 use files::FaultKind;
+use record::{Access, Field};
 use safe_bit::Move;
-use safe_number::{Access, Field};
 use scenario::bit_files::{BitWord, one_bit};
 use scenario::operands::{number, process};
 

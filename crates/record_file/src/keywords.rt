@@ -2,7 +2,7 @@
 ghost use Rattle.std.specs.Prelude.{◌≡◌};
 ghost use Rattle.record_file.specs.Keywords.{field_of, mark_word_of, reply_word_of, answer_word_of, own_answer_of};
 
-use safe_number::Field;
+use record::Field;
 
 /// The first word of a mark.
 #[derive(Clone, Copy, Debug, PartialEq, Eq)]

@@ -6,8 +6,8 @@ ghost use Rattle.record_file.specs.Given.{is_entry};
 ghost use Rattle.record_file.specs.Printing.{copy_word, entry_words, field_word, move_words, step_entry};
 
 use crate::sound::sound_step;
+use record::{Access, Field};
 use safe_bit::Move;
-use safe_number::{Access, Field};
 
 /// The process and the access of a line that is as it is printed for them. It is read once from its front to its end, and
 /// takes no room for words. `None` tells nothing of the line.

@@ -5,8 +5,8 @@ ghost use Rattle.std.specs.Fmt.{decimal};
 ghost use Rattle.record_file.specs.Printing.{access_words, behind_spaces, dotted_field, entry_line, move_words, step_entry};
 
 use itoa::write_digits;
+use record::{Access, Field};
 use safe_bit::Move;
-use safe_number::{Access, Field};
 use std::marker::Model;
 
 /// Room for the longest line, and for the bytes that stand in front of a word while it is written.

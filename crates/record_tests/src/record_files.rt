@@ -1,10 +1,9 @@
 //! Entries as lines: each kind of mark and access, and lines that are no entry.
 use files::FaultKind::{self, BadName, BadValue, Number, Unknown, Words};
 use plain_store::{Answer, Command, Name, Reply, Setup, Text, Value};
-use record::{Entry, Mark};
+use record::{Access, Entry, Field, Mark};
 use record_file::{StepLine, print_entry, print_setup, read_entry, read_step};
 use safe_bit::Move;
-use safe_number::{Access, Field};
 use std::alloc::{AllocError, AllocGlobal, Global};
 use std::process::Abort;
 use std::test::Fail;

@@ -3,9 +3,8 @@ ghost use Rattle.std.specs.Prelude.{◌≡◌, Ok};
 ghost use Rattle.plain_store.specs.Setups.{checked};
 
 use plain_store::{Name, Opening, Setup, Value};
-use record::{Act, Entry};
+use record::{Access, Act, Entry, Field};
 use safe_bit::Move;
-use safe_number::{Access, Field};
 use smallvec::SmallVec;
 use std::alloc::{AllocError, Global};
 use std::test::Fail;

@@ -9,8 +9,8 @@ use super::memory::Memory;
 use bakery::{Door, DoorProgress, Leaving, Locks};
 use plain_store::Setup;
 use reader_copies::Progress;
+use record::{Access, Field};
 use safe_bit::Move;
-use safe_number::{Access, Field};
 use std::process::Abort;
 use std::test::Fail;
 

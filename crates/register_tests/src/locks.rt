@@ -2,8 +2,8 @@
 use bakery::{Door, DoorProgress, Leaving, Locks};
 use plain_store::Setup;
 use reader_copies::{Made, Progress};
+use record::Field;
 use safe_bit::Move;
-use safe_number::Field;
 use std::test::Fail;
 
 // On registers a step makes the access that its cursor tells, and a failure tells the bit whose write has

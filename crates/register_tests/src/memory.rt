@@ -1,8 +1,8 @@
 //! A plain memory of safe bits, on which the cursors of the lock and of the section are driven by hand.
 ghost use Rattle.std.specs.Prelude.{◌≤◌};
 
+use record::{Access, Field};
 use safe_bit::Move;
-use safe_number::{Access, Field};
 use std::alloc::{AllocError, Global};
 use std::process::Abort;
 

@@ -1,6 +1,6 @@
 ghost use Rattle.std.specs.Prelude.{◌≡◌, ◌<◌, zero, true, Ok, IfOk};
 ghost use Rattle.safe_bit.specs.declared.Move.TheVariants.{BeginWrite};
-ghost use Rattle.safe_number.specs.declared.Field.TheVariants.{Commit};
+ghost use Rattle.record.specs.declared.access.Field.TheVariants.{Commit};
 ghost use Rattle.plain_store.specs.Setups.{checked};
 ghost use Rattle.record.specs.Places.{Place};
 ghost use Rattle.record.specs.Scripts.{Call};
@@ -12,8 +12,8 @@ use super::memory::Memory;
 use critical::{DataRow, Section, SectionProgress};
 use plain_store::{Command, Name, Reply, Setup, Value};
 use reader_copies::Made;
+use record::{Access, Field};
 use safe_bit::Move;
-use safe_number::{Access, Field};
 use std::alloc::{AllocError, Global};
 use std::process::Abort;
 use std::test::Fail;

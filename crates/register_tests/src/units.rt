@@ -1,6 +1,6 @@
 //! The units of the worked failures, driven by hand: their accesses from the failure to the mark `Down`.
 ghost use Rattle.std.specs.Prelude.{◌≡◌, zero, true};
-ghost use Rattle.safe_number.specs.declared.Field.TheVariants.{Commit};
+ghost use Rattle.record.specs.declared.access.Field.TheVariants.{Commit};
 ghost use Rattle.failure.specs.Units.{goes_on, is_going};
 
 use bakery::Locks;
@@ -8,8 +8,8 @@ use critical::DataRow;
 use failure::{Unit, UnitProgress};
 use plain_store::Setup;
 use reader_copies::CopyWrite;
+use record::{Access, Field, TornBit};
 use safe_bit::Move;
-use safe_number::{Access, Field, TornBit};
 use std::process::Abort;
 use std::test::Fail;
 

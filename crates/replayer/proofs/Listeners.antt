@@ -11,7 +11,7 @@ use Rattle.record.specs.Entries.{Entry, Past}
 use Rattle.record.specs.Given.{AreGiven}
 use Rattle.record.specs.Histories.{history}
 use Rattle.record.specs.Records.{entry_of, past_of, placed, refused, with_event}
-use Rattle.safe_number.specs.declared.Access.{Access}
+use Rattle.record.specs.declared.access.Access.{Access}
 use Rattle.process.specs.declared.told.Effect.{Effect}
 use Rattle.process.specs.Telling.{act_of, marks_of}
 use Rattle.world.specs.Events.{Adds, GoesOn, entry_with}

@@ -1,6 +1,6 @@
 -- A Step that is drawn and then made, by one of those who make the next Steps of a line.
 use Rattle.std.proofs.Common.{◌≡◌, ℕ, ◌-◌, ◌<◌, arith, Bool, true, false, List, [], length, slice_index, IfErr, IfOk, OnErr, OnOk, Result, Ok, Err, Option, Some, refl, ap, sym, subst, ◌∙◌, inl, inr}
-use Rattle.safe_number.specs.declared.Access.{Access}
+use Rattle.record.specs.declared.access.Access.{Access}
 use Rattle.plain_store.specs.declared.setups.Setup.{Setup}
 use Rattle.std.specs.declared.alloc.AllocError.{AllocError}
 use Rattle.record.specs.declared.events.Event.{Event}

@@ -1,7 +1,7 @@
 -- Steps without a mark, one after another, and what stays as it was.
 use Rattle.std.proofs.Common.{◌≡◌, ℕ, zero, suc, ◌+◌, ◌-◌, ◌<◌, arith, Bool, true, false, List, [], ◌∷◌, map, length, IfOk, IfErr, IfSome, OnOk, OnErr, Result, Ok, Err, Option, None, Some, is_none, refl, ap, sym, subst, ◌∙◌, add-one}
 use Rattle.std.specs.Result.{is_err}
-use Rattle.safe_number.specs.declared.Access.{Access}
+use Rattle.record.specs.declared.access.Access.{Access}
 use Rattle.plain_store.specs.declared.setups.Setup.{Setup}
 use Rattle.record.specs.declared.events.Event.{Event}
 use Rattle.record.specs.declared.events.Event.TheVariants as event

@@ -1,7 +1,7 @@
 -- What a turn tells of what happens, and its text.
 use Rattle.std.specs.Prelude.{◌≡◌, ℕ, Bool, true, false, List, flat_map, map, Option, None, Some, Result, Ok, Err}
 use Rattle.std.specs.String.{string_bytes}
-use Rattle.safe_number.specs.declared.Access.{Access}
+use Rattle.record.specs.declared.access.Access.{Access}
 use Rattle.plain_store.specs.declared.setups.Setup.{Setup}
 use Rattle.record.specs.declared.events.Event.{Event}
 use Rattle.record.specs.declared.events.Event.TheVariants as event

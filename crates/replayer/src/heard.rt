@@ -17,8 +17,7 @@ ghost use Rattle.replayer.specs.Hearing.{AddsEntry, Agrees, Listens};
 
 use auditor::{Auditor, Law, Verdict};
 use plain_store::{NestedTypes, Setup};
-use record::{Event, Mark, Refusal, Stage, Taken};
-use safe_number::Access;
+use record::{Access, Event, Mark, Refusal, Stage, Taken};
 use std::alloc::{AllocError, Global};
 use std::marker::Model;
 use store_image::Image;

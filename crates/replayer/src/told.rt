@@ -3,8 +3,7 @@ ghost use Rattle.std.specs.Prelude.{◌≡◌};
 ghost use Rattle.replayer.specs.Telling.{entry_made, marks_made};
 
 use plain_store::NestedTypes;
-use record::{Act, Entry, Event, Mark, Refusal};
-use safe_number::Access;
+use record::{Access, Act, Entry, Event, Mark, Refusal};
 use smallvec::SmallVec;
 use std::alloc::Global;
 use world::Effect;

@@ -4,18 +4,12 @@ use Rattle.std.specs.List.{range_with_len}
 use Rattle.safe_bit.specs.declared.Move.TheVariants.{BeginRead, EndRead}
 use Rattle.reader_copies.specs.declared.Made.{Made}
 use Rattle.reader_copies.specs.Runs.{bit_writes, rest_of_write}
-use Rattle.safe_number.specs.declared.access.Access.{Access}
-use Rattle.safe_number.specs.declared.access.Field.{Field}
 use Rattle.safe_number.specs.Bytes.{bit_in}
 use Rattle.safe_number.specs.Runs.{NumberWrite, NumberRead, bit_write, next_of_write, number_write_after, next_of_read, number_read_after}
 
 -- an access to bit k
 abbrev pub at_bit : ℕ → Made → ℕ × Made
 at_bit k made = (k, made)
-
--- an access to a bit of a register, as an access to that register
-abbrev pub access_of : ℕ → Field → ℕ × Made → Access
-access_of owner field a = record { owner = owner; field = field; bit = a.0; reader = a.1.reader; how = a.1.how }
 
 -- the accesses of a write of these bits, from bit k on, to n copies of each
 abbrev pub writes_from : ℕ → ℕ → List Bool → List (ℕ × Made)

@@ -1,7 +1,6 @@
 //! Numbers of several bits, each bit with one writer and several readers.
 #![tactic(auto)]
 
-mod access;
 mod bytes;
 mod fault;
 mod laws;
@@ -9,7 +8,6 @@ mod reading;
 mod register;
 mod writing;
 
-pub use access::{Access, Field, TornBit};
 pub use bytes::{bits_of, number_of};
 pub use fault::NumberFault;
 pub use laws::{

@@ -14,8 +14,7 @@ ghost use Rattle.sweeper.specs.Sweeps.{is_accepted};
 
 use auditor::{Auditor, Law};
 use plain_store::{NestedTypes, Setup};
-use record::Event;
-use safe_number::Access;
+use record::{Access, Event};
 use std::alloc::{AllocError, Global};
 use std::marker::Model;
 use world::{Core, Effect, Told};

@@ -4,9 +4,9 @@ use Rattle.std.proofs.Math.Seq.{get_or-append_seam}
 use Rattle.std.proofs.lemmas.Bool.{cases_eq, cases_lt}
 use Rattle.std.proofs.lemmas.List.{get_or_append_left, get_or-replicate, get_or-set_other, get_or-set_same, length-append}
 use Rattle.std.proofs.lemmas.Nat.{mod-mul-add}
-use Rattle.safe_number.specs.declared.Access.{Access}
-use Rattle.safe_number.specs.declared.Field.{Field}
-use Rattle.safe_number.specs.declared.Field.TheVariants.{Image0}
+use Rattle.record.specs.declared.access.Access.{Access}
+use Rattle.record.specs.declared.access.Field.{Field}
+use Rattle.record.specs.declared.access.Field.TheVariants.{Image0}
 use Rattle.safe_number.specs.Bytes.{bit_in}
 use Rattle.safe_number.proofs.Numbers.{get-bits}
 use Rattle.plain_store.specs.declared.Setup.{Setup}

@@ -2,7 +2,7 @@
 use Rattle.std.specs.Prelude.{◌≡◌, Bool, true, false, List, [], ◌∷◌, Some}
 use Rattle.safe_bit.specs.declared.Move.TheVariants.{EndRead}
 use Rattle.safe_bit.specs.SafeRule.{MayEndWith}
-use Rattle.safe_number.specs.declared.Access.{Access}
+use Rattle.record.specs.declared.access.Access.{Access}
 use Rattle.plain_store.specs.declared.Setup.{Setup}
 use Rattle.record.specs.Entries.{Entry, Past}
 use Rattle.record.specs.Moves.{begins_read, moves_of}

@@ -3,7 +3,7 @@ ghost use Rattle.std.specs.Prelude.{◌≡◌, [], ◌∷◌, Bool, true, List, 
 ghost use Rattle.safe_bit.specs.declared.Move.{Move as Moved};
 ghost use Rattle.safe_bit.specs.declared.Move.TheVariants.{BeginRead, EndWrite, Settle};
 ghost use Rattle.safe_bit.specs.SafeRule.{MayEndWith, is_overlapped, last_written};
-ghost use Rattle.safe_number.specs.declared.Access.{Access as Made};
+ghost use Rattle.record.specs.declared.access.Access.{Access as Made};
 ghost use Rattle.plain_store.specs.declared.Setup.{Setup as Given};
 ghost use Rattle.record.specs.Entries.{Entry as Noted, Past};
 ghost use Rattle.record.specs.Moves.{begins_read, moves_of};

@@ -9,8 +9,7 @@ ghost use Rattle.watch.specs.Safe.{KeepsSafe, MatchBool};
 use crate::look::Look;
 use crate::opening::opening_bit;
 use plain_store::Setup;
-use record::Entry;
-use safe_number::Access;
+use record::{Access, Entry};
 use std::alloc::AllocError;
 
 impl Look {

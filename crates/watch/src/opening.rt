@@ -3,10 +3,10 @@ ghost use Rattle.std.specs.Prelude.{◌↔◌, ◌≡◌, IfOk, IsTrue, Ok};
 ghost use Rattle.plain_store.specs.Setups.{checked};
 ghost use Rattle.record.specs.Registers.{opening_bit};
 ghost use Rattle.safe_number.specs.Bytes.{bit_in};
-ghost use Rattle.safe_number.specs.declared.Field.TheVariants.{Image0};
+ghost use Rattle.record.specs.declared.access.Field.TheVariants.{Image0};
 
 use plain_store::{Setup, opened};
-use safe_number::{Access, Field};
+use record::{Access, Field};
 use std::alloc::AllocError;
 use store_image::Image;
 

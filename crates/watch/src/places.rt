@@ -7,7 +7,7 @@ ghost use Rattle.laws.specs.Held.{IsThere};
 ghost use Rattle.watch.specs.Watching.{copy_of, register_of};
 
 use plain_store::Setup;
-use safe_number::{Access, Field};
+use record::{Access, Field};
 
 /// How many registers a process has.
 pub(crate) const FIELDS: usize = 7;

@@ -4,8 +4,8 @@ use Rattle.safe_bit.specs.Cell.{Cell, MayMove, cell_after, read_answer}
 use Rattle.safe_bit.specs.SafeRule.{read_value}
 use Rattle.reader_copies.specs.Row as row
 use Rattle.reader_copies.specs.Row.{cell_at, row_after}
-use Rattle.safe_number.specs.declared.Access.{Access}
-use Rattle.safe_number.specs.declared.Field.{Field}
+use Rattle.record.specs.declared.access.Access.{Access}
+use Rattle.record.specs.declared.access.Field.{Field}
 use Rattle.plain_store.specs.Setups.{checked}
 use Rattle.plain_store.specs.declared.Setup.{Setup}
 use Rattle.record.specs.declared.events.Event.{Event}

@@ -4,9 +4,9 @@ use Rattle.std.proofs.lemmas.List.FromFn.{length-map-range_with_len, get_or-map-
 use Rattle.std.specs.List.{range_with_len}
 use Rattle.safe_bit.specs.Cell.{Cell, new_cell}
 use Rattle.reader_copies.specs.Row.{cell_in, cell_at, HasCell}
-use Rattle.safe_number.specs.declared.Access.{Access}
-use Rattle.safe_number.specs.declared.Field.{Field}
-use Rattle.safe_number.specs.declared.Field.TheVariants.{Choosing, Ticket, Commit, Stamp0, Stamp1, Image0, Image1}
+use Rattle.record.specs.declared.access.Access.{Access}
+use Rattle.record.specs.declared.access.Field.{Field}
+use Rattle.record.specs.declared.access.Field.TheVariants.{Choosing, Ticket, Commit, Stamp0, Stamp1, Image0, Image1}
 use Rattle.plain_store.specs.declared.Setup.{Setup}
 use Rattle.record.specs.Entries.{Past}
 use Rattle.record.specs.Newest.{copy}

@@ -2,8 +2,8 @@
 use Rattle.std.proofs.Common.{◌≡◌, ℕ, zero, suc, ◌==◌, ◌&&◌, false, cond, [], ◌∷◌, None, Ok, length, map, sym, ap, subst, ◌∙◌, arith}
 use Rattle.safe_bit.specs.Cell.{Cell, without_read}
 use Rattle.reader_copies.specs.Row.{IsRow}
-use Rattle.safe_number.specs.declared.Access.{Access}
-use Rattle.safe_number.specs.declared.Field.TheVariants.{Choosing, Ticket}
+use Rattle.record.specs.declared.access.Access.{Access}
+use Rattle.record.specs.declared.access.Field.TheVariants.{Choosing, Ticket}
 use Rattle.plain_store.specs.Setups.{checked}
 use Rattle.plain_store.specs.declared.Setup.{Setup}
 use Rattle.record.specs.Entries.{Entry, Past}

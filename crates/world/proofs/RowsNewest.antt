@@ -6,9 +6,9 @@ use Rattle.std.proofs.lemmas.Simd.{map-map}
 use Rattle.std.specs.List.{range_with_len}
 use Rattle.safe_bit.specs.Cell.{Cell}
 use Rattle.reader_copies.specs.Row.{cell_at, HasCell}
-use Rattle.safe_number.specs.declared.Access.{Access}
-use Rattle.safe_number.specs.declared.Field.{Field}
-use Rattle.safe_number.specs.declared.Field.TheVariants.{Choosing, Ticket, Commit, Stamp0, Stamp1, Image0, Image1}
+use Rattle.record.specs.declared.access.Access.{Access}
+use Rattle.record.specs.declared.access.Field.{Field}
+use Rattle.record.specs.declared.access.Field.TheVariants.{Choosing, Ticket, Commit, Stamp0, Stamp1, Image0, Image1}
 use Rattle.safe_number.specs.Bytes.{number_of_bits}
 use Rattle.safe_number.proofs.Numbers.{range_same}
 use Rattle.store_image.specs.Reading.{store_in}

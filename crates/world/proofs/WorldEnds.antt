@@ -5,7 +5,7 @@ use Rattle.std.specs.Prelude.{nat_le, slice_index_or, slice_set}
 use Rattle.record.specs.Calls.{calls_in}
 use Rattle.record.specs.Entries.{own}
 use Rattle.world.specs.Seats.{Seat, with_kept}
-use Rattle.safe_number.specs.declared.Access.{Access}
+use Rattle.record.specs.declared.access.Access.{Access}
 use Rattle.plain_store.specs.declared.Command.{Command}
 use Rattle.plain_store.specs.declared.Setup.{Setup}
 use Rattle.record.specs.declared.events.Event.{Event}

@@ -1,8 +1,8 @@
 -- Which calls may still be taken: what is taken was pending, and is no more; and only a call makes another one pending.
 use Rattle.std.proofs.Common.{◌≡◌, ℕ, zero, suc, ◌+◌, ◌<◌, ◌≤◌, ◌==◌, ◌&&◌, Bool, true, false, cond, List, [], ◌∷◌, ◌++◌, Option, Some, None, length, map, option_map, refl, sym, ap, ◌∙◌, arith}
 use Rattle.std.specs.Prelude.{is_some, slice_set, slice_index_or}
-use Rattle.safe_number.specs.declared.Field.{Field}
-use Rattle.safe_number.specs.declared.TornBit.{TornBit}
+use Rattle.record.specs.declared.access.Field.{Field}
+use Rattle.record.specs.declared.access.TornBit.{TornBit}
 use Rattle.plain_store.specs.declared.Answer.TheVariants as answer
 use Rattle.plain_store.specs.declared.Command.{Command}
 use Rattle.plain_store.specs.declared.Command.TheVariants.{Ask}

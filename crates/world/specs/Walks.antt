@@ -1,6 +1,6 @@
 -- Steps of a process without a mark, one after another.
 use Rattle.std.specs.Prelude.{◌≡◌, ℕ, zero, suc, Bool, List, [], None, Some, slice_get}
-use Rattle.safe_number.specs.declared.Access.{Access}
+use Rattle.record.specs.declared.access.Access.{Access}
 use Rattle.record.specs.declared.events.Event.TheVariants.{Step}
 use Rattle.world.specs.Events.{Adds, GoesOn, KeepsTheHeadline}
 use Rattle.flicks.specs.Flicks.{FlickState, after_flick, flick_of}

@@ -18,7 +18,8 @@ ghost use Rattle.world.specs.Seats.{seat_of, with_kept};
 use flicks::Flicks;
 use plain_store::{Command, Setup};
 use process::{Process, Registers, Told};
-use safe_number::{Access, Pace};
+use record::Access;
+use safe_number::Pace;
 use std::alloc::{AllocError, Global};
 use std::marker::Model;
 

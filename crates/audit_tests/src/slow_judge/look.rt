@@ -1,8 +1,7 @@
 //! What is seen of a process by a look back over entries.
 use plain_store::{Command, NestedTypes};
-use record::{Entry, Mark, Stage};
+use record::{Access, Entry, Field, Mark, Stage};
 use safe_bit::Move;
-use safe_number::{Access, Field};
 use std::alloc::{AllocError, Global};
 
 /// The stage of a process. Its newest mark tells it, but that a command taken and a bit settled leave the stage as it

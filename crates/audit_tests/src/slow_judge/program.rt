@@ -2,8 +2,7 @@
 use crate::slow_judge::store::Contents;
 use crate::slow_judge::walk::{Halt, Walk};
 use plain_store::{Answer, Command, NestedTypes, Reply};
-use record::Mark;
-use safe_number::Field;
+use record::{Field, Mark};
 
 /// The greatest number of so many bits.
 fn greatest(bits: u8) -> u64 {

@@ -1,7 +1,6 @@
 //! The safe rule, by looks back over the moves of one bit.
-use record::Entry;
+use record::{Access, Entry, Field};
 use safe_bit::Move;
-use safe_number::{Access, Field};
 
 /// Whether an access ends a read with a value that the safe rule does not allow, after these entries. The opening
 /// image is that of the first process.

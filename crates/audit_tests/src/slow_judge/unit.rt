@@ -2,9 +2,8 @@
 use crate::slow_judge::look::UnfinishedBit;
 use crate::slow_judge::walk::{Halt, Walk};
 use plain_store::{NestedTypes, Reply};
-use record::Mark;
+use record::{Access, Field, Mark};
 use safe_bit::Move;
-use safe_number::{Access, Field};
 
 /// What a memory unit finds.
 #[derive(Clone, Copy)]

@@ -1,8 +1,7 @@
 //! Accesses of a process, followed one after another, and the marks that belong to the last one.
 use plain_store::{NestedTypes, Reply, Setup};
-use record::Mark;
+use record::{Access, Field, Mark};
 use safe_bit::Move;
-use safe_number::{Access, Field};
 use std::alloc::{AllocError, Global};
 
 /// Why a walk does not go on.

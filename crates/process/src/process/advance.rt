@@ -16,7 +16,7 @@ use bakery::{DoorProgress, Leaving};
 use failure::UnitProgress;
 use plain_store::{Answer, NestedTypes};
 use reader_copies::Progress;
-use safe_number::Access;
+use record::Access;
 use std::mem;
 
 impl Process {

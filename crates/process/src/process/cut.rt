@@ -13,7 +13,7 @@ use super::{Process, Work};
 use bakery::Leaving;
 use failure::Unit;
 use plain_store::Reply;
-use safe_number::{Field, TornBit};
+use record::{Field, TornBit};
 
 impl Process {
     /// The process gives up waiting, and begins to clear its ticket. An open read, if there is one, has to be dropped

@@ -7,7 +7,7 @@ ghost use Rattle.world.specs.Events.{Adds};
 ghost use Rattle.world.specs.Walks.{bits_within_at};
 
 use super::Core;
-use safe_number::Access;
+use record::Access;
 
 impl Core {
     /// Whether the next step of a process is within a number access, as those of `walk` are; not, if there is no such

@@ -1,7 +1,7 @@
 use Rattle.std.proofs.Common.{◌≡◌, ◌<◌, ◌≤◌, false, sym, ap, ◌∙◌, subst, arith}
 use Rattle.std.specs.Prelude.{slice_index_or}
 use Rattle.safe_number.specs.Bytes.{bit_in}
-use Rattle.safe_number.specs.declared.Field.TheVariants.{Image0}
+use Rattle.record.specs.declared.access.Field.TheVariants.{Image0}
 use Rattle.safe_number.proofs.Numbers.{get-bits}
 use Rattle.plain_store.specs.Setups.{opening_store}
 use Rattle.store_image.specs.Image.{image_of}
@@ -17,8 +17,8 @@ returns-in-Image0 c =
     let image = image_of (opening_store s) in
     let a = bit_of s c.args.word in
     let is = c.bit_of-access.ensures.bit in
-    let field : a.field ≡ Image0 = ap (λ (x : Rattle.safe_number.specs.declared.Access.Access). x.field) (sym is) ∙ c.in-Image0.is in
-    let owner : a.owner ≡ 0 = ap (λ (x : Rattle.safe_number.specs.declared.Access.Access). x.owner) (sym is) ∙ c.if-access-ne0.false in
+    let field : a.field ≡ Image0 = ap (λ (x : Rattle.record.specs.declared.access.Access.Access). x.field) (sym is) ∙ c.in-Image0.is in
+    let owner : a.owner ≡ 0 = ap (λ (x : Rattle.record.specs.declared.access.Access.Access). x.owner) (sym is) ∙ c.if-access-ne0.false in
     let there = bit_there s c.args.word (let r = (ranges s c.requires.good).some_processes in omega arith) c.requires.word in
     c.from.ensures ∙ byte_word c.bit_in.result
     ∙ ap closed_word (c.bit_in.ensures ∙ (λ i. bit_in (c.requires.image i) (is i).bit) ∙ sym (get-bits image (width s Image0) a.bit (subst (λ f. a.bit < width s f) field there.bit)) ∙ (λ i. slice_index_or (opening_bits s (sym owner i) (sym field i)) a.bit false))

@@ -1,5 +1,5 @@
 use Rattle.std.proofs.Common.{◌≡◌, Bool, true, false, List, [], sym, ap, subst, refl, arith}
-use Rattle.safe_number.specs.declared.Access.{Access}
+use Rattle.record.specs.declared.access.Access.{Access}
 use Rattle.plain_store.specs.declared.Setup.{Setup}
 use Rattle.record.specs.Places.{place_of, place_after, value_of}
 use Rattle.bakery.specs.Doors.{DoorState, call_of, door_at, next_of, MayDrop}

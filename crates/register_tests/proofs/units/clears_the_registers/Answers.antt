@@ -1,7 +1,7 @@
 use Rattle.std.proofs.Common.{◌≡◌, true, false, None, Some, List, [], sym, ap, ◌∙◌, subst, refl, arith}
 use Rattle.safe_bit.specs.declared.Move.TheVariants.{BeginWrite}
-use Rattle.safe_number.specs.declared.Access.{Access}
-use Rattle.safe_number.specs.declared.Field.TheVariants.{Ticket}
+use Rattle.record.specs.declared.access.Access.{Access}
+use Rattle.record.specs.declared.access.Field.TheVariants.{Ticket}
 use Rattle.plain_store.specs.declared.Setup.{Setup}
 use Rattle.record.specs.Failures.{cut}
 use Rattle.bakery.specs.Locks.{LockRows, lock_of, new_locks}

@@ -1,6 +1,6 @@
 use Rattle.std.proofs.Common.{ℕ, ◌<◌, length, List, Option, Some, None, sym, ap, ◌∙◌, subst}
 use Rattle.std.specs.Prelude.{IfSome}
-use Rattle.safe_number.specs.declared.Field.{Field}
+use Rattle.record.specs.declared.access.Field.{Field}
 use Rattle.bakery.specs.Doors.{DoorState}
 use Rattle.bakery.specs.Locks.{LockRows, row_in, lock_of, locks_without_reads}
 use Rattle.bakery.proofs.door.Door.drop_read.Goals as goal

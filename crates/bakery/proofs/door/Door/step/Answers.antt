@@ -1,6 +1,6 @@
 use Rattle.std.proofs.Common.{false, sym, ap, ◌∙◌, subst}
 use Rattle.reader_copies.specs.Row.{HasCell}
-use Rattle.safe_number.specs.declared.Access.{Access}
+use Rattle.record.specs.declared.access.Access.{Access}
 use Rattle.record.specs.Moves.{ended_with}
 use Rattle.record.specs.Places.{Place, place_of, place_after, marks_of, stage_at, value_of}
 use Rattle.bakery.specs.Doors.{next_of, next_after, door_at, told_at}

@@ -1,7 +1,7 @@
 use Rattle.std.proofs.Common.{◌≡◌, ◌<◌, Bool, false, List, length, sym, ap, subst, ◌∙◌, arith}
 use Rattle.reader_copies.specs.Row.{cell_at}
-use Rattle.safe_number.specs.declared.Access.{Access}
-use Rattle.safe_number.specs.declared.Field.TheVariants.{Ticket}
+use Rattle.record.specs.declared.access.Access.{Access}
+use Rattle.record.specs.declared.access.Field.TheVariants.{Ticket}
 use Rattle.safe_number.specs.Written.{loaded}
 use Rattle.bakery.specs.Doors.{DoorState, GoesOnWithin, bits_at, bits_within, next_of, run_shown}
 use Rattle.bakery.specs.Locks.{CanAccess, LockRows, answered, lock_of}

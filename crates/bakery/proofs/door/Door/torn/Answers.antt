@@ -1,6 +1,6 @@
 use Rattle.std.proofs.Common.{Option, sym, ap, subst, ◌∙◌}
 use Rattle.std.specs.Prelude.{option_map, IfSome}
-use Rattle.safe_number.specs.declared.TornBit.{TornBit}
+use Rattle.record.specs.declared.access.TornBit.{TornBit}
 use Rattle.record.specs.Cuts.{named, IsTornOf}
 use Rattle.bakery.specs.Doors.{DoorState, call_of, torn_of}
 use Rattle.bakery.proofs.Accesses.{torn-read, torn-written, torn-known}

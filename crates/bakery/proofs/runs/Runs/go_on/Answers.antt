@@ -1,7 +1,7 @@
 use Rattle.std.proofs.Common.{◌≡◌, ℕ, ◌==◌, cond, Some, None, length, ap, ◌∙◌}
 use Rattle.safe_number.specs.Bytes.{bits_of_number, number_of_bits}
 use Rattle.safe_number.specs.Runs.{NumberWrite, NumberRead}
-use Rattle.safe_number.specs.declared.Field.{Field}
+use Rattle.record.specs.declared.access.Field.{Field}
 use Rattle.plain_store.specs.declared.Setup.{Setup}
 use Rattle.record.specs.Places.{write_moved}
 use Rattle.bakery.specs.Doors.{bits_at, run_shown}

@@ -1,8 +1,8 @@
 use Rattle.std.proofs.Common.{◌≡◌, ◌∙◌, sym, ap, subst, length, ℕ, arith}
 use Rattle.reader_copies.specs.declared.Made.{Made}
-use Rattle.safe_number.specs.Accesses.{access_of}
+use Rattle.record.specs.Accesses.{access_of}
 use Rattle.safe_number.specs.Runs.{next_of_write}
-use Rattle.safe_number.specs.declared.Field.{Field}
+use Rattle.record.specs.declared.access.Field.{Field}
 use Rattle.store_image.proofs.ImageBytes.{length-image_of}
 use Rattle.record.specs.Places.{next_written}
 use Rattle.critical.specs.Changes.{change_bits, change_field}

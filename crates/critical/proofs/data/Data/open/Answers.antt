@@ -3,7 +3,7 @@ use Rattle.std.proofs.lemmas.List.{length-replicate}
 use Rattle.safe_bit.specs.Cell.{Cell}
 use Rattle.reader_copies.specs.Row.{cell_at, IsClosed}
 use Rattle.safe_number.specs.Runs.{preset_number}
-use Rattle.safe_number.specs.declared.Field.TheVariants.{Image0}
+use Rattle.record.specs.declared.access.Field.TheVariants.{Image0}
 use Rattle.plain_store.specs.Setups.{callers_of, opening_store}
 use Rattle.store_image.specs.Image.{image_of}
 use Rattle.plain_store.specs.Store.{Contents}

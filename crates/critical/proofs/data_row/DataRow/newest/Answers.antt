@@ -5,7 +5,7 @@ use Rattle.plain_store.specs.Setups.{callers_of}
 use Rattle.plain_store.specs.Store.{Contents}
 use Rattle.record.specs.Program.{Version, image_field}
 use Rattle.record.specs.Registers.{image_bytes, bytes_of_bits}
-use Rattle.safe_number.specs.declared.Field.TheVariants.{Commit, Stamp0, Stamp1, Image0, Image1}
+use Rattle.record.specs.declared.access.Field.TheVariants.{Commit, Stamp0, Stamp1, Image0, Image1}
 use Rattle.critical.specs.Newest.{IsReadable, values_of, version_in, version_held, newest_of}
 use Rattle.critical.specs.Registers.{Data, DataRow, data_of, register_of}
 use Rattle.critical.specs.declared.newest.Newest.{Newest}

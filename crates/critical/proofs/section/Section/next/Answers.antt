@@ -1,5 +1,5 @@
 use Rattle.std.proofs.Common.{◌∙◌, ap}
-use Rattle.safe_number.specs.Accesses.{access_of}
+use Rattle.record.specs.Accesses.{access_of}
 use Rattle.critical.specs.Sections.{is_going}
 use Rattle.critical.proofs.WithinSteps.{next-shown}
 use Rattle.critical.proofs.section.Section.next.Goals as goal

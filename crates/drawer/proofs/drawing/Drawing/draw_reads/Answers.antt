@@ -1,6 +1,6 @@
 use Rattle.std.proofs.Common.{◌∙◌, false, List, [], ◌∷◌, get_or, map, take, arith, refl, subst, sym}
 use Rattle.std.proofs.lemmas.List.{take_all}
-use Rattle.safe_number.specs.declared.Field.TheVariants.{Choosing}
+use Rattle.record.specs.declared.access.Field.TheVariants.{Choosing}
 use Rattle.columns.specs.declared.reads.OverlappedRead.{OverlappedRead}
 use Rattle.drawer.specs.Drawings.{DrawsOn, kept}
 use Rattle.drawer.specs.Items.{GivesRead}

@@ -1,7 +1,7 @@
 -- The next access at the data, by the place of the call.
 use Rattle.std.proofs.Common.{sym, ap, subst, ◌∙◌}
 use Rattle.std.specs.Prelude.{Some}
-use Rattle.safe_number.specs.declared.Access.{Access}
+use Rattle.record.specs.declared.access.Access.{Access}
 use Rattle.record.specs.Places.{place_of}
 use Rattle.critical.specs.Registers.{is_data}
 use Rattle.laws.specs.Doings.{call}

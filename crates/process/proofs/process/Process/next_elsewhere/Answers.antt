@@ -1,7 +1,7 @@
 -- The next access, by the cursor that goes on.
 use Rattle.std.proofs.Common.{sym, ap, subst, ◌∙◌}
 use Rattle.std.specs.Prelude.{Some}
-use Rattle.safe_number.specs.declared.Access.{Access}
+use Rattle.record.specs.declared.access.Access.{Access}
 use Rattle.laws.specs.Doings.{call}
 use Rattle.laws.specs.Held.{IsThere}
 use Rattle.process.specs.Processes.{ProcessState}

@@ -1,7 +1,7 @@
 -- An access within a number access at the door, by the place of the call.
 use Rattle.std.proofs.Common.{◌≡◌, ◌+◌, ◌<◌, ◌≤◌, true, false, not, List, sym, ap, subst, ◌∙◌}
-use Rattle.safe_number.specs.declared.Access.{Access}
-use Rattle.safe_number.specs.declared.Field.TheVariants.{Ticket}
+use Rattle.record.specs.declared.access.Access.{Access}
+use Rattle.record.specs.declared.access.Field.TheVariants.{Ticket}
 use Rattle.record.specs.declared.Stage.{Stage}
 use Rattle.record.specs.declared.Stage.TheVariants as stage
 use Rattle.record.specs.Doorways.{is_waiting_stage}

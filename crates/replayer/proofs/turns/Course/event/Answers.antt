@@ -1,6 +1,6 @@
 use Rattle.std.proofs.Common.{◌-◌, length, refl, subst}
 use Rattle.std.specs.Prelude.{IfOk, Option}
-use Rattle.safe_number.specs.declared.Access.{Access}
+use Rattle.record.specs.declared.access.Access.{Access}
 use Rattle.replayer.specs.Courses.{CourseState, Follows, Makes, course}
 use Rattle.replayer.specs.Happenings.{Tries}
 use Rattle.replayer.specs.Runs.{Run}

@@ -1,5 +1,5 @@
 use Rattle.std.proofs.Common.{◌≡◌, ◌∙◌, Some, sym, ap, subst}
-use Rattle.safe_number.specs.declared.Access.{Access}
+use Rattle.record.specs.declared.access.Access.{Access}
 use Rattle.laws.specs.Held.{IsThere}
 use Rattle.record.specs.Entries.{Entry}
 use Rattle.watch.proofs.watch.Watch.hear.Goals as goal

@@ -2,7 +2,7 @@ use Rattle.std.proofs.Common.{◌≡◌, ◌<◌, ◌∷◌, [], List, Some, sym
 use Rattle.std.proofs.lemmas.List.{length-set}
 use Rattle.record.specs.declared.events.Event.TheVariants.{Step}
 use Rattle.record.specs.declared.history.Taken.{Taken}
-use Rattle.safe_number.specs.declared.Access.{Access}
+use Rattle.record.specs.declared.access.Access.{Access}
 use Rattle.laws.specs.Doings.{Doing}
 use Rattle.laws.specs.Steps.{next_of}
 use Rattle.process.specs.Processes.{ProcessState}

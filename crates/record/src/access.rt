@@ -1,5 +1,6 @@
+//! Registers of a process, and accesses to their bits.
 ghost use Rattle.std.specs.Prelude.{◌≡◌};
-ghost use Rattle.safe_number.specs.Accesses.{access_of};
+ghost use Rattle.record.specs.Accesses.{access_of};
 
 use reader_copies::{Made, Torn};
 use safe_bit::Move;
