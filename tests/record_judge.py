@@ -185,6 +185,57 @@ def unit(setup, process, torn, call, inside):
     yield from written(setup, process, "choosing", 0, last=lambda: ("down",))
 
 
+class Spent(Exception):
+    """A program was told one value of its access, and is to be told another."""
+
+
+class Steps:
+    """A program, an entry at a time: it tells what is wanted of an entry again until the entry is made."""
+
+    def __init__(self, program):
+        self.program = program
+        self.access = self.told = None
+
+    def wanted(self):
+        """The access that comes next."""
+        if self.access is None:
+            self.access = next(self.program)
+        return self.access
+
+    def marks(self, value):
+        """The marks of its entry, if the access has this value."""
+        if self.told is None:
+            self.told = value, list(self.program.send(value))
+        if self.told[0] != value:
+            raise Spent
+        return self.told[1]
+
+    def go_on(self):
+        """The entry is made."""
+        self.access = self.told = None
+
+
+class Bit:
+    """What the moves of a bit have left: its value, the value that is being written, and whether the last read that has begun
+    met a write, if any has begun."""
+
+    def __init__(self, value):
+        self.value, self.writing, self.met = value, None, None
+
+    def read_now(self):
+        """The value with which a read that has begun ends, if no write overlapped it."""
+        return self.value if self.met is False else None
+
+    def note(self, move):
+        word, value = move.split(" ")[0], int(move[-1]) if move[-1].isdigit() else None
+        if word == "write":
+            self.writing, self.met = value, None if self.met is None else True
+        elif word in ("end", "settle"):
+            self.value, self.writing = self.writing if word == "end" else value, None
+        elif word == "read":
+            self.met = self.writing is not None
+
+
 class Call:
     """A call that goes on: what is called, and what comes of it."""
 
@@ -208,13 +259,20 @@ class Judge:
 
     def __init__(self, setup):
         self.setup = setup
-        self.moves = {}
+        self.bits = {}
         self.seats = [Seat() for _ in range(setup.processes)]
         self.taken, self.store = 0, setup.opening
         self.opening = image_of(setup.opening)
 
     def hear(self, number, process, access, marks):
-        """The law that an entry breaks, if it breaks one."""
+        """The law that an entry breaks, if it breaks one; else it is the next entry."""
+        law = self.law_of(process, access, marks)
+        if law is None:
+            self.note(number, process, access, marks)
+        return law
+
+    def law_of(self, process, access, marks):
+        """The law that an entry would break as the next one."""
         if self.is_unsafe(access):
             return "safe"
         law = self.wrong(process, access, marks)
@@ -226,33 +284,20 @@ class Judge:
             seat.stage == "waiting" and j != process and seat.ended < self.seats[process].began for j, seat in enumerate(self.seats)
         ):
             return "overtaken"
-        if not self.takes_its_place(process, marks):
-            return "history"
-        self.note(number, process, access, marks)
-        return None
+        return None if self.takes_its_place(process, marks) else "history"
 
-    # The safe rule, by a look back over the moves of a bit.
+    # The safe rule.
+
+    def bit(self, access):
+        """The bit of an access, as its moves have left it."""
+        if access[:4] not in self.bits:
+            self.bits[access[:4]] = Bit(self.opens(access))
+        return self.bits[access[:4]]
 
     def is_unsafe(self, access):
-        if access is None or not access[4].startswith("value"):
+        if access is None or not access[4].startswith("value") or access[:4] not in self.bits:
             return False
-        moves = self.moves.get(access[:4], [])
-        begun = max((at for at, move in enumerate(moves) if move == "read"), default=None)
-        if begun is None:
-            return False
-        before = [move for move in moves[:begun] if move != "read" and not move.startswith("value")]
-        overlapped = before and before[-1].startswith("write") or any(move.startswith("write") for move in moves[begun:])
-        return not overlapped and int(access[4][-1]) != self.last(before, access)
-
-    def last(self, moves, access):
-        """The value last written or settled, or else the opening value."""
-        for at in range(len(moves) - 1, -1, -1):
-            if moves[at].startswith("settle"):
-                return int(moves[at][-1])
-            if moves[at] == "end":
-                writes = [move for move in moves[:at] if move.startswith("write")]
-                return int(writes[-1][-1]) if writes else self.opens(access)
-        return self.opens(access)
+        return self.bit(access).read_now() not in (None, int(access[4][-1]))
 
     def opens(self, access):
         owner, field, bit, _, _ = access
@@ -282,24 +327,23 @@ class Judge:
 
     def is_next(self, seat, access, marks):
         """Whether this is the next entry of a process's program, but for the place of what is taken."""
-        wanted = next(seat.steps)
+        wanted = seat.steps.wanted()
         if access is None or access[:4] != wanted[:4]:
             return False
         move, told = wanted[4].split(" ")[0], wanted[4].split(" ")[-1]
         words = access[4].split(" ")
         if words[0] != move or told not in ("None", words[-1]):
             return False
-        made = seat.steps.send(int(words[-1]) if told == "None" else None)
-        return list(made) == [re.sub(r"^taken \d+ ", "taken ? ", mark) for mark in marks]
+        made = seat.steps.marks(int(words[-1]) if told == "None" else None)
+        return made == [re.sub(r"^taken \d+ ", "taken ? ", mark) for mark in marks]
 
     def takes_its_place(self, process, marks):
         for mark in marks:
             if mark.startswith("taken"):
                 _, place, reply = mark.split(" ", 2)
-                after, wanted = self.store.after(self.seats[process].call.made)
+                _, wanted = self.store.after(self.seats[process].call.made)
                 if int(place) != self.taken or reply != wanted:
                     return False
-                self.taken, self.store = self.taken + 1, after
         return True
 
     # What an entry leaves.
@@ -307,7 +351,8 @@ class Judge:
     def note(self, number, process, access, marks):
         seat = self.seats[process]
         if access:
-            self.moves.setdefault(access[:4], []).append(access[4])
+            seat.steps.go_on()
+            self.bit(access).note(access[4])
             self.note_write(seat, process, access)
             if seat.began is None:
                 seat.began = number
@@ -328,18 +373,20 @@ class Judge:
             seat.calls += 1
             seat.stage, seat.began = "doorway", None
             seat.call = Call(process, seat.calls if self.setup.version == 2 else 0, mark[1:])
-            seat.steps = program(self.setup, process, seat.call)
+            seat.steps = Steps(program(self.setup, process, seat.call))
         elif mark[0] == "withdraw":
             seat.stage = "leaving"
-            seat.steps = leaving(self.setup, process, "withdrawn", ())
+            seat.steps = Steps(leaving(self.setup, process, "withdrawn", ()))
         elif mark[0] == "fail":
             seat.stage = "settling"
-            seat.steps = unit(self.setup, process, seat.torn, seat.call, seat.inside)
+            seat.steps = Steps(unit(self.setup, process, seat.torn, seat.call, seat.inside))
             seat.torn = None
         elif mark[0] == "wait":
             seat.stage, seat.ended = "waiting", number
         elif mark[0] == "enter":
             seat.stage, seat.inside = "inside", True
+        elif mark[0] == "taken":
+            self.taken, self.store = self.taken + 1, self.store.after(seat.call.made)[0]
         elif mark[0] == "leave":
             seat.inside = False
             seat.stage = "leaving" if seat.stage == "inside" else seat.stage
