@@ -1,10 +1,10 @@
 //! Worlds that are driven by single events.
-use crate::scenarios::{ASK_AFTER_TAKEN_CUT_CALL, SCENARIOS};
+use crate::scenarios::{ASK_AFTER_TAKEN_CUT_CALL, SCENARIOS, WITHDRAWAL};
 use crate::uses::two_events;
 use bstr::ByteSlice;
-use plain_store::{Command, Name, Reply, Setup, Value};
-use record::{Event, Mark, Refusal, Stage, Taken};
-use replayer::{events_of, replay};
+use plain_store::{Command, Name, Reply, Setup, Store, Value};
+use record::{Event, Mark, Refusal, Taken};
+use replayer::{events_of, record_of, replay};
 use scenario::read_scenario;
 use std::alloc::Global;
 use std::test::Fail;
@@ -41,6 +41,15 @@ fn marks_of_events(alloc: Global, file: &str) -> Result<Vec<u8>, Fail> {
     Ok(marks)
 }
 
+/// Whether the record of a file's accepted events has an entry for each, of its process.
+fn records_its_events(alloc: Global, file: &str) -> Result<bool, Fail> {
+    let scenario = read_scenario(alloc, file.as_bytes())?;
+    let events = events_of(alloc, &scenario)?;
+    let record = record_of(alloc, &scenario.setup, events.as_slice())?;
+    let processes = record.entries.iter().map(|entry| entry.process);
+    Ok(processes.eq(events.iter().map(|event| event.process())))
+}
+
 // The accepted events of each worked run, made one by one, have the marks that its replay prints.
 #[test]
 fn single_events_make_the_marks_of_replays(rt: HostRuntime) -> Result<(), Fail> {
@@ -48,60 +57,55 @@ fn single_events_make_the_marks_of_replays(rt: HostRuntime) -> Result<(), Fail> 
         let marks = marks_of_events(rt.alloc(), file)?;
         let printed = marks_of_replay(rt.alloc(), file)?;
         assert!(rt; marks.as_slice() == printed.as_slice(), "{file}");
+        assert!(rt; records_its_events(rt.alloc(), file)?, "{file}");
     }
     Ok(())
 }
 
-// The history of a world has the commands taken in their order, that of a call cut at its commit bit too, each with the
-// process, the reply and the number of its call.
-#[test]
-fn tells_its_history(rt: HostRuntime) -> Result<(), Fail> {
-    let write = Command::Write(Name::new(b"a")?, Value::Count(6));
-    let scenario = read_scenario(rt.alloc(), ASK_AFTER_TAKEN_CUT_CALL.as_bytes())?;
-    let mut world = World::new(rt.alloc(), &scenario.setup)?;
-    for event in &events_of(rt.alloc(), &scenario)? {
+/// A world after so many accepted events of a file.
+fn world_after(alloc: Global, file: &str, count: usize) -> Result<World, Fail> {
+    let scenario = read_scenario(alloc, file.as_bytes())?;
+    let mut world = World::new(alloc, &scenario.setup)?;
+    for event in events_of(alloc, &scenario)?.iter().take(count) {
         world.event(*event)?;
     }
+    Ok(world)
+}
+
+// The history has the commands taken in their order, that of a call cut at its commit bit too, each with the process, the
+// reply and the number of its call. Who finished its doorway before a call began is ahead of it, until it gives up waiting:
+// process 0 does so at event 43.
+#[test]
+fn tells_its_history_and_who_is_ahead(rt: HostRuntime) -> Result<(), Fail> {
+    let a = Name::new(b"a")?;
+    let taken = |command, reply, number| Taken {
+        process: 0,
+        command,
+        reply,
+        number,
+    };
+    let world = world_after(rt.alloc(), ASK_AFTER_TAKEN_CUT_CALL, 1248)?;
     let history = [
-        Taken {
-            process: 0,
-            command: write,
-            reply: Reply::Done,
-            number: 1,
-        },
-        Taken {
-            process: 0,
-            command: Command::Ask,
-            reply: Reply::Last(1),
-            number: 2,
-        },
+        taken(Command::Write(a, Value::Count(6)), Reply::Done, 1),
+        taken(Command::Ask, Reply::Last(1), 2),
     ];
     assert_eq!(rt; world.history(), history.as_slice());
-    Ok(())
-}
-
-// Who finished its doorway before a call began is ahead of it, until it gives up waiting.
-#[test]
-fn tells_who_is_ahead(rt: HostRuntime) -> Result<(), Fail> {
-    let read = Command::Read(Name::new(b"a")?);
-    let mut world = World::new(rt.alloc(), &Setup::one(2, 2, 2, 1))?;
-    for process in 0..2 {
-        world.event(Event::Call(process, read))?;
-        for _ in 0..20 {
-            world.event(Event::Step(process, false))?;
-        }
-        assert_eq!(rt; world.stage(process), Some(Stage::Waiting));
+    let newest = world.newest().map(|store| store.entry(0));
+    assert_eq!(rt; newest, Some(Some((a, Value::Count(6)))));
+    for (count, ahead) in [(42, [0].as_slice()), (44, [].as_slice())] {
+        let world = world_after(rt.alloc(), WITHDRAWAL, count)?;
+        assert_eq!(rt; world.ahead(0).as_slice(), [].as_slice());
+        assert_eq!(rt; world.ahead(1).as_slice(), ahead);
     }
-    assert_eq!(rt; world.ahead(0).as_slice(), [].as_slice());
-    assert_eq!(rt; world.ahead(1).as_slice(), [0].as_slice());
-    world.event(Event::Withdraw(0))?;
-    assert_eq!(rt; world.ahead(1).as_slice(), [].as_slice());
+    let inside = world_after(rt.alloc(), WITHDRAWAL, 58)?;
+    assert!(rt; inside.newest().is_none());
     Ok(())
 }
 
-// What a world of two processes answers to each event, one after another.
+// What a world of two processes answers to each event, one after another. Of two that are made by one call each has the act
+// that it would have alone, and the first refusal is told.
 #[test]
-fn refuses_events(rt: HostRuntime) -> Result<(), Fail> {
+fn answers_events(rt: HostRuntime) -> Result<(), Fail> {
     let mut world = World::new(rt.alloc(), &Setup::one(2, 4, 4, 1))?;
     let read = Command::Read(Name::new(b"a")?);
     for (event, refusal) in [
@@ -118,6 +122,14 @@ fn refuses_events(rt: HostRuntime) -> Result<(), Fail> {
         let refused = world.event(event).err();
         assert_eq!(rt; refused, refusal, "{event:?}");
     }
+    let mut world = World::new(rt.alloc(), &Setup::one(2, 4, 4, 1))?;
+    let (call, step) = (Event::Call(1, Command::Ask), Event::Step(1, false));
+    let (called, stepped) = two_events(&mut world, call, step)?;
+    assert_eq!(rt; called.marks.as_slice(), [Mark::Called(Command::Ask)].as_slice());
+    assert!(rt; called.access.is_none() && stepped.access.is_some());
+    assert_eq!(rt; stepped.marks.len(), 0);
+    let refused = two_events(&mut world, step, Event::Step(0, false));
+    assert_eq!(rt; refused.err(), Some(Refusal::NotRunning));
     Ok(())
 }
 
@@ -145,25 +157,5 @@ fn calls_full(rt: HostRuntime) -> Result<(), Fail> {
     let refusal = refused_after_calls(rt.alloc(), 2)?;
     assert_eq!(rt; refusal, Some(Refusal::CallsFull));
     assert_eq!(rt; refused_after_calls(rt.alloc(), 1)?, None);
-    Ok(())
-}
-
-// Two events have the acts that each would have alone, and the first refusal is told.
-#[test]
-fn makes_two_events(rt: HostRuntime) -> Result<(), Fail> {
-    let mut world = World::new(rt.alloc(), &Setup::one(2, 4, 4, 1))?;
-    let (called, stepped) = two_events(
-        &mut world,
-        Event::Call(1, Command::Ask),
-        Event::Step(1, false),
-    )?;
-    assert_eq!(rt;
-        called.marks.as_slice(),
-        [Mark::Called(Command::Ask)].as_slice()
-    );
-    assert!(rt; called.access.is_none() && stepped.access.is_some());
-    assert_eq!(rt; stepped.marks.len(), 0);
-    let refused = two_events(&mut world, Event::Step(1, false), Event::Step(0, false));
-    assert_eq!(rt; refused.err(), Some(Refusal::NotRunning));
     Ok(())
 }
