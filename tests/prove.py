@@ -16,8 +16,9 @@ import tempfile
 import time
 from concurrent.futures import FIRST_COMPLETED, ThreadPoolExecutor, wait
 
-TOP = pathlib.Path(__file__).resolve().parent.parent
-PROGRAM = "bakerystore"
+from lib.crates import PROGRAM, all_below, crates
+from lib.places import TOP
+
 CORES = len(os.sched_getaffinity(0))
 
 
@@ -26,35 +27,9 @@ def tell(text):
     print(text, file=sys.stderr, flush=True)
 
 
-def lines():
-    """The line of crates.txt of each crate of the repository."""
-    told = [line.partition("#")[0] for line in (TOP / "crates.txt").read_text().splitlines()]
-    return {line.split(":")[0].split()[0]: line for line in told if ":" in line}
-
-
-def libraries():
-    """Each crate of the repository with those of its crates that its line names."""
-    told = lines()
-    return {name: [it for it in line.partition(":")[2].split() if it in told] for name, line in told.items()}
-
-
-def all_below(stands_on):
-    """For each crate those that it stands on, directly or not."""
-    found = {}
-
-    def below(name):
-        if name not in found:
-            found[name] = set(stands_on[name]).union(*map(below, stands_on[name]))
-        return found[name]
-
-    for name in stands_on:
-        below(name)
-    return found
-
-
 def room_for(name, under, rooms):
     """A folder with the sources of a crate and of those under it, and with what was proved of these."""
-    room, told = pathlib.Path(rooms) / name, lines()
+    room, told = pathlib.Path(rooms) / name, crates()
     for crate in [name, *under]:
         source, copy = TOP / "crates" / crate, room / "crates" / crate
         for part in ["src", "specs", "proofs"]:
@@ -62,7 +37,7 @@ def room_for(name, under, rooms):
                 shutil.copytree(source / part, copy / part)
         if (source / "out" / "rlib").is_dir():
             shutil.copytree(source / "out" / "rlib", copy / "out" / "rlib", copy_function=os.link)
-    (room / "crates.txt").write_text("".join(f"{told[it]}\n" for it in [name, *under]))
+    (room / "crates.txt").write_text("".join(f"{told[it].line}\n" for it in [name, *under]))
     return room / "crates" / name
 
 
@@ -127,7 +102,7 @@ def prove_all(below, rooms):
 def main():
     # (on the same disk as the repository, so that what was proved is linked and not copied)
     with tempfile.TemporaryDirectory(prefix="prove-", dir=TOP / ".git") as rooms:
-        if not prove_all(all_below(libraries()), rooms):
+        if not prove_all(all_below({name: crate.stands_on for name, crate in crates().items()}), rooms):
             sys.exit(1)
     tell("proved: all libraries; now the program")
     sys.exit(subprocess.run(["rt", "run", "--jobs", str(CORES), "--", *sys.argv[1:]], cwd=TOP / "crates" / PROGRAM).returncode)

@@ -1,4 +1,4 @@
-//! The constant parts of a picture, as the files of picture/ have them: tests/picture_parts.py writes this.
+//! The constant parts of a picture, as the files of picture/ have them: tests/gate/picture_parts.py writes this.
 
 /// The style of all pictures.
 pub(crate) const STYLE: &str =

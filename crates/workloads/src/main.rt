@@ -1,5 +1,5 @@
 //! Loads for the crates of the store, each a part of this program: what bench/ times, and rounds of ports that
-//! `tests/soak_board.py` judges.
+//! `tests/byhand/soak_boards.py` judges.
 #![tactic(auto)]
 
 mod boards;

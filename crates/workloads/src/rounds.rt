@@ -1,5 +1,5 @@
 //! Rounds of boards whose ports are cut by failures at random turns, on threads: what each leaves, to be judged by
-//! `tests/soak_board.py`.
+//! `tests/byhand/soak_boards.py`.
 ghost use Rattle.std.specs.Prelude.{◌≡◌, Ok};
 ghost use Rattle.plain_store.specs.Setups.{checked};
 

@@ -1,0 +1,136 @@
+#!/usr/bin/env python3
+"""Opens three pages of runs in headless Chromium, moves the slider of each, and reads what it says.
+
+The proved program draws the pages of three worked examples. In a copy of each a script moves the slider to each place, and then
+opens the place of an event by the page's address; what the page has said each time stands at its end. By hand: it needs
+Chromium, and says so where there is none.
+"""
+
+import html
+import json
+import pathlib
+import re
+import shutil
+import subprocess
+import sys
+import tempfile
+
+sys.path.insert(0, str(pathlib.Path(__file__).resolve().parents[1]))
+
+from lib.counting import Counter
+from lib.places import PROGRAM, WORKED
+
+NAMES = ["chromium", "chromium-browser", "google-chrome", "chrome"]
+OPTIONS = ["--headless", "--no-sandbox", "--disable-gpu", "--virtual-time-budget=10000", "--dump-dom"]
+# moves the slider, and then goes to an event by the address
+MOVES = """<script>
+var slider = document.getElementById('at'), said = document.getElementById('said'), heard = [];
+for (var place = 0; place <= +slider.max; place++) {
+  slider.value = place;
+  slider.dispatchEvent(new Event('input'));
+  heard.push([said.textContent, document.querySelectorAll('li.on').length, slider.getAttribute('aria-valuetext')]);
+}
+window.addEventListener('hashchange', function () {
+  var end = document.createElement('pre');
+  end.id = 'heard';
+  end.textContent = JSON.stringify([heard, said.textContent]);
+  document.body.appendChild(end);
+});
+location.hash = '#EVENT';
+</script>
+"""
+# what the slider says of the places of each page, beside the line of the run: the line of the scenario, the store after the
+# history so far, and who stands in line
+SAID = {
+    "failure-commit-settled-new": [
+        ("call 0 write a c:5", "empty", "nobody"),
+        ("step 0 1152", "empty", "0"),
+        ("step 0 1152", "empty", "0"),
+        ("fail 0", "empty", "0"),
+        ("go 0 down", "empty", "0"),
+        ("go 0 down", "a=c:5", "0"),
+        ("go 0 down", "a=c:5", "nobody"),
+        ("go 0 down", "a=c:5", "nobody"),
+        ("call 1 read a", "a=c:5", "nobody"),
+        ("go 1 idle", "a=c:5", "1"),
+        ("go 1 idle", "a=c:5", "1"),
+        ("go 1 idle", "a=c:5", "1"),
+        ("go 1 idle", "a=c:5", "nobody"),
+        ("go 1 idle", "a=c:5", "nobody"),
+        ("(end)", "a=c:5", "nobody"),
+    ],
+    "withdrawal-show-while-inside": [
+        ("call 0 read a", "empty", "nobody"),
+        ("go 0 wait", "empty", "0"),
+        ("call 1 read a", "empty", "0"),
+        ("go 1 wait", "empty", "0 1"),
+        ("withdraw 0", "empty", "0 1"),
+        ("go 0 idle", "empty", "1"),
+        ("go 1 inside", "empty", "1"),
+        ("show", "empty", "1"),
+        ("withdraw 1", "empty", "1"),
+        ("(end)", "empty", "1"),
+    ],
+    "two-processes-wander": [
+        ("call 0 write a c:5", "empty", "nobody"),
+        ("call 1 add a 3", "empty", "nobody"),
+        ("wander 5000", "empty", "1"),
+        ("wander 5000", "empty", "0 1"),
+        ("wander 5000", "empty", "0 1"),
+        ("wander 5000", "a=c:5", "0 1"),
+        ("wander 5000", "a=c:5", "1"),
+        ("wander 5000", "a=c:5", "1"),
+        ("wander 5000", "a=c:5", "1"),
+        ("wander 5000", "a=c:8", "1"),
+        ("wander 5000", "a=c:8", "nobody"),
+        ("wander 5000", "a=c:8", "nobody"),
+        ("(end)", "a=c:8", "nobody"),
+    ],
+}
+# an event of each, and the place of the first line of this event or a later one
+EVENTS = {
+    "failure-commit-settled-new": (1157, 4),
+    "withdrawal-show-while-inside": (44, 5),
+    "two-processes-wander": (2451, 7),
+}
+
+
+def shown(browser, page):
+    """The page, once the browser has run its scripts."""
+    with tempfile.TemporaryDirectory() as folder:
+        path = pathlib.Path(folder) / "page.html"
+        path.write_text(page)
+        words = [browser, *OPTIONS, f"--user-data-dir={folder}/user", path.as_uri()]
+        return subprocess.run(words, capture_output=True, text=True, timeout=120).stdout
+
+
+def heard(browser, name):
+    """What the page of an example says at each place of its slider, and at its event."""
+    page = subprocess.run([PROGRAM, "draw", WORKED / name / "scenario"], capture_output=True, check=True).stdout.decode()
+    moved = page.replace("</body>", MOVES.replace("EVENT", str(EVENTS[name][0])) + "</body>")
+    end = re.search(r'<pre id="heard">(.*?)</pre>', shown(browser, moved), re.S)
+    return json.loads(html.unescape(end.group(1))) if end else None
+
+
+def wanted(name):
+    """What it is to say: the line told, with one line of the scenario marked, and the line as the slider's value."""
+    lines = (WORKED / name / "replay").read_text().splitlines()
+    texts = [
+        f"told{line}\nby line{source}\nstore{store}\nin line{queue}\n"
+        for line, (source, store, queue) in zip(lines, SAID[name], strict=True)
+    ]
+    return [[[text, 1, line] for text, line in zip(texts, lines)], texts[EVENTS[name][1]]]
+
+
+def main():
+    browser = next(filter(None, map(shutil.which, NAMES)), None)
+    if browser is None:
+        print("no Chromium here: nothing was opened\n0 passed, 0 failed")
+        return
+    counter = Counter()
+    for name in SAID:
+        counter.compare(name, heard(browser, name), wanted(name))
+    counter.end()
+
+
+main()

@@ -1,0 +1,85 @@
+#!/usr/bin/env python3
+"""Runs the proved program with words that ask for something, and on streams that fail; compares the exit status and both
+streams. (Words that ask for nothing: `terminal.py`.) The program is the one that `rt ci` or `rt run` leaves in
+crates/bakerystore.
+"""
+
+import pathlib
+import subprocess
+import sys
+import tempfile
+
+sys.path.insert(0, str(pathlib.Path(__file__).resolve().parents[1]))
+
+from lib.counting import Counter
+from lib.places import PROGRAM
+
+SCENARIO = "bakery 1\ncall 0 add a 1\n"
+PLAIN = (0, "0 0 no-name\n", "")
+REPLAY = (0, "0 0 call add a 1\nend events 1 taken 0 refused 0\n", "")
+AUDIT = (0, "good 1\n", "")
+SWEEP = (0, "sweep runs 2 good 2 stuck 0\n", "")
+RACE = (0, "0 0 no-name\nshow empty\ngood\n", "")
+RECORD = (0, "record 1\nprocesses 2\ntickets 4\nstamps 4\nslots 1\n0 : call add a 1\n", "")
+
+# the words, standard input, and what is wanted: exit status, standard output, standard error
+CASES = [
+    ([], SCENARIO, PLAIN),
+    (["plain", "-"], SCENARIO, PLAIN),
+    (["plain", "a file"], "", PLAIN),
+    (["replay", "-"], SCENARIO, REPLAY),
+    (["audit", "-"], SCENARIO, AUDIT),
+    (["audit", "a file"], "", AUDIT),
+    (["sweep", "-"], SCENARIO, SWEEP),
+    (["sweep", "a file"], "", SWEEP),
+    (["race", "-"], SCENARIO, RACE),
+    (["race", "a file"], "", RACE),
+    (["record", "-"], SCENARIO, RECORD),
+    (["record", "a file"], "", RECORD),
+    (["judge", "-"], RECORD[1], (0, "good 1\n", "")),
+    (["judge", "-"], RECORD[1] + "0 : fail\n0 : fail\n", (3, "bad 2 program\n", "")),
+    (["judge", "a file"], "", (1, "", "line 1: not-first\n")),
+    (["bits", "-"], "bits 1\nend\n", (0, "refused\n", "")),
+    (["bits", "a file"], "", (1, "", "line 1: not-first\n")),
+    (["plain", "no such file"], SCENARIO, (1, "", "read fault\n")),
+    (["plain", ""], SCENARIO, (1, "", "read fault\n")),
+    (["replay", "."], SCENARIO, (1, "", "read fault\n")),
+    (["draw", "."], SCENARIO, (1, "", "read fault\n")),
+    (["draw-svg", "."], SCENARIO, (1, "", "read fault\n")),
+    (["audit", "."], SCENARIO, (1, "", "read fault\n")),
+    (["sweep", "."], SCENARIO, (1, "", "read fault\n")),
+    (["race", "."], SCENARIO, (1, "", "read fault\n")),
+    (["record", "."], SCENARIO, (1, "", "read fault\n")),
+    (["judge", "."], RECORD[1], (1, "", "read fault\n")),
+    (["plain", "-"], "", (1, "", "line 1: not-first\n")),
+    (["replay", "-"], "bakery 1\nprocesses 0\n", (1, "", "line 2: bad-setup\n")),
+    (["audit", "-"], "bakery 1\nprocesses 0\n", (1, "", "line 2: bad-setup\n")),
+    (["sweep", "-"], "bakery 1\nprocesses 0\n", (1, "", "line 2: bad-setup\n")),
+    (["race", "-"], "bakery 1\nprocesses 0\n", (1, "", "line 2: bad-setup\n")),
+    (["record", "-"], "bakery 1\nprocesses 0\n", (1, "", "line 2: bad-setup\n")),
+    (["judge", "-"], "record 1\n0 : fail\n0 : frob\n", (1, "", "line 3: unknown\n")),
+    (["draw", "-"], "bakery 1\nprocesses 0\n", (1, "", "line 2: bad-setup\n")),
+    (["draw-svg", "-"], "bakery 1\nprocesses 0\n", (1, "", "line 2: bad-setup\n")),
+    (["draw", "--reads", "-"], "bakery 1\nprocesses 0\n", (1, "", "line 2: bad-setup\n")),
+    (["--reads", "draw-svg", "."], SCENARIO, (1, "", "read fault\n")),
+]
+
+
+def main():
+    counter = Counter()
+
+    def compare(what, ran, want):
+        counter.compare(what, (ran.returncode, ran.stdout or "", ran.stderr), want)
+
+    with tempfile.TemporaryDirectory() as folder:
+        (pathlib.Path(folder) / "a file").write_text(SCENARIO)
+        for words, text, want in CASES:
+            compare(words, subprocess.run([PROGRAM, *words], input=text, capture_output=True, text=True, cwd=folder), want)
+        with open("/dev/full", "w") as full:
+            for command, text in [*((each, SCENARIO) for each in ["plain", "replay", "audit", "sweep", "race", "record"]), ("judge", RECORD[1])]:
+                ran = subprocess.run([PROGRAM, command, "-"], input=text, stdout=full, stderr=subprocess.PIPE, text=True)
+                compare(f"{command} to a full device", ran, (1, "", "write fault\n"))
+    counter.end()
+
+
+main()

@@ -1,0 +1,111 @@
+#!/usr/bin/env python3
+"""Makes what docs/ARCHITECTURE.md and docs/HOW_IT_IS_PROVED.md show of the crates, from crates.txt and the sources.
+
+The first has a picture, in which each crate stands a row above the highest one that it stands on, and a table of all crates. The
+second counts the lines of each group up to that of the program, in hundreds, with comments. What is made stands between two
+comments of a page. With `--write` it is written; without it, it is compared. And crates.txt is held to its rules: each crate is
+listed, says what it does, and stands on crates of the lines before its own.
+"""
+
+import pathlib
+import re
+import sys
+
+sys.path.insert(0, str(pathlib.Path(__file__).resolve().parents[1]))
+
+from lib.counting import Counter
+from lib.crates import PROGRAM, crates, groups
+from lib.places import TOP
+
+MADE = re.compile(r"(<!-- made by tests/gate/layers.py: {} -->\n).*?(<!-- end -->)".replace("{}", r"(?P<what>\w+)"), re.S)
+PAGES = [TOP / "docs" / name for name in ("ARCHITECTURE.md", "HOW_IT_IS_PROVED.md")]
+FOLDERS = ["src", "specs", "proofs"]
+
+
+def groups_of_program():
+    """The groups up to that of the program: those behind it are tests, loads and the like."""
+    for group in groups():
+        yield group
+        if PROGRAM in [crate.name for crate in group.crates]:
+            return
+
+
+def rows_of(listed):
+    """The row of each crate: one more than the highest one that it stands on."""
+    rows = {}
+    for name, crate in listed.items():
+        rows[name] = 1 + max((rows.get(below, 0) for below in crate.stands_on), default=0)
+    return rows
+
+
+def picture():
+    """The crates of the program, the highest row first."""
+    shown = [crate.name for group in groups_of_program() for crate in group.crates]
+    rows = rows_of(crates())
+    lines = [[name for name in shown if rows[name] == row] for row in range(1, 1 + max(rows[name] for name in shown))]
+    told = [f"{row:>2}  {'   '.join(names)}\n" for row, names in enumerate(lines, 1)]
+    return f"```text\n{''.join(reversed(told))}```\n"
+
+
+def table():
+    """All crates, group by group from the bottom up."""
+    lines = ["| Crate | What it does | Stands on |", "|---|---|---|"]
+    for group in groups():
+        lines.append(f"| **{group.heading}** | | |")
+        for crate in group.crates:
+            below = ", ".join([*crate.stands_on, *(f"`{name}`" for name in crate.takes)])
+            lines.append(f"| {crate.name} | {crate.does} | {below or 'std'} |")
+    return "".join(f"{line}\n" for line in lines)
+
+
+def lines_in(group, folder):
+    """The lines of the files in a folder of a group's crates, in hundreds."""
+    paths = [path for crate in group.crates for path in (TOP / "crates" / crate.name / folder).rglob("*")]
+    counted = [len(path.read_text().splitlines()) for path in paths if path.suffix in (".rt", ".antt")]
+    return f"{round(sum(counted), -2):,}"
+
+
+def costs():
+    """The lines of each group up to that of the program."""
+    lines = ["| Layer | Crates | Code | Definitions | Proofs |", "|---|---|---|---|---|"]
+    for group in groups_of_program():
+        names = ", ".join(crate.name for crate in group.crates)
+        lines.append(f"| {group.heading} | {names} | {' | '.join(lines_in(group, folder) for folder in FOLDERS)} |")
+    return "".join(f"{line}\n" for line in lines)
+
+
+def made(text):
+    """A page with what is made of it anew, and the names of these parts."""
+    parts = {"picture": picture, "table": table, "costs": costs}
+    return MADE.sub(lambda found: found[1] + parts[found["what"]]() + found[3], text), [found["what"] for found in MADE.finditer(text)]
+
+
+def faults_of(crate, known):
+    """What is wrong with the line of a crate, behind these lines."""
+    if not crate.does:
+        yield "says not what it does: a comment above its line"
+    if set(crate.stands_on) - known:
+        yield f"stands on crates of later lines: {sorted(set(crate.stands_on) - known)}"
+
+
+def main():
+    counter = Counter()
+    for page in PAGES:
+        text = page.read_text()
+        wanted, parts = made(text)
+        if sys.argv[1:] == ["--write"]:
+            page.write_text(wanted)
+            text = wanted
+        counter.count(parts, f"{page.name} shows nothing that is made here")
+        counter.count(text == wanted, f"{page.name} is not what is counted: python3 tests/gate/layers.py --write")
+    known = set()
+    for name, crate in crates().items():
+        faults = list(faults_of(crate, known))
+        counter.count(not faults, f"{name} {'; '.join(faults)}")
+        known.add(name)
+    there = {path.parent.name for path in (TOP / "crates").glob("*/src")}
+    counter.count(known == there, f"crates.txt and the folder crates/ differ in {sorted(known ^ there)}")
+    counter.end()
+
+
+main()

@@ -1,0 +1,113 @@
+#!/usr/bin/env python3
+"""Runs each lesson's file, and compares what it prints with lessons/expected/, byte for byte, and with what the lesson quotes.
+
+A lesson of lessons/README.md names its file behind `File: `, and the word that runs it, if that is not `replay` or `bits`. A
+block without a language quotes lines of the run, in their order. The lesson on races quotes texts beside one another in its
+block of `text`: they are those of all orders of the calls, and each race prints one of them. A lesson whose file is replayed
+shows its picture, which is the one that the program draws. The commands of the `console` blocks are followed by
+readme.py.
+"""
+
+import pathlib
+import re
+import subprocess
+import sys
+
+sys.path.insert(0, str(pathlib.Path(__file__).resolve().parents[1]))
+
+from lib.counting import Counter
+from lib.places import PROGRAM, TOP
+from second.race_texts import texts_beside, texts_of_orders
+
+LESSONS = TOP / "lessons"
+FILE = re.compile(r"^File: `(?P<file>(?P<stem>[\w-]+)\.(?P<kind>\w+))`(?:, for `(?P<word>\w+)`)?\.", re.M)
+PARTS = ["**Expect.**", "**Run.**", "**See.**", "**Question.**", "<summary>Answer</summary>"]
+RACES = 50
+
+
+def lessons():
+    """Each lesson's heading and text."""
+    parts = re.split(r"^## (?=\d)", (LESSONS / "README.md").read_text(), flags=re.M)[1:]
+    return [part.partition("\n")[::2] for part in parts]
+
+
+def quoted(text):
+    """The lines that a lesson quotes of its run."""
+    return [line for block in re.findall(r"^\n```\n(.*?)\n```$", text, re.M | re.S) for line in block.split("\n")]
+
+
+def stand_in_order(lines, printed):
+    """Whether the lines stand among those printed, in their order."""
+    left = iter(printed)
+    return all(line in left for line in lines)
+
+
+def ran(word, file):
+    """What the program prints that runs a file; none, if it ends with a fault."""
+    told = subprocess.run([PROGRAM, word, LESSONS / file], capture_output=True, text=True, timeout=600)
+    return told.stdout if (told.returncode, told.stderr) == (0, "") else None
+
+
+def fault_of_text(printed, stem, text):
+    """What is wrong with what a run prints, or with what is quoted of it."""
+    if printed != (LESSONS / "expected" / f"{stem}.txt").read_text():
+        return f"prints other lines than expected:\n{printed}"
+    lines = quoted(text)
+    if not lines or not stand_in_order(lines, printed.split("\n")):
+        return f"quotes other lines than are printed: {lines}"
+    return None
+
+
+def fault_of_picture(file, stem, text):
+    """What is wrong with the picture of a run."""
+    if text.count(f"](pictures/{stem}.svg)") != 1:
+        return "does not show its picture"
+    if ran("draw-svg", file) != (LESSONS / "pictures" / f"{stem}.svg").read_text():
+        return f"shows another picture than is drawn: bakerystore draw-svg lessons/{file} > lessons/pictures/{stem}.svg"
+    return None
+
+
+def fault_of_race(file, text):
+    """What is wrong with the texts of a race."""
+    blocks = re.findall(r"^```text\n(.*?)^```$", text, re.M | re.S)
+    texts = set().union(*map(texts_beside, blocks))
+    if texts != texts_of_orders((LESSONS / file).read_text()):
+        return "quotes other texts than those of all orders"
+    printed = {ran("race", file) for _ in range(RACES)}
+    return None if printed <= texts else f"prints other texts than it quotes: {printed - texts}"
+
+
+def fault_of(text):
+    """What is wrong with a lesson; none, if nothing is."""
+    found = [*FILE.finditer(text)]
+    if len(found) != 1 or not (LESSONS / found[0]["file"]).exists():
+        return "names no file"
+    if not all(part in text for part in PARTS):
+        return "lacks a part"
+    file, stem, kind, word = found[0].group("file", "stem", "kind", "word")
+    if word == "race":
+        return fault_of_race(file, text)
+    word = word or {"bits": "bits", "bakery": "replay"}[kind]
+    fault = fault_of_text(ran(word, file), stem, text)
+    return fault_of_picture(file, stem, text) if fault is None and word == "replay" else fault
+
+
+def strays():
+    """The files of the folder that no lesson names, and those that one names and are not there."""
+    taught = {found["file"] for found in FILE.finditer((LESSONS / "README.md").read_text())}
+    there = {path.name for path in LESSONS.iterdir() if path.is_file() and path.suffix != ".md"}
+    stems = {file.rpartition(".")[0] for file in taught}
+    made = {path.stem for folder in ("expected", "pictures") for path in (LESSONS / folder).iterdir()}
+    return taught ^ there | made - stems
+
+
+def main():
+    told = [(heading, fault_of(text)) for heading, text in lessons()]
+    told.append(("the files that are taught", f"are not those that are there: {strays()}" if strays() else None))
+    counter = Counter()
+    for heading, fault in told:
+        counter.count(fault is None, f"{heading}: {fault}")
+    counter.end()
+
+
+main()

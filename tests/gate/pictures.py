@@ -1,0 +1,342 @@
+#!/usr/bin/env python3
+"""Draws runs by the proved program, and reads them back: the worked examples, the lessons, and files that are made up.
+
+pictures.py [--made-up N] [--first K]: so many files that lib/random_scenarios.py makes up, 10 if not said, from the one of
+number K on, 1 if not said. The picture that README.md shows is the one that the program draws.
+
+A parser of HTML reads the pages, and one of XML the pictures; both know nothing of this repository. The titles of the marks
+are the lines of the run, in their order. Each word of a picture stands within it, and on no other one. Right of each mark the
+bar of each process is the stage that the marks so far give it, and all lanes are shaded from each `enter` to its `leave`; no
+two bars stand side by side as `inside`. The places in the history are numbered from 0 on, and each is filled where a command
+changed the store.
+
+With `--reads` both show beside all this the reads that a write overlapped, which are looked up in what `record` prints: of those
+that end between two lines of the run the first three, each with a bracket that ends at its column.
+"""
+
+import argparse
+import collections
+import html.parser
+import itertools
+import pathlib
+import re
+import subprocess
+import sys
+import xml.etree.ElementTree as tree
+from typing import NamedTuple
+
+sys.path.insert(0, str(pathlib.Path(__file__).resolve().parents[1]))
+
+from lib.counting import Counter
+from lib.places import PROGRAM, TOP, WORKED
+from lib.random_scenarios import scenario
+
+# the picture that README.md shows, and its run
+SHOWN = TOP / "docs" / "run.svg"
+SHOWN_RUN = WORKED / "failure-commit-settled-new" / "scenario"
+SVG = "{http://www.w3.org/2000/svg}"
+# the size of a word by its class, in pixels
+SIZES = {
+    **dict.fromkeys(["verb", "rest", "store", "saw", "of-what"], 11),
+    **dict.fromkeys(["event", "gap", "name", "stage", "white", "in", "in-w", "thin"], 9),
+    "key": 10,
+    "lane": 14,
+}
+# the stage that a mark gives its process
+STAGES = {
+    **{"call": "doorway", "wait": "waiting", "enter": "inside", "leave": "leaving", "withdraw": "leaving"},
+    **{"answer": "idle", "fail": "settling", "down": "down", "restart": "idle"},
+}
+LEFT = 52
+# of the reads that end between two lines of the run, so many are shown
+MOST_SHOWN = 3
+# an entry of a record with an access: process, owner, field, bit, reader, move, value
+ENTRY = re.compile(r"(\d+) (\d+)\.(\w+)\.(\d+)\.(\d+) (write|end|settle|read|value)(?: ([01]))?( :.*)?")
+# how many bits the registers have, by the heading of a record, or always
+WIDTHS = {"choosing": 1, "commit": 1, "ticket": "tickets", "stamp0": "stamps", "stamp1": "stamps"}
+
+
+class Group(NamedTuple):
+    """A group of a picture: `m` of a mark, `r` of a read; its title, and its words."""
+
+    style: str
+    title: list
+    words: list
+
+
+class Groups(html.parser.HTMLParser):
+    """The groups of a page."""
+
+    def __init__(self):
+        super().__init__()
+        self.groups, self.is_open, self.part = [], False, None
+
+    def handle_starttag(self, tag, attributes):
+        if tag == "g":
+            self.groups.append(Group(dict(attributes).get("class"), [], []))
+            self.is_open = True
+        if tag in ("title", "text") and self.is_open:
+            self.part = self.groups[-1].title if tag == "title" else self.groups[-1].words
+            self.part.append("")
+
+    def handle_endtag(self, tag):
+        if tag in ("title", "text"):
+            self.part = None
+        if tag == "g":
+            self.is_open = False
+
+    def handle_data(self, data):
+        if self.part is not None:
+            self.part[-1] += data
+
+
+class Read(NamedTuple):
+    """A read that a write overlapped: who read whose bit, from when to when, what it gave, and whether there are other bits."""
+
+    reader: str
+    owner: str
+    field: str
+    bit: str
+    begin: int
+    end: int
+    value: str
+    is_wide: bool
+
+    def title(self):
+        bit = f"bit {self.bit} of {self.field}[{self.owner}]"
+        return f"process {self.reader} read {bit} from event {self.begin} to {self.end} while it was written: {self.value}"
+
+    def words(self, left_out):
+        bit = f".{self.bit}" if self.is_wide else ""
+        return [f"saw {self.value}", f"{self.field}[{self.owner}]{bit}" + (f" +{left_out}" if left_out else "")]
+
+
+class Run(NamedTuple):
+    """A run: its lines, and the reads that a picture of it shows."""
+
+    lines: list
+    reads: list
+
+
+def printed(file, command, *options):
+    ran = subprocess.run([PROGRAM, command, *options, "-"], input=file, capture_output=True, check=True)
+    return ran.stdout.decode()
+
+
+def overlapped_in(record):
+    """The reads of a record that a write of their bit overlapped: one was open as they began, or has begun since."""
+    entries = [line for line in record if line[0].isdigit()]
+    widths = dict(line.split(maxsplit=1) for line in record if not line[0].isdigit())
+    writing, begun, touched = set(), {}, set()
+    for number, entry in enumerate(entries):
+        parts = ENTRY.fullmatch(entry)
+        if not parts:
+            continue
+        process, *place, move, value, _ = parts.groups()
+        place = tuple(place)
+        if move == "write":
+            writing.add(place)
+            touched.add(place)
+        elif move in ("end", "settle"):
+            writing.discard(place)
+        elif move == "read":
+            begun[place] = number
+            (touched.add if place in writing else touched.discard)(place)
+        elif place in touched:
+            owner, field, bit, _ = place
+            width = WIDTHS.get(field)
+            is_wide = int(widths.get(width, width or 8)) > 1
+            yield Read(process, owner, field, bit, begun[place], number, value, is_wide)
+
+
+def read_faults(groups, reads):
+    """What is wrong with the reads that stand between the marks."""
+    to_come, shown = collections.deque(reads), 0
+    for style, title, words in groups:
+        if style == "m":
+            shown, event = 0, re.match(r"\d+", title[0])
+            if event and to_come and to_come[0].end <= int(event.group()):
+                yield f"{to_come[0].title()} is not shown before {title[0]}"
+        elif style == "r":
+            shown += 1
+            left_out = int((re.findall(r" \+(\d+)$", words[-1]) or [0])[0])
+            wanted = to_come.popleft() if to_come else None
+            if not wanted or (title, words) != ([wanted.title()], wanted.words(left_out)):
+                yield f"{title} {words} is shown, not {wanted}"
+            if shown > MOST_SHOWN or left_out and shown < MOST_SHOWN:
+                yield f"read {shown} between two lines is {title} {words}"
+            for _ in range(min(left_out, len(to_come))):
+                to_come.popleft()
+    if to_come:
+        yield f"{len(to_come)} reads are not shown"
+
+
+def page_faults(page, run):
+    """What is wrong with the page of a run."""
+    parser = Groups()
+    parser.feed(page)
+    if [group.title[0] for group in parser.groups if group.style == "m"] != run.lines:
+        yield "other lines than replay's"
+    yield from read_faults(parser.groups, run.reads)
+    if "<script src" in page or "http" in page.replace("http://www.w3.org/2000/svg", ""):
+        yield "something that is not in the file"
+
+
+def words_of(element, down):
+    """The words of a picture: the box of each, and what it says."""
+    moved = re.fullmatch(r"translate\(0,(\d+)\)", element.get("transform", ""))
+    down += int(moved.group(1)) if moved else 0
+    if element.tag == SVG + "text":
+        style = element.get("class").split()[0]
+        size = SIZES[style]
+        width = len(element.text) * size * 0.603
+        left = int(element.get("x")) - (width / 2 if style in ("gap", "in", "in-w") else 0)
+        base = int(element.get("y")) + down
+        yield left, base - size * 0.75, left + width, base + size * 0.2, element.text
+    for child in element:
+        yield from words_of(child, down)
+
+
+def word_faults(root):
+    """Words that stand outside of a picture, or on another one."""
+    words = sorted(words_of(root, 0))
+    for place, (left, top, right, bottom, text) in enumerate(words):
+        if left < 0 or right > int(root.get("width")) or bottom > int(root.get("height")):
+            yield f"{text} stands outside"
+        for other in itertools.takewhile(lambda word: word[0] < right, words[place + 1 :]):
+            if other[1] < bottom - 0.5 and top < other[3] - 0.5:
+                yield f"{text} stands on {other[4]}"
+
+
+def title(mark):
+    """The line of a mark."""
+    return mark.find(SVG + "title").text
+
+
+def width_of(box):
+    """Where a box begins, and where it ends."""
+    return int(box.get("x")), int(box.get("x")) + int(box.get("width"))
+
+
+def bars_of(band):
+    """The bars of each lane of a band: where each begins, where it ends, and its stage."""
+    lanes = []
+    for shape in band:
+        style = shape.get("class", "")
+        if shape.tag == SVG + "text" and style in ("lane", "thin"):
+            lanes.append([])
+        elif style == "idle":
+            ends = re.fullmatch(r"M(\d+) \d+L(\d+) \d+", shape.get("d")).groups()
+            lanes[-1].append((*map(int, ends), style))
+        elif style in STAGES.values():
+            lanes[-1].append((*width_of(shape), style))
+    return lanes
+
+
+class State(NamedTuple):
+    """The stages of all processes, and whether the critical section is taken."""
+
+    stages: list
+    is_taken: bool
+
+    def after(self, line):
+        """The state after a line of the run."""
+        process, verb = (line.split() + [""])[1:3]
+        if line.startswith("-") or verb not in STAGES:
+            return self
+        is_taken = verb == "enter" or (self.is_taken and verb != "leave")
+        stages = list(self.stages)
+        if verb != "leave" or stages[int(process)] != "settling":
+            stages[int(process)] = STAGES[verb]
+        return State(stages, is_taken)
+
+
+def band_faults(band, state, marks):
+    """What is wrong with the bars and shades of a band, where this was the state before it."""
+    shades = [width_of(box) for box in band.iter(SVG + "rect") if box.get("class") == "shade"]
+    lanes, states = bars_of(band), {LEFT: state}
+    for mark in marks:
+        states[int(mark.get("data-x"))] = state = state.after(title(mark))
+    for x, wanted in states.items():
+        drawn = [[stage for start, end, stage in lane if start <= x < end] for lane in lanes]
+        if drawn != [[stage] for stage in wanted.stages] or drawn.count(["inside"]) > 1:
+            yield f"bars {drawn} at {x}, not {wanted.stages}"
+        if sum(start <= x < end for start, end in shades) != wanted.is_taken:
+            yield f"shades {shades}, though at {x} somebody is inside: {wanted.is_taken}"
+
+
+def place_faults(marks):
+    """What is wrong with the places in the history that the marks tell."""
+    taken = [mark for mark in marks if re.match(r"\d+ \d+ taken ", title(mark))]
+    for place, mark in enumerate(taken):
+        style = "pill" if mark.get("data-s") is not None else "pill-o"
+        knots = [word.text for word in mark.iter(SVG + "text") if word.get("class") in ("in", "in-w")]
+        pills = [box.get("class") for box in mark.iter(SVG + "rect")]
+        if (knots, pills) != ([str(place)] * 2, [style] * 2):
+            yield f"place {place} is drawn as {knots}, {pills}"
+
+
+def bracket_faults(bands):
+    """What is wrong with the brackets of reads: each ends at the column of its read, and begins before it."""
+    for band in bands:
+        brackets = [shape.get("d") for shape in band if shape.get("class") == "open"]
+        ends = [re.fullmatch(r"M(\d+) \d+V\d+H(\d+)V\d+", bracket).groups() for bracket in brackets]
+        columns = [int(word.get("x")) - 3 for word in band.iter(SVG + "text") if word.get("class") == "saw"]
+        if [int(end) for _, end in ends] != columns or any(int(begin) > int(end) for begin, end in ends):
+            yield f"brackets {brackets} of reads at {columns}"
+
+
+def picture_faults(picture, run):
+    """What is wrong with the picture of a run."""
+    root = tree.fromstring(picture.encode())
+    # the last group is the legend
+    bands = [group for group in root if group.get("transform")][:-1]
+    marks_of = [[group for group in band if group.get("class") == "m"] for band in bands]
+    marks = list(itertools.chain(*marks_of))
+    if [title(mark) for mark in marks] != run.lines:
+        yield "other lines than replay's"
+        return
+    groups = [group for band in bands for group in band if group.get("class") in ("m", "r")]
+    words = [[word.text for word in group.iter(SVG + "text")] for group in groups]
+    yield from read_faults([Group(each.get("class"), [title(each)], said) for each, said in zip(groups, words)], run.reads)
+    yield from bracket_faults(bands)
+    yield from word_faults(root)
+    yield from place_faults(marks)
+    state = State(["idle"] * len(bars_of(bands[0])), False)
+    for band, marks in zip(bands, marks_of):
+        yield from band_faults(band, state, marks)
+        for mark in marks:
+            state = state.after(title(mark))
+
+
+def files(made_up, first):
+    """The worked examples that are drawn, the lessons, and the files that are made up, by name."""
+    for folder in sorted(WORKED.iterdir()):
+        if (folder / "draw").exists():
+            yield folder.name, (folder / "scenario").read_bytes()
+    for lesson in sorted((TOP / "lessons").glob("*.bakery")):
+        yield lesson.name, lesson.read_bytes()
+    for number in range(first, first + made_up):
+        yield f"file {number}", scenario(number).encode()
+
+
+def main():
+    parser = argparse.ArgumentParser(description=__doc__, formatter_class=argparse.RawDescriptionHelpFormatter)
+    parser.add_argument("--made-up", type=int, default=10)
+    parser.add_argument("--first", type=int, default=1)
+    words = parser.parse_args()
+    counter = Counter()
+    drawn = printed(SHOWN_RUN.read_bytes(), "draw-svg")
+    counter.count(drawn == SHOWN.read_text(), f"{SHOWN.relative_to(TOP)} is not what draw-svg draws")
+    for name, file in files(words.made_up, words.first):
+        lines = printed(file, "replay").splitlines()
+        overlapped = list(overlapped_in(printed(file, "record").splitlines()))
+        for options, reads in [([], []), (["--reads"], overlapped)]:
+            for command, faults_of in [("draw", page_faults), ("draw-svg", picture_faults)]:
+                faults = list(faults_of(printed(file, command, *options), Run(lines, reads)))
+                counter.count(not faults, "\n".join(f"{command} {options} {name}: {fault}" for fault in faults[:5]))
+    counter.end()
+
+
+if __name__ == "__main__":
+    main()

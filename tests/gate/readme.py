@@ -1,0 +1,65 @@
+#!/usr/bin/env python3
+"""Follows the README, that of examples/, the pages of lessons/, docs/RECORDS.md and docs/FAULTS.md: runs each command that they
+show, and compares what it prints byte for byte. And the README is short enough to be read.
+
+A command stands behind `$ ` in a block of `console`, and what it prints, on both streams, on the lines below it. `bakerystore`
+is the proved program that `rt ci` or `rt run` leaves. A command by which rt runs it, `rt try -- WORDS` or `rt run -- WORDS`, is
+followed by that program too, with these words: what it prints is the same.
+"""
+
+import os
+import pathlib
+import re
+import subprocess
+import sys
+
+sys.path.insert(0, str(pathlib.Path(__file__).resolve().parents[1]))
+
+from lib.counting import Counter
+from lib.places import PROGRAM, TOP
+
+PAGES = [
+    TOP / name
+    for name in ("README.md", "examples/README.md", "lessons/README.md", "lessons/HOUR.md", "docs/RECORDS.md", "docs/FAULTS.md")
+]
+# the most words of the README
+MOST_WORDS = 900
+BY_RT = re.compile(r"\brt (try|run)( --jobs \d+)? -- ")
+
+
+def commands_of(page):
+    """Each command of a page, with what stands below it."""
+    for block in re.findall(r"^```console\n(.*?)^```$", page.read_text(), re.M | re.S):
+        for shown in re.split(r"^\$ ", block, flags=re.M)[1:]:
+            command, _, output = shown.partition("\n")
+            yield command, output
+
+
+def printed_by(command):
+    paths = f"{PROGRAM.parent}{os.pathsep}{os.environ['PATH']}"
+    ran = subprocess.run(
+        BY_RT.sub("bakerystore ", command),
+        shell=True,
+        cwd=TOP,
+        stdout=subprocess.PIPE,
+        stderr=subprocess.STDOUT,
+        text=True,
+        env=dict(os.environ, PATH=paths),
+    )
+    return ran.stdout
+
+
+def main():
+    counter, words = Counter(), len((TOP / "README.md").read_text().split())
+    counter.count(words <= MOST_WORDS, f"README.md has {words} words, of at most {MOST_WORDS}")
+    for page in PAGES:
+        commands = [*commands_of(page)]
+        if not commands:
+            counter.count(False, f"{page.relative_to(TOP)} shows no command")
+        for command, output in commands:
+            printed = printed_by(command)
+            counter.count(printed == output, f"{page.relative_to(TOP)}: {command}\n{printed}wanted:\n{output}")
+    counter.end()
+
+
+main()

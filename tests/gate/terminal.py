@@ -1,0 +1,336 @@
+#!/usr/bin/env python3
+"""How the proved program meets a person at a terminal: its pages, whose examples are made; why words are refused; lines that
+come as they are made, and the line that shows how far a run is; reads and writes that a signal interrupts.
+
+It needs `cc`, `rt` and pseudo-terminals, and the program that `rt ci` or `rt run` leaves in crates/bakerystore. A library loaded
+before the program interrupts its calls, counts them, and sets its clock (`interrupt.c`).
+"""
+
+import contextlib
+import os
+import pathlib
+import pty
+import re
+import subprocess
+import sys
+import tempfile
+import threading
+import time
+import tty
+from typing import NamedTuple
+
+sys.path.insert(0, str(pathlib.Path(__file__).resolve().parents[1]))
+
+from lib.counting import Counter
+from lib.places import PROGRAM, TOP
+from lib.preloading import built
+
+# in the order of the page
+COMMANDS = ["plain", "bits", "replay", "audit", "sweep", "race", "record", "judge", "draw", "draw-svg"]
+KINDS = ["too-long", "not-first", "unknown", "words", "number", "bad-name", "bad-value", "bad-setup", "memory"]
+FAULT_LINES = ["read fault", "write fault", "out of memory", "no thread"]
+USAGE = "usage: bakerystore COMMAND FILE  (FILE - is standard input; without words: plain -; commands: bakerystore --help)\n"
+SCENARIO = "bakery 1\ncall 0 add a 1\n"
+PRINTED = "0 0 no-name\n"
+RECORD = "record 1\nprocesses 2\ntickets 4\nstamps 4\nslots 1\n0 : call add a 1\n"
+# what a page shows: a command behind `$ `, and the lines below it that begin at the same place
+SHOWN = re.compile(r"^( +)\$ (.*)\n((?:\1(?! |\$ ).*\n)*)", re.M)
+CLEAR = "\r\x1b[K"
+
+# words that ask for nothing that there is, and why
+REFUSED = [
+    (["rplay", "-"], "unknown command `rplay` (did you mean `replay`?)"),
+    (["Plain", "-"], "unknown command `Plain` (did you mean `plain`?)"),
+    (["show", "a file"], "unknown command `show`"),
+    (["", "-"], "unknown command ``"),
+    (["a\nb\x1b[K"], "unknown command `a\\nb\\u{1b}[K`"),
+    (["help", "raec"], "unknown command `raec` (did you mean `race`?)"),
+    (["hepl"], "unknown command `hepl` (did you mean `help`?)"),
+    (["bit", "--help"], "unknown command `bit` (did you mean `bits`?)"),
+    (["-"], "unknown command `-`"),
+    (["plain"], "no FILE behind `plain` (`-` is standard input)"),
+    (["--quiet", "audit"], "no FILE behind `audit` (`-` is standard input)"),
+    (["plain", "a file", "-"], "too many words, from `-` on"),
+    (["help", "plain", "bits", "race"], "too many words, from `bits` on"),
+    (["--version", "plain"], "too many words, from `plain` on"),
+    (["plain", "-x"], "unknown option `-x` (a file of that name is `./-x`)"),
+    (["--hlep"], "unknown option `--hlep` (a file of that name is `./--hlep`)"),
+    (["replay", "--reads", "-"], "`replay` has no option `--reads` (draw and draw-svg have)"),
+    (["--reads"], "`plain` has no option `--reads` (draw and draw-svg have)"),
+    (["--reads", "draw"], "no FILE behind `draw` (`-` is standard input)"),
+    (["draw", "--read", "-"], "unknown option `--read` (a file of that name is `./--read`)"),
+    (["plain", b"\xff"], "a word is not UTF-8 (a file of such a name can be given by: bakerystore COMMAND - < FILE)"),
+]
+
+# words that ask for something, and what is printed
+TAKEN = [
+    (["--"], PRINTED),
+    (["--", "plain", "a file"], PRINTED),
+    (["plain", "--", "a file"], PRINTED),
+    (["plain", "--", "-x"], PRINTED),
+    (["plain", "./-x"], PRINTED),
+    (["plain", "--", "-"], PRINTED),
+    (["--quiet"], PRINTED),
+    (["plain", "--quiet", "a file"], PRINTED),
+    (["plain", "a file", "--quiet"], PRINTED),
+]
+
+
+class Ran(NamedTuple):
+    """How a run ended, and what it wrote: None where that was no pipe."""
+
+    status: int
+    output: str | None
+    errors: str | None
+
+
+def run(words, text="", **streams):
+    """Runs the program on a standard input; its two outputs go to pipes unless it is said where."""
+    streams = {"stdout": subprocess.PIPE, "stderr": subprocess.PIPE, **streams}
+    ran = subprocess.run([PROGRAM, *words], input=text, text=True, **streams)
+    return Ran(ran.returncode, ran.stdout, ran.stderr)
+
+
+def pages(counter):
+    """The pages come by each of their words, tell all there is, and each command that they show prints what they show."""
+    general = run(["--help"])
+    texts = {"--help": general.output}
+    for words in [["-h"], ["help"], ["help", "help"], ["help", "--help"], ["-h", "--quiet"]]:
+        counter.compare(words, run(words), general)
+    listed = general.output.partition("\n\n  help COMMAND")[0]
+    counter.compare("commands of the page", re.findall(r"^  ([a-z-]+) +\S", listed, re.M), COMMANDS)
+    counter.compare("statuses of the page", re.findall(r"^  (\d)   ", general.output, re.M), list("01234"))
+    for command in COMMANDS:
+        page = texts[command] = run(["help", command])
+        for words in [[command, "--help"], ["-h", command], [command, "a file", "--help"]]:
+            counter.compare(words, run(words), page)
+        texts[command] = page.output
+        option = " [--reads]" if command in ("draw", "draw-svg") else ""
+        counter.compare(f"begin of the page of {command}", page.output.splitlines()[0], f"usage: bakerystore {command}{option} FILE")
+    faults = texts["faults"] = run(["help", "faults"]).output
+    counter.compare("kinds of fault", re.findall(r"^([a-z]+(?:-[a-z]+)?)  +[A-Z]", faults, re.M), KINDS)
+    counter.compare("other faults", re.findall(r"^([a-z]+(?: [a-z]+)+)  +[A-Z]", faults, re.M), FAULT_LINES)
+    counter.compare("causes of too-long", len(re.findall(r"^ +line \d+: too-long$", faults, re.M)), 3)
+    for name, text in texts.items():
+        shown = SHOWN.findall(text)
+        counter.compare(f"the page {name} shows commands", shown != [], True)
+        for _, command, printed in shown:
+            made = shell(command)
+            wanted = re.sub("^ +", "", printed, flags=re.M)
+            if name == "--help":
+                counter.compare(f"{command}, status and faults", (made.status, made.errors), (0, ""))
+            else:
+                counter.compare(command, made.errors or made.output, wanted)
+    with open("/dev/full", "w") as full:
+        counter.compare("a page to a full device", run(["--help"], stdout=full), Ran(1, None, "write fault\n"))
+
+
+def shell(command):
+    """Runs a command that a page shows, from the top of the repository."""
+    paths = f"{PROGRAM.parent}{os.pathsep}{os.environ['PATH']}"
+    environment = dict(os.environ, PATH=paths)
+    ran = subprocess.run(command, shell=True, cwd=TOP, capture_output=True, text=True, env=environment)
+    return Ran(ran.returncode, ran.stdout, ran.stderr)
+
+
+def words(counter, folder):
+    """Words that are refused say why, above the usage line; `--` ends the options; the version names the logic."""
+    for name in ["a file", "-x"]:
+        (folder / name).write_text(SCENARIO)
+    for asked, why in REFUSED:
+        counter.compare(asked, run(asked, SCENARIO, cwd=folder), Ran(2, "", f"{why}\n{USAGE}"))
+    for command in [*COMMANDS, "help"]:
+        why = f"unknown command `{command}z` (did you mean `{command}`?)"
+        counter.compare(f"nearest command to {command}z", run([f"{command}z", "-"]), Ran(2, "", f"{why}\n{USAGE}"))
+    for asked, printed in TAKEN:
+        counter.compare(asked, run(asked, SCENARIO, cwd=folder), Ran(0, printed, ""))
+    with open(os.fsencode(folder) + b"/\xff", "w") as file:
+        file.write(SCENARIO)
+    with open(os.fsencode(folder) + b"/\xff") as file:
+        ran = subprocess.run([PROGRAM, "plain", "-"], stdin=file, capture_output=True, text=True)
+    counter.compare("a file whose name is not UTF-8", (ran.returncode, ran.stdout), (0, PRINTED))
+    toolchain = subprocess.run(["rt", "version"], capture_output=True, text=True, check=True).stdout
+    logic = re.search(r"logic ([0-9a-f]+)$", toolchain.strip()).group(1)
+    named = re.search(r"^Proved with\n\n```\n(.*?)\n```$", (TOP / "docs" / "CLAIMS.md").read_text(), re.M | re.S)
+    logics = {line.rpartition(" logic ")[2] for line in named[1].splitlines()} if named else None
+    counter.compare("the logic of the toolchains that docs/CLAIMS.md names", logics, {logic})
+    version = run(["--version"])
+    counter.compare("the version, number left out", re.sub(r"\d+\.\d+\.\d+", "N", version.output), f"bakerystore N, proved in Rattle's logic {logic}\n")
+    counter.compare("its status", (version.status, version.errors), (0, ""))
+
+
+class Terminal:
+    """A pseudo-terminal that changes no byte; `end` is what the program gets."""
+
+    def __init__(self):
+        self.ours, self.end = pty.openpty()
+        tty.setraw(self.end)
+        self.written = b""
+        self.reader = threading.Thread(target=self.read)
+        self.reader.start()
+
+    def read(self):
+        """Reads until nobody holds the other end."""
+        with open(self.ours, "rb", buffering=0) as ours, contextlib.suppress(OSError):
+            while part := ours.read(65536):
+                self.written += part
+
+    def text(self):
+        """What was written by a program that has ended."""
+        os.close(self.end)
+        self.reader.join()
+        return self.written.decode()
+
+
+class Interrupter:
+    """Runs the program under `interrupt.c`."""
+
+    def __init__(self, folder):
+        self.library, self.met = built("interrupt", folder), folder / "met"
+
+    def run(self, asked, text="", tries=0, tick=0, **streams):
+        """A run, and how many reads and writes it met."""
+        added = {"LD_PRELOAD": str(self.library), "MET": str(self.met), "TRIES": str(tries), "TICK": str(tick)}
+        ran = run(asked, text, env={**os.environ, **added}, **streams)
+        reads, writes, *_ = map(int, self.met.read_text().split())
+        return ran, reads, writes
+
+
+def marks(processes):
+    """A scenario whose events each have one mark: each process calls, and then each fails; and the text of its replay."""
+    calls = "".join(f"call {process} read a\n" for process in range(processes))
+    fails = "".join(f"fail {process}\n" for process in range(processes))
+    text = "".join(f"{process} {process} call read a\n" for process in range(processes))
+    text += "".join(f"{processes + process} {process} fail\n" for process in range(processes))
+    heads = f"bakery 2\nprocesses {processes}\n"
+    return heads + calls + fails, text + f"end events {2 * processes} taken 0 refused 0\n"
+
+
+def lines_at_a_terminal(counter, interrupter):
+    """A terminal gets each line by a write of its own, and the first while the run goes on; a pipe gets all at once."""
+    scenario, text = marks(16)
+    terminal = Terminal()
+    ran, _, writes = interrupter.run(["replay", "-"], scenario, stdout=terminal.end)
+    counter.compare("to a terminal", (ran, terminal.text()), (Ran(0, None, ""), text))
+    counter.compare("writes to a terminal", writes, text.count("\n"))
+    ran, _, writes = interrupter.run(["replay", "-"], scenario)
+    counter.compare("to a pipe", ran, Ran(0, text, ""))
+    counter.compare("writes to a pipe", writes, 1)
+    # one process stays inside, for which another one waits in all its steps
+    long = "bakery 1\ncall 0 read a\ngo 0 inside\ncall 1 read a\n" + "step 1 100000\n" * 3900
+    first = "0 0 call read a\n"
+    terminal = Terminal()
+    with subprocess.Popen([PROGRAM, "replay", "-"], stdin=subprocess.PIPE, stdout=terminal.end, text=True) as going:
+        going.stdin.write(long)
+        going.stdin.close()
+        while going.poll() is None and not terminal.written.startswith(first.encode()):
+            time.sleep(0.01)
+        counter.compare("the first line is there while the run goes on", going.poll(), None)
+        going.kill()
+    counter.compare("the first line of a run that goes on", terminal.text()[: len(first)], first)
+
+
+def progress(counter, interrupter):
+    """The line of progress stands where standard error is a terminal and standard output is none, from two seconds on, and not
+    with `--quiet`. The clock goes on by 100 ms each time, and is asked at the begin of the run and before each of its lines."""
+    scenario, text = marks(16)
+    # a comment behind each line: the first line that is run is the 5th one of the file
+    spaced = scenario.replace("\n", "\n# a comment\n")
+    times = range(20, 33, 2)
+    shown = "".join(f"\r{asked - 1} events so far, 9 a second, line {2 * asked + 3} of the file\x1b[K" for asked in times) + CLEAR
+    # `draw-svg` makes the run twice: its lines come again, at the times from 33 on
+    again = shown.removesuffix(CLEAR)
+    for asked in range(34, 65, 2):
+        events = asked - 33
+        again += f"\r{events} events so far, {10 * events // asked} a second, line {2 * events + 5} of the file\x1b[K"
+    again += CLEAR
+    for command in ["replay", "record", "audit", "draw", "draw-svg"]:
+        alone = run([command, "-"], spaced)
+        counter.compare(f"{command} in pipes", (alone.status, alone.errors), (0, ""))
+        for options, wanted in [([], again if command == "draw-svg" else shown), (["--quiet"], "")]:
+            terminal = Terminal()
+            ran, *_ = interrupter.run([command, "-", *options], spaced, tick=100, stderr=terminal.end)
+            counter.compare(f"progress of {command} {options}", (ran, terminal.text()), (Ran(0, alone.output, None), wanted))
+        ran, *_ = interrupter.run([command, "-"], spaced, tick=100)
+        counter.compare(f"no progress of {command} in a pipe", ran, alone)
+    terminal = Terminal()
+    ran, *_ = interrupter.run(["replay", "-"], scenario, tick=100, stdout=terminal.end, stderr=terminal.end)
+    counter.compare("no progress beside the text", (ran.status, terminal.text()), (0, text))
+    few, text = marks(9)
+    terminal = Terminal()
+    ran, *_ = interrupter.run(["replay", "-"], few, tick=100, stderr=terminal.end)
+    counter.compare("no progress within two seconds", (ran, terminal.text()), (Ran(0, text, None), ""))
+    # the process fails after each of its 32 events, in two runs
+    swept = "sweep runs 64 good 64 stuck 0\n"
+    shown = "".join(f"\r{asked - 1} of 32 events swept so far, 9 a second\x1b[K" for asked in times) + CLEAR
+    terminal = Terminal()
+    ran, *_ = interrupter.run(["sweep", "-"], "bakery 1\ncall 0 read a\nstep 0 31\n", tick=100, stderr=terminal.end)
+    counter.compare("progress of sweep", (ran, terminal.text()), (Ran(0, swept, None), shown))
+    # it reads blocks of 1,024 bytes, of which each has eight of these lines
+    comments = "".join(f"{line:127}\n" for line in ["record 1", *["# a line"] * 255])
+    shown = "".join(f"\r{8 * blocks} lines read so far, 80 a second\x1b[K" for blocks in times) + CLEAR
+    terminal = Terminal()
+    ran, *_ = interrupter.run(["judge", "-"], comments, tick=100, stderr=terminal.end)
+    counter.compare("progress of judge", (ran, terminal.text()), (Ran(0, "good 0\n", None), shown))
+
+
+def interrupted(counter, interrupter, folder):
+    """Each read and write is made again, however often it is interrupted, with texts above what a buffer holds."""
+    adds = "bakery 2\nopen a c:0\n" + "call 0 add a 1\n" * 3000
+    sums = "".join(f"{place} 0 sum {place + 1}\n" for place in range(3000))
+    scenario, text = marks(16)
+    file = folder / "marks"
+    file.write_text(scenario)
+    bits = "bits 1\n" + "read\nvalue 1\n" * 2000
+    cases = [
+        (["plain", "-"], adds, Ran(0, sums, "")),
+        (["replay", "-"], scenario, Ran(0, text, "")),
+        (["replay", file], "", Ran(0, text, "")),
+        (["bits", "-"], bits, Ran(0, "0\n" * 2000, "")),
+        (["audit", file], "", Ran(0, "good 32\n", "")),
+        (["sweep", "-"], SCENARIO, Ran(0, "sweep runs 2 good 2 stuck 0\n", "")),
+        (["race", "-"], SCENARIO, Ran(0, "0 0 no-name\nshow empty\ngood\n", "")),
+        (["record", "-"], SCENARIO, Ran(0, RECORD, "")),
+        (["judge", "-"], RECORD, Ran(0, "good 1\n", "")),
+        (["draw", file], "", run(["draw", file])),
+        (["draw-svg", file], "", run(["draw-svg", file])),
+        (["plain", "-"], "bakery 1\nstep\n", Ran(1, "", "line 2: words\n")),
+        (["help", "faults"], "", run(["help", "faults"])),
+    ]
+    for asked, given, wanted in cases:
+        for tries in [2, 3, 7]:
+            ran, *met = interrupter.run(asked, given, tries)
+            counter.compare(f"{asked}, {tries} tries", (ran, sum(met) >= tries), (wanted, True))
+    terminal = Terminal()
+    ran, *_ = interrupter.run(["replay", file], tries=3, stdout=terminal.end)
+    counter.compare("interrupted at a terminal", (ran, terminal.text()), (Ran(0, None, ""), text))
+    terminal = Terminal()
+    ran, *_ = interrupter.run(["plain", "-"], adds, tries=5, stdout=terminal.end)
+    counter.compare("a long text, interrupted at a terminal", (ran, terminal.text()), (Ran(0, None, ""), sums))
+
+
+def gone(counter):
+    """A reader that went away is a write fault, whatever is written."""
+    streamed = [["plain", "-"], ["replay", "-"], ["record", "-"], ["draw", "-"], ["draw-svg", "-"]]
+    for asked, given in [*((words, SCENARIO) for words in streamed), (["judge", "-"], RECORD), (["--help"], "")]:
+        ours, end = os.pipe()
+        os.close(ours)
+        counter.compare(f"{asked} to nobody", run(asked, given, stdout=end), Ran(1, None, "write fault\n"))
+        os.close(end)
+
+
+def main():
+    counter = Counter()
+    with tempfile.TemporaryDirectory() as name:
+        folder = pathlib.Path(name)
+        interrupter = Interrupter(folder)
+        pages(counter)
+        words(counter, folder)
+        lines_at_a_terminal(counter, interrupter)
+        progress(counter, interrupter)
+        interrupted(counter, interrupter, folder)
+        gone(counter)
+    counter.end()
+
+
+main()

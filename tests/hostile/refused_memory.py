@@ -1,0 +1,246 @@
+"""Refused memory: each growth is refused in turn, of each command on each file of examples/, of races, of a long replay, and of
+the tests of the crates. And each thread of a race.
+
+A run whose growth was refused must end with status 4 and tell `out of memory`, or `memory` on a line, and must have printed a
+front of what the file prints with ample memory; where no file is run, but words are answered, it must have printed nothing. One
+kind of growth is no need: the room that `collect` of the standard library takes by a hint. The program collects only where it
+looks for the nearest command to a word; there, and nowhere else, a run may end as with ample memory too, to the byte. A race
+must have printed nothing: its text is made when it has ended, and weighed. It tells `no thread` in place of that if not all
+threads were started, and only then. A test whose growth was refused must pass, or fail and tell want of memory; of four tests,
+whose assertions do not tell what they found, it is asked that they fail by an assertion; and of one, whose own writer takes more
+than it has room for from the start, that it tells want of memory, or that its writer failed. The growths are those of the compiled
+programs, which a library loaded before them counts and refuses: where a program starts no thread, to a copy of a run that is
+made at the growth, and else in a run of its own for each growth. A run that has very many growths makes the same worlds and
+audits again and again: there a growth is refused if fewer than twenty like it were, of the same size, from the same depth of
+the stack, and behind seven that were alike.
+"""
+
+import collections
+import itertools
+import random
+import re
+import signal
+import subprocess
+from concurrent.futures import ThreadPoolExecutor
+
+from lib.places import PROGRAM, TOP
+from lib.refusing import Refuser
+from lib.running import COMMANDS, CORES, Row, script_row
+
+# a run that has more growths than these, and how often it is refused growths that are alike
+MANY, REPEATS = 50_000, 20
+OF_MANY = f"runs with more than {MANY:,} growths, alike ones {REPEATS} times each"
+# a run of a command that takes longer with ample memory is not tried
+SECONDS = 30
+WANT_OF_MEMORY = re.compile(r"out of memory\n|line \d+: memory\n")
+ENDED_WELL = (0, "")
+# how a test ends that fails: by its own error, or by an assertion, which ends the program and tells where
+FAILED, STOPPED, STOPPED_AT = 101, -signal.SIGABRT, "test stopped at "
+WORDS = [["--help"], ["help", "faults"], ["--version"], ["rplay", "-"], ["plain"], ["plain", "-x"], ["plain", "a", "b"]]
+# those for which the nearest command is looked for: the letters of both words are collected
+COLLECTED = [["rplay", "-"]]
+PROCESSES = re.compile(r"^processes (\d+)$", re.M)
+# files of several processes: which answers a race of them gives the threads decide
+RACES = {
+    "two that add": "bakery 2\nopen a c:0\ncall 0 add a 1\ncall 1 add a 1\n",
+    "two that find the tickets full": "bakery 1\ntickets 1\n" + "call 0 write a t:x\ncall 1 read a\n" * 8,
+    "four, and calls of a fifth": "bakery 1\nprocesses 4\ntickets 8\nslots 4\ncall 4 read a\n"
+    + "".join(f"call {p} write {name} c:{p}\ncall {p} add a 1\n" for p, name in enumerate("abcd"))
+    + "call 4 read b\n",
+    "sixteen": "bakery 2\nprocesses 16\ntickets 32\nslots 8\nopen a c:0\nopen b t:x\n"
+    + "".join(f"call {p} add a {p}\ncall {p} ask\ncall {p} cas b t:x t:y\n" for p in range(16)),
+}
+# how a test tells it: as its own error, or as the one that it found in place of what it asserts; a race that could not start
+# a thread tells that, and one of which a port waited at its gate for one that wanted memory tells that it was held
+TEST_WANTS_MEMORY = re.compile(r"\b(AllocError|AllocFailed|Memory|Spawn|Held)\b")
+# the programs of tests of which some are tried in short
+QUICK = ["picture_tests_tests", "record_tests_tests", "register_tests_tests", "store_tests_tests"]
+# tests whose assertions do not tell what they found; of these it is asked that they fail by an assertion, or pass
+TELLS_NOTHING = re.compile(
+    r"store_tests_tests (scenarios::(puts_bytes_into_a_writer|writes_outputs)|printing::"
+    r"(bounds_the_lines_of_bits_files|tells_faults_of_bits_files))"
+)
+# the test whose writer grows, since records are longer than what it has room for: a growth refused to it is a failed write
+GROWING_WRITER, WRITER_FAILED = "worked_runs_tests records::judges_what_is_recorded", "error: Write\n"
+
+
+def is_lost(copy):
+    """Whether a copy ended for want of memory after a front of what the whole run printed."""
+    return copy.returncode == 4 and bool(WANT_OF_MEMORY.fullmatch(copy.stderr)) and copy.is_front
+
+
+def refused(refuser, words, is_good):
+    """A run with ample memory, and what it met; how often a growth of it was refused to a copy, and what was wrong with that."""
+    ran, met = refuser.run(words)
+    if met.started:
+        return ran, met, 0, []
+    is_many = met.growths > MANY
+    _, met, copies = refuser.each(words, repeats=REPEATS if is_many else 0)
+    wrong = [copy for copy in copies if not is_good(copy)]
+    if len(copies) != (met.copied if is_many else met.growths):
+        wrong.append(f"{len(copies)} of {met.growths} growths were refused")
+    return ran, met, len(copies), wrong
+
+
+def met_none(tried):
+    """What is wrong with a run of the program that met no growth."""
+    return [] if tried else ["no growth was refused"]
+
+
+def named(what, name, met):
+    """The row's words, by how many growths a run has met."""
+    return (OF_MANY, f"{what} {name}, {met.growths:,} growths") if met.growths > MANY else (what, name)
+
+
+def file_row(refuser, examples, command, file):
+    """Each growth of a command on a file."""
+    name = str(file.relative_to(examples))
+    try:
+        subprocess.run([PROGRAM, command, file], capture_output=True, timeout=SECONDS)
+    except subprocess.TimeoutExpired:
+        return Row(f"`{command}`, where a run takes longer than {SECONDS} s", name, 0, [])
+    _, met, tried, wrong = refused(refuser, [PROGRAM, command, file], is_lost)
+    return Row(*named(f"`{command}`", name, met), tried, wrong or met_none(tried))
+
+
+def files_in(examples, is_short):
+    """All files that are input, and those that stand beside them."""
+    files = [path for path in sorted(examples.iterdir()) if path.is_file()]
+    if is_short:
+        return files
+    return files + [path for name in ("scenario", "bits-file", "record-file") for path in sorted(examples.glob(f"*/*/{name}"))]
+
+
+def words_row(refuser, words):
+    """Each growth of a run whose words ask for no file, or for nothing that there is: nothing is written before the last one."""
+    ran, _ = refuser.run([PROGRAM, *words])
+    endings = collections.Counter()
+
+    def is_good(copy):
+        is_whole = (copy.returncode, copy.stdout, copy.stderr) == (ran.returncode, ran.stdout, ran.stderr)
+        is_unwritten = is_lost(copy) and copy.stdout == ""
+        endings.update(whole=is_whole, lost=is_unwritten)
+        return copy.before == 0 and (is_unwritten or is_whole and words in COLLECTED)
+
+    _, _, tried, wrong = refused(refuser, [PROGRAM, *words], is_good)
+    if not endings["lost"] or (words in COLLECTED) != (endings["whole"] > 0):
+        wrong.append(f"how the runs ended: {dict(endings)}")
+    return Row("the words of the program", " ".join(words), tried, wrong or met_none(tried))
+
+
+def is_lost_race(ran, met, processes):
+    """Whether a race of so many processes ended for want of memory, of which nothing is written; and tells `no thread`
+    exactly where it has started some threads and not all, or is to start the first."""
+    if (ran.returncode, ran.stdout) != (4, "") or met.started > processes:
+        return False
+    if ran.stderr == "no thread\n":
+        return met.started < processes
+    return bool(WANT_OF_MEMORY.fullmatch(ran.stderr)) and met.started in (0, processes)
+
+
+def race_row(refuser, name, file, end):
+    """Each growth of races of a file, up to a race that meets fewer, which must end so."""
+    told = PROCESSES.search(file.read_text())
+    processes = int(told[1]) if told else 2
+    wrong = []
+    for growth in itertools.count(1):
+        ran, met = refuser.run([PROGRAM, "race", file], growth)
+        if met.growths < growth:
+            if (ran.returncode, ran.stderr) != end or ran.stdout.endswith("\ngood\n") != (end == ENDED_WELL):
+                wrong.append(f"the whole race: {ran}")
+            return Row("`race`", name, growth - 1, wrong)
+        if not is_lost_race(ran, met, processes):
+            wrong.append(f"growth {growth}: {ran}")
+
+
+def end_in(folder):
+    """The status and the fault line with which `race` ends on a worked scenario."""
+    status, told = folder / "race.status", folder / "race.err"
+    return int(status.read_text()) if status.exists() else 0, told.read_text() if told.exists() else ""
+
+
+def races(examples, folder, is_short):
+    """The files that are raced, each with its name and the status and fault line of its end: the worked scenarios that have an
+    output of `race`, and files of several processes."""
+    worked = [] if is_short else sorted({path.parent for path in examples.glob("worked/*/race*")})
+    yield from ((path.name, path / "scenario", end_in(path)) for path in worked)
+    for number, (what, text) in enumerate(RACES.items()):
+        if is_short and number:
+            return
+        file = folder / f"race_{number}"
+        file.write_text(text)
+        yield what, file, ENDED_WELL
+
+
+def long_replay(refuser, folder):
+    """A write and a hundred reads. The first answer is there before the last growth is met."""
+    reads = "call 0 read a\ngo 0 idle\n" * 100
+    file = folder / "hundred_reads"
+    file.write_text(f"bakery 1\nprocesses 1\ntickets 2\nstamps 2\ncall 0 write a c:5\ngo 0 idle\n{reads}")
+    copies = []
+    whole, _, tried, wrong = refused(refuser, [PROGRAM, "replay", file], lambda copy: copies.append(copy) or is_lost(copy))
+    if not any("answer" in whole.stdout[: copy.before + len(copy.stdout)] for copy in copies):
+        wrong.append("no answer is written before the last growth")
+    return Row("`replay` of a write and a hundred reads", "a file", tried, wrong)
+
+
+def is_want_of_memory(ran, name):
+    """Whether a test passed, or failed for want of memory, and was ended by nothing else."""
+    tells = bool(TEST_WANTS_MEMORY.search(ran.stdout + ran.stderr)) or bool(TELLS_NOTHING.fullmatch(name))
+    tells = tells or (name == GROWING_WRITER and ran.stderr.startswith(WRITER_FAILED))
+    has_failed = ran.returncode == FAILED or (ran.returncode == STOPPED and STOPPED_AT in ran.stdout)
+    return ran.returncode == 0 or (has_failed and tells)
+
+
+def threaded_test(refuser, words):
+    """Each growth of a test that starts threads, in a run of its own, up to a run that meets fewer."""
+    runs = []
+    for growth in itertools.count(1):
+        ran, met = refuser.run(words, growth)
+        if met.growths < growth:
+            return runs
+        runs.append(ran)
+
+
+def test_row(refuser, program, test):
+    """Each growth of a test."""
+    words, name = [program, test], f"{program.name} {test}"
+    what = "tests whose assertions tell no fault" if TELLS_NOTHING.fullmatch(name) else "tests of the crates"
+    ran, met, tried, wrong = refused(refuser, words, lambda copy: is_want_of_memory(copy, name))
+    what, told = named(what, name, met)
+    if met.started:
+        runs = threaded_test(refuser, words)
+        what, told, tried = "tests that start threads", name, len(runs)
+        wrong = [run for run in runs if not is_want_of_memory(run, name)] + met_none(tried)
+    if ran.returncode != 0:
+        wrong.insert(0, ran)
+    return Row(what, told, tried, wrong)
+
+
+def all_tests(is_short):
+    """Each test of each crate; in short twenty of some crates whose tests take no time."""
+    tests = []
+    for program in sorted(TOP.glob("crates/*/out/*_tests")):
+        if is_short and program.name not in QUICK:
+            continue
+        listed = subprocess.run([program, "--list"], capture_output=True, text=True, check=True).stdout
+        tests += [(program, test) for test in re.findall(r"^(.*): test$", listed, re.M)]
+    return random.Random(1).sample(tests, min(20, len(tests))) if is_short else tests
+
+
+def rows(examples, folder, is_short):
+    refuser = Refuser(folder, 1800)
+    with ThreadPoolExecutor(CORES) as pool:
+        commands = [command for command in COMMANDS if command != "race"]
+        files = files_in(examples, is_short)
+        running = [pool.submit(file_row, refuser, examples, command, file) for command in commands for file in files]
+        running += [pool.submit(race_row, refuser, *race) for race in races(examples, folder, is_short)]
+        running += [pool.submit(words_row, refuser, words) for words in WORDS]
+        running.append(pool.submit(long_replay, refuser, folder))
+        yield from (row.result() for row in running)
+        tests = list(pool.map(lambda test: test_row(refuser, *test), all_tests(is_short)))
+        yield from tests
+    if not any(row.tried for row in tests):
+        yield Row("tests of the crates", "no growth of a test was refused", 1, ["none"])
+    if not is_short:
+        yield script_row("threads of races, each refused in turn", "`tests/gate/refused_threads.py`", "gate/refused_threads.py")
