@@ -36,7 +36,7 @@ fn audit_again(alloc: Global, setup: &Setup, record: &Record) -> Result<Verdict,
     }
 }
 
-/// And so has a sweep.
+/// And so does a sweep.
 fn sweep_again(
     alloc: Global,
     setup: &Setup,
@@ -76,10 +76,10 @@ fn hear_all(
 #[test]
 fn verdicts_on_the_lone_write(rt: HostRuntime) -> Result<(), Fail> {
     let scenario = read_scenario(rt.alloc(), LONE_WRITE.as_bytes())?;
-    let setup = &scenario.setup;
     let events = events_of(rt.alloc(), &scenario)?;
     assert_eq!(rt; events.len(), 761);
-    let mut record = record_of(rt.alloc(), setup, events.as_slice())?;
+    let setup = &scenario.setup;
+    let mut record = record_of(rt.alloc(), setup, &events)?;
     assert_eq!(rt; record.entries.len(), 761);
     assert_eq!(rt;
         record.entries[8].act.marks.as_slice(),
@@ -88,7 +88,7 @@ fn verdicts_on_the_lone_write(rt: HostRuntime) -> Result<(), Fail> {
     hear_all(&rt, rt.alloc(), setup, &record)?;
     assert_eq!(rt; audit_again(rt.alloc(), setup, &record)?, Verdict::Good);
     let write = Command::Write(a(), Value::Count(5));
-    let found = sweep_again(rt.alloc(), setup, events.as_slice(), &[(0, write)])?;
+    let found = sweep(rt.alloc(), &scenario.setup, &events, &[(0, write)])?;
     assert_eq!(rt; found, all_good(1_522));
     record.entries[756].act.access = None;
     assert_eq!(rt;
