@@ -12,7 +12,7 @@ import sys
 TOP = pathlib.Path(__file__).resolve().parent.parent
 SCRIPTS = [
     *["api", "layers", "links", "worked", "picture_parts", "pictures", "cut_file", "words", "terminal", "records", "second_judge"],
-    *["readme", "lessons", "races", "refused_threads"],
+    *["short_files", "readme", "lessons", "races", "refused_threads"],
 ]
 RUNS = [["rt", "ci"], *([sys.executable, f"tests/{name}.py"] for name in SCRIPTS), [sys.executable, "tests/hostile.py", "short"]]
 COUNTS = re.compile(r"(\d+) passed, (\d+) failed")
