@@ -11,7 +11,7 @@ from lib.places import TOP
 
 SCRIPTS = [
     *["api", "layers", "links", "worked", "picture_parts", "pictures", "cut_file", "command_line", "terminal", "record_files"],
-    *["changed_records", "readme", "lessons", "races", "refused_threads"],
+    *["changed_records", "short_files", "readme", "lessons", "races", "refused_threads"],
 ]
 RUNS = [
     ["rt", "ci"],

@@ -1,93 +1,67 @@
 #!/usr/bin/env python3
-"""Judges records a second time, and compares.
+"""Runs scenarios and judges records a second time, and compares.
 
-`bakerystore record` writes the records of some scenarios. In each of them one word of each line behind the headings is
-changed in turn, so that the line is still an entry, and each line is dropped, doubled and exchanged with the next one; and
-both judges hear the changed record: `bakerystore judge`, and the one that `second/judge.py` has. The program is the one that
-`rt run` leaves in crates/bakerystore.
+`second/runs.py` runs each scenario of the worked examples, and what `bakerystore` prints for it by `replay` and by `record` must
+be the same; so must what is found in its record by `bakerystore judge` and by the judge that `second/judge.py` has. Then both judges
+hear records that differ from one of a run by one change. An access is given another value, move, owner, register, bit or reader,
+or is taken away; an entry is given to another process, left out, doubled, or exchanged with the next one; a mark is left out,
+doubled, exchanged with the next one, or made another; a mark is added; an event that is no step is put before an entry; a word of
+a mark is another. The others are also ones that are never there. And some verdicts are told here: on records in which one entry is
+changed, and on one of as many calls as a process makes in version 2, and one more.
+
+tests/gate/changed_records.py [all]: all changes of the runs below, by hand; else so many of each, drawn by a fixed number. The program is
+the one that `rt run` leaves in crates/bakerystore.
 """
 
+import collections
+import functools
 import pathlib
-import subprocess
+import random
 import sys
-from concurrent.futures import ProcessPoolExecutor
-from functools import partial
 
 sys.path.insert(0, str(pathlib.Path(__file__).resolve().parents[1]))
 
 from lib.counting import Counter
-from lib.places import PROGRAM
-from second.judge import Setup, judged
+from lib.places import WORKED
+from lib.running import runner, workers
+from second.judge import Judge, entry_of, judged
+from second.programs import Setup, Spent
+from second.runs import texts_of
+from second.scenario_files import Fault, read_scenario
 
-# The changes of a word.
-
-LONE = ["enter", "leave", "fail", "down", "withdraw", "restart"]
-REPLIES = ["done", "swapped", "no-name", "not-counter", "overflow", "store-full"]
-FIELDS = ["choosing", "ticket", "commit", "stamp0", "stamp1", "image0", "image1"]
-
-
-def next_of(words, word):
-    return words[(words.index(word) + 1) % len(words)]
-
-
-def changes(words, at):
-    """Other words that may stand for this one, so that the line is still an entry."""
-    word = words[at]
-    if word == ":":
-        return []
-    if "." in word:
-        owner, field, bit, reader = word.split(".")
-        return [
-            f"{int(owner) + 1}.{field}.{bit}.{reader}",
-            f"{owner}.{next_of(FIELDS, field)}.{bit}.{reader}",
-            f"{owner}.{field}.{int(bit) + 1}.{reader}",
-            f"{owner}.{field}.{bit}.{int(reader) + 1}",
-        ]
-    behind = words[at - 1] if at else ""
-    if word in ("0", "1") and behind in ("write", "value", "settle", "settled"):
-        return [str(1 - int(word))]
-    if word.isdigit():
-        return [str(int(word) + 1)]
-    if word in ("read", "end") and "." in behind:
-        return ["end" if word == "read" else "read"]
-    if word in ("write", "value", "settle") and "." in behind:
-        return [other for other in ("write", "value", "settle") if other != word]
-    if word in LONE and behind == ":":
-        return [next_of(LONE, word)]
-    if word in REPLIES:
-        return [next_of(REPLIES, word)]
-    if word.startswith("c:"):
-        return [f"c:{int(word[2:]) + 1}", "t:x"]
-    if behind in ("read", "write", "add", "cas"):
-        return [word + "x"]
-    return []
-
-
-def changed_lines(line):
-    words = line.split(" ")
-    for at in range(len(words)):
-        for other in changes(words, at):
-            yield " ".join(words[:at] + [other] + words[at + 1 :])
-
-
-def changed_records(lines, at):
-    """What stands at a line in place of it and of the next one."""
-    line, behind = lines[at], lines[at + 1 : at + 2]
-    for other in changed_lines(line):
-        yield [other] + behind
-    yield behind
-    yield [line, line] + behind
-    if behind:
-        yield behind + [line]
-
-
-# Scenarios, and how many lines of each record lie between two that are changed; those with marks are changed all.
+# runs whose entries are changed, and how many lie between two that are: of those with marks none is passed over. An event is
+# put before each entry, where none is passed over
+RUNS = {
+    "one-process-write": 1,
+    "tickets-full": 1,
+    "withdrawal": 1,
+    "tie-of-tickets": 1,
+    "flickering-ticket": 1,
+    "one-process-wander": 1,
+    "other-refusals": 1,
+    "restart-of-failed-process": 1,
+    "ask-after-taken-cut-call": 1,
+    "ask-after-lost-cut-call": 1,
+    "failure-commit-settled-new": 5,
+    "failure-commit-settled-old": 5,
+    "failure-within-image": 5,
+    "greatest-stamp": 5,
+    "one-process-write-and-read": 7,
+    "slow-read-of-choosing": 3,
+    "two-processes-wander": 61,
+    "ask-in-turns": 101,
+    "one-thread-store-with-go": 101,
+    "sixteen-processes-read": 101,
+}
+# and scenarios of this page
 SCENARIOS = {
-    "a failure while the ticket is written": ("bakery 1\ntickets 1\nstamps 1\ncall 0 read a\nstep 0 7\nfail 0\ngo 0 down\nrestart 0\n", 1),
-    "one write": ("bakery 1\nprocesses 1\ntickets 2\nstamps 2\ncall 0 write a c:5\ngo 0 idle\n", 1),
+    "a failure while the ticket is written": (
+        "bakery 1\ntickets 1\nstamps 1\ncall 0 read a\nstep 0 7\nfail 0\ngo 0 down\nrestart 0\n",
+        1,
+    ),
     "a failure while the commit bit is written": (
-        "bakery 2\nprocesses 2\ntickets 2\nstamps 1\nopen a c:5\ncall 0 add a 1\nstep 0 1335\ncall 1 read a\nstep 1 3\nfail 0\nflick 1\n"
-        "go 0 down\nrestart 0\ngo 1 idle\ncall 0 ask\ngo 0 idle\n",
+        "bakery 2\nprocesses 2\ntickets 2\nstamps 1\nopen a c:5\ncall 0 add a 1\nstep 0 1335\ncall 1 read a\nstep 1 3\nfail 0\n"
+        "flick 1\ngo 0 down\nrestart 0\ngo 1 idle\ncall 0 ask\ngo 0 idle\n",
         11,
     ),
     "a tie, a withdrawal and a full ticket": (
@@ -96,51 +70,267 @@ SCENARIOS = {
         13,
     ),
 }
-
+# a worked scenario, the number of an entry of its record, what stands there and what in its place, and the verdict
+TAMPERED = [
+    ("tickets-full", 21, "1 0.ticket.0.1 value 1", "1 0.ticket.0.1 value 0", "bad 21 safe"),
+    ("one-process-write", 756, "0 0.commit.0.0 end : taken 0 done", "0 0.commit.0.0 end : taken 1 done", "bad 756 history"),
+    ("one-process-write", 756, "0 0.commit.0.0 end : taken 0 done", "0 : taken 0 done", "bad 756 program"),
+    ("one-process-write", 760, "0 0.ticket.1.0 end : answer done", "0 0.ticket.1.0 end : answer no-name", "bad 760 program"),
+    ("tie-of-tickets", 30, "1 1.ticket.0.0 write 1", "1 1.ticket.0.0 write 1 : enter", "bad 30 program"),
+]
+# a call of a lone process with tickets of one bit, which fails before its first access, and starts again
+CUT_CALL = ["0 : call ask", "0 : fail", "0 0.ticket.0.0 write 0", "0 0.ticket.0.0 end", "0 0.choosing.0.0 write 0"]
+CUT_CALL += ["0 0.choosing.0.0 end : down", "0 : restart"]
+# a version, how many such calls there are before one that goes on, and the verdict
+CALLS = [(2, 65_534, "good 458739"), (2, 65_535, "bad 458745 program"), (1, 65_535, "good 458746")]
+# of so many changes of each run the verdicts are compared, if not of all
+DRAWN = 500
 # what must be found somewhere; of runs it is proved that `together` and `overtaken` are never the first law broken
 FOUND = {"good", "safe", "program", "unit", "history"}
+# a change of each kind must be tried
+KINDS = ["value", "move", "owner", "reader", "bit", "field", "no access", "process", "word", "mark left out", "mark doubled"]
+KINDS += ["marks exchanged", "another mark", "one more mark", "event", "left out", "doubled", "exchanged"]
+
+MOVES = ["write 0", "write 1", "end", "read", "value 0", "value 1", "settle 0", "settle 1"]
+FIELDS = ["choosing", "ticket", "commit", "stamp0", "stamp1", "image0", "image1"]
+REPLIES = ["done", "swapped", "no-name", "not-counter", "overflow", "store-full"]
+EVENTS = ["call ask", "fail", "withdraw", "restart"]
+MARKS = [
+    *["call read a", "call add a 1", "call ask", "wait 0", "wait 1", "wait 2", "enter", "leave", "down", "settled 0", "settled 1"],
+    *["taken 0 done", "taken 1 done", f"taken {2**64 - 1} done", "taken 0 no-name", "taken 1 no-name"],
+    *["answer done", "answer no-name", "answer tickets-full 0", "answer stamps-full", "answer withdrawn"],
+    *["fail", "withdraw", "restart"],
+]
+# a line has at most so many marks
+MOST_MARKS = 3
 
 
-def run(command, text):
-    return subprocess.run([PROGRAM, command, "-"], input=text, capture_output=True, text=True)
+def others(process):
+    """A process that may be there, and two that never are."""
+    return [process ^ 1, 16, 255]
 
 
-def compared(setup, head, lines, job):
-    """What both judges say of a record in which other lines stand at one line and the next one."""
-    at, others = job
-    changed = lines[:at] + others + lines[at + 2 :]
-    ran = run("judge", "".join(f"{each}\n" for each in head + changed))
-    verdict = judged(setup, changed)
-    return (ran.returncode, ran.stdout, ran.stderr), (0 if verdict.startswith("good") else 3, verdict, "")
+def other_accesses(access):
+    owner, field, bit, reader, move = access
+    for other in MOVES:
+        if other != move:
+            yield "value" if other[:-1] == move[:-1] else "move", (owner, field, bit, reader, other)
+    for other in others(owner):
+        yield "owner", (other, field, bit, reader, move)
+    for other in others(reader):
+        yield "reader", (owner, field, bit, other, move)
+    for other in (bit ^ 1, bit ^ 8, 65_535):
+        yield "bit", (owner, field, other, reader, move)
+    for other in FIELDS:
+        if other != field:
+            yield "field", (owner, other, bit, reader, move)
+    yield "no access", None
 
 
-def compare_changes(name, scenario, step):
-    """Compares what both say of a scenario's record and of its changes; how many are alike, how many not, and what is found."""
-    record = run("record", scenario).stdout.splitlines()
-    head = [line for line in record if not line[0].isdigit()]
-    lines = record[len(head) :]
-    jobs = [(at, others) for at, line in enumerate(lines) if at % step == 0 or ":" in line for others in changed_records(lines, at)]
-    jobs.append((0, lines[:2]))
-    failed, told = 0, set()
-    with ProcessPoolExecutor() as pool:
-        both = pool.map(partial(compared, Setup(head), head, lines), jobs, chunksize=50)
-        for (at, others), (one, two) in zip(jobs, both):
-            told.add(two[1].split()[-1] if two[0] else "good")
-            if one != two:
-                failed += 1
-                print(f"{name}, {others} at entry {at}: {one!r}, and the second judge says {two!r}")
-    print(f"{name}: {len(lines)} entries, {len(jobs)} changes; found {', '.join(sorted(told))}", flush=True)
-    return len(jobs) - failed, failed, told
+def other_words(mark):
+    """A mark in which one word is another, so that it is still a mark."""
+    words = mark.split(" ")
+    for at, word in enumerate(words[1:], 1):
+        if word.isdigit():
+            other = str(1 - int(word)) if words[0] == "settled" else str(int(word) + 1)
+        elif word in REPLIES:
+            other = REPLIES[(REPLIES.index(word) + 1) % len(REPLIES)]
+        elif word.startswith("c:"):
+            other = f"c:{int(word[2:]) + 1}"
+        elif word.startswith("t:"):
+            other = word + "y"
+        elif words[at - 1] in ("read", "write", "add", "cas"):
+            other = word + "x"
+        else:
+            continue
+        yield " ".join([*words[:at], other, *words[at + 1 :]])
+
+
+def other_marks(marks):
+    for at, mark in enumerate(marks):
+        before, behind = marks[:at], marks[at + 1 :]
+        yield "mark left out", before + behind
+        yield "mark doubled", [*before, mark, mark, *behind]
+        if behind:
+            yield "marks exchanged", [*before, behind[0], mark, *behind[1:]]
+        for other in MARKS:
+            if other != mark:
+                yield "another mark", [*before, other, *behind]
+        for other in other_words(mark):
+            yield "word", [*before, other, *behind]
+    for other in MARKS:
+        yield "one more mark", [*marks, other]
+
+
+def line_of(process, access, marks):
+    place = [] if access is None else [".".join(map(str, access[:4])), access[4]]
+    return " : ".join([" ".join([str(process), *place]), *marks])
+
+
+def changed_lines(line):
+    """Other lines that may stand in place of this one, each with what was done."""
+    process, access, marks = entry_of(line)
+    if access:
+        for kind, other in other_accesses(access):
+            yield kind, line_of(process, other, marks)
+    for other in others(process):
+        yield "process", line_of(other, access, marks)
+    for kind, other in other_marks(marks):
+        if len(other) <= MOST_MARKS:
+            yield kind, line_of(process, access, other)
+
+
+def changed_records(lines, at, with_events):
+    """What stands at a line in place of it and of the next one, each with what was done."""
+    line, behind = lines[at], lines[at + 1 : at + 2]
+    for kind, other in changed_lines(line):
+        yield kind, [other, *behind]
+    yield "left out", behind
+    yield "doubled", [line, line, *behind]
+    if behind:
+        yield "exchanged", [*behind, line]
+    if with_events:
+        for process in (0, 1, 16):
+            for event in EVENTS:
+                yield "event", [f"{process} : {event}", line, *behind]
+
+
+class Record:
+    """The record of a run: the lines of its setup, and those of its entries."""
+
+    def __init__(self, text):
+        lines = text.splitlines()
+        self.head = [line for line in lines if not line[0].isdigit()]
+        self.lines = lines[len(self.head) :]
+        self.setup = Setup(self.head)
+
+    def changed(self, at, others):
+        """The lines in which others stand at one of them and the next one."""
+        return self.lines[:at] + others + self.lines[at + 2 :]
+
+    def told(self, lines):
+        """What the program's judge says of these entries."""
+        ran = runner().run(["judge", "-"], "".join(f"{line}\n" for line in self.head + lines).encode())
+        return ran.status, ran.output.decode(), ran.errors.decode()
+
+
+def wanted(verdict):
+    return 0 if verdict.startswith("good") else 3, verdict, ""
+
+
+def law_at(judge, line):
+    """The law that a line breaks, as the judge knows it that has heard all before it; None if it must hear more."""
+    try:
+        return judge.law_of(*entry_of(line))
+    except Spent:
+        return None
+
+
+def compare_some(record, jobs):
+    """What both judges say of some changes, in the order of their lines: how often each verdict was found, of which kinds the
+    changes were, and where the judges differ."""
+    judge, heard, wrong, found = Judge(record.setup), 0, [], collections.Counter()
+    for kind, at, others in jobs:
+        for number in range(heard, at):
+            judge.hear(number, *entry_of(record.lines[number]))
+        heard = max(heard, at)
+        lines = record.changed(at, others)
+        law = law_at(judge, lines[at]) if at < len(lines) else None
+        verdict = f"bad {at} {law}\n" if law else judged(record.setup, lines)
+        # what comes behind a bad entry is not heard
+        bad = verdict.split() if verdict.startswith("bad") else None
+        told = record.told(lines[: int(bad[1]) + 1] if bad else lines)
+        found["kind", kind] += 1
+        found["verdict", bad[2] if bad else "good"] += 1
+        if told != wanted(verdict):
+            wrong.append(f"{kind} at {at}, now {others}: {told}, and the second judge says {verdict}")
+        if law is None:
+            judge, heard = Judge(record.setup), 0
+    return found, wrong
+
+
+def compare_changes(pool, name, record, every, most):
+    """Compares the verdicts on the changes of a run's record."""
+    at = [at for at, line in enumerate(record.lines) if at % every == 0 or ":" in line]
+    jobs = [(kind, at, others) for at in at for kind, others in changed_records(record.lines, at, every == 1)]
+    if most is not None:
+        drawn = random.Random(1).sample(range(len(jobs)), min(most, len(jobs)))
+        jobs = [jobs[at] for at in sorted(drawn)]
+    found, wrong = collections.Counter(), []
+    parts = [jobs[at : at + 50] for at in range(0, len(jobs), 50)]
+    for more, others in pool.imap_unordered(functools.partial(compare_some, record), parts):
+        found += more
+        wrong += others
+    verdicts = {what: count for (of, what), count in sorted(found.items()) if of == "verdict"}
+    told = ", ".join(f"{what} {count:,}" for what, count in verdicts.items())
+    print(f"{name}: {len(record.lines):,} entries, {len(jobs):,} changes: {told}", flush=True)
+    for why in wrong[:20]:
+        print(f"{name}, {why}")
+    return found, len(jobs), len(wrong)
+
+
+def compare_run(folder):
+    """Compares both runs of a worked scenario, and both verdicts on its record; what is wrong, if anything is."""
+    file = (folder / "scenario").read_bytes()
+    try:
+        replay, text = texts_of(read_scenario(file))
+    except Fault:
+        return None
+    record = Record(text.decode())
+    good = f"good {len(record.lines)}\n"
+    tries = {
+        "replay": runner().run(["replay", "-"], file) == (0, replay, b""),
+        "record": runner().run(["record", "-"], file) == (0, text, b""),
+        "the second judge": judged(record.setup, record.lines) == good,
+        "judge": record.told(record.lines) == wanted(good),
+    }
+    return folder.name, [what for what, is_alike in tries.items() if not is_alike]
+
+
+def record_of(file):
+    """The record that the program writes of a scenario."""
+    return Record(runner().run(["record", "-"], file).output.decode())
+
+
+def compare_tampered(told):
+    """Compares both verdicts on a record in which one entry is changed with the one that is told; what is wrong."""
+    name, at, old, new, verdict = told
+    record = record_of((WORKED / name / "scenario").read_bytes())
+    lines = record.changed(at, [new, *record.lines[at + 1 : at + 2]])
+    is_alike = record.lines[at] == old and record.told(lines) == wanted(f"{verdict}\n") == wanted(judged(record.setup, lines))
+    return None if is_alike else f"{name}, {new} at {at}"
+
+
+def compare_calls(is_judged_twice, told):
+    """The same of a record of many calls."""
+    version, calls, verdict = told
+    record = Record("\n".join([f"record {version}", "processes 1", "tickets 1", "stamps 1", *CUT_CALL * calls, CUT_CALL[0]]))
+    is_alike = record.told(record.lines) == wanted(f"{verdict}\n")
+    if is_judged_twice:
+        is_alike = is_alike and judged(record.setup, record.lines) == f"{verdict}\n"
+    return None if is_alike else f"{calls} calls in version {version}"
 
 
 def main():
-    counter, found = Counter(), set()
-    for name, (scenario, step) in SCENARIOS.items():
-        alike, others, told = compare_changes(name, scenario, step)
-        counter.add(alike, others)
-        found |= told
-    for law in sorted(FOUND - found):
-        counter.count(False, f"no change is found as {law}")
+    most = None if sys.argv[1:] == ["all"] else DRAWN
+    counter, found = Counter(), collections.Counter()
+    with workers() as pool:
+        compared = list(filter(None, pool.map(compare_run, sorted(path.parent for path in WORKED.glob("*/scenario")))))
+        for name, others in compared:
+            counter.add(4 - len(others), 0)
+            for what in others:
+                counter.count(False, f"{name}, otherwise by {what}")
+        print(f"{len(compared)} scenarios run and judged a second time", flush=True)
+        for what in [*pool.map(compare_tampered, TAMPERED), *pool.map(functools.partial(compare_calls, most is None), CALLS)]:
+            counter.count(what is None, f"otherwise than it is told here: {what}")
+        runs = [(name, (WORKED / name / "scenario").read_bytes(), every) for name, every in RUNS.items()]
+        runs += [(name, text.encode(), every) for name, (text, every) in SCENARIOS.items()]
+        for name, file, every in runs:
+            more, tried, wrong = compare_changes(pool, name, record_of(file), every, most)
+            counter.add(tried - wrong, wrong)
+            found += more
+    for of, what in [*(("verdict", what) for what in sorted(FOUND)), *(("kind", what) for what in KINDS)]:
+        counter.count(found[of, what], f"no change has this {of}: {what}")
     counter.end()
 
 

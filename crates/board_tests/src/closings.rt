@@ -8,19 +8,9 @@ use store_image::Image;
 // Nothing has happened: the image is that of the opening store.
 #[test]
 fn a_board_closes(rt: HostRuntime) -> Result<(), Fail> {
-    let (board, ports) = Board::new(rt.alloc(), &Setup::one(2, 2, 2, 1))?;
-    match board.close(ports) {
-        Ok(closing) => assert!(rt; closing.image == Image::empty(1, 0)),
-        Err(_) => panic!(rt; "all ports are idle"),
-    }
-    Ok(())
-}
-
-#[test]
-fn a_board_with_pairs_closes(rt: HostRuntime) -> Result<(), Fail> {
     let mut opening = Opening::empty();
     assert!(rt; opening.add(a(&rt), Value::Count(7)).is_ok());
-    let setup = Setup {
+    let pair = Setup {
         version: 2,
         processes: 3,
         ticket_bits: 2,
@@ -28,15 +18,18 @@ fn a_board_with_pairs_closes(rt: HostRuntime) -> Result<(), Fail> {
         slots: 2,
         opening,
     };
-    assert_eq!(rt; setup.check(), Ok(()));
-    let (board, ports) = Board::new(rt.alloc(), &setup)?;
-    match board.close(ports) {
-        Ok(closing) => {
-            assert!(rt; closing.image.len() == 1);
-            assert!(rt; closing.image.entry(0) == Some((a(&rt), Value::Count(7))));
-        }
-        Err(_) => panic!(rt; "all ports are idle"),
-    }
+    assert_eq!(rt; pair.check(), Ok(()));
+    let (board, ports) = Board::new(rt.alloc(), &pair)?;
+    let Ok(closing) = board.close(ports) else {
+        panic!(rt; "all ports are idle");
+    };
+    assert!(rt; closing.image.len() == 1);
+    assert!(rt; closing.image.entry(0) == Some((a(&rt), Value::Count(7))));
+    let (board, ports) = Board::new(rt.alloc(), &Setup::one(2, 2, 2, 1))?;
+    let Ok(closing) = board.close(ports) else {
+        panic!(rt; "all ports are idle");
+    };
+    assert!(rt; closing.image == Image::empty(1, 0));
     Ok(())
 }
 

@@ -89,8 +89,8 @@ fn cuts(rt: &impl Abort, board: &Board, port: &mut Port, count: i64)
     }
 }
 
-// A board that could not be made is made at the next try. Each port calls again and again, so that the growths of its
-// list are met by such calls.
+// A board that could not be made is made at the next try. Each port calls again and again, one also after it has failed and
+// restarted, so that the growths of its list are met by such calls.
 #[test]
 fn ports_go_on_after_refused_growths(rt: HostRuntime) -> Result<(), Fail> {
     let (board, mut ports) = made(rt.alloc(), &Setup::one(2, 2, 2, 1))?;
@@ -100,22 +100,8 @@ fn ports_go_on_after_refused_growths(rt: HostRuntime) -> Result<(), Fail> {
     };
     let write = Command::Write(a(&rt), Value::Count(5));
     call(&rt, &board, &mut zero, &write, done());
-    reads(&rt, &board, &mut one, 5);
-    reads(&rt, &board, &mut zero, 5);
-    Ok(())
-}
-
-// The same of a port that fails and restarts. The growths of its list are met right after restarts.
-#[test]
-fn ports_that_failed_go_on_after_refused_growths(rt: HostRuntime) -> Result<(), Fail> {
-    let (board, mut ports) = made(rt.alloc(), &Setup::one(2, 2, 2, 1))?;
-    let (Some(mut one), Some(mut zero)) = (last(&board, &mut ports), last(&board, &mut ports))
-    else {
-        panic!(rt; "there are two ports");
-    };
-    let write = Command::Write(a(&rt), Value::Count(5));
-    call(&rt, &board, &mut zero, &write, done());
     cuts(&rt, &board, &mut zero, 5);
     reads(&rt, &board, &mut one, 5);
+    reads(&rt, &board, &mut zero, 5);
     Ok(())
 }

@@ -204,9 +204,10 @@ fn the_lowest_held_port_is_told(rt: HostRuntime) -> Result<(), Fail> {
         asked: AtomicU32::new(0),
         refused: u32::MAX,
     };
-    assert_eq!(&rt;
-        race(&rt, alloc, &setup, plans.as_slice(), &gate).err(),
-        Some(RaceFault::Held(0))
-    );
+    let Err(fault) = race(&rt, alloc, &setup, plans.as_slice(), &gate) else {
+        panic!(&rt; "both ports are held");
+    };
+    assert_eq!(&rt; fault, RaceFault::Held(0));
+    assert_eq!(&rt; format!(in alloc; "{fault}")?.as_str(), "held 0");
     Ok(())
 }

@@ -1,11 +1,8 @@
-//! Tests of races: gates that no race on one thread passes, held ports, and two ports that add to one counter; and of
-//! the engine `race`.
+//! Tests of races: gates that no race on one thread passes, held ports, and two ports that add to one counter.
 #![tactic(auto)]
 
 #[cfg(test)]
 mod adding;
-#[cfg(test)]
-mod engine_runs;
 #[cfg(test)]
 mod gates;
 #[cfg(test)]

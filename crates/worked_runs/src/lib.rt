@@ -1,23 +1,17 @@
-//! Tests that cross crates, on worked runs: of worlds under events, of what drives these, and of replayed
-//! scenarios, records as text, audits and sweeps; the scenarios themselves; and two uses of the headline, as
-//! callers have it.
+//! Tests that cross crates, of what no file shows: worlds under single events, streams that fail amid a run, and the calls of the
+//! library by which a run is listed, recorded, audited and swept; and two uses of the headline, as callers have it.
 #![tactic(auto)]
 
 #[cfg(test)]
-mod audits;
+mod failing;
 #[cfg(test)]
-mod event_sweeps;
+mod growths;
 #[cfg(test)]
-mod picks;
-#[cfg(test)]
-mod records;
-#[cfg(test)]
-mod replays;
-#[cfg(test)]
-mod runs;
-pub mod scenarios;
-#[cfg(test)]
-mod sweeps;
+mod scenarios;
 mod uses;
+#[cfg(test)]
+mod verdicts;
+#[cfg(test)]
+mod worlds;
 
 pub use uses::{printed_replies, two_events};

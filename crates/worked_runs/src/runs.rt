@@ -1,5 +1,0 @@
-//! Worlds under events.
-mod cores;
-mod events;
-mod growths;
-mod walks;

@@ -1,0 +1,124 @@
+//! The calls by which a run is listed, recorded, audited and swept, on one call of a process alone; and a sweep of events of
+//! which some are refused.
+ghost use Rattle.std.specs.Prelude.{◌≡◌, Ok};
+ghost use Rattle.plain_store.specs.Setups.{checked};
+
+use crate::scenarios::LONE_WRITE;
+use plain_store::{Command, Name, Setup, Value};
+use record::{Event, Mark};
+use replayer::{Auditor, Law, Record, Swept, Verdict, audit, events_of, record_of, sweep};
+use scenario::read_scenario;
+use std::alloc::{AllocError, Global};
+use std::process::Abort;
+use std::test::Fail;
+
+fn a() -> Name {
+    Name::new(b"a").unwrap()
+}
+
+/// So many runs, all good, none stuck.
+fn all_good(runs: u64) -> Swept {
+    Swept {
+        runs,
+        good: runs,
+        stuck: 0,
+        first_bad: None,
+    }
+}
+
+/// An audit that had no memory has it at the next try.
+fn audit_again(alloc: Global, setup: &Setup, record: &Record) -> Result<Verdict, AllocError>
+    requires { checked setup.now ≡ Ok tt }
+{
+    match audit(alloc, setup, record) {
+        Ok(verdict) => Ok(verdict),
+        Err(AllocError) => audit(alloc, setup, record),
+    }
+}
+
+/// And so does a sweep.
+fn sweep_again(
+    alloc: Global,
+    setup: &Setup,
+    events: &[Event],
+    calls: &[(u8, Command)],
+) -> Result<Swept, AllocError>
+    requires { checked setup.now ≡ Ok tt }
+{
+    match sweep(alloc, setup, events, calls) {
+        Ok(found) => Ok(found),
+        Err(AllocError) => sweep(alloc, setup, events, calls),
+    }
+}
+
+/// An auditor finds no fault with a record, of which it hears every other entry as its parts.
+fn hear_all(
+    rt: &impl Abort,
+    alloc: Global,
+    setup: &Setup,
+    record: &Record,
+) -> Result<(), AllocError>
+    requires { checked setup.now ≡ Ok tt }
+{
+    let mut auditor = Auditor::new(alloc, setup)?;
+    for (number, entry) in record.entries.iter().enumerate() {
+        let act = &entry.act;
+        let law = if number % 2 == 0 {
+            auditor.hear(entry)
+        } else {
+            auditor.hear_parts(entry.process, &act.access, &act.marks)
+        };
+        assert_eq!(rt; law, None, "entry {number}");
+    }
+    Ok(())
+}
+
+#[test]
+fn verdicts_on_the_lone_write(rt: HostRuntime) -> Result<(), Fail> {
+    let scenario = read_scenario(rt.alloc(), LONE_WRITE.as_bytes())?;
+    let events = events_of(rt.alloc(), &scenario)?;
+    assert_eq!(rt; events.len(), 761);
+    let setup = &scenario.setup;
+    let mut record = record_of(rt.alloc(), setup, &events)?;
+    assert_eq!(rt; record.entries.len(), 761);
+    assert_eq!(rt;
+        record.entries[8].act.marks.as_slice(),
+        [Mark::Waiting(1), Mark::Entered].as_slice()
+    );
+    hear_all(&rt, rt.alloc(), setup, &record)?;
+    assert_eq!(rt; audit_again(rt.alloc(), setup, &record)?, Verdict::Good);
+    let write = Command::Write(a(), Value::Count(5));
+    let found = sweep(rt.alloc(), &scenario.setup, &events, &[(0, write)])?;
+    assert_eq!(rt; found, all_good(1_522));
+    record.entries[756].act.access = None;
+    assert_eq!(rt;
+        audit_again(rt.alloc(), setup, &record)?,
+        Verdict::Bad(756, Law::Program)
+    );
+    Ok(())
+}
+
+// Restart and calls of a failed process: it may fail after the call, and again after its restart. What is refused between is
+// no event to be cut after.
+#[test]
+fn sweeps_a_failed_process(rt: HostRuntime) -> Result<(), Fail> {
+    let setup = Setup::one(1, 4, 4, 1);
+    let read = Command::Read(a());
+    let mut events = Vec::new(rt.alloc());
+    for event in [
+        Event::Call(0, read),
+        Event::Fail(0),
+        Event::Restart(0),
+        Event::Call(0, read),
+    ] {
+        events.push(event)?;
+    }
+    for _ in 0..10 {
+        events.push(Event::Step(0, false))?;
+    }
+    events.push(Event::Call(0, read))?;
+    events.push(Event::Restart(0))?;
+    let found = sweep_again(rt.alloc(), &setup, &events, &[(0, read)])?;
+    assert_eq!(rt; found, all_good(4));
+    Ok(())
+}
