@@ -49,19 +49,30 @@ impl MarkWord {
     pub fn of(word: &[u8]) -> Option<MarkWord>
         ensures { result ≡ mark_word_of word.now }
     {
-        match word {
-            b"call" => Some(MarkWord::Call),
-            b"wait" => Some(MarkWord::Wait),
-            b"enter" => Some(MarkWord::Enter),
-            b"taken" => Some(MarkWord::Taken),
-            b"leave" => Some(MarkWord::Leave),
-            b"answer" => Some(MarkWord::Answer),
-            b"fail" => Some(MarkWord::Fail),
-            b"settled" => Some(MarkWord::Settled),
-            b"down" => Some(MarkWord::Down),
-            b"withdraw" => Some(MarkWord::Withdraw),
-            b"restart" => Some(MarkWord::Restart),
-            _ => None,
+        if word == b"call".as_slice() {
+            Some(MarkWord::Call)
+        } else if word == b"wait".as_slice() {
+            Some(MarkWord::Wait)
+        } else if word == b"enter".as_slice() {
+            Some(MarkWord::Enter)
+        } else if word == b"taken".as_slice() {
+            Some(MarkWord::Taken)
+        } else if word == b"leave".as_slice() {
+            Some(MarkWord::Leave)
+        } else if word == b"answer".as_slice() {
+            Some(MarkWord::Answer)
+        } else if word == b"fail".as_slice() {
+            Some(MarkWord::Fail)
+        } else if word == b"settled".as_slice() {
+            Some(MarkWord::Settled)
+        } else if word == b"down".as_slice() {
+            Some(MarkWord::Down)
+        } else if word == b"withdraw".as_slice() {
+            Some(MarkWord::Withdraw)
+        } else if word == b"restart".as_slice() {
+            Some(MarkWord::Restart)
+        } else {
+            None
         }
     }
 }
@@ -131,14 +142,21 @@ impl AnswerWord {
 pub fn field(word: &[u8]) -> Option<Field>
     ensures { result ≡ field_of word.now }
 {
-    match word {
-        b"choosing" => Some(Field::Choosing),
-        b"ticket" => Some(Field::Ticket),
-        b"commit" => Some(Field::Commit),
-        b"stamp0" => Some(Field::Stamp0),
-        b"stamp1" => Some(Field::Stamp1),
-        b"image0" => Some(Field::Image0),
-        b"image1" => Some(Field::Image1),
-        _ => None,
+    if word == b"choosing".as_slice() {
+        Some(Field::Choosing)
+    } else if word == b"ticket".as_slice() {
+        Some(Field::Ticket)
+    } else if word == b"commit".as_slice() {
+        Some(Field::Commit)
+    } else if word == b"stamp0".as_slice() {
+        Some(Field::Stamp0)
+    } else if word == b"stamp1".as_slice() {
+        Some(Field::Stamp1)
+    } else if word == b"image0".as_slice() {
+        Some(Field::Image0)
+    } else if word == b"image1".as_slice() {
+        Some(Field::Image1)
+    } else {
+        None
     }
 }

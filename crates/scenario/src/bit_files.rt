@@ -51,15 +51,22 @@ impl BitWord {
     pub fn of(word: &[u8]) -> Option<BitWord>
         ensures { result ≡ bit_word_of word.now }
     {
-        match word {
-            b"bits" => Some(BitWord::Bits),
-            b"write" => Some(BitWord::Write),
-            b"end" => Some(BitWord::End),
-            b"settle" => Some(BitWord::Settle),
-            b"read" => Some(BitWord::Read),
-            b"value" => Some(BitWord::Value),
-            b"drop" => Some(BitWord::Drop),
-            _ => None,
+        if word == b"bits".as_slice() {
+            Some(BitWord::Bits)
+        } else if word == b"write".as_slice() {
+            Some(BitWord::Write)
+        } else if word == b"end".as_slice() {
+            Some(BitWord::End)
+        } else if word == b"settle".as_slice() {
+            Some(BitWord::Settle)
+        } else if word == b"read".as_slice() {
+            Some(BitWord::Read)
+        } else if word == b"value".as_slice() {
+            Some(BitWord::Value)
+        } else if word == b"drop".as_slice() {
+            Some(BitWord::Drop)
+        } else {
+            None
         }
     }
 }

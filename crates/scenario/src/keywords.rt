@@ -51,23 +51,38 @@ impl Opener {
     pub fn of(word: &[u8]) -> Option<Opener>
         ensures { result ≡ opener_of word.now }
     {
-        match word {
-            b"bakery" => Some(Opener::Bakery),
-            b"processes" => Some(Opener::Heading(Heading::Processes)),
-            b"tickets" => Some(Opener::Heading(Heading::Tickets)),
-            b"stamps" => Some(Opener::Heading(Heading::Stamps)),
-            b"slots" => Some(Opener::Heading(Heading::Slots)),
-            b"open" => Some(Opener::Open),
-            b"call" => Some(Opener::Line(LineWord::Call)),
-            b"step" => Some(Opener::Line(LineWord::Step)),
-            b"go" => Some(Opener::Line(LineWord::Go)),
-            b"fail" => Some(Opener::Line(LineWord::Fail)),
-            b"withdraw" => Some(Opener::Line(LineWord::Withdraw)),
-            b"restart" => Some(Opener::Line(LineWord::Restart)),
-            b"flick" => Some(Opener::Line(LineWord::Flick)),
-            b"wander" => Some(Opener::Line(LineWord::Wander)),
-            b"show" => Some(Opener::Line(LineWord::Show)),
-            _ => None,
+        if word == b"bakery".as_slice() {
+            Some(Opener::Bakery)
+        } else if word == b"processes".as_slice() {
+            Some(Opener::Heading(Heading::Processes))
+        } else if word == b"tickets".as_slice() {
+            Some(Opener::Heading(Heading::Tickets))
+        } else if word == b"stamps".as_slice() {
+            Some(Opener::Heading(Heading::Stamps))
+        } else if word == b"slots".as_slice() {
+            Some(Opener::Heading(Heading::Slots))
+        } else if word == b"open".as_slice() {
+            Some(Opener::Open)
+        } else if word == b"call".as_slice() {
+            Some(Opener::Line(LineWord::Call))
+        } else if word == b"step".as_slice() {
+            Some(Opener::Line(LineWord::Step))
+        } else if word == b"go".as_slice() {
+            Some(Opener::Line(LineWord::Go))
+        } else if word == b"fail".as_slice() {
+            Some(Opener::Line(LineWord::Fail))
+        } else if word == b"withdraw".as_slice() {
+            Some(Opener::Line(LineWord::Withdraw))
+        } else if word == b"restart".as_slice() {
+            Some(Opener::Line(LineWord::Restart))
+        } else if word == b"flick".as_slice() {
+            Some(Opener::Line(LineWord::Flick))
+        } else if word == b"wander".as_slice() {
+            Some(Opener::Line(LineWord::Wander))
+        } else if word == b"show".as_slice() {
+            Some(Opener::Line(LineWord::Show))
+        } else {
+            None
         }
     }
 }
@@ -77,13 +92,18 @@ impl Verb {
     pub fn of(word: &[u8]) -> Option<Verb>
         ensures { result ≡ verb_of word.now }
     {
-        match word {
-            b"read" => Some(Verb::Read),
-            b"write" => Some(Verb::Write),
-            b"add" => Some(Verb::Add),
-            b"cas" => Some(Verb::Cas),
-            b"ask" => Some(Verb::Ask),
-            _ => None,
+        if word == b"read".as_slice() {
+            Some(Verb::Read)
+        } else if word == b"write".as_slice() {
+            Some(Verb::Write)
+        } else if word == b"add".as_slice() {
+            Some(Verb::Add)
+        } else if word == b"cas".as_slice() {
+            Some(Verb::Cas)
+        } else if word == b"ask".as_slice() {
+            Some(Verb::Ask)
+        } else {
+            None
         }
     }
 }
@@ -93,12 +113,16 @@ impl Target {
     pub fn of(word: &[u8]) -> Option<Target>
         ensures { result ≡ target_of word.now }
     {
-        match word {
-            b"wait" => Some(Target::Wait),
-            b"inside" => Some(Target::Inside),
-            b"idle" => Some(Target::Idle),
-            b"down" => Some(Target::Down),
-            _ => None,
+        if word == b"wait".as_slice() {
+            Some(Target::Wait)
+        } else if word == b"inside".as_slice() {
+            Some(Target::Inside)
+        } else if word == b"idle".as_slice() {
+            Some(Target::Idle)
+        } else if word == b"down".as_slice() {
+            Some(Target::Down)
+        } else {
+            None
         }
     }
 }
