@@ -1,9 +1,9 @@
 #!/usr/bin/env python3
 """The quick tests: what breaks first, in some minutes, with nothing proved.
 
-Where a proved program of these sources stands, it runs all examples. Else the program is built without proof, and runs some forty of
-them: `chosen` has the rules. The tests of each crate that starts no thread are built and run without proof too (`rt try --test`).
-And the pages are followed as far as they need no program. The last line counts all: `N passed, M failed`.
+Where a proved program of these sources stands, it runs all examples. Else the program is built without proof, and runs some
+forty of them: `chosen` has the rules. The tests of each crate that starts no thread are built and run without proof too (`rt try
+--test`). And the pages are followed as far as they need no program. The last line counts all: `N passed, M failed`.
 """
 
 import os
@@ -107,7 +107,7 @@ def fault_told(each):
 
 
 def chosen():
-    """Of each command the shortest example with each status, of each reader one with each kind of fault, and the files of lessons."""
+    """Of each command the shortest example with each status, of each reader one with each kind of fault, and the lessons."""
     examples = [*worked_examples(), *record_examples()]
     return [*first_of_each(examples, verdict_given), *first_of_each(examples, fault_told), *lesson_examples()]
 

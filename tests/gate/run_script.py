@@ -1,6 +1,6 @@
 #!/usr/bin/env python3
-"""How `./run` runs the proved program: with the same words, on several files one after the other, and with nothing of its own beside
-what the program writes. Without `rt` it says what is missing.
+"""How `./run` runs the proved program: with the same words, on several files one after the other, and with nothing of its own
+beside what the program writes. Without `rt` it says what is missing.
 
 It needs the program that `tests/all.py` or `rt run` leaves: one that `./run` knows to be proved.
 """
