@@ -1,20 +1,21 @@
 #!/usr/bin/env python3
 """Proves every crate from nothing and runs every test: `rt ci`, and then the scripts that run the program which it leaves.
 
-The last line counts everything: `N passed, M failed`.
+The words given are for `rt ci`: with `--anew` it takes nothing from earlier runs. The last line counts everything: `N passed, M
+failed`.
 """
 
 import sys
 
+from lib import proved
 from lib.counting import Counter, shown_counts
 from lib.places import TOP
 
 SCRIPTS = [
     *["api", "layers", "links", "worked", "picture_parts", "pictures", "cut_file", "command_line", "terminal", "record_files"],
-    *["changed_records", "short_files", "readme", "lessons", "races", "refused_threads"],
+    *["changed_records", "short_files", "run_script", "readme", "lessons", "races", "refused_threads"],
 ]
 RUNS = [
-    ["rt", "ci"],
     *([sys.executable, f"tests/gate/{name}.py"] for name in SCRIPTS),
     [sys.executable, "tests/hostile/run.py", "short"],
 ]
@@ -22,6 +23,9 @@ RUNS = [
 
 def main():
     counter = Counter()
+    counter.add(*shown_counts(["rt", "ci", *sys.argv[1:]], TOP))
+    if counter.failed == 0:
+        proved.note()
     for words in RUNS:
         counter.add(*shown_counts(words, TOP))
     counter.end()

@@ -17,7 +17,7 @@ from lib.counting import Counter
 from lib.crates import PROGRAM, crates, groups
 from lib.places import TOP
 
-MADE = re.compile(r"(<!-- made by tests/gate/layers.py: {} -->\n).*?(<!-- end -->)".replace("{}", r"(?P<what>\w+)"), re.S)
+MADE = re.compile(r"(?P<begin><!-- made by tests/gate/layers.py: (?P<what>\w+) -->\n).*?(?P<end><!-- end -->)", re.S)
 PAGES = [TOP / "docs" / name for name in ("ARCHITECTURE.md", "HOW_IT_IS_PROVED.md")]
 FOLDERS = ["src", "specs", "proofs"]
 
@@ -77,7 +77,8 @@ def costs():
 def made(text):
     """A page with what is made of it anew, and the names of these parts."""
     parts = {"picture": picture, "table": table, "costs": costs}
-    return MADE.sub(lambda found: found[1] + parts[found["what"]]() + found[3], text), [found["what"] for found in MADE.finditer(text)]
+    names = [found["what"] for found in MADE.finditer(text)]
+    return MADE.sub(lambda found: found["begin"] + parts[found["what"]]() + found["end"], text), names
 
 
 def faults_of(crate, known):

@@ -3,8 +3,8 @@
 show, and compares what it prints byte for byte. And the README is short enough to be read.
 
 A command stands behind `$ ` in a block of `console`, and what it prints, on both streams, on the lines below it. `bakerystore`
-is the proved program that `rt ci` or `rt run` leaves. A command by which rt runs it, `rt try -- WORDS` or `rt run -- WORDS`, is
-followed by that program too, with these words: what it prints is the same.
+is the proved program that `rt ci` or `rt run` leaves. A command by which rt or `./run` runs it, as `rt try -- WORDS`, is followed by
+that program too, with these words: what it prints is the same.
 """
 
 import os
@@ -24,7 +24,7 @@ PAGES = [
 ]
 # the most words of the README
 MOST_WORDS = 900
-BY_RT = re.compile(r"\brt (try|run)( --jobs \d+)? -- ")
+BY_OTHERS = re.compile(r"(\brt (try|run)( --jobs \d+)? -- |^\./run )")
 
 
 def commands_of(page):
@@ -38,7 +38,7 @@ def commands_of(page):
 def printed_by(command):
     paths = f"{PROGRAM.parent}{os.pathsep}{os.environ['PATH']}"
     ran = subprocess.run(
-        BY_RT.sub("bakerystore ", command),
+        BY_OTHERS.sub("bakerystore ", command),
         shell=True,
         cwd=TOP,
         stdout=subprocess.PIPE,

@@ -32,6 +32,11 @@ COMMANDS = {
 }
 
 
+def words_of(command):
+    """The program's word for a command, and its options."""
+    return command.removesuffix("-reads"), ["--reads"] * command.endswith("-reads")
+
+
 def content(path, default):
     return path.read_bytes() if path.exists() else default
 
@@ -60,10 +65,11 @@ def main():
             want = wanted(folder, command)
             if want is None:
                 continue
-            word, options = command.removesuffix("-reads"), ["--reads"] * command.endswith("-reads")
+            word, options = words_of(command)
             ran = subprocess.run([PROGRAM, word, *options, folder / file], capture_output=True)
             counter.compare(f"{command} {folder.name}", (ran.stdout, ran.stderr, ran.returncode), want)
     counter.end()
 
 
-main()
+if __name__ == "__main__":
+    main()

@@ -1,4 +1,4 @@
-"""Counts what a script tries. Its last line is `N passed, M failed`; its status is 1 where something failed, or nothing was tried."""
+"""Counts what a script tries. Its last line is `N passed, M failed`; its status is 1 if something failed or nothing was tried."""
 
 import re
 import subprocess

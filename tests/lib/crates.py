@@ -1,5 +1,5 @@
-"""The crates of the repository, as crates.txt lists them: in groups from the bottom up, each behind a line `## HEADING`. The line above
-that of a crate says what the crate does.
+"""The crates of the repository, as crates.txt lists them: in groups from the bottom up, each behind a line `## HEADING`. The line
+above that of a crate says what the crate does.
 """
 
 from typing import NamedTuple
@@ -10,7 +10,7 @@ PROGRAM = "bakerystore"
 
 
 class Crate(NamedTuple):
-    """A crate: what it does, its line, and the names on it: those of crates of the repository, and those of libraries of the kit."""
+    """A crate: what it does, its line, and the names on it: of crates of the repository, and of libraries of the kit."""
 
     name: str
     does: str
