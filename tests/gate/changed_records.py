@@ -218,24 +218,35 @@ def wanted(verdict):
     return 0 if verdict.startswith("good") else 3, verdict, ""
 
 
-def law_at(judge, line):
-    """The law that a line breaks, as the judge knows it that has heard all before it; None if it must hear more."""
-    try:
-        return judge.law_of(*entry_of(line))
-    except Spent:
-        return None
+class Hearing:
+    """A second judge who hears a record, and is asked what is wrong with other lines in place of the next one."""
+
+    def __init__(self, record):
+        self.record = record
+        self.judge, self.heard = Judge(record.setup), 0
+
+    def law_at(self, at, line):
+        """The law that a line breaks in place of an entry, if it breaks one; the entries are asked for in ascending order."""
+        try:
+            return self.law_behind(at, line)
+        except Spent:
+            self.judge, self.heard = Judge(self.record.setup), 0
+            return self.law_behind(at, line)
+
+    def law_behind(self, at, line):
+        while self.heard < at:
+            self.judge.hear(self.heard, *entry_of(self.record.lines[self.heard]))
+            self.heard += 1
+        return self.judge.law_of(*entry_of(line))
 
 
 def compare_some(record, jobs):
     """What both judges say of some changes, in the order of their lines: how often each verdict was found, of which kinds the
     changes were, and where the judges differ."""
-    judge, heard, wrong, found = Judge(record.setup), 0, [], collections.Counter()
+    hearing, wrong, found = Hearing(record), [], collections.Counter()
     for kind, at, others in jobs:
-        for number in range(heard, at):
-            judge.hear(number, *entry_of(record.lines[number]))
-        heard = max(heard, at)
         lines = record.changed(at, others)
-        law = law_at(judge, lines[at]) if at < len(lines) else None
+        law = hearing.law_at(at, lines[at]) if at < len(lines) else None
         verdict = f"bad {at} {law}\n" if law else judged(record.setup, lines)
         # what comes behind a bad entry is not heard
         bad = verdict.split() if verdict.startswith("bad") else None
@@ -244,8 +255,6 @@ def compare_some(record, jobs):
         found["verdict", bad[2] if bad else "good"] += 1
         if told != wanted(verdict):
             wrong.append(f"{kind} at {at}, now {others}: {told}, and the second judge says {verdict}")
-        if law is None:
-            judge, heard = Judge(record.setup), 0
     return found, wrong
 
 

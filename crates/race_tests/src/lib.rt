@@ -1,4 +1,4 @@
-//! Tests of races: gates that no race on one thread passes, held ports, and two ports that add to one counter.
+//! Tests of races: gates that no race on one thread passes, held ports, two ports that add to one counter, and exit statuses.
 #![tactic(auto)]
 
 #[cfg(test)]
@@ -9,3 +9,5 @@ mod gates;
 mod growths;
 #[cfg(test)]
 mod plans;
+#[cfg(test)]
+mod statuses;

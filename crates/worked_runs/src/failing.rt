@@ -50,12 +50,7 @@ const FRONTS: [(usize, &str); 3] = [
 ];
 
 /// Runs a file.
-fn run(
-    alloc: Global,
-    engine: Engine,
-    input: &mut Tape<'_>,
-    output: &mut Paper,
-) -> Result<(), Fault>
+fn run(alloc: Global, engine: Engine, input: &mut Tape<'_>, output: &mut Paper) -> Result<(), Fault>
     requires reads { input.old.failures ≡ 0 }
     requires writes { output.old.failures ≡ 0 }
 {
@@ -108,7 +103,10 @@ fn tells_writers_that_fail(rt: HostRuntime) -> Result<(), Fail> {
                 output.takes_none = takes_none;
                 let mut input = Tape::new(file.as_bytes());
                 let ran = run(rt.alloc(), engine, &mut input, &mut output);
-                assert_eq!(rt; ran.err(), (fails_after < text.len()).then_some(Fault::Write));
+                assert_eq!(rt;
+                    ran.err(),
+                    (fails_after < text.len()).then_some(Fault::Write)
+                );
                 assert_eq!(rt; output.written.len(), fails_after, "{engine:?}");
                 assert!(rt; text.as_bytes().starts_with(output.written.as_slice()));
             }

@@ -81,8 +81,11 @@ fn verdicts_on_the_lone_write(rt: HostRuntime) -> Result<(), Fail> {
     let setup = &scenario.setup;
     let mut record = record_of(rt.alloc(), setup, &events)?;
     assert_eq!(rt; record.entries.len(), 761);
+    let Some(entry) = record.entries.get(8) else {
+        panic!(rt; "the record has no entry 8");
+    };
     assert_eq!(rt;
-        record.entries[8].act.marks.as_slice(),
+        entry.act.marks.as_slice(),
         [Mark::Waiting(1), Mark::Entered].as_slice()
     );
     hear_all(&rt, rt.alloc(), setup, &record)?;
@@ -90,7 +93,9 @@ fn verdicts_on_the_lone_write(rt: HostRuntime) -> Result<(), Fail> {
     let write = Command::Write(a(), Value::Count(5));
     let found = sweep(rt.alloc(), &scenario.setup, &events, &[(0, write)])?;
     assert_eq!(rt; found, all_good(1_522));
-    record.entries[756].act.access = None;
+    if let Some(entry) = record.entries.get_mut(756) {
+        entry.act.access = None;
+    }
     assert_eq!(rt;
         audit_again(rt.alloc(), setup, &record)?,
         Verdict::Bad(756, Law::Program)

@@ -1,5 +1,5 @@
 //! Worlds that are driven by single events.
-use crate::scenarios::{ASK_AFTER_TAKEN_CUT_CALL, SCENARIOS, WITHDRAWAL};
+use crate::scenarios::{ASK_AFTER_TAKEN_CUT_CALL, LONE_WRITE, SCENARIOS, WITHDRAWAL};
 use crate::uses::two_events;
 use bstr::ByteSlice;
 use plain_store::{Command, Name, Reply, Setup, Store, Value};
@@ -65,9 +65,12 @@ fn single_events_make_the_marks_of_replays(rt: HostRuntime) -> Result<(), Fail> 
 /// A world after so many accepted events of a file.
 fn world_after(alloc: Global, file: &str, count: usize) -> Result<World, Fail> {
     let scenario = read_scenario(alloc, file.as_bytes())?;
+    let events = events_of(alloc, &scenario)?;
     let mut world = World::new(alloc, &scenario.setup)?;
-    for event in events_of(alloc, &scenario)?.iter().take(count) {
-        world.event(*event)?;
+    for (number, event) in events.iter().enumerate() {
+        if number < count {
+            world.event(*event)?;
+        }
     }
     Ok(world)
 }
@@ -77,26 +80,32 @@ fn world_after(alloc: Global, file: &str, count: usize) -> Result<World, Fail> {
 // process 0 does so at event 43.
 #[test]
 fn tells_its_history_and_who_is_ahead(rt: HostRuntime) -> Result<(), Fail> {
-    let a = Name::new(b"a")?;
-    let taken = |command, reply, number| Taken {
-        process: 0,
-        command,
-        reply,
-        number,
-    };
     let world = world_after(rt.alloc(), ASK_AFTER_TAKEN_CUT_CALL, 1248)?;
     let history = [
-        taken(Command::Write(a, Value::Count(6)), Reply::Done, 1),
-        taken(Command::Ask, Reply::Last(1), 2),
+        Taken {
+            process: 0,
+            command: Command::Write(Name::new(b"a")?, Value::Count(6)),
+            reply: Reply::Done,
+            number: 1,
+        },
+        Taken {
+            process: 0,
+            command: Command::Ask,
+            reply: Reply::Last(1),
+            number: 2,
+        },
     ];
     assert_eq!(rt; world.history(), history.as_slice());
-    let newest = world.newest().map(|store| store.entry(0));
-    assert_eq!(rt; newest, Some(Some((a, Value::Count(6)))));
-    for (count, ahead) in [(42, [0].as_slice()), (44, [].as_slice())] {
-        let world = world_after(rt.alloc(), WITHDRAWAL, count)?;
-        assert_eq!(rt; world.ahead(0).as_slice(), [].as_slice());
-        assert_eq!(rt; world.ahead(1).as_slice(), ahead);
-    }
+    let written = world_after(rt.alloc(), LONE_WRITE, 761)?;
+    let Some(newest) = written.newest() else {
+        panic!(rt; "nobody is inside");
+    };
+    assert_eq!(rt; newest.entry(0), Some((Name::new(b"a")?, Value::Count(5))));
+    let both_wait = world_after(rt.alloc(), WITHDRAWAL, 42)?;
+    assert_eq!(rt; both_wait.ahead(0).as_slice(), [].as_slice());
+    assert_eq!(rt; both_wait.ahead(1).as_slice(), [0].as_slice());
+    let one_gave_up = world_after(rt.alloc(), WITHDRAWAL, 44)?;
+    assert_eq!(rt; one_gave_up.ahead(1).as_slice(), [].as_slice());
     let inside = world_after(rt.alloc(), WITHDRAWAL, 58)?;
     assert!(rt; inside.newest().is_none());
     Ok(())
@@ -125,7 +134,10 @@ fn answers_events(rt: HostRuntime) -> Result<(), Fail> {
     let mut world = World::new(rt.alloc(), &Setup::one(2, 4, 4, 1))?;
     let (call, step) = (Event::Call(1, Command::Ask), Event::Step(1, false));
     let (called, stepped) = two_events(&mut world, call, step)?;
-    assert_eq!(rt; called.marks.as_slice(), [Mark::Called(Command::Ask)].as_slice());
+    assert_eq!(rt;
+        called.marks.as_slice(),
+        [Mark::Called(Command::Ask)].as_slice()
+    );
     assert!(rt; called.access.is_none() && stepped.access.is_some());
     assert_eq!(rt; stepped.marks.len(), 0);
     let refused = two_events(&mut world, step, Event::Step(0, false));
