@@ -1,6 +1,6 @@
 //! The exit statuses of a race.
 use race::RaceFault;
-use race_engine::{Weighed, race_status};
+use race::{Weighed, race_status};
 use std::test::Fail;
 
 #[test]

@@ -1,6 +1,6 @@
 -- What a process is doing holds replies and answers that fit, whatever its entries are.
 use Rattle.std.proofs.Common.{◌≡◌, ℕ, ◌≤◌, ◌==◌, Bool, true, false, cond, [], ◌∷◌, Option, Some, None, refl}
-use Rattle.safe_number.specs.declared.Access.{Access}
+use Rattle.record.specs.declared.Access.{Access}
 use Rattle.plain_store.specs.declared.Command.{Command}
 use Rattle.plain_store.specs.declared.Setup.{Setup}
 use Rattle.record.specs.Calls.{last_call}
