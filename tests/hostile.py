@@ -22,9 +22,11 @@ from running import CORES, TOP
 
 PARTS = {"files": spoiled_files, "devices": devices, "growths": growths, "long": long_runs, "races": loaded_races}
 PAGE = TOP / "docs" / "TESTED.md"
+# the heading from which on the page is written by hand
+BY_HAND = "\n## Where tests went\n"
 HEAD = """# What was tried by hostile use
 
-Made by `python3 tests/hostile.py`, which tries all of this by hand, over the programs that the gate leaves; no line is written by hand. `python3 tests/hostile.py short` tries a part of each, in the gate. Behind what was tried stand on how many files, calls or tests; how often; and how many of these ended otherwise than they must.
+Made by `python3 tests/hostile.py`, which tries all of this by hand, over the programs that the gate leaves; no line is written by hand but those [at the end](#where-tests-went). `python3 tests/hostile.py short` tries a part of each, in the gate. Behind what was tried stand on how many files, calls or tests; how often; and how many of these ended otherwise than they must.
 """
 TABLE = "| What was tried | On | Tried | Otherwise |\n|---|---|---|---|\n"
 
@@ -60,6 +62,12 @@ def section_of(module, rows, seconds):
     return f"\n## {heading}\n\n{paragraphs}\n\n{table_of(rows)}\n{seconds / 60:.1f} minutes, on {CORES} cores.\n"
 
 
+def by_hand():
+    """The end of the page that is written by hand."""
+    _, heading, text = PAGE.read_text().partition(BY_HAND)
+    return heading + text
+
+
 def read_words():
     parser = argparse.ArgumentParser(description=__doc__, formatter_class=argparse.RawDescriptionHelpFormatter)
     parser.add_argument("words", nargs="*", metavar="PART")
@@ -84,7 +92,7 @@ def main():
         passed, failed = passed + sum(row.tried for row in rows) - wrong, failed + wrong
         page += section_of(PARTS[part], rows, time.time() - begun)
     if not is_short and parts == list(PARTS):
-        PAGE.write_text(page)
+        PAGE.write_text(page + by_hand())
     print(f"{passed} passed, {failed} failed")
     sys.exit(failed != 0)
 
