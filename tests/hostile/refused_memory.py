@@ -6,12 +6,11 @@ front of what the file prints with ample memory; where no file is run, but words
 kind of growth is no need: the room that `collect` of the standard library takes by a hint. The program collects only where it
 looks for the nearest command to a word; there, and nowhere else, a run may end as with ample memory too, to the byte. A race
 must have printed nothing: its text is made when it has ended, and weighed. It tells `no thread` in place of that if not all
-threads were started, and only then. A test whose growth was refused must pass, or fail and tell want of memory; of four tests,
-whose assertions do not tell what they found, it is asked that they fail by an assertion. The growths are those of the compiled
-programs, which a library loaded before them counts and refuses: where a program starts no thread, to a copy of a run that is
-made at the growth, and else in a run of its own for each growth. A run that has very many growths makes the same worlds and
-audits again and again: there a growth is refused if fewer than twenty like it were, of the same size, from the same depth of
-the stack, and behind seven that were alike.
+threads were started, and only then. A test whose growth was refused must pass, or fail and tell want of memory. The growths
+are those of the compiled programs, which a library loaded before them counts and refuses: where a program starts no thread, to a
+copy of a run that is made at the growth, and else in a run of its own for each growth. A run that has very many growths makes the
+same worlds and audits again and again: there a growth is refused if fewer than twenty like it were, of the same size, from the
+same depth of the stack, and behind seven that were alike.
 """
 
 import collections
@@ -54,11 +53,6 @@ RACES = {
 TEST_WANTS_MEMORY = re.compile(r"\b(AllocError|AllocFailed|Memory|Spawn|Held)\b")
 # the programs of tests of which some are tried in short
 QUICK = ["picture_tests_tests", "record_tests_tests", "register_tests_tests", "store_tests_tests"]
-# tests whose assertions do not tell what they found; of these it is asked that they fail by an assertion, or pass
-TELLS_NOTHING = re.compile(
-    r"store_tests_tests (scenarios::(puts_bytes_into_a_writer|writes_outputs)|printing::"
-    r"(bounds_the_lines_of_bits_files|tells_faults_of_bits_files))"
-)
 
 
 def is_lost(copy):
@@ -181,9 +175,9 @@ def long_replay(refuser, folder):
     return Row("`replay` of a write and a hundred reads", "a file", tried, wrong)
 
 
-def is_want_of_memory(ran, name):
+def is_want_of_memory(ran):
     """Whether a test passed, or failed for want of memory, and was ended by nothing else."""
-    tells = bool(TEST_WANTS_MEMORY.search(ran.stdout + ran.stderr)) or bool(TELLS_NOTHING.fullmatch(name))
+    tells = bool(TEST_WANTS_MEMORY.search(ran.stdout + ran.stderr))
     has_failed = ran.returncode == FAILED or (ran.returncode == STOPPED and STOPPED_AT in ran.stdout)
     return ran.returncode == 0 or (has_failed and tells)
 
@@ -201,13 +195,12 @@ def threaded_test(refuser, words):
 def test_row(refuser, program, test):
     """Each growth of a test."""
     words, name = [program, test], f"{program.name} {test}"
-    what = "tests whose assertions tell no fault" if TELLS_NOTHING.fullmatch(name) else "tests of the crates"
-    ran, met, tried, wrong = refused(refuser, words, lambda copy: is_want_of_memory(copy, name))
-    what, told = named(what, name, met)
+    ran, met, tried, wrong = refused(refuser, words, is_want_of_memory)
+    what, told = named("tests of the crates", name, met)
     if met.started:
         runs = threaded_test(refuser, words)
         what, told, tried = "tests that start threads", name, len(runs)
-        wrong = [run for run in runs if not is_want_of_memory(run, name)] + met_none(tried)
+        wrong = [run for run in runs if not is_want_of_memory(run)] + met_none(tried)
     if ran.returncode != 0:
         wrong.insert(0, ran)
     return Row(what, told, tried, wrong)

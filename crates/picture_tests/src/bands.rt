@@ -1,5 +1,4 @@
-use picture::{Form, Line, Page, Reads, Saying, page_end, page_head, picture_end, picture_head};
-use plain_store::Setup;
+use picture::{Form, Line, Page, Saying};
 use record::Refusal;
 use std::alloc::Global;
 use std::test::Fail;
@@ -72,27 +71,5 @@ fn a_band_has_the_lines_told(rt: HostRuntime) -> Result<(), Fail> {
     assert!(&rt; full.is_none());
     assert_eq!(&rt; last.as_slice(), BAND.as_bytes());
     assert_eq!(&rt; page.height(), 170);
-    Ok(())
-}
-
-// What stands around the bands begins and ends as a page and as a picture do.
-#[test]
-fn a_page_has_a_head_and_an_end(rt: HostRuntime) -> Result<(), Fail> {
-    let alloc = rt.alloc();
-    let setup = Setup::one(1, 1, 2, 2);
-    let head = page_head(alloc, &setup, b"bakery 1\nprocesses 1\n", Reads::Hidden)?;
-    assert!(&rt; head.as_slice().starts_with(b"<!doctype html>\n"));
-    let end = page_end(alloc, b"empty")?;
-    assert!(&rt; end.as_slice().ends_with(b"</script>\n</body></html>\n"));
-    let head = picture_head(alloc, &setup, 170, Reads::Hidden)?;
-    assert!(&rt;
-        head.as_slice()
-            .starts_with(b"<?xml version=\"1.0\" encoding=\"UTF-8\"?>\n")
-    );
-    let end = picture_end(alloc, 170, Reads::Hidden)?;
-    assert!(&rt;
-        end.as_slice()
-            .starts_with(b"<g transform=\"translate(0,204)\">\n")
-    );
     Ok(())
 }

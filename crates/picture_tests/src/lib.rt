@@ -1,4 +1,4 @@
-//! Tests of pictures: shapes as text, and the band of lines that were told.
+//! Tests of pictures: marks as text, the band of lines that were told, and that of a read. Whole pictures stand under examples/.
 #![tactic(auto)]
 
 #[cfg(test)]

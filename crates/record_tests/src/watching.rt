@@ -2,7 +2,7 @@
 ghost use Rattle.std.specs.Prelude.{◌≡◌, Ok};
 ghost use Rattle.plain_store.specs.Setups.{checked};
 
-use plain_store::{Name, Opening, Setup, Value};
+use plain_store::Setup;
 use record::{Access, Act, Entry, Field};
 use safe_bit::Move;
 use smallvec::SmallVec;
@@ -60,6 +60,7 @@ fn first_other_move(alloc: Global, heard: &[Heard]) -> Result<Option<usize>, All
     first_otherwise(alloc, &Setup::one(2, 2, 2, 1), &accesses)
 }
 
+/// A read alone gives what was written.
 const READ_ALONE: [Heard; 8] = [
     (BEGIN_READ, true),
     (ONE, false),
@@ -71,12 +72,7 @@ const READ_ALONE: [Heard; 8] = [
     (ONE, true),
 ];
 
-#[test]
-fn a_read_alone_gives_what_was_written(rt: HostRuntime) -> Result<(), Fail> {
-    assert_eq!(rt; first_other_move(rt.alloc(), &READ_ALONE)?, None);
-    Ok(())
-}
-
+/// An overlapped read gives anything.
 const OVERLAPPED: [Heard; 14] = [
     // It begins during a write.
     (Move::BeginWrite(true), true),
@@ -98,12 +94,7 @@ const OVERLAPPED: [Heard; 14] = [
     (ONE, false),
 ];
 
-#[test]
-fn an_overlapped_read_gives_anything(rt: HostRuntime) -> Result<(), Fail> {
-    assert_eq!(rt; first_other_move(rt.alloc(), &OVERLAPPED)?, None);
-    Ok(())
-}
-
+/// A settled bit has the value that it was settled at.
 const SETTLED: [Heard; 7] = [
     (Move::BeginWrite(false), true),
     (BEGIN_READ, true),
@@ -114,9 +105,41 @@ const SETTLED: [Heard; 7] = [
     (ONE, true),
 ];
 
+/// No read began that these could be the ends of, so the law says nothing.
+const WITHOUT_BEGIN: [Heard; 5] = [
+    (ONE, true),
+    (ZERO, true),
+    (Move::BeginWrite(true), true),
+    (Move::EndWrite, true),
+    (ZERO, true),
+];
+
+/// A write that ends twice ends with what it began with; and a read has what was there before it, though a write ends in
+/// it that never began.
+const OUT_OF_TURN: [Heard; 9] = [
+    (Move::BeginWrite(true), true),
+    (Move::Settle(false), true),
+    (BEGIN_READ, true),
+    (Move::EndWrite, true),
+    (ONE, false),
+    (ZERO, true),
+    (BEGIN_READ, true),
+    (ZERO, false),
+    (ONE, true),
+];
+
 #[test]
-fn a_settled_bit_has_the_value_that_it_was_settled_at(rt: HostRuntime) -> Result<(), Fail> {
-    assert_eq!(rt; first_other_move(rt.alloc(), &SETTLED)?, None);
+fn moves_on_a_bit_keep_the_law_or_not(rt: HostRuntime) -> Result<(), Fail> {
+    let tables: [&[Heard]; 5] = [
+        &READ_ALONE,
+        &OVERLAPPED,
+        &SETTLED,
+        &WITHOUT_BEGIN,
+        &OUT_OF_TURN,
+    ];
+    for heard in tables {
+        assert_eq!(rt; first_other_move(rt.alloc(), heard)?, None);
+    }
     Ok(())
 }
 
@@ -156,16 +179,11 @@ const ENDS_OF_OVERLAPPED: [Heard; 16] = [
     (ONE, false),
 ];
 
-// A write overlaps a read if it was open as the read began, or began before the read ended.
+// A write overlaps a read of its bit if it was open as the read began, or began before the read ended. It overlaps no read of
+// another bit, or of another reader's copy; and no read ends of a bit that is not there.
 #[test]
 fn the_end_of_an_overlapped_read_is_told(rt: HostRuntime) -> Result<(), Fail> {
     assert_eq!(rt; first_other_overlap(rt.alloc(), &ENDS_OF_OVERLAPPED)?, None);
-    Ok(())
-}
-
-// A write overlaps no read of another bit, or of another reader's copy; and no read ends of a bit that is not there.
-#[test]
-fn a_write_overlaps_reads_of_its_bit_alone(rt: HostRuntime) -> Result<(), Fail> {
     let alloc = rt.alloc();
     let mut watch = Watch::new(alloc, &Setup::one(2, 2, 2, 1))?;
     let written = on_ticket(Move::BeginWrite(true));
@@ -193,42 +211,8 @@ fn a_write_overlaps_reads_of_its_bit_alone(rt: HostRuntime) -> Result<(), Fail> 
     Ok(())
 }
 
-const WITHOUT_BEGIN: [Heard; 5] = [
-    (ONE, true),
-    (ZERO, true),
-    (Move::BeginWrite(true), true),
-    (Move::EndWrite, true),
-    (ZERO, true),
-];
-
-// No read began that this could be the end of, so the law says nothing.
-#[test]
-fn an_end_without_a_begin_keeps_the_law(rt: HostRuntime) -> Result<(), Fail> {
-    assert_eq!(rt; first_other_move(rt.alloc(), &WITHOUT_BEGIN)?, None);
-    Ok(())
-}
-
-const OUT_OF_TURN: [Heard; 9] = [
-    (Move::BeginWrite(true), true),
-    (Move::Settle(false), true),
-    (BEGIN_READ, true),
-    (Move::EndWrite, true),
-    (ONE, false),
-    (ZERO, true),
-    (BEGIN_READ, true),
-    (ZERO, false),
-    (ONE, true),
-];
-
-// A write that ends twice ends with what it began with; and a read has what was there before it, though a write ends in
-// it that never began.
-#[test]
-fn moves_out_of_turn_are_looked_up(rt: HostRuntime) -> Result<(), Fail> {
-    assert_eq!(rt; first_other_move(rt.alloc(), &OUT_OF_TURN)?, None);
-    Ok(())
-}
-
-// Each copy of each bit of each register is heard by itself.
+// Each copy of each bit of each register is heard by itself. There is no process 2, and no ticket bit 2: what ends a read of
+// these keeps the law.
 #[test]
 fn bits_are_told_apart(rt: HostRuntime) -> Result<(), Fail> {
     let written = on_ticket(Move::BeginWrite(true));
@@ -264,19 +248,6 @@ fn bits_are_told_apart(rt: HostRuntime) -> Result<(), Fail> {
             },
             false,
         ),
-        (begins, true),
-        (ends, true),
-    ];
-    let setup = Setup::one(2, 2, 2, 1);
-    assert_eq!(rt; first_otherwise(rt.alloc(), &setup, &heard)?, None);
-    Ok(())
-}
-
-// There is no process 2, and no ticket bit 2: the first of their entries keep the law.
-#[test]
-fn bits_that_are_not_there_are_heard(rt: HostRuntime) -> Result<(), Fail> {
-    let ends = on_ticket(ONE);
-    let heard = [
         (Access { owner: 2, ..ends }, true),
         (
             Access {
@@ -287,53 +258,10 @@ fn bits_that_are_not_there_are_heard(rt: HostRuntime) -> Result<(), Fail> {
         ),
         (Access { bit: 2, ..ends }, true),
         (Access { bit: 65535, ..ends }, true),
-        (on_ticket(BEGIN_READ), true),
-        (ends, false),
+        (begins, true),
+        (ends, true),
     ];
     let setup = Setup::one(2, 2, 2, 1);
-    assert_eq!(rt; first_otherwise(rt.alloc(), &setup, &heard)?, None);
-    Ok(())
-}
-
-// The image of a store with one count begins with the bytes 1 and 1: its kind, and the length of its name.
-#[test]
-fn the_first_image_opens_at_the_opening_store(rt: HostRuntime) -> Result<(), Fail> {
-    let mut opening = Opening::empty();
-    let Ok(()) = opening.add(Name::new(b"a").unwrap(), Value::Count(5)) else {
-        panic!(rt; "an opening has room for a pair");
-    };
-    let setup = Setup {
-        version: 2,
-        opening,
-        ..Setup::one(2, 2, 2, 1)
-    };
-    let Ok(()) = setup.check() else {
-        panic!(rt; "the setup is good");
-    };
-    let mut heard = Vec::new(rt.alloc());
-    for (owner, field, bit, value) in [
-        (0, Field::Image0, 0, true),
-        (0, Field::Image0, 1, false),
-        (0, Field::Image0, 8, true),
-        (0, Field::Image1, 0, false),
-        (1, Field::Image0, 0, false),
-    ] {
-        for (how, keeps) in [
-            (BEGIN_READ, true),
-            (Move::EndRead(!value), false),
-            (Move::EndRead(value), true),
-        ] {
-            let reader = 1;
-            let access = Access {
-                owner,
-                field,
-                bit,
-                reader,
-                how,
-            };
-            heard.push((access, keeps))?;
-        }
-    }
     assert_eq!(rt; first_otherwise(rt.alloc(), &setup, &heard)?, None);
     Ok(())
 }

@@ -1,31 +1,20 @@
-use safe_bit::{Move, SafeBit};
+use safe_bit::SafeBit;
 
-// Two short files of bits: what was written is read, whatever the flick; an end without a write is refused
-// by the test that callers have.
+// What was written is read, whatever the flick, and an end without a write is refused by the test that callers have. A read
+// that a write overlaps gives the flick, also where the write has ended by then. A settled write counts as ended at the
+// settled value, and a dropped read leaves nothing to end.
 #[test]
-fn two_short_bits_files(rt: HostRuntime) {
+fn single_accesses_to_a_bit(rt: HostRuntime) {
     let mut bit = SafeBit::new(false);
     bit.begin_write(true);
     bit.end_write();
     bit.begin_read();
     assert_eq!(rt; bit.end_read(false), true);
-    assert!(rt; !SafeBit::new(false).writing());
-}
-
-// A read that a write overlaps gives the flick, also where the write has ended by then.
-#[test]
-fn overlapped_bit_read(rt: HostRuntime) {
-    let mut bit = SafeBit::new(false);
+    assert!(rt; !bit.writing());
     bit.begin_read();
     bit.begin_write(false);
     bit.end_write();
     assert_eq!(rt; bit.end_read(true), true);
-}
-
-// A settled write counts as ended at the settled value; a dropped read leaves nothing to end.
-#[test]
-fn settle_and_drop(rt: HostRuntime) {
-    let mut bit = SafeBit::new(false);
     bit.begin_write(true);
     bit.begin_read();
     bit.settle(false);
@@ -35,9 +24,4 @@ fn settle_and_drop(rt: HostRuntime) {
     assert!(rt; !bit.reading());
     bit.begin_read();
     assert_eq!(rt; bit.end_read(true), false);
-}
-
-#[test]
-fn tells_moves_apart(rt: HostRuntime) {
-    assert!(rt; Move::Settle(true) != Move::Settle(false));
 }

@@ -86,18 +86,3 @@ fn a_row_of_sixty_five_bits(rt: HostRuntime) -> Result<(), Fail> {
     }
     Ok(())
 }
-
-// A row that is set from another has the write that is open there, on both copies of its last bit.
-#[tactic(auto, using(crate::proofs::Shapes::shape_after))]
-#[test]
-fn sets_a_row_from_another(rt: HostRuntime) -> Result<(), Fail> {
-    let mut row = CopiedRow::new(rt.alloc(), 65, 2)?;
-    let mut other = CopiedRow::new(rt.alloc(), 65, 2)?;
-    let mut run = CopyWrite::new(true);
-    let (_, _) = other.write_step(64, &mut run);
-    row.copy_from(&other);
-    let (made, _) = row.write_step(64, &mut run);
-    assert_eq!(rt; made.how, Move::EndWrite);
-    assert!(rt; row.value(64, 0) && !row.value(64, 1) && !row.value(63, 0));
-    Ok(())
-}

@@ -1,13 +1,11 @@
-//! Tests of the bits, the registers, the lock, the section and the memory unit, in a crate of their own, so
-//! that each of those layers is proved once. Nothing else stands here.
+//! Tests of the bits, the registers, the lock, the section and the memory unit, in a crate of their own, so that each of
+//! those layers is proved once. What the program does with them stands under examples/, not here.
 #![tactic(auto)]
 
 #[cfg(test)]
 mod bits;
 #[cfg(test)]
 mod copies;
-#[cfg(test)]
-mod doors;
 #[cfg(test)]
 mod drives;
 #[cfg(test)]

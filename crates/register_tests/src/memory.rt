@@ -1,4 +1,4 @@
-//! A plain memory of safe bits, on which the cursors of the lock and of the section are driven by hand.
+//! A plain memory of safe bits, on which the cursor of the section is driven by hand.
 ghost use Rattle.std.specs.Prelude.{◌≤◌};
 
 use record::{Access, Field};

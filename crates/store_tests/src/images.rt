@@ -37,33 +37,34 @@ fn with_counter(rt: &impl Abort, callers: u8) -> Result<Image, Fail>
     Ok(image)
 }
 
+/// The image of two slots.
+fn of_two(first: &[u8; 23], second: &[u8; 23]) -> [u8; 46] {
+    let mut bytes = [0; 46];
+    bytes[..23].copy_from_slice(first);
+    bytes[23..].copy_from_slice(second);
+    bytes
+}
+
 #[test]
 fn images_have_the_bytes_of_the_format(rt: HostRuntime) -> Result<(), Fail> {
+    let image = with_counter(&rt, 0)?;
     assert_eq!(rt; Image::empty(1, 0).bytes(), [0; 23].as_slice());
-    assert_eq!(rt; with_counter(&rt, 0)?.bytes(), COUNTER.as_slice());
+    assert_eq!(rt; image.bytes(), COUNTER.as_slice());
     assert_eq!(rt;
         with_counter(&rt, 1)?.bytes(),
         COUNTER_OF_ONE_CALLER.as_slice()
     );
-    Ok(())
-}
-
-#[test]
-fn images_are_told_apart(rt: HostRuntime) -> Result<(), Fail> {
-    assert!(rt; with_counter(&rt, 0)? == Image::read(&COUNTER, 0)?);
+    let read = Image::read(&COUNTER, 0)?;
+    assert!(rt; image == read);
     assert!(rt; Image::empty(1, 1) != Image::empty(1, 0));
-    Ok(())
-}
-
-#[test]
-fn readers_take_images(rt: HostRuntime) -> Result<(), Fail> {
+    assert_eq!(rt; read.entry(0), Some(counter()?));
     assert_eq!(rt; Image::read(&[0; 23], 0)?.len(), 0);
-    assert_eq!(rt; Image::read(&COUNTER, 0)?.entry(0), Some(counter()?));
     Ok(())
 }
 
+// Those of another length, and those of which a slot breaks a rule.
 #[test]
-fn readers_refuse_other_lengths(rt: HostRuntime) {
+fn readers_refuse_bytes_that_are_no_image(rt: HostRuntime) {
     let cases: [(&[u8], u8); 5] = [
         (&COUNTER[..22], 0),
         (&[], 0),
@@ -74,18 +75,6 @@ fn readers_refuse_other_lengths(rt: HostRuntime) {
     for (bytes, callers) in cases {
         assert_eq!(rt; Image::read(bytes, callers).err(), Some(BadImage::Length));
     }
-}
-
-/// The image of two slots.
-fn of_two(first: &[u8; 23], second: &[u8; 23]) -> [u8; 46] {
-    let mut bytes = [0; 46];
-    bytes[..23].copy_from_slice(first);
-    bytes[23..].copy_from_slice(second);
-    bytes
-}
-
-#[test]
-fn readers_refuse_bad_slots(rt: HostRuntime) {
     let mut unclean = COUNTER;
     unclean[22] = 1;
     assert_eq!(rt; Image::read(&unclean, 0).err(), Some(BadImage::Slot(0)));
@@ -280,22 +269,15 @@ fn written(slots: u8, callers: u8, pairs: &[(&[u8], Value)]) -> Result<Image, Fa
     Ok(image)
 }
 
+// In names, in lengths, in values and in the zeros behind them.
 #[test]
-fn changed_names_are_read_by_the_table(rt: HostRuntime) -> Result<(), Fail> {
+fn changed_bytes_are_read_by_the_table(rt: HostRuntime) -> Result<(), Fail> {
     let long = Value::Text(Text::new(b"Twelve_bytes")?);
     let image = written(3, 0, &[(b"a", Value::Count(5)), (b"b", long)])?;
-    each_byte_counts(&rt, &image, 3, 0)
-}
-
-#[test]
-fn changed_lengths_are_read_by_the_table(rt: HostRuntime) -> Result<(), Fail> {
+    each_byte_counts(&rt, &image, 3, 0)?;
     let short = Value::Text(Text::new(b"!~")?);
     let least = Value::Count(i64::MIN);
     let image = written(4, 2, &[(b"y_456789", short), (b"y_45678", least)])?;
-    each_byte_counts(&rt, &image, 4, 2)
-}
-
-#[test]
-fn changed_zeros_are_read_by_the_table(rt: HostRuntime) -> Result<(), Fail> {
+    each_byte_counts(&rt, &image, 4, 2)?;
     each_byte_counts(&rt, &Image::empty(8, 16), 8, 16)
 }

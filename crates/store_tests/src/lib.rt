@@ -1,21 +1,17 @@
-//! Tests of the one-thread store, its image, weighing, the scenario files and the engines `plain` and `bits`, in a
-//! crate of their own, so that those layers are proved once; and streams that fail at a chosen call.
+//! Tests of the one-thread store and its image, of weighing, of scenarios as text, and of streams that fail at a chosen call, in
+//! a crate of their own, so that those layers are proved once. What a file shows stands under examples/, not here.
 #![tactic(auto)]
 
 #[cfg(test)]
-mod engine_runs;
+mod devices;
 #[cfg(test)]
-mod failing;
+mod engine_runs;
 #[cfg(test)]
 mod images;
 #[cfg(test)]
 mod places;
 #[cfg(test)]
 mod printing;
-#[cfg(test)]
-mod scenarios;
-#[cfg(test)]
-mod stores;
 mod streams;
 #[cfg(test)]
 mod weighing;

@@ -197,17 +197,9 @@ fn weighs(rt: &(impl Abort + AllocGlobal), table: &[Row], image: &Image) -> Resu
 }
 
 #[test]
-fn weighs_a_write_and_a_read(rt: HostRuntime) -> Result<(), Fail> {
-    weighs(&rt, &AT_FIVE, &image(5, 0)?)
-}
-
-#[test]
-fn weighs_against_an_empty_store(rt: HostRuntime) -> Result<(), Fail> {
-    weighs(&rt, &AT_NOTHING, &Image::empty(1, 0))
-}
-
-#[test]
-fn weighs_other_orders(rt: HostRuntime) -> Result<(), Fail> {
+fn weighs_lists(rt: HostRuntime) -> Result<(), Fail> {
+    weighs(&rt, &AT_FIVE, &image(5, 0)?)?;
+    weighs(&rt, &AT_NOTHING, &Image::empty(1, 0))?;
     weighs(&rt, &AT_SEVEN, &image(7, 0)?)
 }
 
@@ -243,62 +235,56 @@ fn with_answer(
     weighed(alloc, &both, &image(7, 0)?)
 }
 
+/// Calls of the true run by port and index, each with another place, and what is then weighed.
+const OTHER_PLACES: [(usize, usize, Option<u32>, Weighed); 16] = [
+    (0, 0, Some(0), Weighed::Good),
+    // The write: no call changes store 0, so that each later place is above it.
+    (0, 0, Some(1), Weighed::Bad(0, 0)),
+    (0, 0, None, Weighed::Bad(0, 0)),
+    // The read of 6: the change before it has place 0; store 1 has 5, store 3 has 7; there is no store 4.
+    (0, 1, Some(0), Weighed::Bad(0, 1)),
+    (0, 1, Some(1), Weighed::Bad(0, 1)),
+    (0, 1, Some(3), Weighed::Bad(0, 1)),
+    (0, 1, Some(4), Weighed::Bad(0, 1)),
+    (0, 1, None, Weighed::Bad(0, 1)),
+    // The swap: below the place of the read; above store 2, which no call changes now.
+    (0, 2, Some(1), Weighed::Bad(0, 2)),
+    (0, 2, Some(3), Weighed::Bad(0, 2)),
+    // The read of 5: store 0 is empty, store 2 has 6.
+    (1, 0, Some(0), Weighed::Bad(1, 0)),
+    (1, 0, Some(2), Weighed::Bad(1, 0)),
+    // The add of 1: no call changes store 1, so that the other port's read is above it.
+    (1, 1, Some(0), Weighed::Bad(0, 1)),
+    (1, 1, Some(2), Weighed::Bad(0, 1)),
+    // The add of 0: store 2 has 6; there is no store 4.
+    (1, 2, Some(2), Weighed::Bad(1, 2)),
+    (1, 2, Some(4), Weighed::Bad(1, 2)),
+];
+
+/// The same calls, each with another answer, which makes it bad.
+const OTHER_ANSWERS: [(usize, usize, Answer); 9] = [
+    (0, 0, Answer::Reply(Reply::StoreFull)),
+    (0, 1, Answer::Reply(Reply::Value(Value::Count(5)))),
+    (0, 2, Answer::Reply(Reply::Kept(Value::Count(6)))),
+    (1, 0, Answer::Reply(Reply::NoName)),
+    (1, 1, Answer::Reply(Reply::Sum(7))),
+    (1, 2, Answer::Reply(Reply::Done)),
+    // Not taken, and yet with a place.
+    (0, 0, Answer::Withdrawn),
+    (0, 1, Answer::StampsFull),
+    (1, 2, Answer::TicketsFull { process: 1 }),
+];
+
+// With another place, with another answer, or cut, and taken all the same.
 #[test]
-fn weighs_other_places(rt: HostRuntime) -> Result<(), Fail> {
-    let table = [
-        (0, 0, Some(0), Weighed::Good),
-        // The write: no call changes store 0, so that each later place is above it.
-        (0, 0, Some(1), Weighed::Bad(0, 0)),
-        (0, 0, None, Weighed::Bad(0, 0)),
-        // The read of 6: the change before it has place 0; store 1 has 5, store 3 has 7; there is no store 4.
-        (0, 1, Some(0), Weighed::Bad(0, 1)),
-        (0, 1, Some(1), Weighed::Bad(0, 1)),
-        (0, 1, Some(3), Weighed::Bad(0, 1)),
-        (0, 1, Some(4), Weighed::Bad(0, 1)),
-        (0, 1, None, Weighed::Bad(0, 1)),
-        // The swap: below the place of the read; above store 2, which no call changes now.
-        (0, 2, Some(1), Weighed::Bad(0, 2)),
-        (0, 2, Some(3), Weighed::Bad(0, 2)),
-        // The read of 5: store 0 is empty, store 2 has 6.
-        (1, 0, Some(0), Weighed::Bad(1, 0)),
-        (1, 0, Some(2), Weighed::Bad(1, 0)),
-        // The add of 1: no call changes store 1, so that the other port's read is above it.
-        (1, 1, Some(0), Weighed::Bad(0, 1)),
-        (1, 1, Some(2), Weighed::Bad(0, 1)),
-        // The add of 0: store 2 has 6; there is no store 4.
-        (1, 2, Some(2), Weighed::Bad(1, 2)),
-        (1, 2, Some(4), Weighed::Bad(1, 2)),
-    ];
-    for (port, index, place, verdict) in table {
+fn weighs_changes_of_the_true_run(rt: HostRuntime) -> Result<(), Fail> {
+    for (port, index, place, verdict) in OTHER_PLACES {
         assert_eq!(rt; with_place(rt.alloc(), port, index, place)?, verdict);
     }
-    Ok(())
-}
-
-#[test]
-fn weighs_other_answers(rt: HostRuntime) -> Result<(), Fail> {
-    let table = [
-        (0, 0, Answer::Reply(Reply::StoreFull)),
-        (0, 1, Answer::Reply(Reply::Value(Value::Count(5)))),
-        (0, 2, Answer::Reply(Reply::Kept(Value::Count(6)))),
-        (1, 0, Answer::Reply(Reply::NoName)),
-        (1, 1, Answer::Reply(Reply::Sum(7))),
-        (1, 2, Answer::Reply(Reply::Done)),
-        // Not taken, and yet with a place.
-        (0, 0, Answer::Withdrawn),
-        (0, 1, Answer::StampsFull),
-        (1, 2, Answer::TicketsFull { process: 1 }),
-    ];
-    for (port, index, answer) in table {
+    for (port, index, answer) in OTHER_ANSWERS {
         let found = with_answer(rt.alloc(), port, index, Some(answer))?;
         assert_eq!(rt; found, Weighed::Bad(port, index));
     }
-    Ok(())
-}
-
-// Cut, and taken all the same.
-#[test]
-fn weighs_calls_that_were_cut(rt: HostRuntime) -> Result<(), Fail> {
     for (port, index) in [(0, 0), (0, 1), (0, 2), (1, 0), (1, 1), (1, 2)] {
         let found = with_answer(rt.alloc(), port, index, None)?;
         assert_eq!(rt; found, Weighed::Good);
@@ -342,7 +328,8 @@ fn weighed_in_two(alloc: Global, calls: &[Placed], image: &Image) -> Result<Weig
     weigh(alloc, &setup, &of_one_port(alloc, calls)?, image)
 }
 
-// The asker is told the number of its write.
+// The asker is told the number of its write. A cut call before it makes it the second one of its process: the asker is told so,
+// and the image has this number.
 #[test]
 fn weighs_version_two(rt: HostRuntime) -> Result<(), Fail> {
     let calls = [placed(Write), ask(1)];
@@ -350,29 +337,10 @@ fn weighs_version_two(rt: HostRuntime) -> Result<(), Fail> {
     assert_eq!(rt; found, Weighed::Good);
     let found = weighed_in_two(rt.alloc(), &calls, &Image::empty(1, 2))?;
     assert_eq!(rt; found, Weighed::BadEnd);
-    Ok(())
-}
-
-// A cut call before the write makes it the second one of its process: the asker is told so, and the image has this number.
-#[test]
-fn counts_a_call_that_was_cut(rt: HostRuntime) -> Result<(), Fail> {
     for (told, verdict) in [(1, Weighed::Bad(0, 2)), (2, Weighed::BadEnd)] {
         let calls = [lost(), placed(Write), ask(told)];
         let found = weighed_in_two(rt.alloc(), &calls, &image(5, 2)?)?;
         assert_eq!(rt; found, verdict, "told {told}");
-    }
-    Ok(())
-}
-
-#[test]
-fn prints_verdicts(rt: HostRuntime) -> Result<(), Fail> {
-    let texts = [
-        (Weighed::Good, "good"),
-        (Weighed::Bad(1, 20), "bad 1 20"),
-        (Weighed::BadEnd, "bad end"),
-    ];
-    for (weighed, text) in texts {
-        assert_eq!(rt; format!(in rt.alloc(); "{weighed}")?.as_str(), text);
     }
     Ok(())
 }
