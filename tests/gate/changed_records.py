@@ -2,15 +2,15 @@
 """Runs scenarios and judges records a second time, and compares.
 
 `second/runs.py` runs each scenario of the worked examples, and what `bakerystore` prints for it by `replay` and by `record` must
-be the same; so must what is found in its record by `bakerystore judge` and by the judge that `second/judge.py` has. Then both judges
-hear records that differ from one of a run by one change. An access is given another value, move, owner, register, bit or reader,
-or is taken away; an entry is given to another process, left out, doubled, or exchanged with the next one; a mark is left out,
-doubled, exchanged with the next one, or made another; a mark is added; an event that is no step is put before an entry; a word of
-a mark is another. The others are also ones that are never there. And some verdicts are told here: on records in which one entry is
-changed, and on one of as many calls as a process makes in version 2, and one more.
+be the same; so must what is found in its record by `bakerystore judge` and by the judge that `second/judge.py` has. Then both
+judges hear records that differ from one of a run by one change. An access is given another value, move, owner, register, bit or
+reader, or is taken away; an entry is given to another process, left out, doubled, or exchanged with the next one; a mark is left
+out, doubled, exchanged with the next one, or made another; a mark is added; an event that is no step is put before an entry; a
+word of a mark is another. The others are also ones that are never there. And some verdicts are told here: on records in which one
+entry is changed, and on one of as many calls as a process makes in version 2, and one more.
 
-tests/gate/changed_records.py [all]: all changes of the runs below, by hand; else so many of each, drawn by a fixed number. The program is
-the one that `rt run` leaves in crates/bakerystore.
+tests/gate/changed_records.py [all]: all changes of the runs below, by hand; else so many of each, drawn by a fixed number. The
+program is the one that `rt run` leaves in crates/bakerystore.
 """
 
 import collections
@@ -65,8 +65,8 @@ SCENARIOS = {
         11,
     ),
     "a tie, a withdrawal and a full ticket": (
-        "bakery 1\nprocesses 2\ntickets 1\nstamps 2\ncall 0 write a t:x\ncall 1 cas a t:x c:1\nflick pcg 7\nwander 60\ngo 0 wait\n"
-        "withdraw 1\nwithdraw 0\ngo 1 idle\ncall 1 read b\ngo 0 idle\ngo 1 idle\n",
+        "bakery 1\nprocesses 2\ntickets 1\nstamps 2\ncall 0 write a t:x\ncall 1 cas a t:x c:1\nflick pcg 7\nwander 60\n"
+        "go 0 wait\nwithdraw 1\nwithdraw 0\ngo 1 idle\ncall 1 read b\ngo 0 idle\ngo 1 idle\n",
         13,
     ),
 }
@@ -96,7 +96,8 @@ FIELDS = ["choosing", "ticket", "commit", "stamp0", "stamp1", "image0", "image1"
 REPLIES = ["done", "swapped", "no-name", "not-counter", "overflow", "store-full"]
 EVENTS = ["call ask", "fail", "withdraw", "restart"]
 MARKS = [
-    *["call read a", "call add a 1", "call ask", "wait 0", "wait 1", "wait 2", "enter", "leave", "down", "settled 0", "settled 1"],
+    *["call read a", "call add a 1", "call ask", "wait 0", "wait 1", "wait 2", "enter", "leave", "down", "settled 0"],
+    "settled 1",
     *["taken 0 done", "taken 1 done", f"taken {2**64 - 1} done", "taken 0 no-name", "taken 1 no-name"],
     *["answer done", "answer no-name", "answer tickets-full 0", "answer stamps-full", "answer withdrawn"],
     *["fail", "withdraw", "restart"],
