@@ -25,7 +25,7 @@ RUNS = [
     (["--quiet", "audit", *FILES[2:0:-1]], [["--quiet", "audit", file] for file in FILES[2:0:-1]]),
     (["plain", "-", FILES[0]], [["plain", "-"], ["plain", FILES[0]]]),
     (["plain", "--", FILES[0], "-"], [["plain", "--", FILES[0]], ["plain", "--", "-"]]),
-    *((words, [words]) for words in ([], ["--version"], ["help", "replay"], ["replay"], ["rplay", "-"], ["sweep", FILES[0]])),
+    *((words, [words]) for words in ([], ["--version"], ["help", "replay"], ["replay"], ["rplay", "-"], ["record", FILES[0]])),
 ]
 
 

@@ -3,6 +3,7 @@
 import re
 import subprocess
 import sys
+import time
 
 COUNTS = re.compile(r"(\d+) passed, (\d+) failed")
 
@@ -44,8 +45,9 @@ def counts_of(last, status):
 def shown_counts(words, folder):
     """Runs a command in a folder, shows what it prints as it comes, and gives the counts of its last line."""
     print(f"== {' '.join(map(str, words))}", flush=True)
-    last = ""
+    last, begun = "", time.time()
     with subprocess.Popen(words, cwd=folder, stdin=subprocess.DEVNULL, stdout=subprocess.PIPE, text=True, errors="replace") as run:
         for last in run.stdout:
             print(last, end="", flush=True)
+    print(f"in {time.time() - begun:.0f} s", flush=True)
     return counts_of(last, run.returncode)
