@@ -9,7 +9,7 @@ out, doubled, exchanged with the next one, or made another; a mark is added; an 
 word of a mark is another. The others are also ones that are never there. And some verdicts are told here: on records in which one
 entry is changed, and on one of as many calls as a process makes in version 2, and one more.
 
-tests/gate/changed_records.py [all]: all changes of the runs below, by hand; else so many of each, drawn by a fixed number. The
+tests/gate/changed_records.py [all]: all changes of the runs below, by hand; else so many of each kind, drawn by a fixed number. The
 program is the one that `rt run` leaves in crates/bakerystore.
 """
 
@@ -83,8 +83,8 @@ CUT_CALL = ["0 : call ask", "0 : fail", "0 0.ticket.0.0 write 0", "0 0.ticket.0.
 CUT_CALL += ["0 0.choosing.0.0 end : down", "0 : restart"]
 # a version, how many such calls there are before one that goes on, and the verdict
 CALLS = [(2, 65_534, "good 458739"), (2, 65_535, "bad 458745 program"), (1, 65_535, "good 458746")]
-# of so many changes of each run the verdicts are compared, if not of all
-DRAWN = 500
+# of so many changes of each kind of each run the verdicts are compared, if not of all
+DRAWN = 30
 # what must be found somewhere; of runs it is proved that `together` and `overtaken` are never the first law broken
 FOUND = {"good", "safe", "program", "unit", "history"}
 # a change of each kind must be tried
@@ -259,13 +259,21 @@ def compare_some(record, jobs):
     return found, wrong
 
 
+def drawn(jobs, most):
+    """So many changes of each kind, in their order."""
+    places = collections.defaultdict(list)
+    for place, (kind, *_) in enumerate(jobs):
+        places[kind].append(place)
+    draws = random.Random(1)
+    return [jobs[place] for place in sorted(sum((draws.sample(at, min(most, len(at))) for at in places.values()), []))]
+
+
 def compare_changes(pool, name, record, every, most):
     """Compares the verdicts on the changes of a run's record."""
     at = [at for at, line in enumerate(record.lines) if at % every == 0 or ":" in line]
     jobs = [(kind, at, others) for at in at for kind, others in changed_records(record.lines, at, every == 1)]
     if most is not None:
-        drawn = random.Random(1).sample(range(len(jobs)), min(most, len(jobs)))
-        jobs = [jobs[at] for at in sorted(drawn)]
+        jobs = drawn(jobs, most)
     found, wrong = collections.Counter(), []
     parts = [jobs[at : at + 50] for at in range(0, len(jobs), 50)]
     for more, others in pool.imap_unordered(functools.partial(compare_some, record), parts):
