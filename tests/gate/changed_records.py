@@ -2,15 +2,15 @@
 """Runs scenarios and judges records a second time, and compares.
 
 `second/runs.py` runs each scenario of the worked examples, and what `bakerystore` prints for it by `replay` and by `record` must
-be the same; so must what is found in its record by `bakerystore judge` and by the judge that `second/judge.py` has. Then both judges
-hear records that differ from one of a run by one change. An access is given another value, move, owner, register, bit or reader,
-or is taken away; an entry is given to another process, left out, doubled, or exchanged with the next one; a mark is left out,
-doubled, exchanged with the next one, or made another; a mark is added; an event that is no step is put before an entry; a word of
-a mark is another. The others are also ones that are never there. And some verdicts are told here: on records in which one entry is
-changed, and on one of as many calls as a process makes in version 2, and one more.
+be the same; so must what is found in its record by `bakerystore judge` and by the judge that `second/judge.py` has. Then both
+judges hear records that differ from one of a run by one change. An access is given another value, move, owner, register, bit or
+reader, or is taken away; an entry is given to another process, left out, doubled, or exchanged with the next one; a mark is left
+out, doubled, exchanged with the next one, or made another; a mark is added; an event that is no step is put before an entry; a
+word of a mark is another. The others are also ones that are never there. And some verdicts are told here: on records in which one
+entry is changed, and on one of as many calls as a process makes in version 2, and one more.
 
-tests/gate/changed_records.py [all]: all changes of the runs below, by hand; else so many of each, drawn by a fixed number. The program is
-the one that `rt run` leaves in crates/bakerystore.
+tests/gate/changed_records.py [all]: all changes of the runs below, by hand; else so many of each kind, drawn by a fixed number. The
+program is the one that `rt run` leaves in crates/bakerystore.
 """
 
 import collections
@@ -65,8 +65,8 @@ SCENARIOS = {
         11,
     ),
     "a tie, a withdrawal and a full ticket": (
-        "bakery 1\nprocesses 2\ntickets 1\nstamps 2\ncall 0 write a t:x\ncall 1 cas a t:x c:1\nflick pcg 7\nwander 60\ngo 0 wait\n"
-        "withdraw 1\nwithdraw 0\ngo 1 idle\ncall 1 read b\ngo 0 idle\ngo 1 idle\n",
+        "bakery 1\nprocesses 2\ntickets 1\nstamps 2\ncall 0 write a t:x\ncall 1 cas a t:x c:1\nflick pcg 7\nwander 60\n"
+        "go 0 wait\nwithdraw 1\nwithdraw 0\ngo 1 idle\ncall 1 read b\ngo 0 idle\ngo 1 idle\n",
         13,
     ),
 }
@@ -83,8 +83,8 @@ CUT_CALL = ["0 : call ask", "0 : fail", "0 0.ticket.0.0 write 0", "0 0.ticket.0.
 CUT_CALL += ["0 0.choosing.0.0 end : down", "0 : restart"]
 # a version, how many such calls there are before one that goes on, and the verdict
 CALLS = [(2, 65_534, "good 458739"), (2, 65_535, "bad 458745 program"), (1, 65_535, "good 458746")]
-# of so many changes of each run the verdicts are compared, if not of all
-DRAWN = 500
+# of so many changes of each kind of each run the verdicts are compared, if not of all
+DRAWN = 30
 # what must be found somewhere; of runs it is proved that `together` and `overtaken` are never the first law broken
 FOUND = {"good", "safe", "program", "unit", "history"}
 # a change of each kind must be tried
@@ -96,7 +96,8 @@ FIELDS = ["choosing", "ticket", "commit", "stamp0", "stamp1", "image0", "image1"
 REPLIES = ["done", "swapped", "no-name", "not-counter", "overflow", "store-full"]
 EVENTS = ["call ask", "fail", "withdraw", "restart"]
 MARKS = [
-    *["call read a", "call add a 1", "call ask", "wait 0", "wait 1", "wait 2", "enter", "leave", "down", "settled 0", "settled 1"],
+    *["call read a", "call add a 1", "call ask", "wait 0", "wait 1", "wait 2", "enter", "leave", "down", "settled 0"],
+    "settled 1",
     *["taken 0 done", "taken 1 done", f"taken {2**64 - 1} done", "taken 0 no-name", "taken 1 no-name"],
     *["answer done", "answer no-name", "answer tickets-full 0", "answer stamps-full", "answer withdrawn"],
     *["fail", "withdraw", "restart"],
@@ -258,13 +259,21 @@ def compare_some(record, jobs):
     return found, wrong
 
 
+def drawn(jobs, most):
+    """So many changes of each kind, in their order."""
+    places = collections.defaultdict(list)
+    for place, (kind, *_) in enumerate(jobs):
+        places[kind].append(place)
+    draws = random.Random(1)
+    return [jobs[place] for place in sorted(sum((draws.sample(at, min(most, len(at))) for at in places.values()), []))]
+
+
 def compare_changes(pool, name, record, every, most):
     """Compares the verdicts on the changes of a run's record."""
     at = [at for at, line in enumerate(record.lines) if at % every == 0 or ":" in line]
     jobs = [(kind, at, others) for at in at for kind, others in changed_records(record.lines, at, every == 1)]
     if most is not None:
-        drawn = random.Random(1).sample(range(len(jobs)), min(most, len(jobs)))
-        jobs = [jobs[at] for at in sorted(drawn)]
+        jobs = drawn(jobs, most)
     found, wrong = collections.Counter(), []
     parts = [jobs[at : at + 50] for at in range(0, len(jobs), 50)]
     for more, others in pool.imap_unordered(functools.partial(compare_some, record), parts):

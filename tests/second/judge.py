@@ -66,9 +66,9 @@ class Judge:
             return law
         if "enter" in marks and any(seat.inside for j, seat in enumerate(self.seats) if j != process):
             return "together"
-        if "enter" in marks and any(
-            seat.stage == "waiting" and j != process and seat.ended < self.seats[process].began for j, seat in enumerate(self.seats)
-        ):
+        began = self.seats[process].began
+        waiting = [seat for j, seat in enumerate(self.seats) if j != process and seat.stage == "waiting"]
+        if "enter" in marks and any(seat.ended < began for seat in waiting):
             return "overtaken"
         return None if self.takes_its_place(process, marks) else "history"
 
