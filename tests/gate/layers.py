@@ -4,7 +4,7 @@
 The first has a picture, in which each crate stands a row above the highest one that it stands on, and a table of all crates. The
 second counts the lines of each group up to that of the program, in hundreds, with comments. What is made stands between two
 comments of a page. With `--write` it is written; without it, it is compared. And crates.txt is held to its rules: each crate is
-listed, says what it does, and stands on crates of the lines before its own.
+listed, says what it does, and stands on few crates, all of the lines before its own.
 """
 
 import pathlib
@@ -20,6 +20,8 @@ from lib.places import TOP
 MADE = re.compile(r"(?P<begin><!-- made by tests/gate/layers.py: (?P<what>\w+) -->\n).*?(?P<end><!-- end -->)", re.S)
 PAGES = [TOP / "docs" / name for name in ("ARCHITECTURE.md", "HOW_IT_IS_PROVED.md")]
 FOLDERS = ["src", "specs", "proofs"]
+# the most crates of the repository that one of them names on its line
+MOST_BELOW = 6
 
 
 def groups_of_program():
@@ -87,6 +89,8 @@ def faults_of(crate, known):
         yield "says not what it does: a comment above its line"
     if set(crate.stands_on) - known:
         yield f"stands on crates of later lines: {sorted(set(crate.stands_on) - known)}"
+    if len(crate.stands_on) > MOST_BELOW:
+        yield f"names {len(crate.stands_on)} crates, and {MOST_BELOW} at most"
 
 
 def main():
