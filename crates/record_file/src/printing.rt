@@ -19,7 +19,7 @@ use std::alloc::{AllocError, Global};
 /// The lines before the entries: the version, the four headings, all of them, and the opening pairs. With the lines of
 /// any entries behind them, each of which fits its line, they are read as that setup and those entries; and what is
 /// printed for whatever setup and entries that fit is read as these.
-#[tactic(auto, using(crate::proofs::RecordsAgain::head_begins, crate::proofs::RecordsAgain::record_again))]
+#[tactic(auto, using(crate::proofs::RecordsAgain::record_again))]
 pub fn print_setup(alloc: Global, setup: &Setup) -> Result<Vec<u8>, AllocError>
     ensures lines { IfOk result (λ bytes. bytes.items ≡ flat_map printed_line (head_words setup.now)) }
     ensures read_again { checked setup.now ≡ Ok tt → IfOk result (λ bytes. BeginsRecord setup.now bytes.items) }
