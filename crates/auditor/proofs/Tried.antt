@@ -24,7 +24,7 @@ use Rattle.auditor.specs.declared.verdicts.Law.TheVariants as law
 use Rattle.auditor.specs.Hearing.{AreAt, BreaksNext, event_in, flick_in}
 use Rattle.auditor.specs.Verdicts.{IsAlike, IsMade, IsOfEvent, Keeps, KeepsAll, KeepsProgram, OwesAt, number_of, tells_event}
 use Rattle.auditor.proofs.Events.{IsNoStep, calls, fails, withdraws, restarts, step-tells-none, tells-it}
-use Rattle.auditor.proofs.Flicks.{told_again}
+use Rattle.auditor.proofs.ToldAgain.{told_again}
 use Rattle.auditor.proofs.Marks.{same_marks}
 use Rattle.auditor.proofs.Obeys.{obeys}
 use Rattle.auditor.proofs.Recovers.{StepIs, makes, owes, step_is}
