@@ -21,14 +21,14 @@ use Rattle.std.proofs.lemmas.List.{length_push}
 use Rattle.record.specs.declared.access.Access.{Access}
 use Rattle.record.specs.declared.history.Taken.{Taken}
 use Rattle.record.specs.Histories.{reply_taken}
-use Rattle.process.specs.declared.told.Effect.{Effect}
-use Rattle.process.specs.declared.told.Effect.TheVariants.{Steps, Calls, Fails, Withdraws, Restarts}
-use Rattle.process.specs.declared.told.Told.{Told}
-use Rattle.process.specs.declared.told.Told.TheVariants.{Nothing, Waits, WaitsAndEnters, Enters, Took, Leaves, Answers, Settles, SettlesAndTakes, Lies}
+use Rattle.world.specs.process.declared.told.Effect.{Effect}
+use Rattle.world.specs.process.declared.told.Effect.TheVariants.{Steps, Calls, Fails, Withdraws, Restarts}
+use Rattle.world.specs.process.declared.told.Told.{Told}
+use Rattle.world.specs.process.declared.told.Told.TheVariants.{Nothing, Waits, WaitsAndEnters, Enters, Took, Leaves, Answers, Settles, SettlesAndTakes, Lies}
 use Rattle.world.specs.Changes.{with_taken}
 use Rattle.world.specs.Cores.{CoreMakes, CoreRefuses, CoreState, CoreSteps, call_in, with_history}
 use Rattle.world.specs.Events.{Adds, entry_with}
-use Rattle.process.specs.Telling.{act_of, marks_of, marks_told}
+use Rattle.world.specs.process.Telling.{act_of, marks_of, marks_told}
 use Rattle.world.specs.Shows.{Shows, WorldState}
 use Rattle.world.proofs.WorldShows.{past-after}
 use Rattle.auditor.specs.declared.verdicts.Law.TheVariants as law

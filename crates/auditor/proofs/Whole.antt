@@ -6,14 +6,14 @@ use Rattle.record.specs.declared.events.Event.{Event}
 use Rattle.record.specs.Entries.{Entry, Past}
 use Rattle.record.specs.Records.{entry_of, past_of}
 use Rattle.record.proofs.Width.{is_good}
-use Rattle.laws.proofs.HeldThere.{access_there}
+use Rattle.watch.proofs.laws.HeldThere.{access_there}
 use Rattle.world.proofs.WorldShows.{past-after}
 use Rattle.auditor.specs.Hearing.{AuditorState, HasHeard}
 use Rattle.auditor.specs.Verdicts.{AllKeep, GoodAccessesAreThere, GoodIsOfEvents, IsOfEvent, IsTrueRecord, OfEventsIsGood}
 use Rattle.record.specs.Given.{AreGiven}
 use Rattle.record.specs.Headline.{KeepsHeadlineThroughout}
-use Rattle.history_laws.proofs.Given.{given_before}
-use Rattle.history_laws.proofs.Headlines.{throughout}
+use Rattle.world.proofs.history_laws_proofs.Given.{given_before}
+use Rattle.world.proofs.history_laws_proofs.Headlines.{throughout}
 use Rattle.auditor.proofs.Obeys.{obeys}
 use Rattle.auditor.proofs.Recovers.{recovers}
 

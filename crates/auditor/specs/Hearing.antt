@@ -1,6 +1,6 @@
 -- What an auditor keeps, and what it answers to an entry.
 use Rattle.std.specs.Prelude.{◌≡◌, ℕ, ◌+◌, ◌<◌, ◌≤◌, ◌^◌, Bool, true, false, Contains, List, [], ◌∷◌, length, Option, None, Some}
-use Rattle.safe_bit.specs.declared.Move.TheVariants.{BeginWrite, EndWrite, BeginRead, EndRead, Settle}
+use Rattle.record.specs.safe_bit.declared.Move.TheVariants.{BeginWrite, EndWrite, BeginRead, EndRead, Settle}
 use Rattle.record.specs.declared.access.Access.{Access}
 use Rattle.plain_store.specs.declared.Setup.{Setup}
 use Rattle.record.specs.declared.events.Event.{Event}
@@ -14,8 +14,8 @@ use Rattle.record.specs.Spans.{takings}
 use Rattle.plain_store.specs.declared.Reply.{Reply}
 use Rattle.world.specs.Cores.{CoreState, with_history}
 use Rattle.world.specs.Shows.{Shows}
-use Rattle.process.specs.declared.told.Told.{Told}
-use Rattle.process.specs.Telling.{marks_told}
+use Rattle.world.specs.process.declared.told.Told.{Told}
+use Rattle.world.specs.process.Telling.{marks_told}
 use Rattle.auditor.specs.declared.verdicts.Law.{Law}
 use Rattle.auditor.specs.declared.verdicts.Law.TheVariants as law
 use Rattle.auditor.specs.Verdicts.{Keeps, KeepsAll, number_of}

@@ -4,15 +4,14 @@ ghost use Rattle.std.specs.List.{list_any};
 ghost use Rattle.record.specs.Entries.{has};
 ghost use Rattle.record.specs.Histories.{reply_taken};
 ghost use Rattle.record.specs.Records.{placed};
-ghost use Rattle.process.specs.Telling.{marks_told};
+ghost use Rattle.world.specs.process.Telling.{marks_told};
 ghost use Rattle.auditor.specs.Hearing.{IsCount, event_in, flick_in, with_reply};
 ghost use Rattle.auditor.specs.Verdicts.{tells_event};
 ghost use Rattle.auditor.specs.Hearing.{AreAt, stepped_as};
 ghost use Rattle.auditor.specs.Verdicts.{IsAlike};
 
 use plain_store::{Answer, Command, Name, Reply, Text, Value};
-use record::{Access, Entry, Event, Field, Mark};
-use safe_bit::Move;
+use record::{Access, Entry, Event, Field, Mark, Move};
 use std::alloc::Global;
 use world::Told;
 

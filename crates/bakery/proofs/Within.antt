@@ -1,8 +1,8 @@
 -- An access of a door within its number access: it is of a ticket, ends nothing, and has no mark.
 use Rattle.std.proofs.Common.{◌≡◌, ℕ, ◌+◌, ◌-◌, ◌<◌, ◌≤◌, ◌==◌, Bool, true, false, ◌&&◌, cond, not, if◌then◌else◌, List, [], ◌∷◌, ◌++◌, length, length-append, Option, None, Some, unwrap_or, refl, sym, ap, subst, ◌∙◌, arith}
 use Rattle.std.proofs.lemmas.Bool.Decides.{nat_tests}
-use Rattle.safe_bit.specs.Cell.{Cell, MayMove}
-use Rattle.safe_bit.specs.declared.Move.TheVariants.{BeginRead, EndRead}
+use Rattle.reader_copies.specs.safe_bit.Cell.{Cell, MayMove}
+use Rattle.reader_copies.specs.safe_bit.declared.Move.TheVariants.{BeginRead, EndRead}
 use Rattle.reader_copies.specs.Runs as copies
 use Rattle.record.specs.declared.access.Access.{Access}
 use Rattle.record.specs.declared.access.Field.{Field}

@@ -1,6 +1,6 @@
 -- The locks of all processes: their registers, and what one access makes of them.
 use Rattle.std.specs.Prelude.{◌≡◌, ℕ, ◌<◌, Bool, List, [], length, replicate, slice_index_or, slice_set}
-use Rattle.safe_bit.specs.Cell.{Cell, read_answer}
+use Rattle.reader_copies.specs.safe_bit.Cell.{Cell, read_answer}
 use Rattle.reader_copies.specs.declared.Made.{Made}
 use Rattle.reader_copies.specs.Row.{cell_at, row_after, without_reads, new_row, CanMake, HaveOneShape}
 use Rattle.record.specs.declared.access.Access.{Access}

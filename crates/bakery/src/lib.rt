@@ -14,3 +14,4 @@ pub use door::Door;
 pub use leaving::Leaving;
 pub use lock::{Lock, Locks};
 pub use progress::DoorProgress;
+pub use safe_number::{Pace, WriteRun};

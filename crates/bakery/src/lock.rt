@@ -1,6 +1,6 @@
 ghost use Rattle.std.specs.Prelude.{◌≡◌, ◌<◌, ◌≤◌, ◌*◌, Ok, IfOk, [], length, slice_set};
 ghost use Rattle.std.specs.Borrow.{sem};
-ghost use Rattle.safe_bit.specs.Cell.{read_answer};
+ghost use Rattle.reader_copies.specs.safe_bit.Cell.{read_answer};
 ghost use Rattle.reader_copies.specs.Row.{cell_at, new_row, row_after, without_reads, CanMake, HasCell};
 ghost use Rattle.reader_copies.specs.Runs.{next_read, next_write};
 ghost use Rattle.record.specs.declared.access.Field.TheVariants.{Ticket};
@@ -14,9 +14,8 @@ ghost use Rattle.bakery.specs.Locks.{new_lock, new_locks, row_in, with_row, made
 ghost use Rattle.bakery.specs.Lending.{LendsLock};
 
 use plain_store::Setup;
-use reader_copies::Made;
+use reader_copies::{Made, Move};
 use record::{Access, Field};
-use safe_bit::Move;
 use safe_number::{NumberFault, Pace, ReadRun, Register, WriteRun, bits_of};
 use std::alloc::{AllocError, Global};
 use std::marker::Model;

@@ -7,9 +7,9 @@ use command_line::{
     Asked, Engine, Output, Page, Request, Terminals, USAGE, USAGE_STATUS, WatchedInput, Watcher,
     WordsFault, read_words, text_of,
 };
+use drawer::progress::Onlooker;
 use drawer::{Reads, draw, draw_svg};
 use engines::{run_bits, run_plain};
-use files::progress::Onlooker;
 use race::{RunFault, run_fault_status, run_race};
 use replayer::{replay_seen, run_audit_seen, run_judge, run_record_seen, run_sweep_seen};
 use scenario::{DONE, Fault, FromRead, IntoWrite, Sink, Source, ended};

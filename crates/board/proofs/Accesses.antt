@@ -33,14 +33,14 @@ use Rattle.record.proofs.Local.{command-plain, calls-plain}
 use Rattle.record.proofs.Singles.{is_write}
 use Rattle.record.proofs.Staging.{no_called, stage-placed}
 use Rattle.record.proofs.Width.{IsGood, is_good}
-use Rattle.laws.specs.Doings.{Doing, Rests, Lies, Runs, Closes, call, doing}
-use Rattle.laws.specs.Held.{IsThere, cell_held}
-use Rattle.laws.specs.Steps.{IsLive, marks_with, next_of}
-use Rattle.laws.proofs.Frame.{own-own}
-use Rattle.laws.proofs.FrameCells.{OnCopy, on-copy}
-use Rattle.laws.proofs.HeldCells.{held-entry}
-use Rattle.laws.proofs.HeldThere.{access_there}
-use Rattle.laws.proofs.Steps.{StepIs, step_is}
+use Rattle.process.specs.laws.Doings.{Doing, Rests, Lies, Runs, Closes, call, doing}
+use Rattle.process.specs.laws.Held.{IsThere, cell_held}
+use Rattle.process.specs.laws.Steps.{IsLive, marks_with, next_of}
+use Rattle.process.proofs.laws.Frame.{own-own}
+use Rattle.process.proofs.laws.FrameCells.{OnCopy, on-copy}
+use Rattle.process.proofs.laws.HeldCells.{held-entry}
+use Rattle.process.proofs.laws.HeldThere.{access_there}
+use Rattle.process.proofs.laws.Steps.{StepIs, step_is}
 use Rattle.process.specs.Processes.{kept_at, kept_in}
 use Rattle.process.specs.Steps.{may_step}
 use Rattle.process.proofs.Stages.{is-at}

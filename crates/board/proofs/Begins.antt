@@ -3,13 +3,13 @@ use Rattle.std.proofs.Common.{◌≡◌, ◌≢◌, ℕ, ◌+◌, ◌*◌, ◌%�
 use Rattle.std.specs.Prelude.{unwrap_or, option_map}
 use Rattle.safe_bit.specs.declared.Move.{Move}
 use Rattle.safe_bit.specs.declared.Move.TheVariants.{BeginWrite, EndWrite, BeginRead, EndRead, Settle}
-use Rattle.reader_copies.specs.Runs as copies
+use Rattle.record.specs.reader_copies.Runs as copies
 use Rattle.record.specs.declared.access.Access.{Access}
 use Rattle.record.specs.declared.access.Field.{Field}
 use Rattle.record.specs.declared.access.Field.TheVariants.{Choosing, Ticket}
 use Rattle.record.specs.declared.access.TornBit.{TornBit}
 use Rattle.record.specs.Accesses.{access_of}
-use Rattle.safe_number.specs.Runs.{NumberWrite, new_write, torn_bit}
+use Rattle.record.specs.safe_number.Runs.{NumberWrite, new_write, torn_bit}
 use Rattle.plain_store.specs.declared.Command.{Command}
 use Rattle.plain_store.specs.declared.Command.TheVariants.{Ask}
 use Rattle.plain_store.specs.declared.Setup.{Setup}
@@ -22,8 +22,8 @@ use Rattle.record.specs.Parts.{Part, Raises, is_over, is_read, part_after, writt
 use Rattle.record.specs.Places.{Place, Run, Writing, Reading, access_at, bit_written, bits_with, enter, is_last, next_written, place_after, run_after, write_moved}
 use Rattle.record.specs.Registers.{width}
 use Rattle.record.specs.Scripts.{Call}
-use Rattle.laws.specs.Doings.{Doing, Rests, Lies, Runs, Closes, call, closes, runs}
-use Rattle.laws.specs.Steps.{IsLive, being_written, cut_of, does_then, next_of}
+use Rattle.process.specs.laws.Doings.{Doing, Rests, Lies, Runs, Closes, call, closes, runs}
+use Rattle.process.specs.laws.Steps.{IsLive, being_written, cut_of, does_then, next_of}
 use Rattle.process.specs.Refusals.{next_number}
 use Rattle.board.specs.Views.{MayHappen, OwnView, with_event}
 
@@ -213,7 +213,7 @@ torn_begun f w t h = go w.run h
         one : (x y : TornBit) → Some x ≡ Some y → x ≡ y
         one x y h = cc
 
-    go : (o : Option copies.Writing) → option_map (named f) (Rattle.safe_number.specs.Runs.torn_run w.bit o) ≡ Some t → t.torn.begun ≡ false
+    go : (o : Option copies.Writing) → option_map (named f) (Rattle.record.specs.safe_number.Runs.torn_run w.bit o) ≡ Some t → t.torn.begun ≡ false
     go None h = cc
     go (Some r) h = test w.bit r (r.made == 0 || r.ended) h
 

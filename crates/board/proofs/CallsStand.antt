@@ -24,9 +24,9 @@ use Rattle.record.specs.Records.{entry_of, past_of}
 use Rattle.record.specs.Spans.{takings, all_takings}
 use Rattle.record.specs.Stages.{stage, stage_after}
 use Rattle.record.proofs.Width.{IsGood, is_good}
-use Rattle.laws.specs.Doings.{Doing, Rests, Lies, Runs, Closes, call, doing}
-use Rattle.laws.proofs.Frame.{Does, at_rest, lying, running, leaving, settling, Happens, a_call, a_withdrawal, a_failure, a_restart, a_step, a_closing}
-use Rattle.laws.proofs.FrameEvents.{accepted, does_all}
+use Rattle.process.specs.laws.Doings.{Doing, Rests, Lies, Runs, Closes, call, doing}
+use Rattle.process.proofs.laws.Frame.{Does, at_rest, lying, running, leaving, settling, Happens, a_call, a_withdrawal, a_failure, a_restart, a_step, a_closing}
+use Rattle.process.proofs.laws.FrameEvents.{accepted, does_all}
 use Rattle.history_laws.specs.Stamps.{changes_taken}
 use Rattle.history_laws.proofs.CountedChanges.{history-takes, taken_at}
 use Rattle.history_laws.proofs.DataHeadline.{taken}

@@ -11,8 +11,8 @@ use Rattle.atomic_table.specs.Table.{State, Joins}
 use Rattle.safe_bit.specs.Cell.{Cell}
 use Rattle.record.specs.declared.access.Field.{Field}
 use Rattle.record.specs.declared.access.Field.TheVariants.{Commit}
-use Rattle.safe_number.specs.Bytes.{number_of_bits}
-use Rattle.safe_number.proofs.Numbers.{range_same}
+use Rattle.record.specs.safe_number.Bytes.{number_of_bits}
+use Rattle.record.proofs.safe_number.Numbers.{range_same}
 use Rattle.plain_store.specs.declared.Command.TheVariants.{Ask}
 use Rattle.plain_store.specs.declared.Setup.{Setup}
 use Rattle.plain_store.specs.Setups.{callers_of, opening_store}
@@ -32,14 +32,14 @@ use Rattle.record.specs.Records.{past_of}
 use Rattle.record.specs.Registers.{bytes_of_bits, image_bytes, processes, width}
 use Rattle.record.specs.Stages.{inside, stage}
 use Rattle.record.proofs.Width.{IsGood, is_good}
-use Rattle.critical.proofs.NewestSteps.{process-in}
-use Rattle.critical.proofs.Widths.{ranges}
-use Rattle.laws.specs.Doings.{Doing, call, doing, is_inside}
-use Rattle.laws.specs.Held.{IsThere, cell_held}
-use Rattle.laws.proofs.Frame.{Does, at_rest, lying, running, leaving, settling}
-use Rattle.laws.proofs.FrameEvents.{does_all}
-use Rattle.laws.proofs.FrameInside.{inside-is}
-use Rattle.laws.proofs.HeldCells.{held-is}
+use Rattle.process.proofs.critical.NewestSteps.{process-in}
+use Rattle.process.proofs.critical.Widths.{ranges}
+use Rattle.process.specs.laws.Doings.{Doing, call, doing, is_inside}
+use Rattle.process.specs.laws.Held.{IsThere, cell_held}
+use Rattle.process.proofs.laws.Frame.{Does, at_rest, lying, running, leaving, settling}
+use Rattle.process.proofs.laws.FrameEvents.{does_all}
+use Rattle.process.proofs.laws.FrameInside.{inside-is}
+use Rattle.process.proofs.laws.HeldCells.{held-is}
 use Rattle.history_laws.proofs.Codec.{bytes_read, store_is_read}
 use Rattle.history_laws.proofs.CountedChanges.{then}
 use Rattle.history_laws.proofs.DataAlways.{data_of}

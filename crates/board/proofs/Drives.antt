@@ -2,7 +2,7 @@
 use Rattle.std.proofs.Common.{◌≡◌, ℕ, suc, ◌<◌, Bool, true, refl, ap, ◌∙◌, subst, arith}
 use Rattle.plain_store.specs.declared.Answer.{Answer}
 use Rattle.plain_store.specs.declared.Setup.{Setup}
-use Rattle.flicks.specs.Flicks.{FlickState, after_flick, flick_of}
+use Rattle.process.specs.flicks.Flicks.{FlickState, after_flick, flick_of}
 use Rattle.record.specs.declared.stages.Stage.TheVariants as stage
 use Rattle.process.specs.Processes as kept
 use Rattle.process.specs.Processes.{Kept, stage_kept}

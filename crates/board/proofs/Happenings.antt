@@ -26,13 +26,13 @@ use Rattle.record.specs.Stages.{inside, inside_after, stage}
 use Rattle.record.proofs.Accepted.{accepted_adds}
 use Rattle.record.proofs.Width.{IsGood, is_good}
 use Rattle.record.proofs.World.{entry-accepted}
-use Rattle.laws.specs.Doings.{Doing, Rests, Runs, Closes, call, doing, is_inside}
-use Rattle.laws.specs.Held.{cell_held, drops}
-use Rattle.laws.specs.Steps.{cut_of}
-use Rattle.laws.proofs.Cuts.{cut_is}
-use Rattle.laws.proofs.Frame.{doing-goes, own-own}
-use Rattle.laws.proofs.FrameInside.{inside-is}
-use Rattle.laws.proofs.HeldCells.{held-marks}
+use Rattle.process.specs.laws.Doings.{Doing, Rests, Runs, Closes, call, doing, is_inside}
+use Rattle.process.specs.laws.Held.{cell_held, drops}
+use Rattle.process.specs.laws.Steps.{cut_of}
+use Rattle.process.proofs.laws.Cuts.{cut_is}
+use Rattle.process.proofs.laws.Frame.{doing-goes, own-own}
+use Rattle.process.proofs.laws.FrameInside.{inside-is}
+use Rattle.process.proofs.laws.HeldCells.{held-marks}
 use Rattle.process.proofs.Marked.{marked_as}
 use Rattle.process.proofs.Stages.{stage-process}
 use Rattle.board.specs.Agreement.{Knows, Shows, are_neighbours}

@@ -7,7 +7,7 @@ use Rattle.record.specs.Entries.{Entry, Past}
 use Rattle.record.specs.Given.{AreGiven}
 use Rattle.record.specs.Records.{entry_of, past_of}
 use Rattle.record.proofs.Width.{is_good}
-use Rattle.laws.proofs.DoorwayEnds.{full_names_the_lowest, waiters_read_none}
+use Rattle.process.proofs.laws.DoorwayEnds.{full_names_the_lowest, waiters_read_none}
 use Rattle.history_laws.proofs.Asked.{ask_answers, ask_tells}
 use Rattle.history_laws.proofs.DataHeadline as headline
 use Rattle.history_laws.proofs.DataMore.{images_of_the_store}

@@ -14,8 +14,8 @@ use Rattle.record.specs.Places.{Run, Writing, Reading, access_at, is_fresh, mark
 use Rattle.record.specs.Records.{refused_at}
 use Rattle.record.specs.Scripts.{Call}
 use Rattle.record.specs.Stages.{stage_after}
-use Rattle.laws.specs.Doings.{Doing, Rests, Lies, Runs, Closes, call}
-use Rattle.laws.specs.Steps.{marks_with, next_of}
+use Rattle.process.specs.laws.Doings.{Doing, Rests, Lies, Runs, Closes, call}
+use Rattle.process.specs.laws.Steps.{marks_with, next_of}
 use Rattle.process.specs.Processes.{Kept, kept_at, stage_kept}
 use Rattle.process.specs.Steps.{may_step}
 use Rattle.process.specs.Telling.{marks_told}

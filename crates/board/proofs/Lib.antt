@@ -1,3 +1,4 @@
+pub use Rattle.process.proofs.laws as laws
 pub mod Accesses
 pub mod Along
 pub mod Begins

@@ -7,8 +7,8 @@ use Rattle.plain_store.specs.declared.Command.{Command}
 use Rattle.plain_store.specs.declared.Setup.{Setup}
 use Rattle.record.specs.declared.events.Event.TheVariants as event
 use Rattle.record.specs.declared.history.Taken.{Taken}
-use Rattle.laws.specs.Doings.{Doing, is_inside}
-use Rattle.laws.specs.Steps.{does_then, marks_with}
+use Rattle.process.specs.laws.Doings.{Doing, is_inside}
+use Rattle.process.specs.laws.Steps.{does_then, marks_with}
 use Rattle.process.specs.Processes.{ProcessState}
 use Rattle.process.specs.Steps.{IsAt, changes_pending, changes_read}
 use Rattle.process.specs.Telling.{changes_told, marks_told}

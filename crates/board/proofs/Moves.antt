@@ -9,7 +9,7 @@ use Rattle.safe_bit.specs.Cell.{Cell, cell_after, read_answer}
 use Rattle.safe_bit.specs.SafeRule.{read_value}
 use Rattle.safe_bit.specs.declared.Move.{Move}
 use Rattle.safe_bit.specs.declared.Move.TheVariants.{BeginWrite, EndWrite, BeginRead, EndRead, Settle}
-use Rattle.reader_copies.specs.Written.{IsWrite}
+use Rattle.record.specs.reader_copies.Written.{IsWrite}
 use Rattle.record.specs.declared.access.Access.{Access}
 use Rattle.plain_store.specs.Setups.{checked}
 use Rattle.plain_store.specs.declared.Setup.{Setup}
@@ -26,13 +26,13 @@ use Rattle.record.specs.Registers.{opening_bit}
 use Rattle.record.specs.Stages.{stage, stage_after}
 use Rattle.record.proofs.Singles.{is_write, is_write-true}
 use Rattle.record.proofs.Width.{IsGood, is_good}
-use Rattle.laws.specs.Doings.{doing, is_inside}
-use Rattle.laws.specs.Held.{cell_held}
-use Rattle.laws.specs.Steps.{being_written, marks_with, next_of}
-use Rattle.laws.proofs.Ends.{ends_what_began}
-use Rattle.laws.proofs.FrameCells.{itself}
-use Rattle.laws.proofs.FrameSteps.{valued-write}
-use Rattle.laws.proofs.HeldCells.{held-entry, held_answers}
+use Rattle.process.specs.laws.Doings.{doing, is_inside}
+use Rattle.process.specs.laws.Held.{cell_held}
+use Rattle.process.specs.laws.Steps.{being_written, marks_with, next_of}
+use Rattle.process.proofs.laws.Ends.{ends_what_began}
+use Rattle.process.proofs.laws.FrameCells.{itself}
+use Rattle.process.proofs.laws.FrameSteps.{valued-write}
+use Rattle.process.proofs.laws.HeldCells.{held-entry, held_answers}
 use Rattle.process.proofs.Stages.{is-at, stage-process}
 use Rattle.board.specs.Agreement.{Agree, Knows, Shows, are_neighbours, is_pair}
 use Rattle.board.specs.Calls.{IsPrefix, changes_of}

@@ -21,8 +21,8 @@ use Rattle.record.specs.Parts.{Raises}
 use Rattle.record.specs.Places.{enter}
 use Rattle.record.specs.Records.{refused_at}
 use Rattle.record.specs.Scripts.{Call}
-use Rattle.laws.specs.Doings.{Doing, Rests, Lies, Runs, Closes, call}
-use Rattle.laws.specs.Steps.{cut_of, next_of}
+use Rattle.process.specs.laws.Doings.{Doing, Rests, Lies, Runs, Closes, call}
+use Rattle.process.specs.laws.Steps.{cut_of, next_of}
 use Rattle.process.specs.Processes.{ProcessState, kept_at, kept_closing, process_after, stage_kept}
 use Rattle.process.specs.Processes as kept
 use Rattle.process.specs.Refusals.{is_full, next_number}

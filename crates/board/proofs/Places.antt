@@ -8,7 +8,7 @@ use Rattle.record.specs.declared.access.TornBit.{TornBit}
 use Rattle.plain_store.specs.declared.Command.{Command}
 use Rattle.plain_store.specs.declared.Reply.{Reply}
 use Rattle.plain_store.specs.declared.Setup.{Setup}
-use Rattle.reader_copies.specs.Runs as copies
+use Rattle.record.specs.reader_copies.Runs as copies
 use Rattle.record.specs.declared.history.Taken.{Taken}
 use Rattle.record.specs.declared.marks.Mark.{Mark}
 use Rattle.record.specs.declared.marks.Mark.TheVariants as mark
@@ -22,9 +22,9 @@ use Rattle.record.specs.Places.{Place, bits_with, is_fresh, is_last, place_after
 use Rattle.record.specs.Program.{Wait, entered_if_none, newest_stamp, waits_of}
 use Rattle.record.specs.Scripts.{Call}
 use Rattle.record.specs.Unit.{is_commit}
-use Rattle.critical.specs.Sections.{changes_at}
-use Rattle.laws.specs.Doings.{Doing, Rests, Lies, Runs, Closes, call, closes, is_inside, is_inside_at, is_inside_closing}
-use Rattle.laws.specs.Steps.{cut_of, does_then, marks_with, next_of}
+use Rattle.process.specs.critical.Sections.{changes_at}
+use Rattle.process.specs.laws.Doings.{Doing, Rests, Lies, Runs, Closes, call, closes, is_inside, is_inside_at, is_inside_closing}
+use Rattle.process.specs.laws.Steps.{cut_of, does_then, marks_with, next_of}
 use Rattle.history_laws.specs.Stamps.{stamp_at, stamp_read}
 use Rattle.process.specs.declared.told.Told.{Told}
 use Rattle.process.specs.declared.told.Told.TheVariants as told
@@ -233,15 +233,15 @@ over-takes : (b : Bool) (x : Command) (n : ℕ) (at : Place) → may_take (cond 
 over-takes true x n at h = cc
 over-takes false x n at h = cc
 
-withdrawing-takes : (b : Bool) (x : Command) (n : ℕ) (w : Rattle.safe_number.specs.Runs.NumberWrite) → may_take (closes x n (cond b Quit (Withdraws w))) ≡ true → ⊥
+withdrawing-takes : (b : Bool) (x : Command) (n : ℕ) (w : Rattle.record.specs.safe_number.Runs.NumberWrite) → may_take (closes x n (cond b Quit (Withdraws w))) ≡ true → ⊥
 withdrawing-takes true x n w h = cc
 withdrawing-takes false x n w h = cc
 
-freeing-takes : (b is : Bool) (x : Command) (n : ℕ) (w w' : Rattle.safe_number.specs.Runs.NumberWrite) → may_take (closes x n (cond b (Lowers w) (Frees is w'))) ≡ true → ⊥
+freeing-takes : (b is : Bool) (x : Command) (n : ℕ) (w w' : Rattle.record.specs.safe_number.Runs.NumberWrite) → may_take (closes x n (cond b (Lowers w) (Frees is w'))) ≡ true → ⊥
 freeing-takes true is x n w w' h = cc
 freeing-takes false is x n w w' h = cc
 
-lowering-takes : (b : Bool) (x : Command) (n : ℕ) (w : Rattle.safe_number.specs.Runs.NumberWrite) → may_take (closes x n (cond b Ended (Lowers w))) ≡ true → ⊥
+lowering-takes : (b : Bool) (x : Command) (n : ℕ) (w : Rattle.record.specs.safe_number.Runs.NumberWrite) → may_take (closes x n (cond b Ended (Lowers w))) ≡ true → ⊥
 lowering-takes true x n w h = cc
 lowering-takes false x n w h = cc
 

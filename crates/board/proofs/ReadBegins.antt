@@ -11,8 +11,8 @@ use Rattle.record.specs.Parts as part
 use Rattle.record.specs.Places.{Run, Writing, Reading, access_at, is_fresh, marks_of}
 use Rattle.record.specs.Records.{placed}
 use Rattle.record.specs.Scripts.{Call}
-use Rattle.laws.specs.Doings.{Doing, Rests, Lies, Runs, Closes, call, is_inside, is_inside_at}
-use Rattle.laws.specs.Steps.{IsLive, does_then, marks_with, next_of}
+use Rattle.process.specs.laws.Doings.{Doing, Rests, Lies, Runs, Closes, call, is_inside, is_inside_at}
+use Rattle.process.specs.laws.Steps.{IsLive, does_then, marks_with, next_of}
 
 -- the same access as the end of its read
 abbrev pub ending : Access → Access

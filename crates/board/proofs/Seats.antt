@@ -16,8 +16,8 @@ use Rattle.record.specs.Calls.{call_number, last_command}
 use Rattle.record.specs.Entries.{Entry, Past, own}
 use Rattle.record.specs.Records.{past_of}
 use Rattle.record.specs.Registers.{opening_bit}
-use Rattle.laws.specs.Doings.{Rests, doing}
-use Rattle.laws.specs.Held.{IsThere}
+use Rattle.process.specs.laws.Doings.{Rests, doing}
+use Rattle.process.specs.laws.Held.{IsThere}
 use Rattle.board.specs.Agreement.{Agree, IsIn, IsQuiet, Knows, KnowsSeats, Shows}
 use Rattle.board.specs.Calls.{calls_of, changes_of, no_calls}
 use Rattle.board.specs.Views.{OwnView, ViewState, first_view, new_own, new_view, entries_of, own_view, spent_view, with_joined, with_made}

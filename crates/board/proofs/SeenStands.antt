@@ -1,7 +1,7 @@
 -- The calls of a view stand in the changes that it has seen, over a word step and over an event without an access; and what was seen stays seen.
 use Rattle.std.proofs.Common.{◌≡◌, ℕ, zero, suc, Bool, true, [], ◌∷◌, inl, inr, refl, sym, ap, ◌∙◌}
 use Rattle.std.proofs.lemmas.List.{append-nil}
-use Rattle.flicks.specs.Flicks.{FlickState, flick_of}
+use Rattle.process.specs.flicks.Flicks.{FlickState, flick_of}
 use Rattle.plain_store.specs.declared.Answer.{Answer}
 use Rattle.plain_store.specs.declared.Command.{Command}
 use Rattle.plain_store.specs.declared.Setup.{Setup}

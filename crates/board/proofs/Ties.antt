@@ -4,13 +4,13 @@ use Rattle.std.specs.Prelude.{fold}
 use Rattle.atomic_table.specs.Table.{State, Me, Allows}
 use Rattle.safe_bit.specs.declared.Move.{Move}
 use Rattle.safe_bit.specs.declared.Move.TheVariants.{BeginWrite, EndWrite, BeginRead, EndRead, Settle}
-use Rattle.reader_copies.specs.Written.{IsWrite}
+use Rattle.record.specs.reader_copies.Written.{IsWrite}
 use Rattle.record.specs.declared.access.Access.{Access}
 use Rattle.plain_store.specs.declared.Setup.{Setup}
-use Rattle.laws.specs.Doings.{Doing}
+use Rattle.process.specs.laws.Doings.{Doing}
 use Rattle.record.specs.Stages.{stage_after}
-use Rattle.laws.specs.Held.{IsThere}
-use Rattle.laws.specs.Steps.{being_written, does_then, marks_with, next_of}
+use Rattle.process.specs.laws.Held.{IsThere}
+use Rattle.process.specs.laws.Steps.{being_written, does_then, marks_with, next_of}
 use Rattle.process.specs.Processes.{ProcessState, kept_at}
 use Rattle.process.specs.Steps.{IsAt, may_step}
 use Rattle.process.specs.Telling.{marks_told}

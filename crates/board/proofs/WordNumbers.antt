@@ -12,8 +12,8 @@ use Rattle.record.specs.declared.access.Field.TheVariants.{Choosing, Ticket, Com
 use Rattle.plain_store.specs.declared.Setup.{Setup}
 use Rattle.record.specs.Moves.{field_number, same_bit}
 use Rattle.record.specs.Registers.{opening_bits, width}
-use Rattle.laws.specs.Held.{IsThere}
-use Rattle.laws.proofs.FrameCells.{OnCopy, on-copy}
+use Rattle.process.specs.laws.Held.{IsThere}
+use Rattle.process.proofs.laws.FrameCells.{OnCopy, on-copy}
 use Rattle.board.specs.Words.{bits_of, bit_in_row, bit_of, closed_word, fields, first_bit, opening_word, row_bits, word_of, words_in}
 
 -- A number of two digits.

@@ -12,8 +12,8 @@ use Rattle.record.specs.Entries.{Entry, Past, own}
 use Rattle.record.specs.Given.{AreGiven}
 use Rattle.record.specs.Moves.{same_bit}
 use Rattle.record.specs.Records.{past_of}
-use Rattle.laws.specs.Doings.{Doing, Rests, Lies, doing, is_inside}
-use Rattle.laws.specs.Held.{IsThere, cell_held}
+use Rattle.process.specs.laws.Doings.{Doing, Rests, Lies, doing, is_inside}
+use Rattle.process.specs.laws.Held.{IsThere, cell_held}
 use Rattle.board.specs.Calls.{IsPrefix, changes_of}
 use Rattle.board.specs.Views.{ViewState, own_view}
 use Rattle.board.specs.Words.{shown, word_of, words_in}

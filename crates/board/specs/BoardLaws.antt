@@ -20,9 +20,9 @@ use Rattle.record.specs.Headline.{count_changes}
 use Rattle.record.specs.Histories.{history, store_after}
 use Rattle.record.specs.Records.{past_of, process_of, refused}
 use Rattle.record.specs.Stages.{stage}
-use Rattle.laws.specs.Held.{IsThere}
+use Rattle.process.specs.laws.Held.{IsThere}
 use Rattle.board.specs.Agreement.{Agree, Shows, are_neighbours}
-use Rattle.flicks.specs.Flicks.{FlickState}
+use Rattle.process.specs.flicks.Flicks.{FlickState}
 use Rattle.board.specs.Driving.{Drives}
 use Rattle.board.specs.declared.driving.Driven.{Driven}
 use Rattle.board.specs.Calls.{IsPrefix, and_then, calls_of, changes_of}

@@ -2,7 +2,7 @@
 use Rattle.std.specs.Prelude.{◌≡◌, ℕ, zero, suc, ◌≤◌, true}
 use Rattle.plain_store.specs.declared.Answer.{Answer}
 use Rattle.plain_store.specs.declared.Setup.{Setup}
-use Rattle.flicks.specs.Flicks.{FlickState, after_flick, flick_of}
+use Rattle.process.specs.flicks.Flicks.{FlickState, after_flick, flick_of}
 use Rattle.record.specs.declared.stages.Stage.TheVariants.{Down, Idle}
 use Rattle.process.specs.declared.told.Told.TheVariants as told
 use Rattle.board.specs.declared.driving.Driven.{Driven}

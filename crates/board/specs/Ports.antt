@@ -6,8 +6,8 @@ use Rattle.plain_store.specs.declared.Setup.{Setup}
 use Rattle.record.specs.declared.events.Event.{Event}
 use Rattle.record.specs.declared.refusals.Refusal.{Refusal}
 use Rattle.record.specs.declared.refusals.Refusal.TheVariants.{Memory}
-use Rattle.laws.specs.Doings.{Doing}
-use Rattle.laws.specs.Steps.{next_of}
+use Rattle.process.specs.laws.Doings.{Doing}
+use Rattle.process.specs.laws.Steps.{next_of}
 use Rattle.process.specs.Processes.{ProcessState}
 use Rattle.process.specs.Steps.{IsAt}
 use Rattle.board.specs.declared.pending.Pending.{Pending}

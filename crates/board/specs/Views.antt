@@ -18,8 +18,8 @@ use Rattle.record.specs.Moves.{ended_with}
 use Rattle.record.specs.Parts.{Raises}
 use Rattle.record.specs.Places.{enter}
 use Rattle.record.specs.Records.{placed, process_of}
-use Rattle.laws.specs.Doings.{Doing, Rests, Runs, Closes, call, doing}
-use Rattle.laws.specs.Steps.{cut_of, does_then, marks_with, next_of}
+use Rattle.process.specs.laws.Doings.{Doing, Rests, Runs, Closes, call, doing}
+use Rattle.process.specs.laws.Steps.{cut_of, does_then, marks_with, next_of}
 use Rattle.process.specs.Processes.{ProcessState, kept_at, stage_kept}
 use Rattle.process.specs.Refusals.{next_number, refusal_of}
 use Rattle.history_laws.specs.Stamps.{changes_taken}

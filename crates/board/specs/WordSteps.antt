@@ -3,15 +3,15 @@ use Rattle.std.specs.Prelude.{◌≡◌, ◌⊎◌, ℕ, Bool, true, false, List
 use Rattle.safe_bit.specs.declared.Move.TheVariants.{BeginRead, BeginWrite, EndRead, EndWrite}
 use Rattle.safe_bit.specs.declared.Move.{Move}
 use Rattle.record.specs.declared.access.Access.{Access}
-use Rattle.reader_copies.specs.Written.{IsWrite}
+use Rattle.record.specs.reader_copies.Written.{IsWrite}
 use Rattle.plain_store.specs.declared.Setup.{Setup}
 use Rattle.record.specs.declared.history.Taken.{Taken}
 use Rattle.record.specs.declared.marks.Mark.TheVariants.{Answered, Down}
 use Rattle.record.specs.declared.stages.Stage.TheVariants as stage
 use Rattle.record.specs.Histories.{reply_taken}
 use Rattle.record.specs.Stages.{stage_after}
-use Rattle.laws.specs.Doings.{is_inside}
-use Rattle.laws.specs.Steps.{being_written, marks_with, next_of}
+use Rattle.process.specs.laws.Doings.{is_inside}
+use Rattle.process.specs.laws.Steps.{being_written, marks_with, next_of}
 use Rattle.history_laws.specs.Stamps.{stamp_read}
 use Rattle.process.specs.declared.told.Told.{Told}
 use Rattle.process.specs.declared.told.Told.TheVariants as told

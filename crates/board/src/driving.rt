@@ -5,9 +5,8 @@ ghost use Rattle.board.specs.Ports.{SamePort};
 
 use crate::board::Board;
 use crate::port::Port;
-use flicks::Flicks;
 use plain_store::Answer;
-use process::Told;
+use process::{Flicks, Told};
 use record::Stage;
 
 /// What driving a port has led to.

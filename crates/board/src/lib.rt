@@ -32,4 +32,6 @@ pub use laws_of_boards::{
     words_are_of_single_bits,
 };
 pub use port::Port;
+pub use process::Flicks;
 pub use record::Placed;
+pub use store_image::Image;

@@ -1,6 +1,6 @@
 //! What the words of a board open at: each at its bit's opening value.
 ghost use Rattle.std.specs.Prelude.{◌≡◌, ◌*◌, ◌<◌, ℕ, Ok, IfOk, slice_index, vec_len};
-ghost use Rattle.safe_number.specs.Bytes.{bit_in};
+ghost use Rattle.record.specs.safe_number.Bytes.{bit_in};
 ghost use Rattle.plain_store.specs.Setups.{checked, opening_store};
 ghost use Rattle.store_image.specs.Image.{image_of};
 ghost use Rattle.board.specs.Words.{opening_word, row_bits, words_in};

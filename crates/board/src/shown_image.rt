@@ -1,7 +1,7 @@
 //! The image that the words of a board show, off the copies of reader 0.
 ghost use Rattle.std.specs.Prelude.{◌≡◌, ◌+◌, ◌*◌, ◌<◌, ◌≤◌, false, length, slice_index_or, take, drop, Ok};
 ghost use Rattle.std.specs.Slots.{slots_items, slots_len, IsFull};
-ghost use Rattle.safe_number.specs.Bytes.{number_of_bits};
+ghost use Rattle.record.specs.safe_number.Bytes.{number_of_bits};
 ghost use Rattle.store_image.specs.Reading.{store_in};
 ghost use Rattle.plain_store.specs.Setups.{callers_of, checked};
 ghost use Rattle.record.specs.Program.{image_field, newest_process, version_of};

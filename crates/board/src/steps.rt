@@ -1,7 +1,7 @@
 //! One word step of a port: a load or a store of one word.
 ghost use Rattle.std.specs.Prelude.{◌≡◌, ◌<◌, ℕ, Bool, Option, Some, true};
 ghost use Rattle.atomic_table.specs.Table.{Allows};
-ghost use Rattle.reader_copies.specs.Written.{IsWrite};
+ghost use Rattle.record.specs.reader_copies.Written.{IsWrite};
 ghost use Rattle.safe_bit.specs.declared.Move.TheVariants.{BeginRead};
 ghost use Rattle.record.specs.declared.access.Access.{Access as Made};
 ghost use Rattle.process.specs.Steps.{bits_within, may_step};

@@ -4,5 +4,8 @@
 mod plans;
 mod running;
 
+pub use board::{Board, Driven, Port};
+pub use flicks::{Flick, Flicks};
 pub use plans::{End, Plan, Undertaking};
+pub use record::Placed;
 pub use running::run;

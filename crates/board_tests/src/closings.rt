@@ -1,9 +1,8 @@
 //! Boards that are closed.
 use crate::ports::a;
-use board::Board;
+use board::{Board, Image};
 use plain_store::{Opening, Setup, Store, Value};
 use std::test::Fail;
-use store_image::Image;
 
 // Nothing has happened: the image is that of the opening store.
 #[test]

@@ -5,12 +5,11 @@ ghost use Rattle.board.specs.Closings.{AreFirstPortsOf};
 ghost use Rattle.board.specs.Ports.{SamePort};
 
 use crate::ports::{a, last};
-use board::{Board, Driven, NotQuiet, Placed, Port};
+use board::{Board, Driven, Image, NotQuiet, Placed, Port};
 use flicks::Flicks;
 use plain_store::{Answer, Command, Opening, Reply, Setup, Value};
 use std::process::Abort;
 use std::test::Fail;
-use store_image::Image;
 use weigh::{Weighed, weigh};
 
 /// The image of one slot in which `a` is 5, without callers.

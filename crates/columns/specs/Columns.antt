@@ -3,7 +3,7 @@ use Rattle.std.specs.Prelude.{ℕ, ◌+◌, ◌*◌, max, min, Bool, true, false
 use Rattle.std.specs.Fmt.{decimal}
 use Rattle.std.specs.Option.{option_or}
 use Rattle.record.specs.Shown.{mark_text, refusal_text}
-use Rattle.plain_store.specs.Shown.{answer_text, command_text, reply_text}
+use Rattle.record.specs.plain_store.Shown.{answer_text, command_text, reply_text}
 use Rattle.record.specs.declared.marks.Mark.{Mark}
 use Rattle.record.specs.declared.marks.Mark.TheVariants.{Answered, Called, Taken}
 use Rattle.columns.specs.Overlaps.{bit_text, saw_text}

@@ -1,8 +1,8 @@
 -- The value of a read's end, put in twice.
 use Rattle.std.proofs.Common.{◌≡◌, Bool, refl, ap}
-use Rattle.safe_bit.specs.Cell.{read_answer}
-use Rattle.safe_bit.specs.declared.Move.{Move}
-use Rattle.safe_bit.specs.declared.Move.TheVariants.{BeginWrite, EndWrite, BeginRead, EndRead, Settle}
+use Rattle.reader_copies.specs.safe_bit.Cell.{read_answer}
+use Rattle.reader_copies.specs.safe_bit.declared.Move.{Move}
+use Rattle.reader_copies.specs.safe_bit.declared.Move.TheVariants.{BeginWrite, EndWrite, BeginRead, EndRead, Settle}
 use Rattle.reader_copies.specs.Row.{cell_at}
 use Rattle.record.specs.declared.access.Access.{Access}
 use Rattle.record.specs.Moves.{ended, ended_with}

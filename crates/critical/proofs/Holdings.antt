@@ -2,7 +2,7 @@
 use Rattle.std.proofs.Common.{◌≡◌, ℕ, zero, suc, ◌+◌, ◌*◌, ◌^◌, ◌<◌, ◌≤◌, Bool, true, false, List, [], ◌∷◌, ◌++◌, length, map, take, drop, get_or, if◌then◌else◌, refl, sym, ap, ◌∙◌, add-one, pow_mono, arith}
 use Rattle.std.proofs.Math.Seq.{drop-cons, take-length}
 use Rattle.std.proofs.lemmas.List.{length-map, length-take, drop-drop}
-use Rattle.safe_bit.specs.Cell.{Cell, new_cell}
+use Rattle.reader_copies.specs.safe_bit.Cell.{Cell, new_cell}
 use Rattle.reader_copies.specs.Row.{cell_at}
 use Rattle.safe_number.specs.Bytes.{number_of_bits}
 use Rattle.safe_number.proofs.Bits.{number-fits}

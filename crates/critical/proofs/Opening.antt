@@ -4,7 +4,7 @@ use Rattle.std.proofs.lemmas.Bool.{cases_lt}
 use Rattle.std.proofs.lemmas.List.{get_or_past}
 use Rattle.std.proofs.lemmas.List.FromFn.{length-map-range_with_len, get_or-map-range_with_len}
 use Rattle.std.specs.List.{range_with_len}
-use Rattle.safe_bit.specs.Cell.{Cell, new_cell}
+use Rattle.reader_copies.specs.safe_bit.Cell.{Cell, new_cell}
 use Rattle.reader_copies.specs.Row.{new_row, cell_at, IsClosed, IsRow}
 use Rattle.safe_number.specs.Bytes.{bit_in, bits_in}
 use Rattle.safe_number.specs.Runs.{preset_number}

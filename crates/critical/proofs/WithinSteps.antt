@@ -1,8 +1,8 @@
 -- A section's access within a number access, made on the registers without being told.
 use Rattle.std.proofs.Common.{◌≡◌, ℕ, ◌+◌, ◌-◌, ◌≤◌, ◌==◌, ◌%◌, Bool, true, false, List, [], length, cond, if◌then◌else◌, refl, sym, ap, ◌∙◌, subst}
-use Rattle.safe_bit.specs.Cell.{Cell, MayMove, read_answer}
-use Rattle.safe_bit.specs.declared.Move.{Move}
-use Rattle.safe_bit.specs.declared.Move.TheVariants.{BeginWrite, EndWrite, BeginRead, EndRead}
+use Rattle.reader_copies.specs.safe_bit.Cell.{Cell, MayMove, read_answer}
+use Rattle.reader_copies.specs.safe_bit.declared.Move.{Move}
+use Rattle.reader_copies.specs.safe_bit.declared.Move.TheVariants.{BeginWrite, EndWrite, BeginRead, EndRead}
 use Rattle.reader_copies.specs.Row.{cell_at}
 use Rattle.reader_copies.specs.Runs as copies
 use Rattle.record.specs.Accesses.{access_of}

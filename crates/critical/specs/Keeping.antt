@@ -1,6 +1,6 @@
 -- What the fields of a section keep.
 use Rattle.std.specs.Prelude.{◌≡◌, ℕ, ◌+◌, ◌*◌, ◌^◌, ◌<◌, Bool, false, [], length, Ok}
-use Rattle.safe_bit.specs.declared.Move.TheVariants.{BeginRead}
+use Rattle.reader_copies.specs.safe_bit.declared.Move.TheVariants.{BeginRead}
 use Rattle.reader_copies.specs.declared.Made.{Made}
 use Rattle.record.specs.declared.access.Field.{Field}
 use Rattle.record.specs.declared.access.Field.TheVariants as field

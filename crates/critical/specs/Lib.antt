@@ -1,3 +1,4 @@
+pub use Rattle.flicks.specs as flicks
 pub mod Changes
 pub mod Keeping
 pub mod Lending

@@ -1,6 +1,6 @@
 -- The committed store with the greatest stamp, off the registers.
 use Rattle.std.specs.Prelude.{◌≡◌, ℕ, ◌<◌, ◌≤◌, Bool, false, List, [], length, map, slice_index_or}
-use Rattle.safe_bit.specs.Cell.{Cell}
+use Rattle.reader_copies.specs.safe_bit.Cell.{Cell}
 use Rattle.reader_copies.specs.Row.{cell_at, HasCell}
 use Rattle.record.specs.declared.access.Field.{Field}
 use Rattle.safe_number.specs.Bytes.{number_of_bits}

@@ -1,7 +1,7 @@
 -- The registers of the store's versions: those of one process, those of all, and what an access makes of them.
 use Rattle.std.specs.Prelude.{◌≡◌, ℕ, ◌<◌, Bool, true, false, List, [], length, map, slice_index_or, slice_set}
 use Rattle.std.specs.List.{range_with_len}
-use Rattle.safe_bit.specs.Cell.{Cell, new_cell, read_answer}
+use Rattle.reader_copies.specs.safe_bit.Cell.{Cell, new_cell, read_answer}
 use Rattle.reader_copies.specs.declared.Made.{Made}
 use Rattle.reader_copies.specs.Row.{cell_at, row_after, without_reads, CanMake, HasCell, HaveOneShape, IsRow}
 use Rattle.record.specs.declared.access.Access.{Access}

@@ -1,5 +1,5 @@
 ghost use Rattle.std.specs.Prelude.{◌≡◌, ◌<◌, ◌≤◌, ◌*◌, IfOk, Ok, length, take};
-ghost use Rattle.safe_bit.specs.Cell.{read_answer};
+ghost use Rattle.reader_copies.specs.safe_bit.Cell.{read_answer};
 ghost use Rattle.reader_copies.specs.Row.{cell_at, row_after, without_reads, HasCell, CanMake};
 ghost use Rattle.reader_copies.specs.Runs.{next_read, next_write};
 ghost use Rattle.safe_number.specs.Runs.{bit_read, bit_write, number_read_after, number_write_after};

@@ -16,5 +16,7 @@ mod walking;
 
 pub use data::Data;
 pub use data_row::DataRow;
+pub use flicks::Flicks;
 pub use progress::SectionProgress;
 pub use section::Section;
+pub use store_image::Image;

@@ -14,9 +14,9 @@ use Rattle.record.specs.Histories.{history, reply_taken}
 use Rattle.record.specs.Records.{entry_of, past_of}
 use Rattle.record.specs.Spans.{takings}
 use Rattle.record.proofs.Width.{IsGood, is_good}
-use Rattle.history_laws.specs.HistoryLaws.{taken_with}
-use Rattle.history_laws.proofs.Places.{at_its_place, grows_by_the_taken}
-use Rattle.columns.specs.Stages.{marks_in}
+use Rattle.replayer.specs.history_laws.HistoryLaws.{taken_with}
+use Rattle.replayer.proofs.history_laws.Places.{at_its_place, grows_by_the_taken}
+use Rattle.picture.specs.columns.Stages.{marks_in}
 use Rattle.drawer.specs.Chains.{ChainIsTheHistory, Knot, knot_of, knots, numbered}
 
 -- a knot of what is taken

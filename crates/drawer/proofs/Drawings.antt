@@ -21,7 +21,7 @@ use Rattle.replayer.proofs.Underways.{Said, SaidTurns, said, with_events}
 use Rattle.replayer.proofs.Written.{appends_none}
 use Rattle.picture.specs.Bandings.{Plan}
 use Rattle.picture.specs.Pages.{page_of}
-use Rattle.columns.specs.Stages.{marks_in}
+use Rattle.picture.specs.columns.Stages.{marks_in}
 use Rattle.picture.specs.declared.reads.Reads.{Reads as Mode}
 use Rattle.drawer.specs.Drawings.{Advances, DrawsBands, DrawsLine, DrawsOn, DrawsRest, IsToDraw, Kept, Recalls, marks_told}
 use Rattle.drawer.specs.Items.{Gives, SaysEnd, first_line, given_at, given_at_end, given_by, given_from, lines_given, reads_since}

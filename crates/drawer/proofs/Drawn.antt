@@ -3,19 +3,19 @@ use Rattle.std.proofs.Common.{◌≡◌, ℕ, true, List, [], ◌∷◌, ◌++�
 use Rattle.std.proofs.lemmas.Grind.{flat_map-append}
 use Rattle.std.specs.Io.KnownBytes.{Appends}
 use Rattle.record.specs.declared.marks.Mark.{Mark}
-use Rattle.shapes.specs.Elements.{EndsAll, opens_in}
-use Rattle.shapes.specs.Titles.{is_at_rest, lines_in, tags_of}
-use Rattle.shapes.proofs.Lines.{lines_on, rests_on}
-use Rattle.shapes.proofs.Stacks.{opens_on}
+use Rattle.picture.specs.shapes.Elements.{EndsAll, opens_in}
+use Rattle.picture.specs.shapes.Titles.{is_at_rest, lines_in, tags_of}
+use Rattle.picture.proofs.shapes.Lines.{lines_on, rests_on}
+use Rattle.picture.proofs.shapes.Stacks.{opens_on}
 use Rattle.picture.specs.Bandings.{Item, Plan, Reads, Tells, bands_told, full_told}
 use Rattle.picture.specs.Pages.{GivesRest, GoesOn, SeenPage, band_text, lines_of_band, page_of}
-use Rattle.columns.specs.Stages.{marks_said}
+use Rattle.picture.specs.columns.Stages.{marks_said}
 use Rattle.picture.specs.Standings.{sayings}
-use Rattle.columns.specs.Told.{text_of}
+use Rattle.picture.specs.columns.Told.{text_of}
 use Rattle.picture.specs.declared.page.Form.{Form}
-use Rattle.columns.specs.declared.reads.OverlappedRead.{OverlappedRead}
+use Rattle.picture.specs.columns.declared.reads.OverlappedRead.{OverlappedRead}
 use Rattle.picture.specs.declared.reads.Reads.{Reads as Mode}
-use Rattle.columns.specs.declared.told.Line.{Line}
+use Rattle.picture.specs.columns.declared.told.Line.{Line}
 use Rattle.scenario.specs.Reading.{Script}
 use Rattle.replayer.specs.Texts.{replayed}
 use Rattle.replayer.proofs.Written.{appends_both, appends_none}

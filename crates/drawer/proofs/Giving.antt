@@ -9,12 +9,12 @@ use Rattle.record.specs.declared.history.Taken.{Taken}
 use Rattle.record.specs.declared.marks.Mark.{Mark}
 use Rattle.record.specs.declared.marks.Mark.TheVariants as mark
 use Rattle.replayer.specs.Texts.{mark_line}
-use Rattle.columns.specs.Told.{saying_text}
-use Rattle.columns.specs.declared.reads.OverlappedRead.{OverlappedRead}
+use Rattle.picture.specs.columns.Told.{saying_text}
+use Rattle.picture.specs.columns.declared.reads.OverlappedRead.{OverlappedRead}
 use Rattle.picture.specs.declared.reads.Reads.{Reads as Mode}
 use Rattle.picture.specs.declared.reads.Reads.TheVariants.{Hidden, Shown}
-use Rattle.columns.specs.declared.told.Change.{Change}
-use Rattle.columns.specs.declared.told.Saying.TheVariants.{Marked}
+use Rattle.picture.specs.columns.declared.told.Change.{Change}
+use Rattle.picture.specs.columns.declared.told.Saying.TheVariants.{Marked}
 use Rattle.drawer.specs.Changes.{IsNext, takes}
 use Rattle.drawer.specs.Drawings.{AreNext, all_take}
 use Rattle.drawer.specs.Items.{Gives, GivesLine, GivesRead, Says, first_line, lines_given, waiting}

@@ -4,10 +4,10 @@ use Rattle.plain_store.specs.Store.{Contents}
 use Rattle.plain_store.specs.declared.setups.Setup.{Setup}
 use Rattle.record.specs.declared.events.Event.TheVariants as event
 use Rattle.record.specs.Entries.{Entry, Past}
-use Rattle.process.specs.declared.told.Effect.TheVariants.{Steps}
-use Rattle.process.specs.declared.told.Told.TheVariants as step
+use Rattle.replayer.specs.process.declared.told.Effect.TheVariants.{Steps}
+use Rattle.replayer.specs.process.declared.told.Told.TheVariants as step
 use Rattle.scenario.specs.declared.lines.Line.{Line}
-use Rattle.columns.specs.declared.reads.OverlappedRead.{OverlappedRead}
+use Rattle.picture.specs.columns.declared.reads.OverlappedRead.{OverlappedRead}
 use Rattle.picture.specs.declared.reads.Reads.{Reads as Mode}
 use Rattle.replayer.specs.Courses.{CourseState, Follows, Makes}
 use Rattle.replayer.specs.Runs.{Run, run_after}

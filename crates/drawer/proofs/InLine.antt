@@ -21,22 +21,22 @@ use Rattle.record.specs.Scripts.{Call}
 use Rattle.record.specs.Stages.{inside, stage, stage_after}
 use Rattle.record.proofs.Staging.{stage-placed}
 use Rattle.record.proofs.Width.{IsGood, is_good}
-use Rattle.laws.specs.Doings.{call, doing, is_inside}
-use Rattle.laws.proofs.Always.{inv_of}
-use Rattle.laws.proofs.AtPlaces.{any-stepping}
-use Rattle.laws.proofs.DoorwayParts.{both}
-use Rattle.laws.proofs.FrameEvents.{accepted}
-use Rattle.laws.proofs.FrameInside.{inside-is}
-use Rattle.laws.proofs.Invariant.{Inv}
-use Rattle.laws.proofs.Theorems.{Enters, enters, mutual_exclusion, of_entered}
+use Rattle.replayer.specs.laws.Doings.{call, doing, is_inside}
+use Rattle.replayer.proofs.laws.Always.{inv_of}
+use Rattle.replayer.proofs.laws.AtPlaces.{any-stepping}
+use Rattle.replayer.proofs.laws.DoorwayParts.{both}
+use Rattle.replayer.proofs.laws.FrameEvents.{accepted}
+use Rattle.replayer.proofs.laws.FrameInside.{inside-is}
+use Rattle.replayer.proofs.laws.Invariant.{Inv}
+use Rattle.replayer.proofs.laws.Theorems.{Enters, enters, mutual_exclusion, of_entered}
 use Rattle.picture.specs.Bandings.{Item, Reads, Tells, state_after}
-use Rattle.columns.specs.Stages.{StagesAreTheRecords, marks_in, stage_among}
+use Rattle.picture.specs.columns.Stages.{StagesAreTheRecords, marks_in, stage_among}
 use Rattle.picture.specs.Standings.{sayings}
-use Rattle.columns.specs.States.{at_first, before_in, line_of_first, state_told, ticket_in}
-use Rattle.columns.specs.declared.state.State.{State}
-use Rattle.laws.specs.Lines.{ticket_told}
-use Rattle.laws.proofs.FirstInLine.{first_inside}
-use Rattle.laws.proofs.HeldTickets.{insiders}
+use Rattle.picture.specs.columns.States.{at_first, before_in, line_of_first, state_told, ticket_in}
+use Rattle.picture.specs.columns.declared.state.State.{State}
+use Rattle.replayer.specs.laws.Lines.{ticket_told}
+use Rattle.replayer.proofs.laws.FirstInLine.{first_inside}
+use Rattle.replayer.proofs.laws.HeldTickets.{insiders}
 use Rattle.drawer.specs.InLine.{IsFirstInLine, WaitsNoMore, WhoEntersIsFirst, WhoIsInsideIsDrawnFirst, WhoIsInsideIsFirst, state_of_lines}
 use Rattle.drawer.proofs.Insides as insides
 use Rattle.drawer.proofs.LineOrder.{Below, HasTicket, stands_before}

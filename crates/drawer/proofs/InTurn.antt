@@ -1,8 +1,8 @@
 -- Each entry's access is of a bit that there is, and where it ends a read, one of that bit has begun.
 use Rattle.std.proofs.Common.{◌≡◌, ◌==◌, ◌&&◌, Bool, true, false, cond, List, [], ◌∷◌, ◌++◌, Option, None, Some, Ok, refl, sym, ap, subst, ◌∙◌, true≢false}
-use Rattle.safe_bit.specs.Cell.{Cell, MayMove, cell_after, without_read}
-use Rattle.safe_bit.specs.declared.Move.{Move}
-use Rattle.safe_bit.specs.declared.Move.TheVariants.{BeginWrite, EndWrite, BeginRead, EndRead, Settle}
+use Rattle.record.specs.safe_bit.Cell.{Cell, MayMove, cell_after, without_read}
+use Rattle.record.specs.safe_bit.declared.Move.{Move}
+use Rattle.record.specs.safe_bit.declared.Move.TheVariants.{BeginWrite, EndWrite, BeginRead, EndRead, Settle}
 use Rattle.record.specs.declared.access.Access.{Access}
 use Rattle.plain_store.specs.Setups.{checked}
 use Rattle.plain_store.specs.declared.Setup.{Setup}
@@ -11,10 +11,10 @@ use Rattle.record.specs.Entries.{Entry, Past}
 use Rattle.record.specs.Moves.{begins_read, moves_of, same_bit}
 use Rattle.record.specs.Records.{entry_of, past_of}
 use Rattle.record.proofs.Width.{is_good}
-use Rattle.laws.specs.Held.{cell_held, drops}
-use Rattle.laws.proofs.HeldCells.{held-entry, held-marks}
-use Rattle.laws.proofs.HeldThere.{access_there}
-use Rattle.laws.proofs.HeldTurns.{comes_in_turn}
+use Rattle.replayer.specs.laws.Held.{cell_held, drops}
+use Rattle.replayer.proofs.laws.HeldCells.{held-entry, held-marks}
+use Rattle.replayer.proofs.laws.HeldThere.{access_there}
+use Rattle.replayer.proofs.laws.HeldTurns.{comes_in_turn}
 use Rattle.drawer.specs.Overlaps.{ComesInTurn}
 
 -- where a read is open after a move, it began with that move or was open before

@@ -7,7 +7,7 @@ use Rattle.record.specs.declared.marks.Mark.{Mark}
 use Rattle.record.specs.Entries.{Entry, Past}
 use Rattle.record.specs.Histories.{history, store_after}
 use Rattle.record.specs.Records.{entry_of, past_of, process_of, refused}
-use Rattle.columns.specs.Stages.{marks_in}
+use Rattle.picture.specs.columns.Stages.{marks_in}
 use Rattle.scenario.specs.declared.lines.Line.{Line}
 use Rattle.replayer.specs.Courses.{CourseState, Follows, IsQuiet, MakesTurns, QuietTurns}
 use Rattle.replayer.specs.Happenings.{Happening, Tries, Lacks, Tires, Looks, past_after, refusals, tried}
@@ -26,7 +26,7 @@ use Rattle.replayer.proofs.Refusals.{past_kept}
 use Rattle.replayer.proofs.Tellings.{Quietly, counts_more, quiet_counts, told_is}
 use Rattle.replayer.proofs.TurnLaw.{rest_of, rest_none, rest_whole, turn_less, turn_on}
 use Rattle.replayer.proofs.Underways.{Nothing, One, Said, SaidTurns, Turned, silent_one, told_none, told_one, turned, with_events}
-use Rattle.columns.specs.declared.reads.OverlappedRead.{OverlappedRead}
+use Rattle.picture.specs.columns.declared.reads.OverlappedRead.{OverlappedRead}
 use Rattle.picture.specs.declared.reads.Reads.{Reads as Mode}
 use Rattle.picture.specs.declared.reads.Reads.TheVariants.{Hidden, Shown}
 use Rattle.drawer.specs.Drawings.{IsToDraw, Recalls, marks_told}

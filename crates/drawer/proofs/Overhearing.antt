@@ -5,10 +5,10 @@ use Rattle.plain_store.specs.declared.Setup.{Setup}
 use Rattle.plain_store.proofs.GoodSetups.{few-processes}
 use Rattle.record.specs.Entries.{Entry, Past}
 use Rattle.record.specs.Moves.{moves_of}
-use Rattle.watch.specs.Looks.{ends_overlapped}
-use Rattle.watch.specs.Watching.{HasHeard}
-use Rattle.watch.proofs.Hears.{heard_none}
-use Rattle.columns.specs.declared.reads.OverlappedRead.{OverlappedRead}
+use Rattle.replayer.specs.watch.Looks.{ends_overlapped}
+use Rattle.replayer.specs.watch.Watching.{HasHeard}
+use Rattle.replayer.proofs.watch.Hears.{heard_none}
+use Rattle.picture.specs.columns.declared.reads.OverlappedRead.{OverlappedRead}
 use Rattle.picture.specs.declared.reads.Reads.{Reads as Mode}
 use Rattle.picture.specs.declared.reads.Reads.TheVariants.{Hidden, Shown}
 use Rattle.drawer.specs.declared.overlaps.Overlaps.{Overlaps}

@@ -7,7 +7,7 @@ use Rattle.picture.specs.declared.page.Form.TheVariants as form
 use Rattle.picture.specs.declared.reads.Reads.{Reads as Mode}
 use Rattle.scenario.specs.Printing.{scenario_text}
 use Rattle.scenario.specs.Reading.{Script}
-use Rattle.columns.specs.Stages.{marks_in}
+use Rattle.picture.specs.columns.Stages.{marks_in}
 use Rattle.replayer.specs.Happenings.{past_after}
 use Rattle.replayer.specs.Runs.{happenings}
 use Rattle.replayer.specs.Texts.{replayed}

@@ -7,12 +7,12 @@ use Rattle.std.proofs.lemmas.List.{get_or-set_other, get_or-set_same, length-map
 use Rattle.record.specs.declared.marks.Mark.{Mark}
 use Rattle.record.specs.declared.marks.Mark.TheVariants as mark
 use Rattle.record.specs.declared.stages.Stage.{Stage}
-use Rattle.columns.specs.Stages.{marks_said, stages_marked, stages_told}
-use Rattle.columns.specs.States.{at_first, is_in_doorway, no_seat, not_awaiting, seats_marked, state_marked, state_told, ticket_in}
-use Rattle.columns.specs.declared.seats.Seat.{Seat}
-use Rattle.columns.specs.declared.state.State.{State}
-use Rattle.columns.specs.declared.told.Saying.{Saying}
-use Rattle.columns.specs.declared.told.Saying.TheVariants.{Marked, Refused, Tired, Shown, Ended}
+use Rattle.picture.specs.columns.Stages.{marks_said, stages_marked, stages_told}
+use Rattle.picture.specs.columns.States.{at_first, is_in_doorway, no_seat, not_awaiting, seats_marked, state_marked, state_told, ticket_in}
+use Rattle.picture.specs.columns.declared.seats.Seat.{Seat}
+use Rattle.picture.specs.columns.declared.state.State.{State}
+use Rattle.picture.specs.columns.declared.told.Saying.{Saying}
+use Rattle.picture.specs.columns.declared.told.Saying.TheVariants.{Marked, Refused, Tired, Shown, Ended}
 use Rattle.drawer.proofs.TicketsShown.{shown_after, shown_told}
 
 -- Of one mark.

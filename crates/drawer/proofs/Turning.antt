@@ -16,9 +16,9 @@ use Rattle.record.specs.declared.history.Taken.{Taken}
 use Rattle.record.specs.declared.marks.Mark.{Mark}
 use Rattle.record.specs.declared.refusals.Refusal.{Refusal}
 use Rattle.record.proofs.Width.{is_good}
-use Rattle.history_laws.specs.HistoryLaws.{taken_with}
-use Rattle.history_laws.proofs.Places.{at_its_place, grows_by_the_taken}
-use Rattle.columns.specs.declared.reads.OverlappedRead.{OverlappedRead}
+use Rattle.replayer.specs.history_laws.HistoryLaws.{taken_with}
+use Rattle.replayer.proofs.history_laws.Places.{at_its_place, grows_by_the_taken}
+use Rattle.picture.specs.columns.declared.reads.OverlappedRead.{OverlappedRead}
 use Rattle.picture.specs.declared.reads.Reads.{Reads as Mode}
 use Rattle.replayer.specs.Courses.{CourseState}
 use Rattle.replayer.specs.Happenings.{Happening, Tries, Lacks, Tires, Looks, past_after, tried}

@@ -10,7 +10,7 @@ use Rattle.record.specs.Histories.{store_after}
 use Rattle.record.specs.declared.history.Taken.{Taken}
 use Rattle.record.specs.declared.marks.Mark.{Mark}
 use Rattle.record.specs.declared.marks.Mark.TheVariants as mark
-use Rattle.columns.specs.declared.told.Change.{Change}
+use Rattle.picture.specs.columns.declared.told.Change.{Change}
 use Rattle.drawer.specs.Pictures.{store_words}
 
 -- what a command changed: the pair of its name, and the store after it

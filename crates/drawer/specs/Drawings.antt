@@ -1,8 +1,8 @@
 -- What was written of a run's picture, and what is read back of it.
 use Rattle.std.specs.Prelude.{◌≡◌, ◌<◌, ℕ, true, List, [], ◌∷◌, ◌+◌, ◌++◌, flat_map, length, map, take, Option, Some, IfSome, Result, Ok, Err}
 use Rattle.std.specs.Io.KnownBytes.{Appends, IsAtEnd}
-use Rattle.shapes.specs.Elements.{EndsAll, opens_in}
-use Rattle.shapes.specs.Titles.{is_at_rest, lines_in, tags_of}
+use Rattle.picture.specs.shapes.Elements.{EndsAll, opens_in}
+use Rattle.picture.specs.shapes.Titles.{is_at_rest, lines_in, tags_of}
 use Rattle.plain_store.specs.Store.{Contents}
 use Rattle.plain_store.specs.declared.setups.Setup.{Setup}
 use Rattle.record.specs.Histories.{history, store_after}
@@ -16,11 +16,11 @@ use Rattle.scenario.specs.Reading.{Script, scenario_of}
 use Rattle.scenario.specs.declared.lines.Line.{Line}
 use Rattle.picture.specs.Bandings.{Item, Plan, bands_told, full_told, heights_told}
 use Rattle.picture.specs.Pages.{SeenPage, held, page_of, seen_page}
-use Rattle.columns.specs.Stages.{marks_in, marks_said}
+use Rattle.picture.specs.columns.Stages.{marks_in, marks_said}
 use Rattle.picture.specs.Standings.{sayings}
 use Rattle.picture.specs.declared.page.Form.{Form}
 use Rattle.picture.specs.declared.page.Page.{Page}
-use Rattle.columns.specs.declared.reads.OverlappedRead.{OverlappedRead}
+use Rattle.picture.specs.columns.declared.reads.OverlappedRead.{OverlappedRead}
 use Rattle.picture.specs.declared.reads.Reads.{Reads as Mode}
 use Rattle.drawer.specs.Changes.{IsNext, takes}
 use Rattle.drawer.specs.Items.{Gives, given, given_from, reads_since, run_given}

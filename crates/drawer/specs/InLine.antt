@@ -8,11 +8,11 @@ use Rattle.record.specs.declared.stages.Stage.TheVariants.{Inside, Leaving, Sett
 use Rattle.record.specs.Entries.{Entry, has, is_entered}
 use Rattle.record.specs.Records.{entry_of, past_of}
 use Rattle.picture.specs.Bandings.{Item, state_after}
-use Rattle.columns.specs.Stages.{marks_in, marks_said, stage_among}
+use Rattle.picture.specs.columns.Stages.{marks_in, marks_said, stage_among}
 use Rattle.picture.specs.Standings.{sayings}
-use Rattle.columns.specs.States.{at_first, before_in, queue_of, state_told}
-use Rattle.columns.specs.declared.state.State.{State}
-use Rattle.columns.specs.declared.told.Saying.{Saying}
+use Rattle.picture.specs.columns.States.{at_first, before_in, queue_of, state_told}
+use Rattle.picture.specs.columns.declared.state.State.{State}
+use Rattle.picture.specs.columns.declared.told.Saying.{Saying}
 
 -- what these lines have told of a run of so many processes
 abbrev pub state_of_lines : ℕ → List Saying → State

@@ -17,10 +17,10 @@ use Rattle.replayer.specs.Summaries.{summary_of}
 use Rattle.replayer.specs.Texts.{newest_store, store_text}
 use Rattle.replayer.specs.declared.summaries.Summary.{Summary}
 use Rattle.picture.specs.Bandings.{Item, Reads, Tells}
-use Rattle.columns.specs.declared.reads.OverlappedRead.{OverlappedRead}
+use Rattle.picture.specs.columns.declared.reads.OverlappedRead.{OverlappedRead}
 use Rattle.picture.specs.declared.reads.Reads.{Reads as Mode}
-use Rattle.columns.specs.declared.told.Saying.{Saying}
-use Rattle.columns.specs.declared.told.Saying.TheVariants.{Marked, Refused, Tired, Shown, Ended}
+use Rattle.picture.specs.columns.declared.told.Saying.{Saying}
+use Rattle.picture.specs.columns.declared.told.Saying.TheVariants.{Marked, Refused, Tired, Shown, Ended}
 use Rattle.drawer.specs.Changes.{Changed, change_of, changed}
 use Rattle.drawer.specs.Overlaps.{overlapped_by, shown_of}
 use Rattle.drawer.specs.Pictures.{shown_words}

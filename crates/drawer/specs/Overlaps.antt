@@ -1,18 +1,18 @@
 -- The reads of a run that writes overlap.
 use Rattle.std.specs.Prelude.{◌≡◌, ◌<◌, ℕ, ◌==◌, Bool, true, false, ◌&&◌, nat_lt, cond, List, [], ◌∷◌, length, slice_index, Option, None, Some, Ok}
-use Rattle.safe_bit.specs.declared.Move.{Move}
-use Rattle.safe_bit.specs.declared.Move.TheVariants.{BeginRead, EndRead}
+use Rattle.record.specs.safe_bit.declared.Move.{Move}
+use Rattle.record.specs.safe_bit.declared.Move.TheVariants.{BeginRead, EndRead}
 use Rattle.record.specs.declared.access.Access.{Access}
 use Rattle.plain_store.specs.Setups.{checked}
 use Rattle.plain_store.specs.declared.setups.Setup.{Setup}
-use Rattle.laws.specs.Held.{IsThere}
+use Rattle.replayer.specs.laws.Held.{IsThere}
 use Rattle.record.specs.Entries.{Entry, Past}
 use Rattle.record.specs.Moves.{begins_read, moves_of}
 use Rattle.record.specs.Registers.{width}
-use Rattle.watch.specs.Looks.{ends_overlapped}
-use Rattle.watch.specs.Watching.{HasHeard}
+use Rattle.replayer.specs.watch.Looks.{ends_overlapped}
+use Rattle.replayer.specs.watch.Watching.{HasHeard}
 use Rattle.picture.specs.Sheets.{held_in_64}
-use Rattle.columns.specs.declared.reads.OverlappedRead.{OverlappedRead}
+use Rattle.picture.specs.columns.declared.reads.OverlappedRead.{OverlappedRead}
 use Rattle.picture.specs.declared.reads.Reads.{Reads as Mode}
 use Rattle.picture.specs.declared.reads.Reads.TheVariants.{Hidden, Shown}
 use Rattle.drawer.specs.declared.overlaps.Overlaps.{Overlaps}

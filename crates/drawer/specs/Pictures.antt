@@ -9,7 +9,7 @@ use Rattle.scenario.specs.Printing.{scenario_text}
 use Rattle.scenario.specs.Reading.{Script}
 use Rattle.picture.specs.Bandings.{Item, Plan, Reads, Tells, bands_told}
 use Rattle.picture.specs.Sheets.{page_back, page_front, picture_back, picture_front}
-use Rattle.columns.specs.Told.{text_of}
+use Rattle.picture.specs.columns.Told.{text_of}
 use Rattle.picture.specs.declared.page.Form.{Form}
 use Rattle.picture.specs.declared.page.Form.TheVariants as form
 use Rattle.picture.specs.declared.reads.Reads.{Reads as Mode}

@@ -1,20 +1,19 @@
 //! The reads of a run that writes overlap: a watch beside the run, which hears the access of each entry.
 ghost use Rattle.std.specs.Prelude.{◌≡◌, ◌<◌, ℕ, [], ◌∷◌, ◌++◌, List, length, nat_lt, set, slice_index, IfOk, Ok, OnOk, Some};
-ghost use Rattle.safe_bit.specs.declared.Move.TheVariants.{EndRead};
+ghost use Rattle.record.specs.safe_bit.declared.Move.TheVariants.{EndRead};
 ghost use Rattle.plain_store.specs.Setups.{checked};
 ghost use Rattle.plain_store.specs.declared.setups.Setup.{Setup as Given};
 ghost use Rattle.record.specs.Entries.{Entry, Past};
 ghost use Rattle.record.specs.Registers.{width};
-ghost use Rattle.columns.specs.declared.reads.OverlappedRead.{OverlappedRead as Ended};
+ghost use Rattle.picture.specs.columns.declared.reads.OverlappedRead.{OverlappedRead as Ended};
 ghost use Rattle.picture.specs.declared.reads.Reads.{Reads as Mode};
 ghost use Rattle.drawer.specs.Overlaps.{ComesInTurn, Hears, Overhears, begun_by, first_three, overlapped_by, read_ended, shown_of};
 
 use picture::{OverlappedRead, Reads};
 use plain_store::{NestedTypes, Setup};
-use record::{Access, Field};
-use safe_bit::Move;
+use record::{Access, Field, Move};
+use replayer::Watch;
 use std::alloc::{AllocError, Global};
-use watch::Watch;
 
 /// How many reads are shown between two lines of the run.
 const MOST_SHOWN: usize = 3;

@@ -1,14 +1,14 @@
 //! How markup is written.
 ghost use Rattle.std.specs.Prelude.{◌≡◌, ◌+◌, ◌-◌, ◌^◌, ◌<◌, IfErr, IfSome, OnOk};
-ghost use Rattle.shapes.specs.Elements.{EndsAll};
-ghost use Rattle.shapes.specs.Titles.{lines_in};
+ghost use Rattle.picture.specs.shapes.Elements.{EndsAll};
+ghost use Rattle.picture.specs.shapes.Titles.{lines_in};
 ghost use Rattle.picture.specs.Pages.{band_text, lines_of_band};
 ghost use Rattle.replayer.specs.Writing.{IsWriteFault, failed_write};
 ghost use Rattle.drawer.specs.Drawings.{Draws, Writes};
 ghost use Rattle.drawer.specs.Pictures.{ended_lines};
 
+use picture::Markup;
 use scenario::{Fault, Sink, write_all};
-use shapes::Markup;
 
 /// Writes markup.
 #[tactic(auto, using(crate::proofs::Drawn::draws_bytes, crate::proofs::Drawn::writes_bytes))]

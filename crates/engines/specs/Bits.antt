@@ -5,10 +5,10 @@ use Rattle.safe_bit.specs.declared.moves.Move.{Move}
 use Rattle.safe_bit.specs.declared.moves.Move.TheVariants.{BeginWrite, EndWrite, BeginRead, EndRead}
 use Rattle.safe_bit.specs.declared.moves.Move.TheVariants as move
 use Rattle.scenario.specs.BitFiles.{bits_of}
-use Rattle.files.specs.Engines.{text_by}
+use Rattle.scenario.specs.files.Engines.{text_by}
 use Rattle.scenario.specs.declared.bit_files.BitLine.{BitLine}
 use Rattle.scenario.specs.declared.bit_files.BitLine.TheVariants.{Write, End, Settle, Read, Value, Drop}
-use Rattle.files.specs.declared.faults.LineFault.{LineFault}
+use Rattle.scenario.specs.files.declared.faults.LineFault.{LineFault}
 
 -- what was done on the bit: its moves, the newest first, and whether a read is open
 pub record BitRun : Type 0 where

@@ -8,10 +8,10 @@ use Rattle.plain_store.specs.declared.commands.Caller.{Caller}
 use Rattle.plain_store.specs.declared.commands.Command.{Command}
 use Rattle.plain_store.specs.declared.setups.Setup.{Setup}
 use Rattle.scenario.specs.Reading.{Script, scenario_of}
-use Rattle.files.specs.declared.faults.LineFault.{LineFault}
+use Rattle.scenario.specs.files.declared.faults.LineFault.{LineFault}
 use Rattle.scenario.specs.declared.lines.Line.{Line}
 use Rattle.scenario.specs.declared.lines.Line.TheVariants as line
-use Rattle.files.specs.Engines.{text_by}
+use Rattle.scenario.specs.files.Engines.{text_by}
 use Rattle.plain_store.specs.StoreLine.{show_text}
 
 -- The store, how many calls were applied, and how many of each process.

@@ -1,8 +1,8 @@
 //! The command `bits`: the calls of a file on one safe bit, in order.
 ghost use Rattle.std.specs.Prelude.{◌≡◌, ◌^◌, ◌-◌, ◌<◌, true, IfOk, Ok};
 ghost use Rattle.std.specs.String.{string_bytes};
-ghost use Rattle.files.specs.Engines.{Ran};
-ghost use Rattle.files.specs.Streams.{ReadsFront};
+ghost use Rattle.scenario.specs.files.Engines.{Ran};
+ghost use Rattle.scenario.specs.files.Streams.{ReadsFront};
 ghost use Rattle.engines.specs.BitCells.{can_take, made, made_text, bit_after, bit_line_text};
 ghost use Rattle.engines.specs.Bits.{bits_printed, bits_text};
 

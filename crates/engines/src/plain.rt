@@ -3,8 +3,8 @@ ghost use Rattle.std.specs.Prelude.{◌≡◌, ◌^◌, ◌-◌, ◌<◌, ◌≤
 ghost use Rattle.std.specs.String.{string_bytes};
 ghost use Rattle.plain_store.specs.Setups.{checked};
 ghost use Rattle.plain_store.specs.Shown.{reply_text};
-ghost use Rattle.files.specs.Engines.{Ran};
-ghost use Rattle.files.specs.Streams.{ReadsFront};
+ghost use Rattle.scenario.specs.files.Engines.{Ran};
+ghost use Rattle.scenario.specs.files.Streams.{ReadsFront};
 ghost use Rattle.engines.specs.Plain.{line_text, run_after, text_from, run_at_start, plain_text, call_text, called, applied_text, applied, caller_of, counted, refusal_line, reply_line as line_of_reply};
 
 use plain_store::{Caller, Command, PlainStore, Reply, Setup, Store, opened, show_line};

@@ -3,8 +3,8 @@ use Rattle.std.proofs.Common.{◌≡◌, ℕ, zero, suc, ◌+◌, ◌*◌, ◌�
 use Rattle.std.proofs.lemmas.Bool.{eqb-false}
 use Rattle.std.specs.Prelude.{slice_index_or}
 use Rattle.reader_copies.specs.Runs.{Writing}
-use Rattle.safe_number.specs.Bytes.{bits_of_number}
-use Rattle.safe_number.specs.Runs.{NumberWrite}
+use Rattle.record.specs.safe_number.Bytes.{bits_of_number}
+use Rattle.record.specs.safe_number.Runs.{NumberWrite}
 use Rattle.record.specs.Places.{bit_written, write_moved}
 use Rattle.failure.specs.Units.{IsUnderWay}
 use Rattle.bakery.proofs.Going.{made-same}

@@ -3,8 +3,8 @@ use Rattle.std.proofs.Common.{◌≡◌, ℕ, ◌/◌, ◌<◌, ◌≤◌, ◌==
 use Rattle.reader_copies.specs.Runs.{settled_at, settle_after}
 use Rattle.record.specs.declared.access.Access.{Access}
 use Rattle.record.specs.declared.access.TornBit.{TornBit}
-use Rattle.safe_number.specs.Bytes.{bits_of_number}
-use Rattle.safe_number.specs.Runs.{NumberWrite, new_write}
+use Rattle.record.specs.safe_number.Bytes.{bits_of_number}
+use Rattle.record.specs.safe_number.Runs.{NumberWrite, new_write}
 use Rattle.plain_store.specs.declared.Setup.{Setup}
 use Rattle.record.specs.declared.Mark.{Mark}
 use Rattle.record.specs.declared.Mark.TheVariants as mark

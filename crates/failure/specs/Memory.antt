@@ -1,6 +1,6 @@
 -- What an access of a memory unit makes of the registers of its process.
 use Rattle.std.specs.Prelude.{List}
-use Rattle.safe_bit.specs.Cell.{Cell}
+use Rattle.reader_copies.specs.safe_bit.Cell.{Cell}
 use Rattle.reader_copies.specs.Row.{row_after, CanMake}
 use Rattle.record.specs.declared.access.Access.{Access}
 use Rattle.record.specs.declared.access.Field.{Field}

@@ -3,7 +3,7 @@ use Rattle.std.specs.Prelude.{◌≡◌, ℕ, ◌*◌, ◌<◌, ◌≤◌, Bool,
 use Rattle.reader_copies.specs.Runs.{settled_at}
 use Rattle.record.specs.declared.access.Access.{Access}
 use Rattle.record.specs.declared.access.TornBit.{TornBit}
-use Rattle.safe_number.specs.Runs.{NumberWrite, new_write}
+use Rattle.record.specs.safe_number.Runs.{NumberWrite, new_write}
 use Rattle.plain_store.specs.declared.Command.TheVariants.{Ask}
 use Rattle.plain_store.specs.declared.Setup.{Setup}
 use Rattle.record.specs.declared.Mark.{Mark}

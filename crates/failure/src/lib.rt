@@ -7,5 +7,8 @@ mod progress;
 mod unit;
 mod work;
 
+pub use bakery::{Door, DoorProgress, Leaving, Locks};
+pub use critical::{DataRow, Section, SectionProgress};
 pub use progress::UnitProgress;
+pub use reader_copies::Progress;
 pub use unit::Unit;

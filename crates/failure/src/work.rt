@@ -6,10 +6,10 @@ ghost use Rattle.record.specs.Cuts.{IsTornOf};
 ghost use Rattle.failure.specs.Units.{whole_work, next_of_work, work_after, remains, goes, IsWork};
 
 use crate::progress::UnitProgress;
+use bakery::WriteRun;
 use plain_store::Setup;
 use reader_copies::Progress;
 use record::{Access, Field, TornBit};
-use safe_number::WriteRun;
 
 /// The bytes of the number 0, to which a lock's register is cleared.
 const CLEAR: [u8; 4] = [0; 4];

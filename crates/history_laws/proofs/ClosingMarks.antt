@@ -1,10 +1,10 @@
 -- What the marks of a step of a closing tell, and those of a failure.
 use Rattle.std.proofs.Common.{◌≡◌, ℕ, ◌<◌, ◌&&◌, Bool, true, false, cond, not, List, [], ◌∷◌, ◌++◌, Option, Some, None, length, map, refl, sym, ap, subst, ◌∙◌, arith, append-nil}
 use Rattle.std.specs.Prelude.{if◌then◌else◌}
-use Rattle.reader_copies.specs.Runs as copies
+use Rattle.record.specs.reader_copies.Runs as copies
 use Rattle.record.specs.declared.access.Access.{Access}
 use Rattle.record.specs.declared.access.Field.{Field}
-use Rattle.safe_number.specs.Runs.{NumberWrite, new_write}
+use Rattle.record.specs.safe_number.Runs.{NumberWrite, new_write}
 use Rattle.plain_store.specs.declared.Answer.TheVariants as answer
 use Rattle.plain_store.specs.declared.Command.{Command}
 use Rattle.plain_store.specs.declared.Reply.{Reply}

@@ -20,7 +20,7 @@ use Rattle.history_laws.proofs.NewestHeld.{all_held, idle_outside}
 use Rattle.history_laws.proofs.NewestVersion.{newest_stamp_is}
 use Rattle.history_laws.proofs.VersionReads.{nobody}
 use Rattle.history_laws.proofs.Versions.{versions, store_of}
-use Rattle.store_image.specs.Reading.{IsImageOf}
+use Rattle.record.specs.store_image.Reading.{IsImageOf}
 
 pub images_of_the_store : ImagesAreOfTheStore
 images_of_the_store s ok events event e given is a access image ends last =

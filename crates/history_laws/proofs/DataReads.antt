@@ -6,13 +6,13 @@ use Rattle.std.proofs.lemmas.List.FromFn.{get_or-range_with_len, length-range_wi
 use Rattle.std.proofs.Math.Seq.{get_or-append_seam}
 use Rattle.record.specs.declared.access.Field.{Field}
 use Rattle.record.specs.declared.access.Field.TheVariants.{Commit, Image0}
-use Rattle.safe_number.specs.Bytes.{number_of_bits}
-use Rattle.safe_number.proofs.Numbers.{length_bits}
-use Rattle.safe_number.proofs.Bits.{length-bits_of_number}
+use Rattle.record.specs.safe_number.Bytes.{number_of_bits}
+use Rattle.record.proofs.safe_number.Numbers.{length_bits}
+use Rattle.record.proofs.safe_number.Bits.{length-bits_of_number}
 use Rattle.plain_store.specs.declared.Answer.TheVariants as answer
 use Rattle.plain_store.specs.declared.Command.{Command}
 use Rattle.plain_store.specs.declared.Setup.{Setup}
-use Rattle.store_image.specs.Image.{image_of}
+use Rattle.record.specs.store_image.Image.{image_of}
 use Rattle.plain_store.specs.Setups.{opening_store}
 use Rattle.plain_store.specs.Store.{Contents, changes}
 use Rattle.record.specs.Entries.{Past}

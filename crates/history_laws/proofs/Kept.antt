@@ -1,14 +1,14 @@
 -- The invariant of the data. Committed registers are whole at what the history says; what the one that is inside has read is what is there, and what it writes is not committed.
 use Rattle.std.specs.Prelude.{◌≡◌, ◌⊎◌, ℕ, ◌+◌, ◌^◌, ◌<◌, ◌≤◌, Bool, true, false, not, List, [], ◌∷◌, ◌++◌, length, Option, None, Some}
-use Rattle.reader_copies.specs.Runs as copies
+use Rattle.record.specs.reader_copies.Runs as copies
 use Rattle.record.specs.declared.access.Field.{Field}
 use Rattle.record.specs.declared.access.Field.TheVariants.{Commit, Image0}
-use Rattle.safe_number.specs.Bytes.{bits_in, bits_of_number}
+use Rattle.record.specs.safe_number.Bytes.{bits_in, bits_of_number}
 use Rattle.plain_store.specs.declared.Answer.{Answer}
 use Rattle.plain_store.specs.declared.Answer.TheVariants as answer
 use Rattle.plain_store.specs.declared.Reply.{Reply}
 use Rattle.plain_store.specs.declared.Setup.{Setup}
-use Rattle.store_image.specs.Image.{image_of}
+use Rattle.record.specs.store_image.Image.{image_of}
 use Rattle.plain_store.specs.Setups.{opening_store}
 use Rattle.plain_store.specs.Store.{Contents, changes}
 use Rattle.record.specs.Closings.{Closing, Settles}

@@ -5,10 +5,10 @@ use Rattle.std.proofs.lemmas.List.{ext_get_or}
 use Rattle.std.proofs.lemmas.List.FromFn.{get_or-map-range_with_len, length-map-range_with_len}
 use Rattle.record.specs.declared.access.Field.{Field}
 use Rattle.record.specs.declared.access.Field.TheVariants.{Commit}
-use Rattle.safe_number.specs.Bytes.{number_of_bits}
-use Rattle.safe_number.proofs.Bits.{number-bits, length-bits_of_number}
+use Rattle.record.specs.safe_number.Bytes.{number_of_bits}
+use Rattle.record.proofs.safe_number.Bits.{number-bits, length-bits_of_number}
 use Rattle.plain_store.specs.declared.Setup.{Setup}
-use Rattle.store_image.specs.Image.{image_of}
+use Rattle.record.specs.store_image.Image.{image_of}
 use Rattle.plain_store.specs.Store.{Contents}
 use Rattle.record.specs.declared.events.Event.{Event}
 use Rattle.record.specs.Entries.{Past}

@@ -5,8 +5,8 @@ use Rattle.record.specs.declared.access.Access.{Access}
 use Rattle.record.specs.declared.access.Field.{Field}
 use Rattle.record.specs.declared.access.Field.TheVariants.{Choosing, Ticket}
 use Rattle.record.specs.Accesses.{access_of}
-use Rattle.safe_number.specs.Runs.{NumberWrite}
-use Rattle.reader_copies.specs.Runs as copies
+use Rattle.record.specs.safe_number.Runs.{NumberWrite}
+use Rattle.record.specs.reader_copies.Runs as copies
 use Rattle.plain_store.specs.declared.Command.{Command}
 use Rattle.plain_store.specs.declared.Setup.{Setup}
 use Rattle.record.specs.declared.events.Event.{Event}

@@ -1,8 +1,8 @@
 -- A step of a memory unit that settles a bit of a process that was inside: of a register that isn't committed, or of a commit bit, with whose last access the command is taken, if it is settled at the new value.
 use Rattle.std.proofs.Common.{◌≡◌, ℕ, Bool, true, false, cond, not, List, [], ◌∷◌, length, map, Option, None, Some, refl, sym, ap, subst, ◌∙◌}
 use Rattle.std.proofs.lemmas.Bool.{false≢true}
-use Rattle.reader_copies.specs.Runs as copies
-use Rattle.safe_bit.specs.SafeRule.{read_value}
+use Rattle.record.specs.reader_copies.Runs as copies
+use Rattle.record.specs.safe_bit.SafeRule.{read_value}
 use Rattle.record.specs.declared.access.Access.{Access}
 use Rattle.record.specs.declared.access.Field.{Field}
 use Rattle.record.specs.declared.access.Field.TheVariants.{Choosing, Ticket, Commit, Stamp0, Stamp1, Image0, Image1}

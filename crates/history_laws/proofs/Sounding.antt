@@ -10,15 +10,15 @@ use Rattle.plain_store.specs.declared.Setup.{Setup}
 use Rattle.plain_store.specs.declared.commands.Value.{Value}
 use Rattle.plain_store.specs.declared.commands.Value.TheVariants.{Count, Text}
 use Rattle.plain_store.specs.Commands.{is_command, name_of}
-use Rattle.store_image.specs.Image.{IsStore}
+use Rattle.record.specs.store_image.Image.{IsStore}
 use Rattle.plain_store.specs.Names.{is_name}
 use Rattle.plain_store.specs.Outcomes.{added, at_absent, at_present, is_new, outcome, replies, writes}
 use Rattle.plain_store.specs.Pairs.{Pair}
-use Rattle.store_image.specs.Placing.{place_for}
+use Rattle.record.specs.store_image.Placing.{place_for}
 use Rattle.plain_store.specs.Store.{Contents, after, changes, number_of, outcome_in, pairs_after, value_at, value_for, with_written}
 use Rattle.plain_store.specs.Values.{same_value, fits_i64, is_value}
 use Rattle.plain_store.proofs.Changes.{put-same, same_value-Decides}
-use Rattle.store_image.proofs.Puts.{IsStore-with_number, IsStore-with_pair, written_room}
+use Rattle.record.proofs.store_image.Puts.{IsStore-with_number, IsStore-with_pair, written_room}
 use Rattle.history_laws.proofs.Sound.{IsStoreOf}
 
 -- What a command writes.

@@ -4,13 +4,13 @@ use Rattle.std.proofs.Common.{◌≡◌, ◌≢◌, ℕ, ◌+◌, ◌%◌, ◌<�
 use Rattle.std.proofs.lemmas.Bool.{cases_eq, false_from_ne_true, false≢true}
 use Rattle.std.proofs.lemmas.List.Folds.{list_any_at}
 use Rattle.std.proofs.lemmas.List.FromFn.{get_or-range_with_len, length-range_with_len}
-use Rattle.safe_bit.specs.SafeRule.{is_overlapped, read_value}
-use Rattle.safe_bit.specs.declared.Move.{Move}
-use Rattle.safe_bit.specs.declared.Move.TheVariants.{BeginWrite, EndRead, EndWrite}
-use Rattle.safe_bit.proofs.Showing.{shows_moves}
+use Rattle.record.specs.safe_bit.SafeRule.{is_overlapped, read_value}
+use Rattle.record.specs.safe_bit.declared.Move.{Move}
+use Rattle.record.specs.safe_bit.declared.Move.TheVariants.{BeginWrite, EndRead, EndWrite}
+use Rattle.record.proofs.safe_bit.Showing.{shows_moves}
 use Rattle.record.specs.declared.access.Access.{Access}
 use Rattle.record.specs.declared.access.Field.{Field}
-use Rattle.safe_number.specs.Runs.{new_write}
+use Rattle.record.specs.safe_number.Runs.{new_write}
 use Rattle.plain_store.specs.declared.Command.{Command}
 use Rattle.plain_store.specs.declared.Setup.{Setup}
 use Rattle.record.specs.declared.events.Event.{Event}

@@ -1,7 +1,7 @@
 -- Laws of the data beside those that record's headline states, of the record of every list of events.
 use Rattle.std.specs.Prelude.{◌≡◌, ℕ, ◌+◌, ◌<◌, ◌≤◌, ◌∷◌, take, slice_get, Some, IsTrue, IsFalse}
 use Rattle.record.specs.declared.access.Access.{Access}
-use Rattle.store_image.specs.Reading.{IsImageOf}
+use Rattle.record.specs.store_image.Reading.{IsImageOf}
 use Rattle.plain_store.specs.Setups.{callers_of}
 use Rattle.plain_store.specs.Store.{reply_to}
 use Rattle.record.specs.declared.history.Taken.{Taken}

@@ -16,9 +16,9 @@ use Rattle.record_file.specs.Reading.{entry_of}
 use Rattle.record_file.specs.Given.{is_entry}
 use Rattle.record_file.specs.Printing.{entry_words, step_entry}
 use Rattle.record.specs.declared.access.Access.{Access}
-use Rattle.scenario.specs.Printing.{spaced}
-use Rattle.scenario.specs.Reading.{at_version, heading_read, open_read}
-use Rattle.scenario.specs.Reading.{Progress as Head}
+use Rattle.record_file.specs.scenario.Printing.{spaced}
+use Rattle.record_file.specs.scenario.Reading.{at_version, heading_read, open_read}
+use Rattle.record_file.specs.scenario.Reading.{Progress as Head}
 use Rattle.record_file.proofs.EntryLines.{entry_of_line}
 use Rattle.record_file.specs.RecordFiles.{Progress, cleared, entry_in, kind_of, first_read, head_read, pair_read, line_said, line_read, record_grammar}
 use Rattle.record_file.specs.declared.line_kinds.LineKind.{LineKind}

@@ -7,12 +7,11 @@ ghost use Rattle.auditor.specs.declared.verdicts.Verdict.TheVariants.{Good};
 ghost use Rattle.record_file.specs.Printing.{step_entry};
 ghost use Rattle.judge.specs.Judging.{BothHeard, HasJudged, found as verdict_found};
 
-use auditor::{Audited, Auditor, Law, Verdict};
+use auditor::{Audited, Auditor, Law, Verdict, Watch};
 use plain_store::Setup;
 use record::{Access, Entry};
 use std::alloc::{AllocError, Global};
 use std::marker::Model;
-use watch::Watch;
 
 /// A judge of a record, whose entries it takes one at a time. It keeps what a watch and an auditor keep, and the verdict
 /// so far: so it needs the same memory however long the record is.

@@ -7,8 +7,8 @@ ghost use Rattle.judge.specs.Judgements.{IsInputFault, IsJudged, JudgeEnds};
 use crate::trial::Trial;
 use crate::verdicts::{status_of, verdict_line};
 use auditor::Audited;
-use files::{Fault, FaultKind, Sink, Source, write_all};
 use files::source_lines::Lines;
+use files::{Fault, FaultKind, Sink, Source, write_all};
 use std::alloc::Global;
 
 /// Reads a whole record file, line by line, and then writes the verdict on the record that it says, on one line; answers

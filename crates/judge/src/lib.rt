@@ -11,6 +11,11 @@ mod judging;
 mod trial;
 mod verdicts;
 
+pub use auditor::{
+    Audited, Auditor, Law, Verdict, Watch, audit, good_records_are_of_events,
+    records_have_one_verdict, records_of_events_are_good,
+};
 pub use judge::Judge;
 pub use judging::run_judge;
+pub use record_file::{StepLine, print_entry, print_setup};
 pub use verdicts::{status_of, verdict_line};

@@ -1,7 +1,7 @@
 -- Registers of versions are touched inside alone.
 use Rattle.std.proofs.Common.{◌≡◌, ℕ, Bool, true, false, cond, List, [], ◌∷◌, Some, None, refl, sym, ap, subst, ◌∙◌, true≢false, IsTrue}
-use Rattle.reader_copies.specs.Runs as copies
-use Rattle.reader_copies.specs.Written.{IsWrite}
+use Rattle.record.specs.reader_copies.Runs as copies
+use Rattle.record.specs.reader_copies.Written.{IsWrite}
 use Rattle.record.specs.declared.access.Access.{Access}
 use Rattle.record.specs.declared.access.Field.TheVariants.{Choosing, Ticket, Commit, Stamp0, Stamp1, Image0, Image1}
 use Rattle.plain_store.specs.declared.Command.{Command}
@@ -21,7 +21,7 @@ use Rattle.record.specs.Stages.{inside}
 use Rattle.record.specs.Unit.{is_commit}
 use Rattle.record.proofs.Singles.{is_write, is_write-true}
 use Rattle.record.proofs.Width.{IsGood}
-use Rattle.safe_number.specs.Runs.{new_write}
+use Rattle.record.specs.safe_number.Runs.{new_write}
 use Rattle.laws.specs.Doings.{Doing, Rests, Lies, Runs, Closes, call, runs, closes, doing, is_inside, is_inside_at}
 use Rattle.laws.proofs.Doings.{IsCut, at_rest, between, within, leaving, clearing, Step, calls, withdraws, fails, restarts, steps, closes_on}
 use Rattle.laws.proofs.Notes.{Notes, notes}

@@ -4,7 +4,7 @@ use Rattle.std.specs.List.{AllByRecursion}
 use Rattle.std.proofs.Common.{refl, sym, ◌∙◌, subst, arith, append_assoc}
 use Rattle.std.proofs.lemmas.List.{length_push}
 use Rattle.record.specs.declared.access.Field.TheVariants.{Ticket}
-use Rattle.safe_number.specs.Bytes.{number_of_bits}
+use Rattle.record.specs.safe_number.Bytes.{number_of_bits}
 use Rattle.plain_store.specs.declared.Command.{Command}
 use Rattle.plain_store.specs.declared.Setup.{Setup}
 use Rattle.record.specs.Entries.{Past}

@@ -3,8 +3,8 @@ use Rattle.std.proofs.Common.{◌≡◌, ℕ, ◌+◌, ◌/◌, ◌%◌, ◌==�
 use Rattle.std.proofs.lemmas.Bool.{eqb-true}
 use Rattle.std.specs.Prelude.{unwrap_or}
 use Rattle.std.specs.List.{list_any}
-use Rattle.reader_copies.specs.Runs as copies
-use Rattle.safe_bit.specs.declared.Move.TheVariants.{BeginWrite, EndWrite}
+use Rattle.record.specs.reader_copies.Runs as copies
+use Rattle.record.specs.safe_bit.declared.Move.TheVariants.{BeginWrite, EndWrite}
 use Rattle.record.specs.declared.access.Access.{Access}
 use Rattle.record.specs.declared.access.Field.TheVariants.{Choosing}
 use Rattle.record.specs.declared.marks.Mark.TheVariants.{Taken}

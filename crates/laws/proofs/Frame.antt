@@ -1,7 +1,7 @@
 -- What each process is doing is what the look-backs of its entries say, and what one accepted event is for its process.
 use Rattle.std.proofs.Common.{◌≡◌, ◌≢◌, ℕ, suc, ◌==◌, Bool, true, false, cond, List, [], ◌∷◌, Some, None, length, map, refl, sym, ap, ◌∙◌, eq-eqb, ne_eqb}
 use Rattle.std.specs.Prelude.{fold}
-use Rattle.safe_bit.specs.SafeRule.{read_value}
+use Rattle.record.specs.safe_bit.SafeRule.{read_value}
 use Rattle.record.specs.declared.access.Access.{Access}
 use Rattle.plain_store.specs.declared.Command.{Command}
 use Rattle.plain_store.specs.declared.Setup.{Setup}

@@ -1,10 +1,10 @@
 -- What an entry does to the cells, and what the end of a read gives.
 use Rattle.std.proofs.Common.{◌≡◌, ◌≢◌, ℕ, ◌==◌, ◌&&◌, Bool, true, false, cond, List, [], ◌∷◌, ◌++◌, Some, None, refl, sym, ap, subst, ◌∙◌, eqb-true, eq-eqb}
-use Rattle.safe_bit.specs.Cell.{Cell, cell_of, read_answer}
-use Rattle.safe_bit.specs.Cell as bit
-use Rattle.safe_bit.specs.declared.Move.{Move}
-use Rattle.safe_bit.specs.declared.Move.TheVariants.{BeginWrite, EndWrite, BeginRead, EndRead, Settle}
-use Rattle.safe_bit.proofs.Showing.{answer-shows, shows_moves}
+use Rattle.record.specs.safe_bit.Cell.{Cell, cell_of, read_answer}
+use Rattle.record.specs.safe_bit.Cell as bit
+use Rattle.record.specs.safe_bit.declared.Move.{Move}
+use Rattle.record.specs.safe_bit.declared.Move.TheVariants.{BeginWrite, EndWrite, BeginRead, EndRead, Settle}
+use Rattle.record.proofs.safe_bit.Showing.{answer-shows, shows_moves}
 use Rattle.record.specs.declared.access.Access.{Access}
 use Rattle.record.specs.declared.access.Field.{Field}
 use Rattle.record.specs.declared.access.Field.TheVariants.{Choosing, Ticket, Commit, Stamp0, Stamp1, Image0, Image1}

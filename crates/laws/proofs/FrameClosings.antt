@@ -1,7 +1,7 @@
 -- A step of a process that withdrew, and of a memory unit, is what the look-backs say.
 use Rattle.std.proofs.Common.{◌≡◌, ℕ, ◌==◌, Bool, true, false, cond, List, ◌∷◌, Some, map, refl, sym, ap, ◌∙◌, true≢false}
 use Rattle.std.specs.Prelude.{fold}
-use Rattle.safe_bit.specs.SafeRule.{read_value}
+use Rattle.record.specs.safe_bit.SafeRule.{read_value}
 use Rattle.record.specs.declared.access.Access.{Access}
 use Rattle.plain_store.specs.declared.Command.{Command}
 use Rattle.plain_store.specs.declared.Setup.{Setup}

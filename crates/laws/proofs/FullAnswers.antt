@@ -4,10 +4,10 @@ use Rattle.std.proofs.lemmas.List.{length_push, map-append}
 use Rattle.std.proofs.lemmas.Nat.{pow_pos}
 use Rattle.std.proofs.Math.Nat.{pow-suc}
 use Rattle.std.specs.List.{list_any}
-use Rattle.safe_bit.specs.SafeRule.{read_value}
-use Rattle.safe_bit.specs.declared.Move.TheVariants.{BeginWrite, EndWrite}
-use Rattle.safe_number.specs.Bytes.{number_of_bits}
-use Rattle.safe_number.proofs.Bits.{number-fits}
+use Rattle.record.specs.safe_bit.SafeRule.{read_value}
+use Rattle.record.specs.safe_bit.declared.Move.TheVariants.{BeginWrite, EndWrite}
+use Rattle.record.specs.safe_number.Bytes.{number_of_bits}
+use Rattle.record.proofs.safe_number.Bits.{number-fits}
 use Rattle.record.specs.declared.access.Access.{Access}
 use Rattle.plain_store.specs.declared.Answer.{Answer}
 use Rattle.plain_store.specs.declared.Answer.TheVariants as answer
@@ -28,7 +28,7 @@ use Rattle.record.specs.Registers.{opening_bit, others, processes, width}
 use Rattle.record.specs.Scripts.{Call, Numbers}
 use Rattle.record.proofs.Local.{since_called-plain}
 use Rattle.record.proofs.Width.{IsGood}
-use Rattle.safe_number.specs.Runs.{new_write}
+use Rattle.record.specs.safe_number.Runs.{new_write}
 use Rattle.laws.specs.Doings.{call, doing}
 use Rattle.laws.proofs.Frame.{own-other, own-own}
 use Rattle.laws.proofs.AtPlaces.{AtPlace, Stepping, place-induction, plain-stepping}

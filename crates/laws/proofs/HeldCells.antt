@@ -2,11 +2,11 @@
 use Rattle.std.proofs.Common.{◌≡◌, ◌==◌, ◌&&◌, ◌||◌, Bool, true, false, cond, List, [], ◌∷◌, ◌++◌, Option, Some, None, refl, sym, ap, subst, ◌∙◌}
 use Rattle.std.specs.Prelude.{flat_map}
 use Rattle.std.specs.List.{list_any}
-use Rattle.safe_bit.specs.Cell.{Cell, BitCall, Makes, Drops, AreWritesInTurn, MayMove, MayWrite, cell_after, cell_of_calls, without_read, read_answer}
-use Rattle.safe_bit.specs.SafeRule.{Shows, read_value}
-use Rattle.safe_bit.specs.declared.Move.{Move}
-use Rattle.safe_bit.specs.declared.Move.TheVariants.{BeginWrite, EndWrite, BeginRead, EndRead, Settle}
-use Rattle.safe_bit.proofs.Showing.{answer-shows, shows_dropped, shows_moves}
+use Rattle.record.specs.safe_bit.Cell.{Cell, BitCall, Makes, Drops, AreWritesInTurn, MayMove, MayWrite, cell_after, cell_of_calls, without_read, read_answer}
+use Rattle.record.specs.safe_bit.SafeRule.{Shows, read_value}
+use Rattle.record.specs.safe_bit.declared.Move.{Move}
+use Rattle.record.specs.safe_bit.declared.Move.TheVariants.{BeginWrite, EndWrite, BeginRead, EndRead, Settle}
+use Rattle.record.proofs.safe_bit.Showing.{answer-shows, shows_dropped, shows_moves}
 use Rattle.record.specs.declared.access.Access.{Access}
 use Rattle.plain_store.specs.declared.Setup.{Setup}
 use Rattle.record.specs.declared.events.Event.{Event}

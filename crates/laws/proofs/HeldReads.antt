@@ -1,10 +1,10 @@
 -- The reads that are open in what the registers hold are those that the processes have open at their places.
 use Rattle.std.proofs.Common.{◌≡◌, ◌≢◌, ℕ, ◌==◌, ◌&&◌, Bool, true, false, cond, List, [], ◌∷◌, Some, None, refl, sym, ap, subst, ◌∙◌, true≢false, eqb-true, eq-eqb, ne_eqb}
 use Rattle.std.proofs.lemmas.Bool.{eqb-false}
-use Rattle.safe_bit.specs.Cell.{Cell, cell_after}
-use Rattle.safe_bit.specs.SafeRule.{read_value}
+use Rattle.record.specs.safe_bit.Cell.{Cell, cell_after}
+use Rattle.record.specs.safe_bit.SafeRule.{read_value}
 use Rattle.record.specs.declared.access.Access.{Access}
-use Rattle.safe_number.specs.Runs.{NumberWrite, new_write}
+use Rattle.record.specs.safe_number.Runs.{NumberWrite, new_write}
 use Rattle.plain_store.specs.declared.Command.{Command}
 use Rattle.plain_store.specs.declared.Setup.{Setup}
 use Rattle.record.specs.declared.events.Event.{Event}

@@ -1,6 +1,6 @@
 -- Every access comes in its turn on what the registers hold, and each read that is open there is of the register that its process reads at its place.
 use Rattle.std.proofs.Common.{◌≡◌, ℕ, true, false, List, ◌∷◌, Option, Some, None, refl, sym, ap, subst, ◌∙◌, true≢false}
-use Rattle.safe_bit.specs.Cell.{MayMove}
+use Rattle.record.specs.safe_bit.Cell.{MayMove}
 use Rattle.record.specs.declared.access.Access.{Access}
 use Rattle.plain_store.specs.declared.Command.{Command}
 use Rattle.plain_store.specs.declared.Setup.{Setup}

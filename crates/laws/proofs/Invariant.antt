@@ -1,10 +1,10 @@
 -- The invariant of the lock. Own part: what each process knows of itself and its registers. Pair part: what a reader has seen of an owner, whatever the reader is doing.
 use Rattle.std.specs.Prelude.{◌≡◌, ◌≢◌, ◌⊎◌, ℕ, suc, ◌+◌, ◌*◌, ◌/◌, ◌%◌, ◌^◌, ◌<◌, ◌≤◌, Bool, true, false, List, [], ◌∷◌, ◌++◌, length, slice_index_or, flat_map}
-use Rattle.safe_bit.specs.Cell.{Cell}
+use Rattle.record.specs.safe_bit.Cell.{Cell}
 use Rattle.record.specs.declared.access.Field.{Field}
 use Rattle.record.specs.declared.access.Field.TheVariants.{Choosing, Ticket}
-use Rattle.safe_number.specs.Bytes.{bits_of_number}
-use Rattle.safe_number.specs.Runs.{NumberWrite}
+use Rattle.record.specs.safe_number.Bytes.{bits_of_number}
+use Rattle.record.specs.safe_number.Runs.{NumberWrite}
 use Rattle.plain_store.specs.declared.Setup.{Setup}
 use Rattle.record.specs.Closings.{Closing, Withdraws, Settles, Frees, Quit, Ended, is_unwritten}
 use Rattle.record.specs.Closings as closing

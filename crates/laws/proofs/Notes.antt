@@ -3,7 +3,7 @@ use Rattle.std.specs.Prelude.{ℕ, suc, ◌==◌, Bool, false, cond, ◌&&◌, L
 use Rattle.record.specs.declared.access.Access.{Access}
 use Rattle.record.specs.declared.access.Field.{Field}
 use Rattle.record.specs.declared.access.Field.TheVariants.{Choosing, Ticket}
-use Rattle.safe_number.specs.Bytes.{number_of_bits}
+use Rattle.record.specs.safe_number.Bytes.{number_of_bits}
 use Rattle.plain_store.specs.declared.Setup.{Setup}
 use Rattle.record.specs.Closings.{Closing, Withdraws, Settles, Frees, Quit, Ended}
 use Rattle.record.specs.Closings as closing

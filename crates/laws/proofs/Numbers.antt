@@ -1,7 +1,7 @@
 -- Where the doorway of a call began and where it was finished: what `doorway_begin` and `doorway_end` look up is what the notes tell, from the first access of the doorway on, and while the process waits.
 use Rattle.std.proofs.Common.{◌≡◌, ◌≢◌, ℕ, suc, ◌<◌, ◌≤◌, ◌&&◌, ◌||◌, Bool, true, false, List, [], ◌∷◌, Option, Some, None, length, refl, sym, ap, subst, ◌∙◌, true≢false, arith, eq-eqb, ne_eqb}
 use Rattle.std.specs.List.{list_any}
-use Rattle.safe_bit.specs.SafeRule.{read_value}
+use Rattle.record.specs.safe_bit.SafeRule.{read_value}
 use Rattle.plain_store.specs.declared.Command.{Command}
 use Rattle.plain_store.specs.declared.Setup.{Setup}
 use Rattle.record.specs.declared.events.Event.{Event}

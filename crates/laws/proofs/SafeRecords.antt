@@ -1,8 +1,8 @@
 -- Each read of a record ends with the value of the safe rule, and else with the flick of its event.
 use Rattle.std.proofs.Common.{◌≡◌, Bool, if◌then◌else◌, List, Some, None, refl, sym, ap, subst, ◌∙◌, length, ℕ}
-use Rattle.safe_bit.specs.declared.Move.{Move}
-use Rattle.safe_bit.specs.declared.Move.TheVariants.{BeginWrite, EndWrite, BeginRead, EndRead, Settle}
-use Rattle.safe_bit.specs.SafeRule.{MayEndWith, read_value, last_written, before_read}
+use Rattle.record.specs.safe_bit.declared.Move.{Move}
+use Rattle.record.specs.safe_bit.declared.Move.TheVariants.{BeginWrite, EndWrite, BeginRead, EndRead, Settle}
+use Rattle.record.specs.safe_bit.SafeRule.{MayEndWith, read_value, last_written, before_read}
 use Rattle.record.specs.declared.access.Access.{Access}
 use Rattle.plain_store.specs.declared.Setup.{Setup}
 use Rattle.record.specs.declared.events.Event.{Event}

@@ -1,8 +1,8 @@
 -- What a step of a process is, by what the process does.
 use Rattle.std.proofs.Common.{◌≡◌, ℕ, Bool, true, false, cond, List, [], ◌∷◌, Option, Some, None, length, map, option_map, unwrap_or, refl, sym, ap, ◌∙◌}
 use Rattle.std.specs.List.{list_any}
-use Rattle.safe_bit.specs.declared.Move.{Move}
-use Rattle.safe_bit.specs.declared.Move.TheVariants.{BeginWrite, EndWrite, Settle}
+use Rattle.record.specs.safe_bit.declared.Move.{Move}
+use Rattle.record.specs.safe_bit.declared.Move.TheVariants.{BeginWrite, EndWrite, Settle}
 use Rattle.record.specs.declared.access.Access.{Access}
 use Rattle.record.specs.declared.access.Field.{Field}
 use Rattle.plain_store.specs.declared.Reply.{Reply}
@@ -21,7 +21,7 @@ use Rattle.record.specs.Records.{entry_of, last_start, past_of, placed, refused_
 use Rattle.record.specs.Scripts.{Call, Next}
 use Rattle.record.specs.Stages.{stage}
 use Rattle.record.specs.Unit.{unfinished, last_write, value_written, made_with}
-use Rattle.reader_copies.specs.Runs as copies
+use Rattle.record.specs.reader_copies.Runs as copies
 use Rattle.record.proofs.ClosingStanding.{IsChosen, chosen-after, told-again, withdrawn_stands, unit_stands}
 use Rattle.record.proofs.Local.{running_steps, option_map-some}
 use Rattle.record.proofs.OpenSteps.{place_at, leaving_at, failing_at, closing-plain}

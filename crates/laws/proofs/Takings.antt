@@ -2,7 +2,7 @@
 use Rattle.std.specs.Prelude.{Option, None}
 use Rattle.std.proofs.Common.{◌≡◌, ℕ, ◌||◌, Bool, true, false, cond, List, [], ◌∷◌, Some, length, map, refl, sym, ap, subst, ◌∙◌, true≢false, IsTrue}
 use Rattle.std.specs.List.{list_any}
-use Rattle.reader_copies.specs.Runs as copies
+use Rattle.record.specs.reader_copies.Runs as copies
 use Rattle.record.specs.declared.access.Field.{Field}
 use Rattle.record.specs.declared.access.Field.TheVariants.{Commit}
 use Rattle.plain_store.specs.declared.Command.{Command}

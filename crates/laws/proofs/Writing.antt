@@ -1,12 +1,12 @@
 -- What an access of a write makes of its register, and how far the write has come then.
 use Rattle.std.proofs.Common.{◌≡◌, ◌≢◌, ℕ, ◌+◌, ◌*◌, ◌/◌, ◌%◌, ◌<◌, ◌==◌, Bool, true, false, cond, List, ◌∷◌, length, Some, None, refl, sym, ap, subst, ◌∙◌, arith, inl, inr}
 use Rattle.std.proofs.lemmas.Bool.{cases_eq, eqb-true, eqb-false, ne_eqb}
-use Rattle.safe_bit.specs.SafeRule.{read_value}
-use Rattle.safe_bit.specs.declared.Move.TheVariants.{BeginWrite, EndWrite}
+use Rattle.record.specs.safe_bit.SafeRule.{read_value}
+use Rattle.record.specs.safe_bit.declared.Move.TheVariants.{BeginWrite, EndWrite}
 use Rattle.record.specs.declared.access.Access.{Access}
 use Rattle.record.specs.declared.access.Field.{Field}
 use Rattle.record.specs.Accesses.{access_of}
-use Rattle.safe_number.specs.Runs.{NumberWrite}
+use Rattle.record.specs.safe_number.Runs.{NumberWrite}
 use Rattle.plain_store.specs.declared.Setup.{Setup}
 use Rattle.record.specs.Entries.{Entry, Past}
 use Rattle.record.specs.Moves.{ended, valued, moves_of}

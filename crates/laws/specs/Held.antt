@@ -1,8 +1,8 @@
 -- What the registers hold after a past: the cell of each single-reader bit, where a process that fails or withdraws drops the read that it has open. And that each access may be made on them.
 use Rattle.std.specs.Prelude.{◌≡◌, ℕ, ◌<◌, ◌==◌, Bool, true, false, ◌&&◌, ◌||◌, List, [], ◌∷◌, flat_map, cond, None, Some}
-use Rattle.safe_bit.specs.declared.Move.TheVariants.{EndWrite}
-use Rattle.safe_bit.specs.Cell.{Cell, BitCall, Makes, Drops, cell_of_calls, read_answer, MayMove}
-use Rattle.safe_bit.specs.SafeRule.{read_value}
+use Rattle.record.specs.safe_bit.declared.Move.TheVariants.{EndWrite}
+use Rattle.record.specs.safe_bit.Cell.{Cell, BitCall, Makes, Drops, cell_of_calls, read_answer, MayMove}
+use Rattle.record.specs.safe_bit.SafeRule.{read_value}
 use Rattle.record.specs.declared.access.Access.{Access}
 use Rattle.plain_store.specs.declared.Command.{Command}
 use Rattle.plain_store.specs.declared.Setup.{Setup}

@@ -1,8 +1,8 @@
 -- The laws of the lock, of the record of every list of events, beside those that record's headline states.
 use Rattle.std.specs.Prelude.{◌≡◌, ◌↔◌, ℕ, ◌<◌, Bool, true, false, List, [], length, None, Some, Ok, IsTrue, IsFalse, Contains, AllPairs}
-use Rattle.safe_bit.specs.declared.Move.TheVariants.{EndRead}
-use Rattle.safe_bit.specs.SafeRule.{MayEndWith, read_value}
-use Rattle.reader_copies.specs.Written.{IsWrite}
+use Rattle.record.specs.safe_bit.declared.Move.TheVariants.{EndRead}
+use Rattle.record.specs.safe_bit.SafeRule.{MayEndWith, read_value}
+use Rattle.record.specs.reader_copies.Written.{IsWrite}
 use Rattle.record.specs.declared.access.Access.{Access}
 use Rattle.plain_store.specs.declared.Answer.TheVariants as answer
 use Rattle.plain_store.specs.declared.Setup.{Setup}

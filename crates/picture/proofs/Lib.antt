@@ -1,3 +1,4 @@
+pub use Rattle.shapes.proofs as shapes
 mod Beginnings
 mod Drawn
 mod Steps

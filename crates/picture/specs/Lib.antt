@@ -1,3 +1,5 @@
+pub use Rattle.columns.specs as columns
+pub use Rattle.shapes.specs as shapes
 pub mod Bandings
 pub mod Bars
 pub mod Drawings

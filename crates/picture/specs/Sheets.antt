@@ -2,7 +2,7 @@
 use Rattle.std.specs.Prelude.{ℕ, ◌+◌, ◌-◌, ◌^◌, ◌==◌, cond, min, nat_lt, List, [], ◌∷◌, ◌++◌, codes, flat_map, map}
 use Rattle.std.specs.Fmt.{decimal}
 use Rattle.bstr.specs.Text.{lines_of, without_terminator}
-use Rattle.plain_store.specs.declared.setups.Setup.{Setup}
+use Rattle.record.specs.plain_store.declared.setups.Setup.{Setup}
 use Rattle.shapes.specs.Markup.{Said, entering_by, lowering, said_text, standing_by, telling_by}
 use Rattle.shapes.specs.declared.names.Key.TheVariants as key
 use Rattle.shapes.specs.declared.names.Tag.TheVariants as tag

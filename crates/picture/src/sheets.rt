@@ -10,7 +10,7 @@ ghost use Rattle.picture.specs.Sheets.{description_tag, ground_of, ground_tag, h
 use crate::constants::{LEGEND, PAGE_STYLE, PATTERNS, READS_LEGEND, SCRIPT, STYLE};
 use crate::reads::Reads;
 use bstr::ByteSlice;
-use plain_store::Setup;
+use record::Setup;
 use shapes::{Key, Markup, Tag, class, number, words};
 use std::alloc::{AllocError, Global};
 

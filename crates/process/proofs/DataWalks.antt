@@ -1,6 +1,6 @@
 -- Steps of a process at the data, by the accesses of its section.
 use Rattle.std.proofs.Common.{◌≡◌, ℕ, zero, suc, Bool, true, refl, sym, ap, subst, ◌∙◌}
-use Rattle.flicks.specs.Flicks.{FlickState, after_flick, flick_of}
+use Rattle.critical.specs.flicks.Flicks.{FlickState, after_flick, flick_of}
 use Rattle.plain_store.specs.declared.Command.{Command}
 use Rattle.plain_store.specs.declared.Setup.{Setup}
 use Rattle.record.specs.Places.{Place, place_of, place_after, value_of}

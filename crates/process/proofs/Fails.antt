@@ -1,12 +1,12 @@
 -- What a failure leaves of a process: the torn bit, and what is kept of the memory unit.
 use Rattle.std.proofs.Common.{◌≡◌, ℕ, ◌==◌, ◌<◌, ◌||◌, ◌&&◌, Bool, true, false, cond, not, if◌then◌else◌, [], ◌∷◌, refl, sym, ap, subst, ◌∙◌, arith}
 use Rattle.std.specs.Prelude.{IfSome, None, Option, Some, option_map, slice_index_or}
-use Rattle.reader_copies.specs.Runs as copies
-use Rattle.reader_copies.specs.Runs.{Settling}
+use Rattle.record.specs.reader_copies.Runs as copies
+use Rattle.record.specs.reader_copies.Runs.{Settling}
 use Rattle.record.specs.declared.access.Field.{Field}
 use Rattle.record.specs.declared.access.Field.TheVariants.{Choosing, Ticket, Commit, Stamp0, Stamp1, Image0, Image1}
 use Rattle.record.specs.declared.access.TornBit.{TornBit}
-use Rattle.safe_number.specs.Runs.{NumberWrite, torn_run as torn_of_bit, torn_with}
+use Rattle.record.specs.safe_number.Runs.{NumberWrite, torn_run as torn_of_bit, torn_with}
 use Rattle.plain_store.specs.declared.Answer.{Answer}
 use Rattle.plain_store.specs.declared.Command.{Command}
 use Rattle.plain_store.specs.declared.Command.TheVariants.{Ask}

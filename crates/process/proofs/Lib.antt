@@ -1,3 +1,5 @@
+pub use Rattle.critical.proofs as critical
+pub use Rattle.laws.proofs as laws
 -- What is kept of a process, of what it is doing
 pub mod Stages
 pub mod Marked

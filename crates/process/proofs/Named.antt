@@ -1,6 +1,6 @@
 -- The next access of a cursor, an end of a read with its value left open, and that it is of a register that there is.
 use Rattle.std.proofs.Common.{◌≡◌, ◌<◌, ◌%◌, ◌==◌, ℕ, Bool, true, false, if◌then◌else◌, sym, ap, subst, ◌∙◌, refl, Some}
-use Rattle.safe_bit.specs.declared.Move.TheVariants.{BeginWrite, EndWrite}
+use Rattle.record.specs.safe_bit.declared.Move.TheVariants.{BeginWrite, EndWrite}
 use Rattle.record.specs.declared.access.Access.{Access}
 use Rattle.record.specs.declared.access.Field.TheVariants.{Ticket}
 use Rattle.plain_store.specs.declared.Setup.{Setup}

@@ -1,10 +1,10 @@
 -- A process whose memory unit works: the place of its closing, and what an access makes of it.
 use Rattle.std.proofs.Common.{◌≡◌, ℕ, ◌+◌, ◌&&◌, ◌||◌, Bool, true, false, cond, if◌then◌else◌, List, [], ◌∷◌, refl, sym, ap, subst, ◌∙◌}
 use Rattle.std.specs.Prelude.{Option, None, Some, option_map, unwrap_or}
-use Rattle.reader_copies.specs.Runs as copies
-use Rattle.reader_copies.specs.Runs.{Settling, settle_after, settled_at}
+use Rattle.record.specs.reader_copies.Runs as copies
+use Rattle.record.specs.reader_copies.Runs.{Settling, settle_after, settled_at}
 use Rattle.record.specs.declared.access.Field.{Field}
-use Rattle.safe_number.specs.Runs.{NumberWrite, new_write}
+use Rattle.record.specs.safe_number.Runs.{NumberWrite, new_write}
 use Rattle.plain_store.specs.declared.Command.{Command}
 use Rattle.plain_store.specs.declared.Reply.{Reply}
 use Rattle.plain_store.specs.declared.Setup.{Setup}

@@ -2,7 +2,7 @@
 use Rattle.std.proofs.Common.{◌≡◌, ℕ, ◌+◌, ◌*◌, ◌==◌, Bool, true, false, cond, not, if◌then◌else◌, List, [], ◌∷◌, refl, sym, ap, subst, ◌∙◌, arith}
 use Rattle.std.proofs.lemmas.Bool.Decides.{nat_tests}
 use Rattle.std.specs.Prelude.{None, Some, nat_lt}
-use Rattle.safe_number.specs.Runs.{NumberWrite}
+use Rattle.record.specs.safe_number.Runs.{NumberWrite}
 use Rattle.plain_store.specs.declared.Answer.TheVariants as answer
 use Rattle.plain_store.specs.declared.Command.{Command}
 use Rattle.plain_store.specs.declared.Setup.{Setup}

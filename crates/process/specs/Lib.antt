@@ -1,3 +1,7 @@
+pub use Rattle.bakery.specs as bakery
+pub use Rattle.critical.specs as critical
+pub use Rattle.critical.specs.flicks as flicks
+pub use Rattle.laws.specs as laws
 pub mod Drops
 pub mod Halts
 pub mod Keeping

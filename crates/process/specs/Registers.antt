@@ -1,5 +1,5 @@
 -- The registers of all processes, those of the lock and those of the versions, and a process that is served by them.
-use Rattle.flicks.specs.Flicks.{FlickState, after_flick, flick_of}
+use Rattle.critical.specs.flicks.Flicks.{FlickState, after_flick, flick_of}
 use Rattle.std.specs.Prelude.{ℕ, zero, suc, ◌≡◌, ◌+◌, ◌≤◌, Bool, true, false, cond, List, [], Some}
 use Rattle.record.specs.declared.access.Access.{Access}
 use Rattle.plain_store.specs.declared.Setup.{Setup}

@@ -8,6 +8,8 @@ mod process;
 mod registers;
 mod told;
 
+pub use bakery::Pace;
+pub use critical::{Flicks, Image};
 pub use process::Process;
 pub use registers::Registers;
 pub use told::{Effect, Made, Told};

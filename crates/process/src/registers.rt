@@ -9,13 +9,11 @@ ghost use Rattle.process.specs.Drops.{CanDrop, without_read};
 ghost use Rattle.process.specs.Registers.{AreAlike, CanMake, answered, made, new_registers};
 
 use bakery::Locks;
-use critical::DataRow;
+use critical::{DataRow, Image};
 use plain_store::Setup;
-use record::{Access, Field};
-use safe_bit::Move;
+use record::{Access, Field, Move};
 use std::alloc::{AllocError, Global};
 use std::marker::Model;
-use store_image::Image;
 
 /// The registers of all processes of a setup: those of the lock, and those of the store's versions.
 #[derive(Drop)]

@@ -5,7 +5,7 @@ use Rattle.plain_store.specs.declared.Answer.{Answer}
 use Rattle.plain_store.specs.declared.Reply.{Reply}
 use Rattle.plain_store.specs.declared.Setup.{Setup}
 use Rattle.plain_store.specs.Store.{changes}
-use Rattle.flicks.specs.Flicks.{FlickState, flick_of}
+use Rattle.board.specs.flicks.Flicks.{FlickState, flick_of}
 use Rattle.record.specs.declared.history.Taken.{Taken}
 use Rattle.record.specs.declared.marks.Mark.{Mark}
 use Rattle.record.specs.declared.marks.Mark.TheVariants as mark
@@ -17,12 +17,12 @@ use Rattle.record.specs.Parts as part
 use Rattle.record.specs.Places.{Place, bits_with, is_fresh, is_last, place_after}
 use Rattle.record.specs.Scripts.{Call}
 use Rattle.record.specs.Stages.{stage_after}
-use Rattle.laws.specs.Doings.{Doing, Rests, Lies, Runs, Closes, call}
-use Rattle.laws.specs.Steps.{does_then, marks_with}
-use Rattle.process.specs.Processes as kept
-use Rattle.process.specs.Processes.{Kept, kept_at, kept_in, stage_kept}
-use Rattle.bakery.specs.Doors.{is_waiting}
-use Rattle.process.specs.Steps.{may_step}
+use Rattle.board.specs.laws.Doings.{Doing, Rests, Lies, Runs, Closes, call}
+use Rattle.board.specs.laws.Steps.{does_then, marks_with}
+use Rattle.board.specs.process.Processes as kept
+use Rattle.board.specs.process.Processes.{Kept, kept_at, kept_in, stage_kept}
+use Rattle.board.specs.bakery.Doors.{is_waiting}
+use Rattle.board.specs.process.Steps.{may_step}
 use Rattle.record.specs.declared.calls.Placed.{Placed}
 use Rattle.board.specs.Calls.{Calls, and_then, calls_after}
 use Rattle.board.specs.Driving.{Drives, EndsWith, Walks, flicks_after}

@@ -1,14 +1,14 @@
 -- How the engine ends.
 use Rattle.std.proofs.Common.{◌≡◌, ℕ, ◌+◌, List, [], Option, Some, None, Result, Ok, Err, IsErrAnd, IfOk, IfSome, subst, sym, ap, ◌∙◌, refl, arith}
 use Rattle.std.specs.Io.KnownBytes.{Appends, IsAtEnd, Keeps}
-use Rattle.files.proofs.CutTexts.{input_tells}
-use Rattle.files.proofs.EngineEnds.{ran_to_line, read_to_end}
-use Rattle.files.specs.Engines.{Streams}
-use Rattle.files.specs.Reads.{UnlessMemory}
-use Rattle.files.specs.Streams.{ReadsInput, WritesFront}
-use Rattle.files.specs.declared.faults.Fault.{Fault}
-use Rattle.files.specs.declared.faults.Fault.TheVariants.{Line, Memory, Read, Write}
-use Rattle.files.specs.declared.faults.LineFault.{LineFault}
+use Rattle.scenario.proofs.files.CutTexts.{input_tells}
+use Rattle.scenario.proofs.files.EngineEnds.{ran_to_line, read_to_end}
+use Rattle.scenario.specs.files.Engines.{Streams}
+use Rattle.scenario.specs.files.Reads.{UnlessMemory}
+use Rattle.scenario.specs.files.Streams.{ReadsInput, WritesFront}
+use Rattle.scenario.specs.files.declared.faults.Fault.{Fault}
+use Rattle.scenario.specs.files.declared.faults.Fault.TheVariants.{Line, Memory, Read, Write}
+use Rattle.scenario.specs.files.declared.faults.LineFault.{LineFault}
 use Rattle.scenario.proofs.CutTexts.{scenario_tells_at_limit}
 use Rattle.scenario.specs.Reading.{Script, scenario_of}
 use Rattle.weigh.specs.declared.verdicts.Weighed.{Weighed}

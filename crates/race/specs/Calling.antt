@@ -4,7 +4,7 @@ use Rattle.plain_store.specs.declared.Answer.{Answer}
 use Rattle.plain_store.specs.declared.Command.{Command}
 use Rattle.plain_store.specs.declared.Setup.{Setup}
 use Rattle.record.specs.declared.stages.Stage.TheVariants.{Idle}
-use Rattle.laws.specs.Doings.{Doing, Rests, Runs}
+use Rattle.board.specs.laws.Doings.{Doing, Rests, Runs}
 use Rattle.board.specs.Calls.{Calls, and_then}
 use Rattle.board.specs.Views.{OwnView, ViewState, stage_in}
 use Rattle.board.specs.WordSteps.{goes}

@@ -2,10 +2,10 @@
 use Rattle.std.specs.Prelude.{◌≡◌, ℕ, ◌<◌, List, [], Option, IfSome, Result, Ok, Err}
 use Rattle.std.specs.Io.KnownBytes.{Appends, IsAtEnd, Keeps}
 use Rattle.plain_store.specs.Store.{Contents}
-use Rattle.files.specs.Engines.{Ran, Streams, text_by}
-use Rattle.files.specs.Streams.{WritesFront}
-use Rattle.files.specs.declared.faults.Fault.TheVariants.{Line, Read, Write, Memory}
-use Rattle.files.specs.declared.faults.LineFault.{LineFault}
+use Rattle.scenario.specs.files.Engines.{Ran, Streams, text_by}
+use Rattle.scenario.specs.files.Streams.{WritesFront}
+use Rattle.scenario.specs.files.declared.faults.Fault.TheVariants.{Line, Read, Write, Memory}
+use Rattle.scenario.specs.files.declared.faults.LineFault.{LineFault}
 use Rattle.scenario.specs.Reading.{Script, scenario_of}
 use Rattle.race.specs.Races.{IsRaced}
 use Rattle.weigh.specs.Weighing.{IsWeighed}

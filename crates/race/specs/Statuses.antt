@@ -1,6 +1,6 @@
 -- The exit statuses of `race`.
 use Rattle.std.specs.Prelude.{ℕ, Result, Ok, Err}
-use Rattle.files.specs.Statuses.{status_of_fault}
+use Rattle.scenario.specs.files.Statuses.{status_of_fault}
 use Rattle.race.specs.declared.faults.RaceFault.{RaceFault}
 use Rattle.race.specs.declared.faults.RaceFault.TheVariants.{Spawn, Held, Memory}
 use Rattle.weigh.specs.declared.verdicts.Weighed.{Weighed}

@@ -49,7 +49,7 @@ impl From<Fault> for RunFault {
 }
 
 impl From<LineFault> for RunFault {
-    ghost use Rattle.files.specs.declared.faults.Fault.TheVariants.{Line};
+    ghost use Rattle.scenario.specs.files.declared.faults.Fault.TheVariants.{Line};
     ghost use Rattle.race.specs.declared.faults.RunFault.TheVariants.{File};
 
     ghost from_gives = { λ fault result. result ≡ File (Line fault) };
@@ -60,7 +60,7 @@ impl From<LineFault> for RunFault {
 }
 
 impl From<AllocError> for RunFault {
-    ghost use Rattle.files.specs.declared.faults.Fault.TheVariants.{Memory};
+    ghost use Rattle.scenario.specs.files.declared.faults.Fault.TheVariants.{Memory};
     ghost use Rattle.race.specs.declared.faults.RunFault.TheVariants.{File};
 
     ghost from_gives = { λ error result. result ≡ File Memory };

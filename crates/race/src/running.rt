@@ -1,7 +1,7 @@
 //! The engine itself.
 ghost use Rattle.std.specs.Prelude.{◌≡◌, ◌-◌, ◌^◌, ◌<◌, IfErr, IfOk};
 ghost use Rattle.std.specs.String.{string_bytes};
-ghost use Rattle.files.specs.Streams.{ReadsFront};
+ghost use Rattle.scenario.specs.files.Streams.{ReadsFront};
 ghost use Rattle.scenario.specs.Reads.{script};
 ghost use Rattle.race.specs.Ends.{IsFaultOfRacing, RanRace, TellsRace};
 

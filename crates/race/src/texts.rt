@@ -5,12 +5,12 @@ ghost use Rattle.scenario.specs.Reads.{script};
 ghost use Rattle.record.specs.CallLists.{lists_of};
 ghost use Rattle.race.specs.Texts.{answer_line as line_of_answer, answers_from, call_text, list_text, race_text as text_of_race, refused_lines as lines_of_refused, refused_text, verdict_line as line_of_verdict};
 
+use board::Image;
 use engines::no_process_line;
 use plain_store::{Answer, NestedTypes, Setup, show_line};
 use record::Placed;
 use scenario::{Line, Scenario};
 use std::alloc::{AllocError, Global};
-use store_image::Image;
 use weigh::Weighed;
 
 /// The text of a race of the scenario that left these lists and this image, with this verdict on them.

@@ -9,8 +9,7 @@ ghost use Rattle.race.specs.declared.workers.Reached.TheVariants.{Answer};
 
 use crate::faults::RaceFault;
 use crate::gates::{Gate, Moment, passes};
-use board::{Board, Driven, Port};
-use flicks::Flicks;
+use board::{Board, Driven, Flicks, Port};
 use plain_store::Command;
 use record::Stage;
 use std::sync::Wait;

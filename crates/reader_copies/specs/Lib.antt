@@ -1,3 +1,4 @@
+pub use Rattle.safe_bit.specs as safe_bit
 pub mod Flags
 pub mod Histories
 pub mod Laws

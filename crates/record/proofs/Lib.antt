@@ -1,3 +1,7 @@
+pub use Rattle.reader_copies.proofs as reader_copies
+pub use Rattle.safe_bit.proofs as safe_bit
+pub use Rattle.safe_number.proofs as safe_number
+pub use Rattle.store_image.proofs as store_image
 -- A place of the program, and what its script says
 pub mod Place
 pub mod Standing

@@ -1,3 +1,8 @@
+pub use Rattle.plain_store.specs as plain_store
+pub use Rattle.reader_copies.specs as reader_copies
+pub use Rattle.safe_bit.specs as safe_bit
+pub use Rattle.safe_number.specs as safe_number
+pub use Rattle.store_image.specs as store_image
 pub mod Accesses
 pub mod Acts
 pub mod CallLists

@@ -26,6 +26,8 @@ pub use laws::{
     single_writer, unoverlapped_reads_give_the_bits,
 };
 pub use marks::Mark;
+pub use plain_store::Setup;
 pub use records::{Entry, Record};
 pub use refusals::Refusal;
+pub use safe_bit::{Move, SafeBit};
 pub use stages::Stage;

@@ -5,8 +5,8 @@ use Rattle.std.proofs.lemmas.Bool.Decides.{nat_tests}
 use Rattle.std.specs.List.{list_all, range_with_len}
 use Rattle.record.specs.declared.access.Access.{Access}
 use Rattle.record.specs.declared.access.Field.{Field}
-use Rattle.safe_number.specs.Bytes.{number_of_bits}
-use Rattle.safe_number.specs.Runs.{new_write}
+use Rattle.record.specs.safe_number.Bytes.{number_of_bits}
+use Rattle.record.specs.safe_number.Runs.{new_write}
 use Rattle.plain_store.specs.Store.{Contents, changes}
 use Rattle.plain_store.specs.declared.Answer.TheVariants as answer
 use Rattle.plain_store.specs.declared.Command.{Command}
@@ -25,7 +25,7 @@ use Rattle.record.specs.Scripts.{Call, caller}
 use Rattle.record.specs.Unit.{is_commit, last_read, last_write, unfinished, value_written}
 use Rattle.record.specs.declared.marks.Mark.{Mark}
 use Rattle.record.specs.declared.marks.Mark.TheVariants.{Called, Waiting, Entered, Taken, Left, Answered, Failed, Settled, Down, Withdrew, Restarted}
-use Rattle.reader_copies.specs.Runs as copies
+use Rattle.record.specs.reader_copies.Runs as copies
 use Rattle.record_file.specs.Given.{is_answer, is_reply}
 use Rattle.record_file.proofs.SoundReplies.{index_small, is_sound, read_sound, reply_sound}
 

@@ -17,9 +17,9 @@ use Rattle.plain_store.specs.declared.commands.Command.TheVariants.{Read, Write,
 use Rattle.plain_store.specs.declared.commands.Reply.TheVariants as reply
 use Rattle.plain_store.specs.declared.commands.Value.{Value}
 use Rattle.plain_store.specs.declared.commands.Value.TheVariants.{Count, Text}
-use Rattle.store_image.specs.Image.{image_of, is_number}
-use Rattle.store_image.specs.Image.{store_read as fields_read}
-use Rattle.store_image.specs.Reading.{has_image, store_in, used_in}
+use Rattle.record.specs.store_image.Image.{image_of, is_number}
+use Rattle.record.specs.store_image.Image.{store_read as fields_read}
+use Rattle.record.specs.store_image.Reading.{has_image, store_in, used_in}
 use Rattle.record.specs.Program.{store_read}
 use Rattle.record.specs.Registers.{bytes_of_bits, image_bytes}
 use Rattle.record.specs.Scripts.{Call}

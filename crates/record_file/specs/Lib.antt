@@ -1,3 +1,4 @@
+pub use Rattle.scenario.specs as scenario
 pub mod Faults
 pub mod Given
 pub mod Keywords

@@ -2,12 +2,12 @@
 use Rattle.std.proofs.Common.{◌≡◌, ◌≢◌, ℕ, ◌+◌, ◌<◌, ◌≤◌, ◌==◌, ◌||◌, List, Bool, true, false, cond, Some, length, refl, sym, ap, subst, ◌∙◌, arith}
 use Rattle.std.proofs.lemmas.List.{length_push}
 use Rattle.std.proofs.lemmas.Bool.{eqb-true, eqb-false}
-use Rattle.safe_bit.specs.Cell.{Cell}
+use Rattle.reader_copies.specs.safe_bit.Cell.{Cell}
 use Rattle.reader_copies.specs.declared.Made.{Made}
 use Rattle.reader_copies.specs.declared.Progress.{Progress}
 use Rattle.reader_copies.specs.declared.Progress.TheVariants.{Going, Done}
 use Rattle.reader_copies.specs.Row.{cell_at, row_after, HasCell, IsRow, new_row}
-use Rattle.safe_bit.specs.declared.Move.TheVariants.{BeginWrite, EndWrite, Settle}
+use Rattle.reader_copies.specs.safe_bit.declared.Move.TheVariants.{BeginWrite, EndWrite, Settle}
 use Rattle.reader_copies.specs.Written.{IsAt, IsWrite, IsWritten}
 use Rattle.reader_copies.specs.Runs.{Settling, next_write, next_read, next_settle, settle_after, settled_at, is_open_at, progress_of}
 use Rattle.reader_copies.proofs.Writing.{reading-kept, HasCell-before, length-row_with_cell, written-kept, new_row-cell}
@@ -15,7 +15,7 @@ use Rattle.safe_number.specs.Runs.{NumberWrite, NumberRead, bit_write, number_wr
 use Rattle.safe_number.specs.Written.{IsWriting, IsSettling, IsReading, IsUndisturbed, loaded}
 use Rattle.safe_number.proofs.IntervalSteps.{settling-on, settled-stays}
 use Rattle.safe_number.proofs.WrittenSteps.{writing-can, writing-on, write_is, has_cell, shape_after, reading-on, undisturbed-on, read_keeps}
-use Rattle.safe_bit.specs.Cell.{cell_after}
+use Rattle.reader_copies.specs.safe_bit.Cell.{cell_after}
 use Rattle.register_drive.specs.Idle.{IsIdle}
 use Rattle.register_drive.specs.Reads.{ReadsAlong}
 

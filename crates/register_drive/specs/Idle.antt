@@ -1,6 +1,6 @@
 -- A reader has no read open.
 use Rattle.std.specs.Prelude.{◌≡◌, ℕ, List, false}
-use Rattle.safe_bit.specs.Cell.{Cell}
+use Rattle.reader_copies.specs.safe_bit.Cell.{Cell}
 use Rattle.reader_copies.specs.Row.{cell_at, HasCell}
 
 -- none of its copies is being read

@@ -1,6 +1,6 @@
 -- A read that nobody disturbs.
 use Rattle.std.specs.Prelude.{◌≡◌, ℕ, ◌<◌, List, Bool, length}
-use Rattle.safe_bit.specs.Cell.{Cell}
+use Rattle.reader_copies.specs.safe_bit.Cell.{Cell}
 use Rattle.reader_copies.specs.Row.{IsRow}
 use Rattle.reader_copies.specs.Written.{IsWritten}
 use Rattle.safe_number.specs.Runs.{NumberRead}

@@ -6,4 +6,5 @@ mod drive;
 mod torn;
 
 pub use drive::{read_all, write_all};
+pub use safe_number::{ReadRun, Register};
 pub use torn::{cut_and_settle, settle_all, write_some};

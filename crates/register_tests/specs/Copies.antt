@@ -1,7 +1,7 @@
 -- Copies of bits in the states that several tests share.
 use Rattle.std.specs.Prelude.{true, false, List, [], ◌∷◌}
-use Rattle.safe_bit.specs.Cell.{Cell, cell_of}
-use Rattle.safe_bit.specs.declared.Move.TheVariants.{BeginWrite, EndWrite, BeginRead}
+use Rattle.record.specs.safe_bit.Cell.{Cell, cell_of}
+use Rattle.record.specs.safe_bit.declared.Move.TheVariants.{BeginWrite, EndWrite, BeginRead}
 use Rattle.reader_copies.specs.Row.{new_row, row_after}
 
 -- a copy in which 1 was written

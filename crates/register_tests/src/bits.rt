@@ -1,4 +1,4 @@
-use safe_bit::SafeBit;
+use record::SafeBit;
 
 // What was written is read, whatever the flick, and an end without a write is refused by the test that callers have. A read
 // that a write overlaps gives the flick, also where the write has ended by then. A settled write counts as ended at the

@@ -2,7 +2,7 @@ ghost use Rattle.std.specs.Prelude.{◌≡◌, true, false, [], ◌∷◌, repli
 ghost use Rattle.register_tests.specs.Copies.{written_copy, open_row, with_last_written};
 
 use reader_copies::{CopiedBit, CopiedRow, CopyRead, CopyWrite, Made, Progress};
-use safe_bit::Move;
+use record::Move;
 use std::alloc::{AllocError, Global};
 use std::process::Abort;
 use std::test::Fail;

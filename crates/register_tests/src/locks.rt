@@ -1,9 +1,8 @@
 //! Steps on real registers.
-use bakery::{Door, DoorProgress, Leaving, Locks};
+use failure::{Door, DoorProgress, Leaving, Locks};
 use plain_store::Setup;
 use reader_copies::{Made, Progress};
-use record::Field;
-use safe_bit::Move;
+use record::{Field, Move};
 use std::test::Fail;
 
 // On registers a step makes the access that its cursor tells, and a failure tells the bit whose write has

@@ -1,8 +1,7 @@
 //! A plain memory of safe bits, on which the cursor of the section is driven by hand.
 ghost use Rattle.std.specs.Prelude.{◌≤◌};
 
-use record::{Access, Field};
-use safe_bit::Move;
+use record::{Access, Field, Move};
 use std::alloc::{AllocError, Global};
 use std::process::Abort;
 

@@ -1,17 +1,16 @@
 //! The section of a process alone, driven by hand: its cursor over a plain memory, and its steps on registers.
 ghost use Rattle.std.specs.Prelude.{◌≡◌, zero, true, Ok, IfOk};
-ghost use Rattle.safe_bit.specs.declared.Move.TheVariants.{BeginWrite};
+ghost use Rattle.record.specs.safe_bit.declared.Move.TheVariants.{BeginWrite};
 ghost use Rattle.record.specs.declared.access.Field.TheVariants.{Commit};
 ghost use Rattle.plain_store.specs.Setups.{checked};
-ghost use Rattle.critical.specs.Registers.{row_from, opening_cell, after_access};
-ghost use Rattle.critical.specs.Sections.{is_going, goes_on};
+ghost use Rattle.failure.specs.critical.Registers.{row_from, opening_cell, after_access};
+ghost use Rattle.failure.specs.critical.Sections.{is_going, goes_on};
 
 use super::memory::Memory;
-use critical::{DataRow, Section, SectionProgress};
+use failure::{DataRow, Section, SectionProgress};
 use plain_store::{Command, Name, Reply, Setup, Value};
 use reader_copies::Made;
-use record::{Access, Field};
-use safe_bit::Move;
+use record::{Access, Field, Move};
 use std::alloc::{AllocError, Global};
 use std::process::Abort;
 use std::test::Fail;

@@ -1,10 +1,7 @@
 //! The memory unit on registers.
-use bakery::Locks;
-use critical::DataRow;
-use failure::{Unit, UnitProgress};
+use failure::{DataRow, Locks, Unit, UnitProgress};
 use plain_store::Setup;
-use record::{Access, Field};
-use safe_bit::Move;
+use record::{Access, Field, Move};
 use std::test::Fail;
 
 // On the registers of a process that failed before its first access, the unit begins to clear the ticket.

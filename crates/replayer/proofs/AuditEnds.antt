@@ -1,8 +1,8 @@
 -- What an audit finds at the end of a run, whose turns are counted as a replay counts them.
 use Rattle.std.proofs.Common.{None, ◌≡◌, List, [], length, ap, sym, ◌∙◌}
 use Rattle.plain_store.specs.declared.setups.Setup.{Setup}
-use Rattle.auditor.specs.Verdicts.{IsVerdict}
-use Rattle.auditor.specs.declared.verdicts.Verdict.TheVariants.{Good}
+use Rattle.judge.specs.auditor.Verdicts.{IsVerdict}
+use Rattle.judge.specs.auditor.declared.verdicts.Verdict.TheVariants.{Good}
 use Rattle.scenario.specs.Reading.{Script}
 use Rattle.scenario.specs.declared.lines.Line.{Line}
 use Rattle.replayer.specs.Audits.{run_record}

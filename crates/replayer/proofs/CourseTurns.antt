@@ -17,9 +17,9 @@ use Rattle.scenario.specs.declared.lines.Flick.{Flick}
 use Rattle.scenario.specs.declared.lines.Line.{Line}
 use Rattle.scenario.specs.declared.lines.Line.TheVariants as line
 use Rattle.scenario.specs.declared.lines.Target.{Target}
-use Rattle.process.specs.Telling.{act_of}
+use Rattle.world.specs.process.Telling.{act_of}
 use Rattle.world.specs.Events.{Adds, GoesOn, IsTurnedAway, entry_with, stage_in}
-use Rattle.flicks.specs.Flicks.{FlickState, after_set}
+use Rattle.world.specs.flicks.Flicks.{FlickState, after_set}
 use Rattle.world.specs.Shows.{Shows, WorldState}
 use Rattle.replayer.specs.Courses.{CourseState, Follows, Makes, MakesTurns, QuietTurns, course}
 use Rattle.replayer.specs.Happenings.{Tries, Lacks, Looks, tried}

@@ -13,11 +13,11 @@ use Rattle.record.specs.Given.{AreGiven, is_event}
 use Rattle.record.specs.Histories.{history}
 use Rattle.record.specs.Records.{entry_of, past_of, record_of}
 use Rattle.record.specs.declared.events.Event.{Event}
-use Rattle.record_file.specs.Printing.{record_text}
-use Rattle.record_file.specs.ReadAgain.{FitLines, FitsLine, IsSetupOfFile, RecordsAreReadAgain, RecordsFitLines}
-use Rattle.record_file.specs.RecordFiles as reader
-use Rattle.record_file.proofs.RecordsAgain.{record_again}
-use Rattle.record_file.proofs.ShortWords.{short_fits}
+use Rattle.judge.specs.record_file.Printing.{record_text}
+use Rattle.judge.specs.record_file.ReadAgain.{FitLines, FitsLine, IsSetupOfFile, RecordsAreReadAgain, RecordsFitLines}
+use Rattle.judge.specs.record_file.RecordFiles as reader
+use Rattle.judge.proofs.record_file.RecordsAgain.{record_again}
+use Rattle.judge.proofs.record_file.ShortWords.{short_fits}
 use Rattle.replayer.proofs.SoundEntries.{entry_fits, few_taken}
 
 -- Lists turned round.

@@ -8,7 +8,7 @@ use Rattle.record.specs.Stages.{stage}
 use Rattle.scenario.specs.declared.lines.Line.TheVariants as line
 use Rattle.scenario.specs.declared.lines.Target.{Target}
 use Rattle.world.specs.Events.{stage_in}
-use Rattle.flicks.specs.Flicks.{FlickState}
+use Rattle.world.specs.flicks.Flicks.{FlickState}
 use Rattle.world.specs.Shows.{Shows, WorldState}
 use Rattle.replayer.specs.Courses.{CourseState, Follows, IsQuiet, Makes, MakesQuietly, MakesTurns, QuietTurns, course}
 use Rattle.replayer.specs.Happenings.{Lacks, tried}

@@ -1,16 +1,16 @@
 -- A store is known by its image, and the newest store by that of the registers.
 use Rattle.std.proofs.Common.{◌≡◌, ◌*◌, ◌+◌, Bool, true, false, cond, List, [], ◌++◌, length, Option, Some, None, option_map, IfSome, refl, ap, sym, ◌∙◌, arith}
-use Rattle.store_image.specs.Image.{IsStore, image_of, store_read}
+use Rattle.record.specs.store_image.Image.{IsStore, image_of, store_read}
 use Rattle.plain_store.specs.Store.{Contents}
-use Rattle.store_image.specs.Reading.{used_in}
-use Rattle.store_image.proofs.ImageBytes.{length-image_of, store_read-image_of}
-use Rattle.store_image.proofs.Readings.{used_in-image_of}
+use Rattle.record.specs.store_image.Reading.{used_in}
+use Rattle.record.proofs.store_image.ImageBytes.{length-image_of, store_read-image_of}
+use Rattle.record.proofs.store_image.Readings.{used_in-image_of}
 use Rattle.record.specs.declared.events.Event.{Event}
 use Rattle.record.specs.Entries.{Past}
 use Rattle.record.specs.Histories.{history, store_after}
 use Rattle.record.specs.Newest.{is_somebody_inside, newest}
 use Rattle.record.specs.Records.{past_of}
-use Rattle.history_laws.proofs.DataAlways.{data_of}
+use Rattle.world.proofs.history_laws_proofs.DataAlways.{data_of}
 use Rattle.world.specs.Shows.{Shows, WorldState}
 use Rattle.replayer.specs.Texts.{newest_store}
 

@@ -1,3 +1,6 @@
+pub use Rattle.world.proofs.history_laws_proofs as history_laws
+pub use Rattle.sweeper.proofs.laws as laws
+pub use Rattle.judge.proofs.watch as watch
 -- The turns of a line
 pub mod TurnLaw
 pub mod CourseTurns

@@ -12,20 +12,20 @@ use Rattle.record.specs.Given.{AreGiven}
 use Rattle.record.specs.Histories.{history}
 use Rattle.record.specs.Records.{entry_of, past_of, placed, refused, with_event}
 use Rattle.record.specs.declared.access.Access.{Access}
-use Rattle.process.specs.declared.told.Effect.{Effect}
-use Rattle.process.specs.Telling.{act_of, marks_of}
+use Rattle.world.specs.process.declared.told.Effect.{Effect}
+use Rattle.world.specs.process.Telling.{act_of, marks_of}
 use Rattle.world.specs.Events.{Adds, GoesOn, entry_with}
 use Rattle.world.specs.Cores.{CoreState, core_of, with_history}
 use Rattle.world.specs.Shows.{Shows, WorldState, world_of}
 use Rattle.world.specs.Walks.{StepsQuietly, Walks}
-use Rattle.flicks.specs.Flicks.{FlickState, after_flick, flick_of}
+use Rattle.world.specs.flicks.Flicks.{FlickState, after_flick, flick_of}
 use Rattle.world.proofs.WorldShows.{past-after}
-use Rattle.auditor.specs.Hearing.{AuditorState, HasHeard, IsCount, IsHeard}
-use Rattle.auditor.specs.Verdicts.{AllKeep, IsVerdict, KeepsAll}
-use Rattle.auditor.specs.declared.verdicts.Law.{Law}
-use Rattle.auditor.specs.declared.verdicts.Verdict.TheVariants.{Good}
-use Rattle.auditor.proofs.Obeys.{obeys}
-use Rattle.auditor.proofs.Whole.{good_of}
+use Rattle.judge.specs.auditor.Hearing.{AuditorState, HasHeard, IsCount, IsHeard}
+use Rattle.judge.specs.auditor.Verdicts.{AllKeep, IsVerdict, KeepsAll}
+use Rattle.judge.specs.auditor.declared.verdicts.Law.{Law}
+use Rattle.judge.specs.auditor.declared.verdicts.Verdict.TheVariants.{Good}
+use Rattle.judge.proofs.auditor.Obeys.{obeys}
+use Rattle.judge.proofs.auditor.Whole.{good_of}
 use Rattle.scenario.specs.Reading.{Script}
 use Rattle.replayer.specs.Audits.{run_record}
 use Rattle.replayer.specs.Happenings.{accepted, past_after, tried}

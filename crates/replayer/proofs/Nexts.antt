@@ -14,11 +14,11 @@ use Rattle.scenario.specs.declared.lines.Line.TheVariants as line
 use Rattle.world.specs.Events.{Adds, GoesOn, IsRefused}
 use Rattle.world.specs.Shows.{Shows, WorldState}
 use Rattle.world.specs.Walks.{StepsQuietly}
-use Rattle.flicks.specs.Flicks.{FlickState, after_flick, after_pick, flick_of, pick_of}
-use Rattle.process.specs.Telling.{act_of}
-use Rattle.process.specs.declared.told.Effect.TheVariants.{Steps}
-use Rattle.process.specs.declared.told.Made.{Made}
-use Rattle.process.specs.declared.told.Told.TheVariants as step
+use Rattle.world.specs.flicks.Flicks.{FlickState, after_flick, after_pick, flick_of, pick_of}
+use Rattle.world.specs.process.Telling.{act_of}
+use Rattle.world.specs.process.declared.told.Effect.TheVariants.{Steps}
+use Rattle.world.specs.process.declared.told.Made.{Made}
+use Rattle.world.specs.process.declared.told.Told.TheVariants as step
 use Rattle.replayer.specs.Courses.{CourseState, Follows, Makes, course}
 use Rattle.replayer.specs.Happenings.{Tries, tried}
 use Rattle.replayer.specs.Runs.{Run, is_there, next_step, past_in, stepped}

@@ -1,11 +1,11 @@
 -- A replay between two lines: what has happened, what was written, and the lines to come.
 use Rattle.std.proofs.Common.{◌≡◌, ℕ, List, [], ◌∷◌, ◌++◌, Option, Ok, refl, ap, sym, subst, ◌∙◌, append_assoc}
 use Rattle.std.specs.Io.KnownBytes.{Appends}
-use Rattle.files.specs.Streams.{WritesFront}
+use Rattle.scenario.specs.files.Streams.{WritesFront}
 use Rattle.plain_store.specs.declared.setups.Setup.{Setup}
 use Rattle.plain_store.specs.Setups.{checked}
 use Rattle.record.specs.Given.{AreGiven}
-use Rattle.history_laws.proofs.Headlines.{throughout}
+use Rattle.world.proofs.history_laws_proofs.Headlines.{throughout}
 use Rattle.scenario.specs.declared.lines.Line.{Line}
 use Rattle.replayer.specs.Courses.{CourseState, Follows}
 use Rattle.replayer.specs.Happenings.{Happening, tried}

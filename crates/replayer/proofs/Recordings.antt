@@ -3,11 +3,11 @@ use Rattle.std.proofs.Common.{◌≡◌, ℕ, ◌≤◌, List, [], ◌∷◌, �
 use Rattle.std.proofs.lemmas.Grind.{flat_map-append}
 use Rattle.std.proofs.lemmas.List.{reverse-append, reverse-reverse}
 use Rattle.std.specs.Io.KnownBytes.{Appends}
-use Rattle.files.specs.Streams.{WritesFront}
+use Rattle.scenario.specs.files.Streams.{WritesFront}
 use Rattle.plain_store.specs.declared.setups.Setup.{Setup}
 use Rattle.record.specs.Entries.{Entry, Past}
 use Rattle.record.specs.Records.{entry_of}
-use Rattle.record_file.specs.Printing.{entry_line, head_words, step_entry}
+use Rattle.judge.specs.record_file.Printing.{entry_line, head_words, step_entry}
 use Rattle.scenario.specs.Printing.{printed_line}
 use Rattle.scenario.specs.Reading.{Script}
 use Rattle.scenario.specs.declared.lines.Line.{Line}

@@ -1,15 +1,15 @@
 -- How an engine ends that has read its input: the whole text was written, or a front of it.
 use Rattle.std.proofs.Common.{◌≡◌, ℕ, ◌+◌, List, Option, Some, None, Result, Ok, Err, IfSome, IfOk, IfErr, IsErrAnd, OnOk, subst, sym, ◌∙◌, arith}
 use Rattle.std.specs.Io.KnownBytes.{Appends}
-use Rattle.files.proofs.CutTexts.{input_tells}
+use Rattle.scenario.proofs.files.CutTexts.{input_tells}
 use Rattle.scenario.proofs.CutTexts.{scenario_tells_at_limit}
-use Rattle.files.proofs.EngineEnds.{text_told, read_to_end}
-use Rattle.files.specs.Engines.{Streams, Ran, text_by, text_or_none}
+use Rattle.scenario.proofs.files.EngineEnds.{text_told, read_to_end}
+use Rattle.scenario.specs.files.Engines.{Streams, Ran, text_by, text_or_none}
 use Rattle.scenario.specs.Reading.{Script, scenario_of}
-use Rattle.files.specs.Streams.{ReadsInput, WritesFront}
-use Rattle.files.specs.declared.faults.Fault.{Fault}
-use Rattle.files.specs.declared.faults.LineFault.{LineFault}
-use Rattle.files.specs.declared.faults.Fault.TheVariants.{Line, Read, Write, Memory}
+use Rattle.scenario.specs.files.Streams.{ReadsInput, WritesFront}
+use Rattle.scenario.specs.files.declared.faults.Fault.{Fault}
+use Rattle.scenario.specs.files.declared.faults.LineFault.{LineFault}
+use Rattle.scenario.specs.files.declared.faults.Fault.TheVariants.{Line, Read, Write, Memory}
 use Rattle.replayer.specs.Replays.{InputKeepsHeadline, IsSummaryOf, RunKeepsHeadline, ended}
 use Rattle.replayer.specs.Runs.{happenings}
 use Rattle.replayer.specs.Summaries.{summary_of}

@@ -3,7 +3,7 @@ use Rattle.std.proofs.Common.{◌≡◌, ℕ, ◌+◌, ◌*◌, ◌≤◌, List,
 use Rattle.std.proofs.lemmas.List.{length-reverse}
 use Rattle.std.specs.Io.KnownBytes.{Appends}
 use Rattle.record.specs.declared.events.Event.{Event}
-use Rattle.record_file.specs.ReadAgain.{IsSetupOfFile}
+use Rattle.judge.specs.record_file.ReadAgain.{IsSetupOfFile}
 use Rattle.replayer.proofs.FitRecords.{events_reversed, records_again}
 use Rattle.scenario.specs.Reading.{Script, scenario_of}
 use Rattle.scenario.specs.Scripts.{IsScenario}

@@ -11,8 +11,8 @@ use Rattle.record.specs.Records.{start_in}
 use Rattle.record.specs.Unit.{value_written}
 use Rattle.record.specs.declared.marks.Mark.{Mark}
 use Rattle.record.specs.declared.marks.Mark.TheVariants.{Called, Waiting, Entered, Taken, Left, Answered, Failed, Settled, Down, Withdrew, Restarted}
-use Rattle.laws.specs.Doings.{Doing, Rests, Lies, Runs, Closes, call, closes, does_after, doing, goes_on, runs}
-use Rattle.record_file.proofs.SoundParts.{is_sound_closing, is_sound_part, sound_closing_after, sound_failing, sound_place}
+use Rattle.world.specs.laws.Doings.{Doing, Rests, Lies, Runs, Closes, call, closes, does_after, doing, goes_on, runs}
+use Rattle.judge.proofs.record_file.SoundParts.{is_sound_closing, is_sound_part, sound_closing_after, sound_failing, sound_place}
 
 abbrev pub is_sound_doing : Doing → Bool
 is_sound_doing (Runs command number at) = is_sound_part at.part

@@ -31,19 +31,19 @@ use Rattle.record.specs.declared.marks.Mark.TheVariants.{Called, Failed, Withdre
 use Rattle.record.proofs.Local.{option_map-some}
 use Rattle.record.proofs.Width.{is_good}
 use Rattle.record.proofs.World.{entry-accepted}
-use Rattle.laws.specs.Doings.{Doing, Runs, call, doing}
-use Rattle.laws.specs.Held.{IsThere}
-use Rattle.laws.proofs.Always.{inv_of}
-use Rattle.laws.proofs.Frame.{Happens, a_call, a_withdrawal, a_failure, a_restart, a_step, a_closing}
-use Rattle.laws.proofs.FrameEvents.{Accepted, accepted}
-use Rattle.laws.proofs.HeldThere.{access_there}
-use Rattle.laws.proofs.Invariant.{Own, StandsAt, Wires, next_time, wires}
-use Rattle.laws.proofs.Notes.{Notes, notes}
-use Rattle.history_laws.proofs.CountedChanges.{history-none, history-takes, taken_at}
-use Rattle.record_file.specs.Given.{is_access, is_entry, is_mark}
-use Rattle.record_file.proofs.FewMarks.{AreFew, closing_few, placed_few, step_few}
+use Rattle.world.specs.laws.Doings.{Doing, Runs, call, doing}
+use Rattle.world.specs.laws.Held.{IsThere}
+use Rattle.sweeper.proofs.laws.Always.{inv_of}
+use Rattle.sweeper.proofs.laws.Frame.{Happens, a_call, a_withdrawal, a_failure, a_restart, a_step, a_closing}
+use Rattle.sweeper.proofs.laws.FrameEvents.{Accepted, accepted}
+use Rattle.sweeper.proofs.laws.HeldThere.{access_there}
+use Rattle.sweeper.proofs.laws.Invariant.{Own, StandsAt, Wires, next_time, wires}
+use Rattle.sweeper.proofs.laws.Notes.{Notes, notes}
+use Rattle.world.proofs.history_laws_proofs.CountedChanges.{history-none, history-takes, taken_at}
+use Rattle.judge.specs.record_file.Given.{is_access, is_entry, is_mark}
+use Rattle.judge.proofs.record_file.FewMarks.{AreFew, closing_few, placed_few, step_few}
 use Rattle.replayer.proofs.SoundDoings.{doing_sound, is_sound_doing}
-use Rattle.record_file.proofs.SoundMarks.{TicketFits, closing_sound, placed_sound, step_sound}
+use Rattle.judge.proofs.record_file.SoundMarks.{TicketFits, closing_sound, placed_sound, step_sound}
 
 -- marks that fit
 pub record AreGood (ms : List Mark) : Type 0 where

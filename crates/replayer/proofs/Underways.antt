@@ -1,7 +1,7 @@
 -- A line that is being made: what has happened of it, what was written, and what is left.
 use Rattle.std.proofs.Common.{◌≡◌, ℕ, zero, suc, ◌+◌, ◌≤◌, Bool, true, false, nat_lt, List, [], ◌∷◌, ◌++◌, length, Option, None, Some, refl, ap, sym, subst, ◌∙◌, arith, add-zero, append-nil, append_assoc}
 use Rattle.std.specs.Io.KnownBytes.{Appends}
-use Rattle.files.specs.Streams.{WritesFront}
+use Rattle.scenario.specs.files.Streams.{WritesFront}
 use Rattle.plain_store.specs.declared.setups.Setup.{Setup}
 use Rattle.record.specs.Entries.{Past}
 use Rattle.record.specs.Stages.{stage}

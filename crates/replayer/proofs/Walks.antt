@@ -13,15 +13,15 @@ use Rattle.record.specs.Records.{entry_of, past_of, placed, refused}
 use Rattle.scenario.specs.declared.lines.Line.{Line}
 use Rattle.scenario.specs.declared.lines.Line.TheVariants as line
 use Rattle.world.specs.Events.{Adds, GoesOn, IsRefused, entry_with}
-use Rattle.flicks.specs.Flicks.{FlickState, flick_of, after_flick}
+use Rattle.world.specs.flicks.Flicks.{FlickState, flick_of, after_flick}
 use Rattle.world.specs.Shows.{Shows, WorldState}
-use Rattle.process.specs.Telling.{act_of, marks_of}
+use Rattle.world.specs.process.Telling.{act_of, marks_of}
 use Rattle.world.specs.Walks.{Walks}
-use Rattle.process.specs.declared.told.Effect.{Effect}
-use Rattle.process.specs.declared.told.Effect.TheVariants.{Steps, Calls, Fails, Withdraws, Restarts}
-use Rattle.process.specs.declared.told.Made.{Made}
-use Rattle.process.specs.declared.told.Told.{Told as Leads}
-use Rattle.process.specs.declared.told.Told.TheVariants as step
+use Rattle.world.specs.process.declared.told.Effect.{Effect}
+use Rattle.world.specs.process.declared.told.Effect.TheVariants.{Steps, Calls, Fails, Withdraws, Restarts}
+use Rattle.world.specs.process.declared.told.Made.{Made}
+use Rattle.world.specs.process.declared.told.Told.{Told as Leads}
+use Rattle.world.specs.process.declared.told.Told.TheVariants as step
 use Rattle.replayer.specs.Courses.{CourseState, Follows, IsQuiet, Makes, MakesQuietly, MakesTurns, QuietTurns, course}
 use Rattle.replayer.specs.Happenings.{Happening, Tries, tried}
 use Rattle.replayer.specs.Runs.{Run, may_step, next_step, past_in, stepped}

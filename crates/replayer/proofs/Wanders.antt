@@ -13,10 +13,10 @@ use Rattle.record.specs.Stages.{stage, stage_after}
 use Rattle.scenario.specs.declared.lines.Line.{Line}
 use Rattle.scenario.specs.declared.lines.Line.TheVariants as line
 use Rattle.world.specs.Events.{Adds, GoesOn, IsRefused}
-use Rattle.flicks.specs.Flicks.{FlickState, flick_of, after_flick, pick_of, after_pick}
+use Rattle.world.specs.flicks.Flicks.{FlickState, flick_of, after_flick, pick_of, after_pick}
 use Rattle.world.specs.Shows.{Shows, WorldState}
-use Rattle.process.specs.Telling.{act_of}
-use Rattle.process.specs.declared.told.Made.{Made}
+use Rattle.world.specs.process.Telling.{act_of}
+use Rattle.world.specs.process.declared.told.Made.{Made}
 use Rattle.replayer.specs.Courses.{CourseState, Follows, Makes, MakesQuietly, MakesTurns, course}
 use Rattle.replayer.specs.Happenings.{tried}
 use Rattle.replayer.specs.Runs.{Run, after_pick_in, has_step, movers, next_step, past_in}

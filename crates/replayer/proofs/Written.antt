@@ -5,9 +5,9 @@ use Rattle.std.proofs.lemmas.List.{take_more}
 use Rattle.std.specs.Io.KnownBytes.{Appends}
 use Rattle.std.specs.declared.alloc.AllocError.{AllocError}
 use Rattle.scenario.proofs.Places.{drop_in}
-use Rattle.files.specs.Streams.{WritesFront}
-use Rattle.files.specs.declared.faults.Fault.{Fault}
-use Rattle.files.specs.declared.faults.Fault.TheVariants as fault
+use Rattle.scenario.specs.files.Streams.{WritesFront}
+use Rattle.scenario.specs.files.declared.faults.Fault.{Fault}
+use Rattle.scenario.specs.files.declared.faults.Fault.TheVariants as fault
 use Rattle.replayer.specs.Writing.{failed_write}
 
 -- one piece, and then the next

@@ -3,12 +3,12 @@ use Rattle.std.specs.Prelude.{◌≡◌, ℕ, List, length, Option, IfSome, Resu
 use Rattle.std.specs.Io.KnownBytes.{Appends}
 use Rattle.record.specs.Entries.{Entry}
 use Rattle.record.specs.Records.{record_of}
-use Rattle.auditor.specs.Verdicts.{IsVerdict}
-use Rattle.auditor.specs.declared.verdicts.Verdict.{Verdict}
-use Rattle.auditor.specs.declared.verdicts.Verdict.TheVariants.{Good}
+use Rattle.judge.specs.auditor.Verdicts.{IsVerdict}
+use Rattle.judge.specs.auditor.declared.verdicts.Verdict.{Verdict}
+use Rattle.judge.specs.auditor.declared.verdicts.Verdict.TheVariants.{Good}
 use Rattle.judge.specs.Judgements.{status_of_verdict, verdict_line}
-use Rattle.files.specs.Engines.{text_by}
-use Rattle.files.specs.declared.faults.LineFault.{LineFault}
+use Rattle.scenario.specs.files.Engines.{text_by}
+use Rattle.scenario.specs.files.declared.faults.LineFault.{LineFault}
 use Rattle.scenario.specs.Reading.{Script, scenario_of}
 use Rattle.replayer.specs.Listings.{accepted_events}
 

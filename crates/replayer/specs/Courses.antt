@@ -3,7 +3,7 @@ use Rattle.std.specs.Prelude.{◌≡◌, ◌≤◌, ℕ, zero, suc, [], Option, 
 use Rattle.plain_store.specs.declared.setups.Setup.{Setup}
 use Rattle.record.specs.Entries.{Past}
 use Rattle.scenario.specs.declared.lines.Line.{Line}
-use Rattle.flicks.specs.Flicks.{FlickState}
+use Rattle.world.specs.flicks.Flicks.{FlickState}
 use Rattle.world.specs.Shows.{Shows, WorldState}
 use Rattle.replayer.specs.Happenings.{Happening, Tries, past_after, tried}
 use Rattle.replayer.specs.Runs.{Run, past_in}

@@ -3,8 +3,8 @@ use Rattle.std.specs.Prelude.{◌≡◌, List, ◌∷◌, length, Option, None, 
 use Rattle.record.specs.declared.events.Event.{Event}
 use Rattle.record.specs.Entries.{Entry}
 use Rattle.record.specs.Records.{entry_of, past_of}
-use Rattle.auditor.specs.Hearing.{IsCount}
-use Rattle.auditor.specs.declared.verdicts.Verdict.TheVariants.{Good}
+use Rattle.judge.specs.auditor.Hearing.{IsCount}
+use Rattle.judge.specs.auditor.declared.verdicts.Verdict.TheVariants.{Good}
 use Rattle.world.specs.Cores.{core_of}
 use Rattle.world.specs.Shows.{Shows, WorldState}
 use Rattle.replayer.specs.declared.heard.Listener.{Listener}

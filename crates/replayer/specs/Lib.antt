@@ -1,3 +1,7 @@
+pub use Rattle.world.specs.history_laws as history_laws
+pub use Rattle.world.specs.laws as laws
+pub use Rattle.world.specs.process as process
+pub use Rattle.judge.specs.watch as watch
 pub mod Audits
 pub mod Counts
 pub mod Courses

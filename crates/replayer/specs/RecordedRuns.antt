@@ -3,7 +3,7 @@ use Rattle.std.specs.Prelude.{◌≡◌, ℕ, List, Option, IfSome, Ok}
 use Rattle.std.specs.Io.KnownBytes.{Appends}
 use Rattle.scenario.specs.Reading.{Script, scenario_of}
 use Rattle.scenario.specs.Scripts.{IsScenario}
-use Rattle.record_file.specs.RecordFiles.{record_of}
+use Rattle.judge.specs.record_file.RecordFiles.{record_of}
 use Rattle.replayer.specs.Audits.{run_record}
 use Rattle.replayer.specs.Recordings.{recorded}
 

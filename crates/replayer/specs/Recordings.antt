@@ -2,10 +2,10 @@
 use Rattle.std.specs.Prelude.{◌≡◌, ℕ, List, [], ◌++◌, flat_map, reverse, Option, Result}
 use Rattle.std.specs.Io.KnownBytes.{Appends}
 use Rattle.plain_store.specs.declared.setups.Setup.{Setup}
-use Rattle.record_file.specs.Printing.{entry_line, record_text}
-use Rattle.files.specs.Engines.{text_by}
-use Rattle.files.specs.Streams.{WritesFront}
-use Rattle.files.specs.declared.faults.LineFault.{LineFault}
+use Rattle.judge.specs.record_file.Printing.{entry_line, record_text}
+use Rattle.scenario.specs.files.Engines.{text_by}
+use Rattle.scenario.specs.files.Streams.{WritesFront}
+use Rattle.scenario.specs.files.declared.faults.LineFault.{LineFault}
 use Rattle.scenario.specs.Reading.{Script, scenario_of}
 use Rattle.scenario.specs.declared.lines.Line.{Line}
 use Rattle.replayer.specs.Audits.{run_record}

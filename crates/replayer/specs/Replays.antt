@@ -5,7 +5,7 @@ use Rattle.plain_store.specs.Setups.{checked}
 use Rattle.record.specs.Given.{AreGiven}
 use Rattle.record.specs.Headline.{KeepsHeadlineThroughout}
 use Rattle.scenario.specs.Reading.{Script, scenario_of}
-use Rattle.files.specs.declared.faults.Fault.{Fault}
+use Rattle.scenario.specs.files.declared.faults.Fault.{Fault}
 use Rattle.scenario.specs.declared.lines.Line.{Line}
 use Rattle.replayer.specs.Courses.{CourseState, Follows}
 use Rattle.replayer.specs.Happenings.{past_after, tried}

@@ -16,9 +16,9 @@ use Rattle.scenario.specs.declared.lines.Line.{Line}
 use Rattle.scenario.specs.declared.lines.Line.TheVariants as line
 use Rattle.scenario.specs.declared.lines.Target.{Target}
 use Rattle.scenario.specs.declared.lines.Target.TheVariants as target
-use Rattle.flicks.specs.declared.Flick.{Flick as WorldFlick}
-use Rattle.flicks.specs.declared.Flick.TheVariants as world_flick
-use Rattle.flicks.specs.Flicks.{FlickState, constant_flicks, after_set, flick_of, after_flick, pick_of, after_pick}
+use Rattle.world.specs.flicks.declared.Flick.{Flick as WorldFlick}
+use Rattle.world.specs.flicks.declared.Flick.TheVariants as world_flick
+use Rattle.world.specs.flicks.Flicks.{FlickState, constant_flicks, after_set, flick_of, after_flick, pick_of, after_pick}
 use Rattle.replayer.specs.Happenings.{Happening, Tries, Lacks, Tires, Looks, past_after}
 
 -- a run so far: what has happened, and where its next flicks and picks come from

@@ -5,7 +5,7 @@ use Rattle.record.specs.Stages.{stage}
 use Rattle.scenario.specs.declared.lines.Line.{Line}
 use Rattle.scenario.specs.declared.lines.Line.TheVariants as line
 use Rattle.scenario.specs.declared.lines.Target.{Target}
-use Rattle.flicks.specs.Flicks.{FlickState, after_flick, flick_of}
+use Rattle.world.specs.flicks.Flicks.{FlickState, after_flick, flick_of}
 use Rattle.replayer.specs.Courses.{CourseState, Makes}
 use Rattle.replayer.specs.Runs.{Run, is_there, movers, past_in}
 use Rattle.replayer.specs.Telling.{told_unmarked}

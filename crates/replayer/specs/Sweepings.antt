@@ -4,14 +4,14 @@ use Rattle.std.specs.Io.KnownBytes.{Appends}
 use Rattle.plain_store.specs.declared.commands.Command.{Command}
 use Rattle.record.specs.declared.events.Event.{Event}
 use Rattle.record.specs.declared.events.Event.TheVariants.{Call, Step, Fail, Withdraw, Restart}
-use Rattle.auditor.specs.declared.verdicts.Verdict.{Verdict}
-use Rattle.auditor.specs.declared.verdicts.Verdict.TheVariants.{Good, Bad}
+use Rattle.judge.specs.auditor.declared.verdicts.Verdict.{Verdict}
+use Rattle.judge.specs.auditor.declared.verdicts.Verdict.TheVariants.{Good, Bad}
 use Rattle.sweeper.specs.declared.swept.BadRun.{BadRun}
 use Rattle.sweeper.specs.declared.swept.Swept.{Swept}
 use Rattle.sweeper.specs.Shown.{swept_text}
 use Rattle.sweeper.specs.Sweeps.{IsSwept, all_good, cuts}
-use Rattle.files.specs.Engines.{text_by}
-use Rattle.files.specs.declared.faults.LineFault.{LineFault}
+use Rattle.scenario.specs.files.Engines.{text_by}
+use Rattle.scenario.specs.files.declared.faults.LineFault.{LineFault}
 use Rattle.scenario.specs.Reading.{Script, scenario_of}
 use Rattle.judge.specs.Judgements.{status_of_verdict}
 use Rattle.replayer.specs.Listings.{accepted_events}

@@ -10,12 +10,12 @@ use Rattle.record.specs.declared.refusals.Refusal.{Refusal}
 use Rattle.record.specs.declared.refusals.Refusal.TheVariants.{NoProcess}
 use Rattle.record.specs.Entries.{Entry, Past}
 use Rattle.record.specs.Records.{entry_of, placed, process_of, refused}
-use Rattle.process.specs.Telling.{marks_of}
-use Rattle.process.specs.declared.told.Effect.{Effect}
-use Rattle.process.specs.declared.told.Effect.TheVariants.{Steps}
-use Rattle.process.specs.declared.told.Made.{Made}
-use Rattle.process.specs.declared.told.Told.{Told as Leads}
-use Rattle.process.specs.declared.told.Told.TheVariants as step
+use Rattle.world.specs.process.Telling.{marks_of}
+use Rattle.world.specs.process.declared.told.Effect.{Effect}
+use Rattle.world.specs.process.declared.told.Effect.TheVariants.{Steps}
+use Rattle.world.specs.process.declared.told.Made.{Made}
+use Rattle.world.specs.process.declared.told.Told.{Told as Leads}
+use Rattle.world.specs.process.declared.told.Told.TheVariants as step
 use Rattle.replayer.specs.Happenings.{Happening, Tries, Lacks, Tires, Looks}
 use Rattle.replayer.specs.Texts.{mark_line, newest_store, refusal_line, store_text, turns_line}
 use Rattle.replayer.specs.declared.told.Accepted.{Accepted}

@@ -12,9 +12,9 @@ use Rattle.record.specs.Histories.{history, store_after}
 use Rattle.record.specs.Newest.{is_somebody_inside}
 use Rattle.record.specs.Records.{added, process_of, refused}
 use Rattle.record.specs.Shown.{mark_text, refusal_text}
-use Rattle.files.specs.Engines.{text_by}
+use Rattle.scenario.specs.files.Engines.{text_by}
 use Rattle.scenario.specs.Reading.{Script, scenario_of}
-use Rattle.files.specs.declared.faults.LineFault.{LineFault}
+use Rattle.scenario.specs.files.declared.faults.LineFault.{LineFault}
 use Rattle.replayer.specs.Happenings.{Happening, Tries, Lacks, Tires, Looks, past_after}
 use Rattle.replayer.specs.Runs.{happenings}
 use Rattle.plain_store.specs.StoreLine.{show_text}

@@ -6,7 +6,7 @@ use Rattle.record.specs.Stages.{stage}
 use Rattle.scenario.specs.declared.lines.Line.{Line}
 use Rattle.scenario.specs.declared.lines.Line.TheVariants as line
 use Rattle.scenario.specs.declared.lines.Target.{Target}
-use Rattle.flicks.specs.Flicks.{after_set}
+use Rattle.world.specs.flicks.Flicks.{after_set}
 use Rattle.replayer.specs.Happenings.{Happening, Tries, Lacks, Tires, Looks}
 use Rattle.replayer.specs.Runs.{Run, past_in, with_happening, next_step, stepped, may_step, is_there, movers, pick_among, after_pick_in, set_to, go_limit}
 

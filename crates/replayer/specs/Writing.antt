@@ -2,9 +2,9 @@
 use Rattle.std.specs.Prelude.{◌≡◌, ℕ, List, ◌++◌, Option, length, Result, Ok, Err}
 use Rattle.std.specs.Io.KnownBytes.{Appends}
 use Rattle.plain_store.specs.declared.setups.Setup.{Setup}
-use Rattle.files.specs.Streams.{WritesFront}
-use Rattle.files.specs.declared.faults.Fault.{Fault}
-use Rattle.files.specs.declared.faults.Fault.TheVariants.{Line, Read, Write, Memory}
+use Rattle.scenario.specs.files.Streams.{WritesFront}
+use Rattle.scenario.specs.files.declared.faults.Fault.{Fault}
+use Rattle.scenario.specs.files.declared.faults.Fault.TheVariants.{Line, Read, Write, Memory}
 use Rattle.replayer.specs.Happenings.{Happening, refusals}
 use Rattle.replayer.specs.Runs.{Run, past_in}
 use Rattle.replayer.specs.Texts.{text_of}

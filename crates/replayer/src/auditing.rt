@@ -2,10 +2,10 @@
 //! run makes it. No record is held.
 ghost use Rattle.std.specs.Prelude.{◌≡◌, ◌+◌, ◌-◌, ◌^◌, ◌<◌, IfErr, IfOk, OnOk, None, length};
 ghost use Rattle.std.specs.Io.KnownBytes.{Appends};
-ghost use Rattle.auditor.specs.declared.verdicts.Verdict.TheVariants.{Good};
-ghost use Rattle.auditor.specs.Verdicts.{IsVerdict};
-ghost use Rattle.files.specs.Engines.{Ran};
-ghost use Rattle.files.specs.Streams.{ReadsFront, WritesFront};
+ghost use Rattle.judge.specs.auditor.declared.verdicts.Verdict.TheVariants.{Good};
+ghost use Rattle.judge.specs.auditor.Verdicts.{IsVerdict};
+ghost use Rattle.scenario.specs.files.Engines.{Ran};
+ghost use Rattle.scenario.specs.files.Streams.{ReadsFront, WritesFront};
 ghost use Rattle.scenario.specs.Reads.{script};
 ghost use Rattle.replayer.specs.Audits.{InputTellsVerdict, TellsVerdict, audit_text, audited, run_record};
 ghost use Rattle.replayer.specs.Replays.{MakesLine, ended};
@@ -14,11 +14,10 @@ ghost use Rattle.replayer.specs.Writing.{IsWriteFault, failed_write};
 use crate::summaries::Summary;
 use crate::turns::Course;
 use crate::writing::write_line;
-use auditor::Audited;
-use judge::{status_of, verdict_line};
-use files::progress::{Nobody, Onlooker, Place};
+use judge::{Audited, status_of, verdict_line};
 use scenario::{Fault, Line, Scenario, Sink, Source, read_input, read_scenario};
 use std::alloc::{AllocError, Global};
+use sweeper::progress::{Nobody, Onlooker, Place};
 
 /// Reads a whole file, makes its run, of which an auditor hears each entry, and then writes the verdict on its
 /// record, on one line; answers the exit status. However it ends, at most `INPUT_LIMIT` bytes are taken from the

@@ -1,27 +1,26 @@
 //! A world, and an auditor that hears the entries that it makes.
 ghost use Rattle.std.specs.Prelude.{◌≡◌, ◌↔◌, ◌+◌, ◌<◌, ◌≤◌, [], IfOk, IfErr, IfSome, IsSome, IsTrue, OnErr, OnOk, OnSome, List, None, Ok, Some, length, map, option_map};
 ghost use Rattle.plain_store.specs.Setups.{checked};
-ghost use Rattle.store_image.specs.Image.{image_of};
+ghost use Rattle.record.specs.store_image.Image.{image_of};
 ghost use Rattle.record.specs.declared.Event.{Event as Happening};
 ghost use Rattle.record.specs.declared.Event.TheVariants.{Step};
 ghost use Rattle.record.specs.Histories.{history};
 ghost use Rattle.record.specs.Newest.{newest};
 ghost use Rattle.record.specs.Records.{past_of, placed, process_of};
-ghost use Rattle.process.specs.declared.told.Effect.TheVariants.{Steps};
-ghost use Rattle.process.specs.Telling.{act_of, marks_of, marks_told};
+ghost use Rattle.world.specs.process.declared.told.Effect.TheVariants.{Steps};
+ghost use Rattle.world.specs.process.Telling.{act_of, marks_of, marks_told};
 ghost use Rattle.world.specs.Events.{Adds, GoesOn, IsRefused, IsTurnedAway, stage_in};
 ghost use Rattle.world.specs.Shows.{Shows, WorldState};
 ghost use Rattle.world.specs.Walks.{KeepOthers, StepsQuietly, Walks, bits_within_at};
-ghost use Rattle.auditor.specs.declared.verdicts.Verdict.TheVariants.{Good};
+ghost use Rattle.judge.specs.auditor.declared.verdicts.Verdict.TheVariants.{Good};
 ghost use Rattle.replayer.specs.Hearing.{AddsEntry, Agrees, Listens};
 
-use auditor::{Auditor, Law, Verdict};
+use judge::{Auditor, Law, Verdict};
 use plain_store::{NestedTypes, Setup};
 use record::{Access, Event, Mark, Refusal, Stage, Taken};
 use std::alloc::{AllocError, Global};
 use std::marker::Model;
-use store_image::Image;
-use world::{Effect, Flicks, Told, World};
+use world::{Effect, Flicks, Image, Told, World};
 
 /// A world, and the auditor that hears each entry as it is made, where one listens. Contracts see the world alone;
 /// the auditor keeps what it keeps, and has found no law broken.

@@ -20,11 +20,10 @@ mod turns;
 mod writing;
 
 pub use auditing::{run_audit, run_audit_seen};
-pub use auditor::{
-    Audited, Auditor, Law, Verdict, audit, good_records_are_of_events, records_have_one_verdict,
-    records_of_events_are_good,
+pub use judge::{
+    Audited, Auditor, Judge, Law, Verdict, Watch, audit, good_records_are_of_events,
+    records_have_one_verdict, records_of_events_are_good, run_judge, status_of,
 };
-pub use judge::{Judge, run_judge, status_of};
 pub use listing::{events_of, record_of};
 pub use record::{Entry, Record};
 pub use recording::{run_record, run_record_seen};

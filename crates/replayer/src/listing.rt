@@ -5,9 +5,9 @@ ghost use Rattle.record.specs.declared.Refusal.TheVariants.{Memory};
 ghost use Rattle.record.specs.Given.{AreGiven, is_event};
 ghost use Rattle.record.specs.Headline.{KeepsHeadlineThroughout};
 ghost use Rattle.record.specs.Records.{record_of as record_made};
-ghost use Rattle.record_file.specs.Printing.{record_text};
-ghost use Rattle.record_file.specs.ReadAgain.{FitLines};
-ghost use Rattle.record_file.specs.RecordFiles.{record_of as record_read};
+ghost use Rattle.judge.specs.record_file.Printing.{record_text};
+ghost use Rattle.judge.specs.record_file.ReadAgain.{FitLines};
+ghost use Rattle.judge.specs.record_file.RecordFiles.{record_of as record_read};
 ghost use Rattle.scenario.specs.Reads.{script};
 ghost use Rattle.replayer.specs.Listings.{ListsLine, RecordsEvent, accepted_events, event_told};
 

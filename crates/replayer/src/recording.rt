@@ -2,10 +2,10 @@
 //! record is held.
 ghost use Rattle.std.specs.Prelude.{◌≡◌, ◌+◌, ◌-◌, ◌^◌, ◌<◌, IfErr, IfOk, IsOk, OnErr, OnOk};
 ghost use Rattle.std.specs.Io.KnownBytes.{Appends};
-ghost use Rattle.files.specs.Engines.{Ran};
-ghost use Rattle.files.specs.Streams.{ReadsFront, WritesFront};
-ghost use Rattle.record_file.specs.Printing.{entry_line, step_entry};
-ghost use Rattle.record_file.specs.ReadAgain.{RecordsAreReadAgain, RecordsFitLines};
+ghost use Rattle.scenario.specs.files.Engines.{Ran};
+ghost use Rattle.scenario.specs.files.Streams.{ReadsFront, WritesFront};
+ghost use Rattle.judge.specs.record_file.Printing.{entry_line, step_entry};
+ghost use Rattle.judge.specs.record_file.ReadAgain.{RecordsAreReadAgain, RecordsFitLines};
 ghost use Rattle.scenario.specs.Reads.{script};
 ghost use Rattle.replayer.specs.RecordedRuns.{InputWritesRecord, RecordedRunsAreReadAgain};
 ghost use Rattle.replayer.specs.Recordings.{CopiesLine, CutsCopy, entry_told, recorded, recording_text};
@@ -14,11 +14,11 @@ ghost use Rattle.replayer.specs.Writing.{IsWriteFault, failed_write};
 
 use crate::told::{Stepped, Told};
 use crate::turns::Course;
-use files::progress::{Nobody, Onlooker, Place};
+use judge::{StepLine, print_entry, print_setup};
 use record::Entry;
-use record_file::{StepLine, print_entry, print_setup};
 use scenario::{Fault, Line, Scenario, Sink, Source, read_input, read_scenario, write_all};
 use std::alloc::{AllocError, Global};
+use sweeper::progress::{Nobody, Onlooker, Place};
 
 /// Reads a whole scenario file, and then writes the record of its run, as it is made: the setup, and a line for each
 /// entry. However it ends, at most `INPUT_LIMIT` bytes are taken from the front of the input. What is written of a

@@ -1,9 +1,9 @@
 //! The engine `replay`: the marks of a scenario's run, each written before the next event is made.
 ghost use Rattle.std.specs.Prelude.{◌≡◌, ◌+◌, ◌-◌, ◌^◌, ◌<◌, IfErr, IfOk, OnErr, OnOk};
 ghost use Rattle.std.specs.Io.KnownBytes.{Appends};
-ghost use Rattle.files.specs.Engines.{Ran};
+ghost use Rattle.scenario.specs.files.Engines.{Ran};
 ghost use Rattle.scenario.specs.Reads.{script};
-ghost use Rattle.files.specs.Streams.{ReadsFront, WritesFront};
+ghost use Rattle.scenario.specs.files.Streams.{ReadsFront, WritesFront};
 ghost use Rattle.replayer.specs.Replays.{CutsLine, InputKeepsHeadline, IsSummaryOf, MakesLine, RunKeepsHeadline, ended};
 ghost use Rattle.replayer.specs.Runs.{happenings};
 ghost use Rattle.replayer.specs.Summaries.{summary_of};
@@ -13,9 +13,9 @@ ghost use Rattle.replayer.specs.Writing.{IsWriteFault, failed_write};
 use crate::summaries::Summary;
 use crate::turns::Course;
 use crate::writing::{tell, write_end};
-use files::progress::{Nobody, Onlooker, Place};
 use scenario::{Fault, Line, Scenario, Sink, Source, read_input, read_scenario};
 use std::alloc::Global;
+use sweeper::progress::{Nobody, Onlooker, Place};
 
 /// Reads a whole file, and then writes the marks of its run, as they are made, and its three numbers. However it
 /// ends, at most `INPUT_LIMIT` bytes are taken from the front of the input.

@@ -5,7 +5,7 @@ ghost use Rattle.replayer.specs.Texts.{store_text};
 
 use plain_store::show_line;
 use std::alloc::{AllocError, Global};
-use store_image::Image;
+use world::Image;
 
 /// The newest store, or that somebody is inside.
 pub(crate) fn newest_line(alloc: Global, store: &Option<Image>) -> Result<String, AllocError>

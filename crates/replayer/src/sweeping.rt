@@ -2,8 +2,8 @@
 ghost use Rattle.std.specs.Prelude.{◌≡◌, ◌+◌, ◌++◌, ◌-◌, ◌^◌, ◌<◌, IfErr, IfOk, OnOk, Ok};
 ghost use Rattle.std.specs.String.{string_bytes};
 ghost use Rattle.std.specs.Io.KnownBytes.{Appends};
-ghost use Rattle.files.specs.Engines.{Ran};
-ghost use Rattle.files.specs.Streams.{ReadsFront, WritesFront};
+ghost use Rattle.scenario.specs.files.Engines.{Ran};
+ghost use Rattle.scenario.specs.files.Streams.{ReadsFront, WritesFront};
 ghost use Rattle.scenario.specs.Reads.{script};
 ghost use Rattle.replayer.specs.Replays.{ended};
 ghost use Rattle.replayer.specs.Sweepings.{InputTellsSweep, IsRunSwept, TellsSweep, call_of, calls_in as calls_among, run_swept, status_of_swept, sweep_text, swept, swept_lines as lines_of_swept};
@@ -11,13 +11,12 @@ ghost use Rattle.replayer.specs.Writing.{IsWriteFault, failed_write};
 
 use crate::listing::events_of;
 use crate::writing::write_line;
-use auditor::Verdict;
-use judge::status_of;
-use files::progress::{Nobody, Onlooker};
+use judge::{Verdict, status_of};
 use plain_store::{Command, NestedTypes};
 use record::Event;
 use scenario::{Fault, Scenario, Sink, Source, read_input, read_scenario};
 use std::alloc::{AllocError, Global};
+use sweeper::progress::{Nobody, Onlooker};
 use sweeper::{Swept, sweep_seen};
 
 /// Reads a whole file, makes a sweep over its run, and then writes what that finds: the counts on one line, and on a

@@ -2,7 +2,7 @@
 ghost use Rattle.std.specs.Prelude.{◌≡◌, ◌+◌, ◌-◌, ◌^◌, ◌<◌, IfOk, IfErr, IsOk, OnOk, OnErr, flat_map};
 ghost use Rattle.std.specs.String.{string_bytes};
 ghost use Rattle.std.specs.Io.KnownBytes.{Appends};
-ghost use Rattle.files.specs.Streams.{WritesFront};
+ghost use Rattle.scenario.specs.files.Streams.{WritesFront};
 ghost use Rattle.replayer.specs.Summaries.{counted};
 ghost use Rattle.replayer.specs.Telling.{told_text};
 ghost use Rattle.replayer.specs.Texts.{mark_line as line_of_mark, refusal_line as line_of_refusal, turns_line as line_of_turns, end_line as line_at_end};

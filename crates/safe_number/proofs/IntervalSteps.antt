@@ -1,8 +1,8 @@
 -- What a write, its settling and a read make of a register over whole intervals.
 use Rattle.std.proofs.Common.{◌≡◌, ◌≢◌, ℕ, ◌+◌, ◌<◌, ◌==◌, ◌||◌, List, [], ◌∷◌, Bool, true, false, cond, Option, Some, None, unwrap_or, length, refl, sym, ap, subst, ◌∙◌, arith, inl, inr}
 use Rattle.std.proofs.lemmas.Bool.{eqb-true, eq-eqb, cases_lt}
-use Rattle.safe_bit.specs.declared.Move.{Move}
-use Rattle.safe_bit.specs.Cell.{Cell, cell_after, without_read}
+use Rattle.reader_copies.specs.safe_bit.declared.Move.{Move}
+use Rattle.reader_copies.specs.safe_bit.Cell.{Cell, cell_after, without_read}
 use Rattle.reader_copies.specs.Histories.{RowCall, MakesAt, DropsAt, row_after_call, IsReadCall}
 use Rattle.reader_copies.specs.Row.{cell_at, row_after, HasCell, CanMake, IsRow}
 use Rattle.reader_copies.specs.Runs.{Writing, Settling, next_read, next_settle, settle_after, settled_at, is_open_at}

@@ -5,7 +5,7 @@ use Rattle.std.proofs.lemmas.Bool.{cases_lt, lt-ltb, le-ltb}
 use Rattle.std.proofs.lemmas.List.{get_or-map, ext_get_or, length-map, map-id}
 use Rattle.std.proofs.lemmas.Simd.{map-map}
 use Rattle.std.proofs.lemmas.List.FromFn.{length-map-range_with_len, get_or-map-range_with_len, fill_by_all}
-use Rattle.safe_bit.specs.Cell.{Cell, new_cell}
+use Rattle.reader_copies.specs.safe_bit.Cell.{Cell, new_cell}
 use Rattle.reader_copies.specs.Row.{cell_in, cell_at, preset_row, IsRow}
 use Rattle.reader_copies.specs.Written.{IsAt, IsWritten}
 use Rattle.reader_copies.proofs.Flags.{made-set}

@@ -3,8 +3,8 @@ use Rattle.std.proofs.Common.{◌≡◌, ◌≢◌, ℕ, ◌+◌, ◌*◌, ◌/�
 use Rattle.std.proofs.lemmas.Bool.{cases_eq, eqb-true, eqb-false, cond-false}
 use Rattle.std.proofs.lemmas.List.{length_push}
 use Rattle.std.proofs.lemmas.List.FromFn.{map-range_with_len_more}
-use Rattle.safe_bit.specs.Cell.{Cell, cell_after, read_answer}
-use Rattle.safe_bit.specs.declared.Move.TheVariants.{BeginWrite, EndWrite, BeginRead, EndRead}
+use Rattle.reader_copies.specs.safe_bit.Cell.{Cell, cell_after, read_answer}
+use Rattle.reader_copies.specs.safe_bit.declared.Move.TheVariants.{BeginWrite, EndWrite, BeginRead, EndRead}
 use Rattle.reader_copies.specs.Row.{cell_at, with_cell, row_after, HasCell, CanMake, IsRow}
 use Rattle.reader_copies.specs.Runs.{Writing, next_write, write_after, next_read}
 use Rattle.reader_copies.specs.Written.{IsWrite, IsWritten, IsPartlyWritten, KeepsWrites}

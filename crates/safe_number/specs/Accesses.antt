@@ -1,7 +1,7 @@
 -- The accesses of a whole number, in their order: bits ascending; of a write of a bit the copies ascending, of each copy begin and end; of a read of a bit begin and end of the reader's own copy.
 use Rattle.std.specs.Prelude.{ℕ, zero, suc, ◌+◌, ◌-◌, Bool, List, [], ◌∷◌, ◌++◌, map, length, if◌then◌else◌}
 use Rattle.std.specs.List.{range_with_len}
-use Rattle.safe_bit.specs.declared.Move.TheVariants.{BeginRead, EndRead}
+use Rattle.reader_copies.specs.safe_bit.declared.Move.TheVariants.{BeginRead, EndRead}
 use Rattle.reader_copies.specs.declared.Made.{Made}
 use Rattle.reader_copies.specs.Runs.{bit_writes, rest_of_write}
 use Rattle.safe_number.specs.Bytes.{bit_in}

@@ -1,6 +1,6 @@
 -- What happens to a register while an access to it goes on: the access's own steps, and between them what others do.
 use Rattle.std.specs.Prelude.{◌≢◌, ℕ, ◌<◌, Bool, List, [], ◌∷◌, length, Option, Some, None, unwrap_or}
-use Rattle.safe_bit.specs.Cell.{Cell}
+use Rattle.reader_copies.specs.safe_bit.Cell.{Cell}
 use Rattle.reader_copies.specs.Histories.{RowCall, MakesAt, DropsAt, row_after_call, IsReadCall}
 use Rattle.reader_copies.specs.Row.{row_after}
 use Rattle.reader_copies.specs.Runs.{Settling, next_write, next_read, next_settle, settle_after, settled_at}

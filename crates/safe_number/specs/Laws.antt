@@ -1,7 +1,7 @@
 -- The laws of registers.
 use Rattle.std.specs.Prelude.{◌≡◌, ◌≢◌, ℕ, ◌*◌, ◌^◌, ◌<◌, ◌==◌, List, ◌∷◌, ◌++◌, [], Bool, false, Some, None, length}
 use Rattle.std.specs.Int.{bit_at}
-use Rattle.safe_bit.specs.Cell.{Cell}
+use Rattle.reader_copies.specs.safe_bit.Cell.{Cell}
 use Rattle.reader_copies.specs.Row.{cell_at, with_cell, row_after, HasCell, CanMake, IsRow}
 use Rattle.reader_copies.specs.Runs.{Settling, next_write, next_read, next_settle, settle_after, settled_at}
 use Rattle.reader_copies.specs.Written.{IsWritten, cut_values, with_value}

@@ -1,7 +1,7 @@
 -- The cursors of a register: how far a write or a read of it has come, and which access comes next.
 use Rattle.std.specs.Prelude.{ℕ, ◌+◌, Bool, false, not, if◌then◌else◌, Option, Some, None, unwrap_or, List, [], ◌∷◌, ◌++◌, map, length}
 use Rattle.std.specs.List.{range_with_len}
-use Rattle.safe_bit.specs.Cell.{Cell, new_cell}
+use Rattle.reader_copies.specs.safe_bit.Cell.{Cell, new_cell}
 use Rattle.reader_copies.specs.declared.Made.{Made}
 use Rattle.reader_copies.specs.Runs.{Writing, Reading, Settling, next_write, write_after, next_read, torn_of}
 use Rattle.safe_number.specs.Bytes.{bit_in}

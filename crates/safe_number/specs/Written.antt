@@ -1,7 +1,7 @@
 -- What a write and an undisturbed read make of a register.
 use Rattle.std.specs.Prelude.{◌≡◌, ◌≢◌, ℕ, ◌*◌, ◌<◌, ◌≤◌, List, Bool, true, false, length, map}
 use Rattle.std.specs.List.{range_with_len}
-use Rattle.safe_bit.specs.Cell.{Cell, read_answer}
+use Rattle.reader_copies.specs.safe_bit.Cell.{Cell, read_answer}
 use Rattle.reader_copies.specs.Row.{cell_at, HasCell, IsRow}
 use Rattle.reader_copies.specs.Runs.{Settling, settled_at}
 use Rattle.reader_copies.specs.Written.{IsPartlyWritten, IsPartlySettled}

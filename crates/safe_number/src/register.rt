@@ -1,5 +1,5 @@
 ghost use Rattle.std.specs.Prelude.{◌≡◌, ℕ, ◌<◌, ◌≤◌, ◌*◌, ◌==◌, ◌↔◌, false, length, IfOk, IsErrOf, slice_index_or, []};
-ghost use Rattle.safe_bit.specs.Cell.{read_answer};
+ghost use Rattle.reader_copies.specs.safe_bit.Cell.{read_answer};
 ghost use Rattle.reader_copies.specs.Row.{cell_at, row_after, new_row, without_reads, HasCell, CanMake, HaveOneShape, IsClosed};
 ghost use Rattle.reader_copies.specs.Runs.{next_write, next_read, next_settle, settle_after, settled_at, progress_of};
 ghost use Rattle.safe_number.specs.Bytes.{IsBadWidth};
@@ -10,8 +10,7 @@ use crate::bytes;
 use crate::fault::NumberFault;
 use crate::reading::ReadRun;
 use crate::writing::WriteRun;
-use reader_copies::{CopiedRow, MAX_WIDTH, Made, Progress, Torn};
-use safe_bit::Move;
+use reader_copies::{CopiedRow, MAX_WIDTH, Made, Move, Progress, Torn};
 use std::alloc::{AllocError, Global};
 use std::marker::Model;
 
@@ -38,7 +37,7 @@ pub struct Register {
 
 impl Model for Register {
     ghost use Rattle.std.specs.Prelude.{List};
-    ghost use Rattle.safe_bit.specs.Cell.{Cell};
+    ghost use Rattle.reader_copies.specs.safe_bit.Cell.{Cell};
     ghost use Rattle.reader_copies.specs.Row.{IsRow};
 
     ghost Value = { List (List Cell) };

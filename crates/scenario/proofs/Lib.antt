@@ -1,3 +1,4 @@
+pub use Rattle.files.proofs as files
 -- Lists of any kind
 pub mod Places
 -- What is read of lines

@@ -1,3 +1,4 @@
+pub use Rattle.files.specs as files
 pub mod BitFiles
 pub mod Keywords
 pub mod Numbers

@@ -1,5 +1,5 @@
 //! The numbers of the lines that are run.
-use files::progress::{Place, Reached};
+use scenario::progress::{Place, Reached};
 use scenario::read_scenario;
 use std::process::Abort;
 use std::test::Fail;

@@ -7,7 +7,7 @@ use Rattle.record.specs.declared.events.Event.{Event}
 use Rattle.record.specs.declared.history.Taken.{Taken}
 use Rattle.record.specs.Records.{is_call, past_of}
 use Rattle.record.specs.Registers.{processes}
-use Rattle.process.specs.declared.told.Effect.{Effect}
+use Rattle.world.specs.process.declared.told.Effect.{Effect}
 use Rattle.world.specs.Changes.{pending_in}
 use Rattle.world.specs.Cores.{CoreState, taking, with_history}
 use Rattle.world.specs.Seats.{Seat, seat_of}

@@ -1,3 +1,4 @@
+pub use Rattle.auditor.proofs.laws as laws
 -- A runner makes an event
 pub mod Accepted
 pub mod Movers

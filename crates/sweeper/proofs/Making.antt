@@ -11,8 +11,8 @@ use Rattle.record.specs.Entries.{Entry, Past}
 use Rattle.record.specs.Given.{AreGiven, is_event}
 use Rattle.record.specs.Histories.{history, reply_taken}
 use Rattle.record.specs.Records.{entry_of, past_of, placed, process_of}
-use Rattle.process.specs.declared.told.Effect.{Effect}
-use Rattle.process.specs.Telling.{act_of, marks_of}
+use Rattle.world.specs.process.declared.told.Effect.{Effect}
+use Rattle.world.specs.process.Telling.{act_of, marks_of}
 use Rattle.world.specs.Changes.{with_taken}
 use Rattle.world.specs.Cores.{CoreMakes, CoreRefuses, CoreState, call_in, taking, with_history}
 use Rattle.world.specs.Events.{Adds, entry_with}

@@ -14,6 +14,7 @@ mod shown;
 mod sweeping;
 mod swept;
 
+pub use files::progress;
 pub use laws_of_sweeps::{fails_are_of_whom_stands, steps_are_of_whom_moves, swept_runs_are_good};
 pub use sweeping::{sweep, sweep_seen};
 pub use swept::{BadRun, Swept};

@@ -6,7 +6,7 @@ ghost use Rattle.record.specs.declared.Event.TheVariants.{Fail, Step};
 ghost use Rattle.record.specs.Given.{is_event};
 ghost use Rattle.record.specs.Entries.{Past};
 ghost use Rattle.record.specs.Records.{is_call, placed};
-ghost use Rattle.process.specs.Telling.{marks_told};
+ghost use Rattle.world.specs.process.Telling.{marks_told};
 ghost use Rattle.world.specs.Cores.{taking};
 ghost use Rattle.auditor.specs.Hearing.{HasHeard, IsHeard};
 ghost use Rattle.sweeper.specs.Runners.{Follows, RunsOn, due};

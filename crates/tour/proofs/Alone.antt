@@ -14,9 +14,9 @@ use Rattle.record.specs.Records.{past_of}
 use Rattle.record.specs.Stages.{inside, stage}
 use Rattle.record.proofs.Width.{is_good}
 use Rattle.record.specs.Places.{is_fresh}
-use Rattle.laws.specs.Doings.{Doing, Rests, Lies, Runs, Closes, doing, is_inside, is_inside_at}
-use Rattle.laws.proofs.Doings as doings
-use Rattle.laws.proofs.FrameInside.{inside-is, stage-is}
+use Rattle.world.specs.laws.Doings.{Doing, Rests, Lies, Runs, Closes, doing, is_inside, is_inside_at}
+use Rattle.board.proofs.laws.Doings as doings
+use Rattle.board.proofs.laws.FrameInside.{inside-is, stage-is}
 use Rattle.world.specs.Events.{stage_in}
 use Rattle.world.specs.Shows.{Shows, WorldState}
 

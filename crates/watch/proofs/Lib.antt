@@ -1,3 +1,4 @@
+pub use Rattle.laws.proofs as laws
 pub mod Calm
 pub mod Entries
 pub mod Hears

@@ -7,8 +7,8 @@ use Rattle.std.proofs.lemmas.Nat.{mod-mul-add}
 use Rattle.record.specs.declared.access.Access.{Access}
 use Rattle.record.specs.declared.access.Field.{Field}
 use Rattle.record.specs.declared.access.Field.TheVariants.{Image0}
-use Rattle.safe_number.specs.Bytes.{bit_in}
-use Rattle.safe_number.proofs.Numbers.{get-bits}
+use Rattle.record.specs.safe_number.Bytes.{bit_in}
+use Rattle.record.proofs.safe_number.Numbers.{get-bits}
 use Rattle.plain_store.specs.declared.Setup.{Setup}
 use Rattle.plain_store.specs.Setups.{checked, opening_store}
 use Rattle.store_image.specs.Image.{image_of}

@@ -5,8 +5,8 @@ use Rattle.std.proofs.lemmas.List.{get_or_past, length-replicate}
 use Rattle.record.specs.declared.access.Access.{Access}
 use Rattle.record.specs.declared.access.Field.{Field}
 use Rattle.record.specs.declared.access.Field.TheVariants.{Choosing, Ticket, Commit, Stamp0, Stamp1, Image0, Image1}
-use Rattle.safe_number.specs.Bytes.{bit_in, bits_in}
-use Rattle.safe_number.proofs.Numbers.{bit_in-past, get-bits, length_bits}
+use Rattle.record.specs.safe_number.Bytes.{bit_in, bits_in}
+use Rattle.record.proofs.safe_number.Numbers.{bit_in-past, get-bits, length_bits}
 use Rattle.plain_store.specs.declared.Setup.{Setup}
 use Rattle.store_image.specs.Image.{IsStore, image_of}
 use Rattle.plain_store.specs.Setups.{callers_of, opening_store}

@@ -4,7 +4,7 @@ use Rattle.std.specs.List.{range_with_len}
 use Rattle.std.proofs.lemmas.List.{get_or-set_same, get_or-set_other, length-replicate, get_or-replicate, ext_get_or, get_or_default}
 use Rattle.std.proofs.lemmas.List.FromFn.{length-map-range_with_len, get_or-map-range_with_len}
 use Rattle.std.proofs.lemmas.Bool.{cases_eq}
-use Rattle.reader_copies.proofs.Flags.{made-set}
+use Rattle.record.proofs.reader_copies.Flags.{made-set}
 use Rattle.watch.specs.declared.look.Ending.{Ending}
 use Rattle.watch.specs.declared.look.Ending.TheVariants.{Free, Writing, Bound}
 use Rattle.watch.specs.declared.look.Look.{Look}

@@ -1,3 +1,4 @@
+pub use Rattle.laws.specs as laws
 pub mod Looks
 pub mod Packing
 pub mod Safe

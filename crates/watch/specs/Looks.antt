@@ -1,8 +1,8 @@
 -- What the moves of one bit leave, as far as the safe rule looks back at them.
 use Rattle.std.specs.Prelude.{◌≡◌, Bool, true, false, not, ◌&&◌, List, ◌∷◌, cond}
-use Rattle.safe_bit.specs.declared.Move.{Move}
-use Rattle.safe_bit.specs.declared.Move.TheVariants.{EndRead}
-use Rattle.safe_bit.specs.SafeRule.{before_read, is_overlapped, is_write_open, last_begun, last_written}
+use Rattle.record.specs.safe_bit.declared.Move.{Move}
+use Rattle.record.specs.safe_bit.declared.Move.TheVariants.{EndRead}
+use Rattle.record.specs.safe_bit.SafeRule.{before_read, is_overlapped, is_write_open, last_begun, last_written}
 use Rattle.record.specs.Moves.{begins_read}
 use Rattle.watch.specs.declared.look.Ending.{Ending}
 use Rattle.watch.specs.declared.look.Ending.TheVariants.{Free, Writing, Bound}

@@ -1,7 +1,7 @@
 -- The law `Safe` of an entry, by looking back over the entries before it.
 use Rattle.std.specs.Prelude.{◌≡◌, Bool, true, false, List, [], ◌∷◌, Some}
-use Rattle.safe_bit.specs.declared.Move.TheVariants.{EndRead}
-use Rattle.safe_bit.specs.SafeRule.{MayEndWith}
+use Rattle.record.specs.safe_bit.declared.Move.TheVariants.{EndRead}
+use Rattle.record.specs.safe_bit.SafeRule.{MayEndWith}
 use Rattle.record.specs.declared.access.Access.{Access}
 use Rattle.plain_store.specs.declared.Setup.{Setup}
 use Rattle.record.specs.Entries.{Entry, Past}

@@ -1,8 +1,8 @@
 //! What the moves of one bit leave, kept up move by move.
 ghost use Rattle.std.specs.Prelude.{◌≡◌, [], ◌∷◌, Bool, true, List, Some};
-ghost use Rattle.safe_bit.specs.declared.Move.{Move as Moved};
-ghost use Rattle.safe_bit.specs.declared.Move.TheVariants.{BeginRead, EndWrite, Settle};
-ghost use Rattle.safe_bit.specs.SafeRule.{MayEndWith, is_overlapped, last_written};
+ghost use Rattle.record.specs.safe_bit.declared.Move.{Move as Moved};
+ghost use Rattle.record.specs.safe_bit.declared.Move.TheVariants.{BeginRead, EndWrite, Settle};
+ghost use Rattle.record.specs.safe_bit.SafeRule.{MayEndWith, is_overlapped, last_written};
 ghost use Rattle.record.specs.declared.access.Access.{Access as Made};
 ghost use Rattle.plain_store.specs.declared.Setup.{Setup as Given};
 ghost use Rattle.record.specs.Entries.{Entry as Noted, Past};
@@ -11,7 +11,7 @@ ghost use Rattle.record.specs.Registers.{opening_bit};
 ghost use Rattle.watch.specs.Looks.{LooksOn, ending_of, ends_overlapped, look_of};
 ghost use Rattle.watch.specs.Safe.{KeepsSafe, MatchBool};
 
-use safe_bit::Move;
+use record::Move;
 
 /// What the end of the read that began last may give.
 #[derive(Clone, Copy, Debug, PartialEq, Eq)]

@@ -2,7 +2,7 @@
 ghost use Rattle.std.specs.Prelude.{◌≡◌, ◌++◌, Bool, IfOk, List, Ok, reverse};
 ghost use Rattle.plain_store.specs.Setups.{checked};
 ghost use Rattle.record.specs.Moves.{move_on, moves_of, same_bit as same};
-ghost use Rattle.safe_bit.specs.declared.Move.{Move as Moved};
+ghost use Rattle.record.specs.safe_bit.declared.Move.{Move as Moved};
 ghost use Rattle.watch.specs.Looks.{look_of};
 ghost use Rattle.watch.specs.Safe.{KeepsSafe, MatchBool};
 

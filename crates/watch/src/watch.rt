@@ -4,7 +4,7 @@ ghost use Rattle.store_image.specs.Image.{image_of};
 ghost use Rattle.record.specs.Entries.{Entry as Noted, Past};
 ghost use Rattle.record.specs.Moves.{begins_read, field_number, moves_of};
 ghost use Rattle.record.specs.Registers.{opening_bit, width};
-ghost use Rattle.safe_number.specs.Bytes.{bit_in};
+ghost use Rattle.record.specs.safe_number.Bytes.{bit_in};
 ghost use Rattle.record.specs.declared.access.Access.{Access as Made};
 ghost use Rattle.record.specs.declared.access.Field.{Field as Register};
 ghost use Rattle.laws.specs.Held.{IsThere};

@@ -1,3 +1,4 @@
+pub use Rattle.record.specs as «record»
 pub mod Weighing
 pub mod Following
 pub mod Shown

@@ -7,10 +7,10 @@ use Rattle.record.specs.Acts.{Act}
 use Rattle.record.specs.Entries.{Entry, Past}
 use Rattle.record.specs.Headline.{IsAlone}
 use Rattle.record.specs.Records.{past_of}
-use Rattle.files.specs.Engines.{Streams, Ran}
+use Rattle.scenario.specs.files.Engines.{Streams, Ran}
 use Rattle.scenario.specs.Reading.{Script, scenario_of}
-use Rattle.files.specs.Checks.{◌>>=◌}
-use Rattle.files.specs.declared.faults.Fault.{Fault}
+use Rattle.scenario.specs.files.Checks.{◌>>=◌}
+use Rattle.scenario.specs.files.declared.faults.Fault.{Fault}
 use Rattle.world.specs.Events.{Adds, GoesOn, KeepsTheHeadline, entry_with}
 use Rattle.world.specs.Shows.{Shows, WorldState}
 use Rattle.replayer.specs.Replays.{InputKeepsHeadline, RunKeepsHeadline, ended}

@@ -3,7 +3,7 @@
 mod calls;
 
 use anyhow::{Result, bail};
-use board::Board;
+use board_runs::Board;
 use calls::{adding, all_call, calls_alone, steps_of_a_call};
 use std::rt::Clock;
 use std::thread::Threads;

@@ -5,7 +5,7 @@ use anyhow::{Result, bail};
 use plain_store::{Caller, Command, Name, NestedTypes, Reply, Store, Value};
 use std::rt::Clock;
 use std::time::Instant;
-use store_image::Image;
+use weigh::Image;
 
 /// Makes so many rounds of 8 adds, and prints what they left.
 pub fn times<T: Print + Eprint + Clock>(rt: &T, rounds: u32) -> Result<()> {

@@ -1,12 +1,11 @@
 //! How long a step of a register takes, of 1728 bits and with 16 readers.
 ghost use Rattle.std.specs.Prelude.{◌≡◌, ℕ, Bool, ◌≤◌, ◌*◌, length, OnSome};
-ghost use Rattle.reader_copies.specs.Row.{IsRow};
-ghost use Rattle.reader_copies.specs.Written.{IsWritten};
+ghost use Rattle.record.specs.reader_copies.Row.{IsRow};
+ghost use Rattle.record.specs.reader_copies.Written.{IsWritten};
 ghost use Rattle.register_drive.specs.Idle.{IsIdle};
 
 use anyhow::{Result, bail};
-use register_drive::{read_all, write_all};
-use safe_number::{ReadRun, Register};
+use register_drive::{ReadRun, Register, read_all, write_all};
 use std::rt::Clock;
 use std::time::Instant;
 

@@ -9,11 +9,9 @@ mod lengths;
 mod lines;
 
 use anyhow::{Result, bail};
-use board::{Board, Placed};
-use board_runs::{Plan, run};
+use board_runs::{Board, Flicks, Placed, Plan, run};
 use draws::{draw_plans, draw_setup};
 use fixed::{alone, readers};
-use flicks::Flicks;
 use lines::{print_call, print_image, print_setup};
 use plain_store::Setup;
 use std::thread::Threads;

@@ -1,7 +1,7 @@
 -- The registers and the seats of two cores of one setup are of one shape.
 use Rattle.std.proofs.Common.{◌≡◌, ℕ, ◌<◌, List, [], ◌∷◌, map, refl, sym, ap, subst, ◌∙◌, arith}
-use Rattle.safe_bit.specs.Cell.{Cell}
-use Rattle.reader_copies.specs.Row.{HaveOneShape}
+use Rattle.record.specs.safe_bit.Cell.{Cell}
+use Rattle.record.specs.reader_copies.Row.{HaveOneShape}
 use Rattle.record.specs.declared.access.Access.{Access}
 use Rattle.record.specs.declared.access.Field.{Field}
 use Rattle.record.specs.declared.access.Field.TheVariants.{Choosing, Ticket, Commit, Stamp0, Stamp1, Image0, Image1}
@@ -9,10 +9,10 @@ use Rattle.plain_store.specs.declared.Setup.{Setup}
 use Rattle.record.specs.Entries.{Past}
 use Rattle.record.specs.Records.{past_of}
 use Rattle.record.specs.Registers.{processes}
-use Rattle.bakery.specs.Locks as locks
-use Rattle.bakery.specs.Locks.{LockRows}
-use Rattle.critical.specs.Registers as versions
-use Rattle.critical.specs.Registers.{Data, DataRow, data_from, register_from, row_from}
+use Rattle.process.specs.bakery.Locks as locks
+use Rattle.process.specs.bakery.Locks.{LockRows}
+use Rattle.process.specs.critical.Registers as versions
+use Rattle.process.specs.critical.Registers.{Data, DataRow, data_from, register_from, row_from}
 use Rattle.laws.specs.Held.{cell_held}
 use Rattle.world.specs.Cores.{CoreState, KeepsCore}
 use Rattle.world.specs.Seats.{seat_of, setups_in}

@@ -1,3 +1,4 @@
+pub use Rattle.history_laws.proofs as history_laws_proofs
 -- The registers of all processes
 pub mod RowsCells
 pub mod RowsKept

@@ -1,10 +1,10 @@
 -- Whether the doorway of a process's last call has begun: what an entry makes of it.
 use Rattle.std.proofs.Common.{◌≡◌, ◌≢◌, ℕ, ◌==◌, ◌&&◌, ◌||◌, Bool, true, false, cond, not, List, [], ◌∷◌, Option, Some, None, is_some, length, refl, sym, ap, subst, ◌∙◌, true≢false, eqb-true, eq-eqb, ne_eqb}
-use Rattle.safe_bit.specs.declared.Move.{Move}
+use Rattle.record.specs.safe_bit.declared.Move.{Move}
 use Rattle.record.specs.declared.access.Access.{Access}
 use Rattle.record.specs.declared.access.Field.{Field}
 use Rattle.record.specs.declared.access.Field.TheVariants.{Choosing, Ticket, Commit, Stamp0, Stamp1, Image0, Image1}
-use Rattle.safe_number.specs.Runs.{new_write}
+use Rattle.record.specs.safe_number.Runs.{new_write}
 use Rattle.plain_store.specs.declared.Command.{Command}
 use Rattle.plain_store.specs.declared.Setup.{Setup}
 use Rattle.record.specs.declared.events.Event.{Event}
@@ -19,7 +19,7 @@ use Rattle.record.specs.Places.{Place, is_fresh, place_after, value_of, write_mo
 use Rattle.record.specs.Records.{entry_of, past_of}
 use Rattle.record.specs.Scripts.{Call}
 use Rattle.record.proofs.Width.{IsGood}
-use Rattle.reader_copies.specs.Runs as copies
+use Rattle.record.specs.reader_copies.Runs as copies
 use Rattle.laws.specs.Doings.{Doing, Rests, Runs, Closes, call, runs, closes, doing, is_inside_at}
 use Rattle.laws.proofs.AtPlaces.{AtPlace}
 use Rattle.laws.proofs.Doings.{IsCut, Step, at_rest, between, within, leaving, clearing, calls, withdraws, fails, restarts, steps, closes_on}

@@ -1,9 +1,9 @@
 -- Each access of a record may be made on the registers after its past, which answer it as the safe rule does, and which it makes those after it.
 use Rattle.std.proofs.Common.{◌≡◌, ℕ, Bool, true, false, cond, List, ◌∷◌, Some, Ok, refl, sym, ap, subst, ◌∙◌, arith}
-use Rattle.safe_bit.specs.Cell.{Cell, MayMove, cell_after, read_answer}
-use Rattle.safe_bit.specs.SafeRule.{read_value}
-use Rattle.reader_copies.specs.Row as row
-use Rattle.reader_copies.specs.Row.{cell_at, row_after}
+use Rattle.record.specs.safe_bit.Cell.{Cell, MayMove, cell_after, read_answer}
+use Rattle.record.specs.safe_bit.SafeRule.{read_value}
+use Rattle.record.specs.reader_copies.Row as row
+use Rattle.record.specs.reader_copies.Row.{cell_at, row_after}
 use Rattle.record.specs.declared.access.Access.{Access}
 use Rattle.record.specs.declared.access.Field.{Field}
 use Rattle.plain_store.specs.Setups.{checked}
@@ -15,10 +15,10 @@ use Rattle.record.specs.Newest.{copy}
 use Rattle.record.specs.Records.{entry_of, past_of}
 use Rattle.record.specs.Registers.{opening_bit}
 use Rattle.record.proofs.Width.{is_good}
-use Rattle.bakery.specs.Locks as locks
-use Rattle.bakery.specs.Locks.{CanAccess, locks_after, lock_of, made_by, row_in}
-use Rattle.critical.specs.Registers as versions
-use Rattle.critical.specs.Registers.{MayMake, after_access, is_data, made_of, register_at, register_from}
+use Rattle.process.specs.bakery.Locks as locks
+use Rattle.process.specs.bakery.Locks.{CanAccess, locks_after, lock_of, made_by, row_in}
+use Rattle.process.specs.critical.Registers as versions
+use Rattle.process.specs.critical.Registers.{MayMake, after_access, is_data, made_of, register_at, register_from}
 use Rattle.laws.specs.Held.{IsThere, cell_held}
 use Rattle.laws.proofs.FrameCells.{OnCopy, itself, on-copy}
 use Rattle.laws.proofs.HeldCells.{held-entry, held_answers}

@@ -2,8 +2,8 @@
 use Rattle.std.proofs.Common.{◌≡◌, ℕ, ◌<◌, true, false, List, [], length, map, get_or, ap, ◌∙◌, arith}
 use Rattle.std.proofs.lemmas.List.FromFn.{length-map-range_with_len, get_or-map-range_with_len}
 use Rattle.std.specs.List.{range_with_len}
-use Rattle.safe_bit.specs.Cell.{Cell, new_cell}
-use Rattle.reader_copies.specs.Row.{cell_in, cell_at, HasCell}
+use Rattle.record.specs.safe_bit.Cell.{Cell, new_cell}
+use Rattle.record.specs.reader_copies.Row.{cell_in, cell_at, HasCell}
 use Rattle.record.specs.declared.access.Access.{Access}
 use Rattle.record.specs.declared.access.Field.{Field}
 use Rattle.record.specs.declared.access.Field.TheVariants.{Choosing, Ticket, Commit, Stamp0, Stamp1, Image0, Image1}
@@ -11,8 +11,8 @@ use Rattle.plain_store.specs.declared.Setup.{Setup}
 use Rattle.record.specs.Entries.{Past}
 use Rattle.record.specs.Newest.{copy}
 use Rattle.record.specs.Registers.{width}
-use Rattle.bakery.specs.Locks.{LockRows, lock_of, no_lock, row_in}
-use Rattle.critical.specs.Registers.{Data, DataRow, data_from, data_of, is_data, no_data, register_at, register_from, row_from}
+use Rattle.process.specs.bakery.Locks.{LockRows, lock_of, no_lock, row_in}
+use Rattle.process.specs.critical.Registers.{Data, DataRow, data_from, data_of, is_data, no_data, register_at, register_from, row_from}
 use Rattle.laws.specs.Held.{cell_held}
 use Rattle.process.specs.Registers.{RegistersState}
 use Rattle.world.specs.Shows.{lock_from, locks_from, registers_from}

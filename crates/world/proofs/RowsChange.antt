@@ -1,17 +1,17 @@
 -- Where the cells of one register change and no others, the registers that are made of them change in that one.
 use Rattle.std.proofs.Common.{◌≡◌, ◌≢◌, ℕ, ◌<◌, true, false, List, [], map, set, get_or, refl, sym, ap, ◌∙◌}
 use Rattle.std.specs.List.{range_with_len}
-use Rattle.safe_bit.specs.Cell.{Cell}
-use Rattle.reader_copies.specs.Row.{with_cell}
-use Rattle.reader_copies.proofs.Flags.{made-set}
+use Rattle.record.specs.safe_bit.Cell.{Cell}
+use Rattle.record.specs.reader_copies.Row.{with_cell}
+use Rattle.record.proofs.reader_copies.Flags.{made-set}
 use Rattle.record.specs.declared.access.Access.{Access}
 use Rattle.record.specs.declared.access.Field.{Field}
 use Rattle.record.specs.declared.access.Field.TheVariants.{Choosing, Ticket, Commit, Stamp0, Stamp1, Image0, Image1}
 use Rattle.plain_store.specs.declared.Setup.{Setup}
 use Rattle.record.specs.Newest.{copy}
 use Rattle.record.specs.Registers.{processes, width}
-use Rattle.bakery.specs.Locks.{lock_of, with_row}
-use Rattle.critical.specs.Registers.{data_from, data_of, is_data, register_from, row_from, with_register, with_register_at}
+use Rattle.process.specs.bakery.Locks.{lock_of, with_row}
+use Rattle.process.specs.critical.Registers.{data_from, data_of, is_data, register_from, row_from, with_register, with_register_at}
 use Rattle.world.specs.Shows.{lock_from, locks_from}
 use Rattle.world.proofs.RowsCells.{copies_from, copies-are, data-is, lock-is}
 

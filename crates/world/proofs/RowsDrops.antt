@@ -3,12 +3,12 @@ use Rattle.std.proofs.Common.{◌≡◌, ◌≢◌, ℕ, ◌<◌, ◌==◌, ◌&
 use Rattle.std.proofs.lemmas.Bool.{eqb-false}
 use Rattle.std.proofs.lemmas.Simd.{map-map}
 use Rattle.std.specs.List.{range_with_len}
-use Rattle.safe_bit.specs.Cell.{Cell}
-use Rattle.safe_bit.specs.Cell as cell
-use Rattle.reader_copies.specs.Row.{without_reads}
+use Rattle.record.specs.safe_bit.Cell.{Cell}
+use Rattle.record.specs.safe_bit.Cell as cell
+use Rattle.record.specs.reader_copies.Row.{without_reads}
 use Rattle.record.specs.declared.access.Access.{Access}
 use Rattle.record.specs.declared.access.Field.{Field}
-use Rattle.safe_number.specs.Runs.{NumberWrite}
+use Rattle.record.specs.safe_number.Runs.{NumberWrite}
 use Rattle.plain_store.specs.declared.Command.{Command}
 use Rattle.plain_store.specs.Setups.{checked}
 use Rattle.plain_store.specs.declared.Setup.{Setup}
@@ -22,8 +22,8 @@ use Rattle.record.specs.Records.{entry_of, past_of}
 use Rattle.record.specs.Registers.{width}
 use Rattle.record.specs.Scripts.{Call}
 use Rattle.record.proofs.Width.{IsGood, is_good}
-use Rattle.bakery.specs.Locks.{locks_without_reads, lock_of, row_in}
-use Rattle.critical.specs.Registers.{is_data, register_at, register_from, row_from, without_reads_at}
+use Rattle.process.specs.bakery.Locks.{locks_without_reads, lock_of, row_in}
+use Rattle.process.specs.critical.Registers.{is_data, register_at, register_from, row_from, without_reads_at}
 use Rattle.laws.specs.Doings.{Doing, Rests, Lies, Runs, Closes, call, doing}
 use Rattle.laws.specs.Held.{cell_held, drops}
 use Rattle.laws.proofs.AtPlaces.{AtPlace}

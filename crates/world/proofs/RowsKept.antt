@@ -1,7 +1,7 @@
 -- The registers as they open, that an entry which only marks leaves them, and that they are those of the setup.
 use Rattle.std.proofs.Common.{◌≡◌, ℕ, zero, suc, ◌==◌, ◌&&◌, false, cond, [], ◌∷◌, None, Ok, length, map, sym, ap, subst, ◌∙◌, arith}
-use Rattle.safe_bit.specs.Cell.{Cell, without_read}
-use Rattle.reader_copies.specs.Row.{IsRow}
+use Rattle.record.specs.safe_bit.Cell.{Cell, without_read}
+use Rattle.record.specs.reader_copies.Row.{IsRow}
 use Rattle.record.specs.declared.access.Access.{Access}
 use Rattle.record.specs.declared.access.Field.TheVariants.{Choosing, Ticket}
 use Rattle.plain_store.specs.Setups.{checked}
@@ -9,8 +9,8 @@ use Rattle.plain_store.specs.declared.Setup.{Setup}
 use Rattle.record.specs.Entries.{Entry, Past}
 use Rattle.record.specs.Registers.{processes, width}
 use Rattle.record.proofs.Width.{is_good}
-use Rattle.bakery.specs.Locks.{new_lock, new_locks}
-use Rattle.critical.proofs.Opening.{zero-register, const-range}
+use Rattle.process.specs.bakery.Locks.{new_lock, new_locks}
+use Rattle.process.proofs.critical.Opening.{zero-register, const-range}
 use Rattle.laws.specs.Held.{cell_held, drops}
 use Rattle.laws.proofs.HeldCells.{held-marks}
 use Rattle.process.specs.Drops.{AreOf}

@@ -4,14 +4,14 @@ use Rattle.std.proofs.lemmas.Bool.{cases_lt}
 use Rattle.std.proofs.lemmas.List.{get_or_past}
 use Rattle.std.proofs.lemmas.Simd.{map-map}
 use Rattle.std.specs.List.{range_with_len}
-use Rattle.safe_bit.specs.Cell.{Cell}
-use Rattle.reader_copies.specs.Row.{cell_at, HasCell}
+use Rattle.record.specs.safe_bit.Cell.{Cell}
+use Rattle.record.specs.reader_copies.Row.{cell_at, HasCell}
 use Rattle.record.specs.declared.access.Access.{Access}
 use Rattle.record.specs.declared.access.Field.{Field}
 use Rattle.record.specs.declared.access.Field.TheVariants.{Choosing, Ticket, Commit, Stamp0, Stamp1, Image0, Image1}
-use Rattle.safe_number.specs.Bytes.{number_of_bits}
-use Rattle.safe_number.proofs.Numbers.{range_same}
-use Rattle.store_image.specs.Reading.{store_in}
+use Rattle.record.specs.safe_number.Bytes.{number_of_bits}
+use Rattle.record.proofs.safe_number.Numbers.{range_same}
+use Rattle.record.specs.store_image.Reading.{store_in}
 use Rattle.plain_store.specs.Setups.{callers_of, checked}
 use Rattle.plain_store.specs.declared.Setup.{Setup}
 use Rattle.record.specs.Entries.{Past}
@@ -21,9 +21,9 @@ use Rattle.record.specs.Newest as record_newest
 use Rattle.record.specs.Program.{Version, image_field, newest_process, stamp_field, version_of}
 use Rattle.record.specs.Registers.{bytes_of_bits, image_bytes, width}
 use Rattle.record.proofs.Width.{is_good}
-use Rattle.critical.specs.Newest.{IsQuiet, newest_store, values_of, version_held, version_in, versions_in}
-use Rattle.critical.specs.Registers.{Data, data_from, data_of, is_data, no_data, register_at, register_from, register_of}
-use Rattle.critical.proofs.Committed.{newest-inside}
+use Rattle.process.specs.critical.Newest.{IsQuiet, newest_store, values_of, version_held, version_in, versions_in}
+use Rattle.process.specs.critical.Registers.{Data, data_from, data_of, is_data, no_data, register_at, register_from, register_of}
+use Rattle.process.proofs.critical.Committed.{newest-inside}
 use Rattle.laws.specs.Held.{cell_held}
 use Rattle.laws.proofs.HeldCells.{held-is}
 use Rattle.world.proofs.RowsCells.{cell-is, copies-are, data-is, data-register, many-parts, readers-are, row_at, width-is}

@@ -8,7 +8,7 @@ use Rattle.record.specs.declared.Stage.TheVariants as stages
 use Rattle.record.specs.Records.{past_of}
 use Rattle.record.specs.Stages.{stage}
 use Rattle.record.proofs.Width.{is_good}
-use Rattle.bakery.specs.Doors.{is_waiting}
+use Rattle.process.specs.bakery.Doors.{is_waiting}
 use Rattle.process.specs.Processes as kept
 use Rattle.process.specs.Processes.{Kept, stage_kept}
 use Rattle.process.specs.Steps.{bits_to_walk}

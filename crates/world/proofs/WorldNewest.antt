@@ -4,8 +4,8 @@ use Rattle.std.specs.Prelude.{Ok}
 use Rattle.std.specs.List.{list_any}
 use Rattle.plain_store.specs.declared.Command.TheVariants.{Ask}
 use Rattle.plain_store.specs.declared.Setup.{Setup}
-use Rattle.store_image.specs.Image.{image_of}
-use Rattle.store_image.specs.Reading.{store_in}
+use Rattle.record.specs.store_image.Image.{image_of}
+use Rattle.record.specs.store_image.Reading.{store_in}
 use Rattle.plain_store.specs.Setups.{callers_of, checked}
 use Rattle.plain_store.specs.Store.{Contents}
 use Rattle.record.specs.declared.events.Event.{Event}
@@ -17,8 +17,8 @@ use Rattle.record.specs.Records.{past_of}
 use Rattle.record.specs.Registers.{processes}
 use Rattle.record.specs.Stages.{inside}
 use Rattle.record.proofs.Width.{is_good}
-use Rattle.critical.specs.Newest.{IsQuiet, newest_store}
-use Rattle.critical.specs.Registers.{DataRow, FitsSetup}
+use Rattle.process.specs.critical.Newest.{IsQuiet, newest_store}
+use Rattle.process.specs.critical.Registers.{DataRow, FitsSetup}
 use Rattle.laws.specs.Doings.{call, doing}
 use Rattle.laws.proofs.FrameInside.{inside-is}
 use Rattle.history_laws.proofs.Codec.{bytes_read, store_is_read}

@@ -21,8 +21,8 @@ use Rattle.record.specs.Places.{Place, enter, is_fresh, is_last, bits_with, run_
 use Rattle.record.specs.Program.{entered_if_none, lets_by, max_of, newest_stamp, reply, store_read, waits_of}
 use Rattle.record.specs.Scripts.{Call, Next}
 use Rattle.record.specs.Unit.{is_commit}
-use Rattle.reader_copies.specs.Runs as copies
-use Rattle.safe_number.specs.Runs.{new_write}
+use Rattle.record.specs.reader_copies.Runs as copies
+use Rattle.record.specs.safe_number.Runs.{new_write}
 use Rattle.laws.specs.Doings.{Doing, Rests, Lies, Runs, Closes, call, runs, closes, is_inside}
 use Rattle.world.specs.Changes.{is_pending, pending, pending_in, told}
 use Rattle.world.specs.Seats.{Seat}

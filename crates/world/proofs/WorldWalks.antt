@@ -7,7 +7,7 @@ use Rattle.record.specs.declared.events.Event.TheVariants as event
 use Rattle.record.specs.declared.Stage.{Stage}
 use Rattle.record.specs.declared.Stage.TheVariants as stage
 use Rattle.record.specs.Doorways.{is_waiting_stage}
-use Rattle.bakery.specs.Doors.{is_waiting}
+use Rattle.process.specs.bakery.Doors.{is_waiting}
 use Rattle.record.specs.Records.{refused_at}
 use Rattle.process.specs.declared.told.Told.TheVariants.{Nothing}
 use Rattle.world.specs.Changes.{pending_in, told}

@@ -1,6 +1,6 @@
 -- What a world keeps, and the records that it shows.
 use Rattle.std.specs.Prelude.{◌≡◌, ℕ, List, map, Ok}
-use Rattle.safe_bit.specs.Cell.{Cell}
+use Rattle.record.specs.safe_bit.Cell.{Cell}
 use Rattle.record.specs.declared.access.Access.{Access}
 use Rattle.record.specs.declared.access.Field.TheVariants.{Choosing, Ticket}
 use Rattle.plain_store.specs.declared.Setup.{Setup}
@@ -12,8 +12,8 @@ use Rattle.record.specs.Given.{AreGiven}
 use Rattle.record.specs.Histories.{history}
 use Rattle.record.specs.Records.{past_of}
 use Rattle.record.specs.Registers.{processes}
-use Rattle.bakery.specs.Locks.{LockRows}
-use Rattle.critical.specs.Registers.{register_from, row_from}
+use Rattle.process.specs.bakery.Locks.{LockRows}
+use Rattle.process.specs.critical.Registers.{register_from, row_from}
 use Rattle.laws.specs.Held.{cell_held}
 use Rattle.process.specs.Registers.{RegistersState}
 use Rattle.world.specs.Seats.{Seat, seat_of}

@@ -2,7 +2,7 @@
 ghost use Rattle.std.specs.Prelude.{◌≡◌, ◌+◌, ◌<◌, ◌≤◌, Bool, false, true, List, length, None, Some, IfOk, IfErr, IfSome, IsOk, OnErr, OnOk, Ok, [], option_map};
 ghost use Rattle.plain_store.specs.Setups.{checked};
 ghost use Rattle.plain_store.specs.Commands.{is_command};
-ghost use Rattle.store_image.specs.Image.{image_of};
+ghost use Rattle.record.specs.store_image.Image.{image_of};
 ghost use Rattle.record.specs.declared.Event.{Event as Happening};
 ghost use Rattle.record.specs.declared.Event.TheVariants.{Call, Step, Fail, Withdraw, Restart};
 ghost use Rattle.record.specs.declared.history.Taken.{Taken as Seen};
@@ -26,13 +26,11 @@ use crate::seat::Seat;
 use crate::seats::{is_occupied, is_queued, tell, waiting, waits};
 use flicks::Flicks;
 use plain_store::{Command, NestedTypes, Reply, Setup};
-use process::{Effect, Registers, Told};
+use process::{Effect, Image, Pace, Registers, Told};
 use record::{Access, Event, Refusal, Stage, Taken};
-use safe_number::Pace;
 use smallvec::SmallVec;
 use std::alloc::{AllocError, Global};
 use std::marker::Model;
-use store_image::Image;
 
 /// N processes over one set of registers: a world without its history. Once made it takes no memory.
 ///

@@ -17,9 +17,8 @@ ghost use Rattle.world.specs.Seats.{seat_of, with_kept};
 
 use flicks::Flicks;
 use plain_store::{Command, Setup};
-use process::{Process, Registers, Told};
+use process::{Pace, Process, Registers, Told};
 use record::Access;
-use safe_number::Pace;
 use std::alloc::{AllocError, Global};
 use std::marker::Model;
 

@@ -1,7 +1,7 @@
 ghost use Rattle.std.specs.Prelude.{◌≡◌, ◌↔◌, Bool, ◌==◌, ◌&&◌, nat_le, ◌<◌, ◌≤◌, ◌∷◌, ◌++◌, ◌+◌, [], true, false, map, option_map, None, Some, IfOk, IfErr, IfSome, OnOk, OnErr, OnSome, IsOk, IsSome, IsTrue, Ok, length, List};
 ghost use Rattle.std.specs.Vec.{vec_capacity, vec_len};
 ghost use Rattle.plain_store.specs.Setups.{checked};
-ghost use Rattle.store_image.specs.Image.{image_of};
+ghost use Rattle.record.specs.store_image.Image.{image_of};
 ghost use Rattle.record.specs.declared.Event.{Event as Happening};
 ghost use Rattle.record.specs.declared.Event.TheVariants.{Call, Step, Fail, Withdraw, Restart};
 ghost use Rattle.record.specs.declared.Refusal.TheVariants.{Memory};
@@ -25,12 +25,11 @@ ghost use Rattle.world.specs.Walks.{KeepOthers, StepsQuietly, Walks, bits_within
 use crate::cores::Core;
 use flicks::Flicks;
 use plain_store::{NestedTypes, Reply, Setup};
-use process::{Effect, Made, Told};
+use process::{Effect, Image, Made, Told};
 use record::{Access, Act, Event, Refusal, Stage, Taken};
 use smallvec::SmallVec;
 use std::alloc::{AllocError, Global};
 use std::marker::Model;
-use store_image::Image;
 
 /// N processes over one set of registers, and the history of the commands that they took.
 ///

@@ -13,9 +13,8 @@ ghost use Rattle.process.specs.declared.process.Work.TheVariants as works;
 use super::{Process, Work};
 use crate::told::{Told, answer_told, settled, told_at_data, told_at_door, told_left};
 use bakery::{DoorProgress, Leaving};
-use failure::UnitProgress;
+use failure::{Progress, UnitProgress};
 use plain_store::{Answer, NestedTypes};
-use reader_copies::Progress;
 use record::Access;
 use std::mem;
 

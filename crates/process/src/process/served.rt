@@ -13,9 +13,9 @@ ghost use Rattle.process.specs.Telling.{marks_told};
 use super::{Process, Work};
 use crate::registers::{Registers, ended, given};
 use crate::told::Told;
-use flicks::Flicks;
+use bakery::Pace;
+use critical::Flicks;
 use record::Access;
-use safe_number::Pace;
 
 impl Process {
     /// Makes the next access, of the process or of its memory unit, and goes on by it. It answers the access, a read's

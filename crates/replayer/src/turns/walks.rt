@@ -1,7 +1,7 @@
 //! The lines that make Steps. A Step without a mark leaves every process where it is, so that only after one with
 //! marks a line has to look again who is where.
 ghost use Rattle.std.specs.Prelude.{◌≡◌, ◌+◌, ◌<◌, ◌≤◌, ℕ, true, false, length, slice_index, IfSome, None};
-ghost use Rattle.flicks.specs.Flicks.{after_flick, after_pick, flick_of, pick_of};
+ghost use Rattle.world.specs.flicks.Flicks.{after_flick, after_pick, flick_of, pick_of};
 ghost use Rattle.record.specs.Stages.{stage};
 ghost use Rattle.scenario.specs.declared.lines.Line.TheVariants.{Step as StepLine, Go as GoLine, Wander as WanderLine};
 ghost use Rattle.world.specs.Walks.{StepsQuietly, bits_within_at};

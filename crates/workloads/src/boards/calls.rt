@@ -1,13 +1,12 @@
 //! Calls of one port, and what ports do on threads.
 ghost use Rattle.std.specs.Prelude.{◌≡◌, ℕ, Ok, IfOk, Some, slice_get};
 ghost use Rattle.plain_store.specs.Setups.{checked};
-ghost use Rattle.board.specs.Boards.{IsOf};
-ghost use Rattle.board.specs.Ports.{PortState, SamePort};
+ghost use Rattle.board_runs.specs.board.Boards.{IsOf};
+ghost use Rattle.board_runs.specs.board.Ports.{PortState, SamePort};
 
 use crate::counters::{counter, counting};
 use anyhow::Result;
-use board::{Board, Driven, Port};
-use flicks::Flicks;
+use board_runs::{Board, Driven, Flicks, Port};
 use plain_store::{Command, Setup};
 use record::Refusal;
 use std::alloc::AllocError;

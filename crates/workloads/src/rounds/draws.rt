@@ -5,8 +5,7 @@ ghost use Rattle.plain_store.specs.Setups.{checked};
 use super::fixed::ALL;
 use super::lengths::{turns_before_commit, turns_of_a_doorway, turns_of_commit};
 use anyhow::{Result, bail};
-use board_runs::{End, Plan, Undertaking};
-use flicks::{Flick, Flicks};
+use board_runs::{End, Flick, Flicks, Plan, Undertaking};
 use plain_store::{Command, Name, NestedTypes, Opening, Setup, Text, Value};
 use std::alloc::Global;
 

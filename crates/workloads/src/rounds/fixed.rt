@@ -2,8 +2,7 @@
 use super::play;
 use crate::counters::counter;
 use anyhow::Result;
-use board_runs::{End, Plan, Undertaking};
-use flicks::Flick;
+use board_runs::{End, Flick, Plan, Undertaking};
 use plain_store::{Command, Setup, Value};
 use std::thread::Threads;
 

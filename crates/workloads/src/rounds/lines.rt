@@ -1,8 +1,8 @@
 //! The lines of a round.
 use anyhow::Result;
-use board::Placed;
+use board_runs::Placed;
 use plain_store::{NestedTypes, Setup};
-use store_image::Image;
+use weigh::Image;
 
 /// The lines of a setup: its numbers, and the pairs that its store opens with.
 pub fn print_setup<T: Print + AllocGlobal>(rt: &T, setup: &Setup) -> Result<()> {

@@ -4,10 +4,10 @@ ghost use Rattle.plain_store.specs.Setups.{checked};
 
 use crate::counters::counter;
 use anyhow::{Result, bail};
+use auditor::{Flicks, Told, World};
 use plain_store::{Command, Setup, Store, Value};
 use record::{Event, Refusal, Stage};
 use std::alloc::{AllocError, Global};
-use world::{Flicks, Told, World};
 
 /// The most steps of a call that waits for nobody, and some more.
 const STEPS: u32 = 65_536;

@@ -4,11 +4,10 @@ ghost use Rattle.plain_store.specs.Setups.{checked};
 
 use super::driver::Calls;
 use anyhow::{Result, bail};
-use auditor::{Auditor, Entry, Record};
+use auditor::{Auditor, Entry, Flicks, Record, World};
 use plain_store::Setup;
 use record::{Event, Refusal};
 use std::alloc::Global;
-use world::{Flicks, World};
 
 /// How many steps a record has at most.
 const STEPS: u16 = 10_000;

@@ -1,12 +1,12 @@
 use Rattle.std.proofs.Common.{◌≡◌, ◌<◌, ◌≤◌, false, sym, ap, ◌∙◌, subst, arith}
 use Rattle.std.specs.Prelude.{slice_index_or}
-use Rattle.safe_number.specs.Bytes.{bit_in}
+use Rattle.record.specs.safe_number.Bytes.{bit_in}
 use Rattle.record.specs.declared.access.Field.TheVariants.{Image0}
-use Rattle.safe_number.proofs.Numbers.{get-bits}
+use Rattle.record.proofs.safe_number.Numbers.{get-bits}
 use Rattle.plain_store.specs.Setups.{opening_store}
 use Rattle.store_image.specs.Image.{image_of}
 use Rattle.record.specs.Registers.{opening_bit, opening_bits, width}
-use Rattle.critical.proofs.Widths.{ranges}
+use Rattle.process.proofs.critical.Widths.{ranges}
 use Rattle.board.specs.Words.{bit_of, closed_word}
 use Rattle.board.proofs.WordNumbers.{bit_there, byte_word, opens_late, opens_low}
 use Rattle.board.proofs.opening.opening_word.Goals as goal

@@ -1,5 +1,5 @@
 use Rattle.std.proofs.Common.{◌≡◌, ◌+◌, ◌-◌, take, drop}
-use Rattle.safe_number.specs.Bytes.{number_of_bits}
+use Rattle.record.specs.safe_number.Bytes.{number_of_bits}
 use Rattle.board.specs.Closings.{bits_shown}
 use Rattle.board.proofs.shown_image.number_shown.Given as goal
 

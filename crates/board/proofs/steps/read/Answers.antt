@@ -34,7 +34,7 @@ pub returns-clause-leads : goal.returns-clause-leads
 returns-clause-leads c = let t = c.requires.tied in let n = c.requires.next in
     subst (λ told. LeadsTo c.args.words.now.key told (with_pending c.args.words.now.key c.args.pending c.args.seat.now.me.0).own c.load-found.new.seat.me.0.own) (sym c.briefly.ensures)
     (leads_loaded c.args.words.now.key c.args.pending c.args.process.now c.advance-begun.new.self t.0 c.args.flick c.args.word c.load-found.result n.0 c.args.seat.now.me.0 c.load-found.new.seat.me.0 c.advance.result t.1 n.1 n.2 c.load-found.ensures.told c.advance-begun.ensures.process
-    (subst (λ x. (d : Rattle.laws.specs.Doings.Doing) → Rattle.process.specs.Steps.IsAt c.advance-begun.new.self d → Rattle.process.specs.Telling.marks_told c.advance.result ≡ Rattle.laws.specs.Steps.marks_with c.advance-begun.new.self.setup c.advance-begun.new.self.process d c.args.flick x) c.loaded.ensures c.advance.ensures.marks))
+    (subst (λ x. (d : Rattle.process.specs.laws.Doings.Doing) → Rattle.process.specs.Steps.IsAt c.advance-begun.new.self d → Rattle.process.specs.Telling.marks_told c.advance.result ≡ Rattle.process.specs.laws.Steps.marks_with c.advance-begun.new.self.setup c.advance-begun.new.self.process d c.args.flick x) c.loaded.ensures c.advance.ensures.marks))
 
 pub returns-clause-lists : goal.returns-clause-lists
 returns-clause-lists c = λ stamp known. let t = c.requires.tied in let n = c.requires.next in

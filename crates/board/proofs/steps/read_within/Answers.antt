@@ -1,5 +1,5 @@
 use Rattle.std.proofs.Common.{inl, subst, sym, arith}
-use Rattle.laws.specs.Doings.{Doing}
+use Rattle.process.specs.laws.Doings.{Doing}
 use Rattle.process.specs.Steps.{IsAt}
 use Rattle.process.specs.declared.told.Told.TheVariants.{Nothing}
 use Rattle.board.specs.Ports.{with_pending}

@@ -1,7 +1,7 @@
 use Rattle.std.proofs.Common.{◌≡◌, ◌∙◌, ap}
-use Rattle.files.proofs.CutTexts.{tells_at_limit}
+use Rattle.scenario.proofs.files.CutTexts.{tells_at_limit}
 use Rattle.scenario.specs.BitFiles.{bits_grammar, bits_of}
-use Rattle.files.proofs.EngineEnds.{kept, ran_to_line, ran_to_end}
+use Rattle.scenario.proofs.files.EngineEnds.{kept, ran_to_line, ran_to_end}
 use Rattle.engines.specs.Bits.{bits_printed}
 use Rattle.engines.proofs.bits.run_bits.Goals as goal
 

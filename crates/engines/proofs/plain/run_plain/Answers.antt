@@ -2,7 +2,7 @@ use Rattle.std.proofs.Common.{◌≡◌, ◌∙◌}
 use Rattle.scenario.proofs.CutTexts.{scenario_tells_at_limit}
 use Rattle.scenario.specs.Reading.{scenario_of}
 use Rattle.scenario.specs.Reads.{script}
-use Rattle.files.proofs.EngineEnds.{kept, ran_to_line, ran_to_end}
+use Rattle.scenario.proofs.files.EngineEnds.{kept, ran_to_line, ran_to_end}
 use Rattle.engines.specs.Plain.{printed}
 use Rattle.engines.proofs.plain.run_plain.Goals as goal
 

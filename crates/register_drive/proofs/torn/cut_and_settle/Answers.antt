@@ -1,5 +1,5 @@
 use Rattle.std.proofs.Common.{◌≡◌, ◌<◌, ◌∙◌, ℕ, List, Bool, ap, sym, subst, arith}
-use Rattle.safe_bit.specs.Cell.{Cell}
+use Rattle.reader_copies.specs.safe_bit.Cell.{Cell}
 use Rattle.reader_copies.specs.Row.{IsRow}
 use Rattle.reader_copies.specs.Written.{IsWritten, cut_values, with_value}
 use Rattle.safe_number.specs.Bytes.{bit_in}

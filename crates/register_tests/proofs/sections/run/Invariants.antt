@@ -1,5 +1,5 @@
 use Rattle.std.proofs.Common.{◌≡◌, true}
-use Rattle.critical.specs.Sections.{is_going}
+use Rattle.failure.specs.critical.Sections.{is_going}
 use Rattle.register_tests.proofs.sections.run.Given as goal
 
 abbrev pub invariant-loop-made : goal.invariant-loop-made

@@ -1,5 +1,5 @@
 use Rattle.std.proofs.Common.{◌≡◌, true, false, [], sym, ap, ◌∙◌, subst, refl, arith}
-use Rattle.safe_bit.specs.declared.Move.TheVariants.{BeginWrite}
+use Rattle.record.specs.safe_bit.declared.Move.TheVariants.{BeginWrite}
 use Rattle.record.specs.declared.access.Access.{Access}
 use Rattle.record.specs.declared.access.Field.TheVariants.{Commit}
 use Rattle.plain_store.specs.declared.Command.{Command}
@@ -7,8 +7,8 @@ use Rattle.plain_store.specs.declared.Command.TheVariants.{Read}
 use Rattle.plain_store.specs.declared.Setup.{Setup}
 use Rattle.record.specs.Places.{Place, access_at, place_after, value_of}
 use Rattle.record.specs.Scripts.{Call}
-use Rattle.critical.specs.Registers.{DataRow, row_from, opening_cell, after_access, answered, MayMake}
-use Rattle.critical.specs.Sections.{Section, section_at, inside_place, started}
+use Rattle.failure.specs.critical.Registers.{DataRow, row_from, opening_cell, after_access, answered, MayMake}
+use Rattle.failure.specs.critical.Sections.{Section, section_at, inside_place, started}
 use Rattle.register_tests.proofs.sections.steps_on_registers.Goals as goal
 
 -- a write of the commit bit begins

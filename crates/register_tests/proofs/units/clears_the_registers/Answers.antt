@@ -1,11 +1,11 @@
 use Rattle.std.proofs.Common.{◌≡◌, true, false, None, Some, List, [], sym, ap, ◌∙◌, subst, refl, arith}
-use Rattle.safe_bit.specs.declared.Move.TheVariants.{BeginWrite}
+use Rattle.record.specs.safe_bit.declared.Move.TheVariants.{BeginWrite}
 use Rattle.record.specs.declared.access.Access.{Access}
 use Rattle.record.specs.declared.access.Field.TheVariants.{Ticket}
 use Rattle.plain_store.specs.declared.Setup.{Setup}
 use Rattle.record.specs.Failures.{cut}
-use Rattle.bakery.specs.Locks.{LockRows, lock_of, new_locks}
-use Rattle.critical.specs.Registers.{Data}
+use Rattle.failure.specs.bakery.Locks.{LockRows, lock_of, new_locks}
+use Rattle.failure.specs.critical.Registers.{Data}
 use Rattle.failure.specs.Memory.{CanAccess}
 use Rattle.failure.specs.Units.{UnitState, unit_at, call_in, next_of}
 use Rattle.register_tests.proofs.units.clears_the_registers.Goals as goal

@@ -1,7 +1,7 @@
 use Rattle.std.proofs.Common.{Some, map, subst}
 use Rattle.record.specs.Records.{placed}
-use Rattle.process.specs.declared.told.Told.{Told}
-use Rattle.process.specs.Telling.{marks_told}
+use Rattle.world.specs.process.declared.told.Told.{Told}
+use Rattle.world.specs.process.Telling.{marks_told}
 use Rattle.replayer.specs.Hearing.{AddsEntry}
 use Rattle.replayer.proofs.heard.hear_step.Goals as goal
 

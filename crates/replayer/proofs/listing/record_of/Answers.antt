@@ -5,7 +5,7 @@ use Rattle.record.specs.declared.events.Event.{Event}
 use Rattle.record.specs.Given.{AreGiven}
 use Rattle.record.specs.Headline.{KeepsHeadlineThroughout}
 use Rattle.record.specs.Records.{past_of}
-use Rattle.history_laws.proofs.Headlines.{throughout}
+use Rattle.world.proofs.history_laws_proofs.Headlines.{throughout}
 use Rattle.world.specs.Shows.{Shows}
 use Rattle.replayer.specs.Listings.{Records}
 use Rattle.replayer.proofs.FitRecords.{given_again}

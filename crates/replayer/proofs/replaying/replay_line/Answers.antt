@@ -1,6 +1,6 @@
 use Rattle.std.proofs.Common.{◌≡◌, ◌+◌, ◌<◌, ◌∙◌, ap, arith, refl, sym, subst}
 use Rattle.std.specs.Io.KnownBytes.{Appends}
-use Rattle.files.specs.Streams.{WritesFront}
+use Rattle.scenario.specs.files.Streams.{WritesFront}
 use Rattle.replayer.specs.Courses.{CourseState, Follows}
 use Rattle.replayer.specs.Replays.{CutsLine, Moves}
 use Rattle.replayer.specs.Runs.{run_after}

@@ -2,7 +2,7 @@ use Rattle.std.proofs.Common.{◌≡◌, ◌+◌, ℕ, List, [], ◌∷◌, drop
 use Rattle.std.proofs.lemmas.List.{drop_all}
 use Rattle.std.specs.Io.KnownBytes.{Appends}
 use Rattle.scenario.specs.Reads.{script}
-use Rattle.files.specs.Streams.{WritesFront}
+use Rattle.scenario.specs.files.Streams.{WritesFront}
 use Rattle.scenario.specs.declared.lines.Line.{Line}
 use Rattle.scenario.proofs.Places.{drop_in}
 use Rattle.plain_store.specs.declared.setups.Setup.{Setup}

@@ -1,9 +1,9 @@
 use Rattle.std.proofs.Common.{◌≡◌}
 use Rattle.scenario.proofs.CutTexts.{scenario_tells_at_limit}
-use Rattle.files.proofs.EngineEnds.{kept, ran_to_line}
+use Rattle.scenario.proofs.files.EngineEnds.{kept, ran_to_line}
 use Rattle.scenario.specs.Reading.{scenario_of}
 use Rattle.scenario.specs.Reads.{script}
-use Rattle.files.specs.declared.faults.Fault.TheVariants.{Line}
+use Rattle.scenario.specs.files.declared.faults.Fault.TheVariants.{Line}
 use Rattle.replayer.specs.Sweepings.{TellsSweep, swept}
 use Rattle.replayer.specs.Replays.{ended}
 use Rattle.replayer.proofs.ReplayEnds.{ended_err, engine_ran, input_answer}

@@ -2,7 +2,7 @@ use Rattle.std.proofs.Common.{ℕ, ◌+◌, ◌++◌, flat_map, take, drop, arit
 use Rattle.std.proofs.lemmas.List.{take_all}
 use Rattle.std.specs.Io.KnownBytes.{Appends}
 use Rattle.std.specs.String.{string_bytes}
-use Rattle.files.specs.Streams.{WritesFront}
+use Rattle.scenario.specs.files.Streams.{WritesFront}
 use Rattle.replayer.specs.Texts.{mark_line}
 use Rattle.replayer.proofs.Written.{appends_both, appends_none, failed_same, front_after, front_all, front_longer, items_more, items_split, line_front, line_whole}
 use Rattle.replayer.proofs.writing.write_marks.Goals as goal

@@ -1,5 +1,5 @@
 use Rattle.std.proofs.Common.{ap, ◌∙◌}
-use Rattle.safe_number.specs.Bytes.{bit_in}
+use Rattle.record.specs.safe_number.Bytes.{bit_in}
 use Rattle.watch.proofs.Openings.{opening_bit_is, opens_low}
 use Rattle.watch.proofs.opening.opening_bit.Goals as goal
 

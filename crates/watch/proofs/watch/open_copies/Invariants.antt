@@ -1,5 +1,5 @@
 use Rattle.std.proofs.Common.{◌≡◌, ℕ, ◌<◌, ◌%◌, [], false, length, slice_index_or}
-use Rattle.safe_number.specs.Bytes.{bit_in}
+use Rattle.record.specs.safe_number.Bytes.{bit_in}
 use Rattle.watch.specs.Looks.{look_of}
 use Rattle.watch.proofs.watch.open_copies.Given as goal
 

@@ -1,6 +1,6 @@
 use Rattle.std.proofs.Common.{◌≤◌, ℕ, Bool}
-use Rattle.reader_copies.specs.Row.{IsRow}
-use Rattle.reader_copies.specs.Written.{IsWritten}
+use Rattle.record.specs.reader_copies.Row.{IsRow}
+use Rattle.record.specs.reader_copies.Written.{IsWritten}
 use Rattle.register_drive.specs.Idle.{IsIdle}
 use Rattle.workloads.proofs.registers.read_times.Given as goal
 

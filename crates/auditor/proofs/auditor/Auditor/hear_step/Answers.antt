@@ -4,8 +4,8 @@ use Rattle.record.specs.declared.events.Event.TheVariants.{Step}
 use Rattle.record.specs.declared.history.Taken.{Taken}
 use Rattle.record.specs.Entries.{Entry}
 use Rattle.record.specs.Histories.{history}
-use Rattle.process.specs.declared.told.Effect.TheVariants.{Steps}
-use Rattle.process.specs.Telling.{act_of}
+use Rattle.world.specs.process.declared.told.Effect.TheVariants.{Steps}
+use Rattle.world.specs.process.Telling.{act_of}
 use Rattle.world.specs.Cores.{CoreRefuses, CoreSteps, with_history}
 use Rattle.world.specs.Events.{Adds}
 use Rattle.auditor.specs.declared.verdicts.Law.TheVariants as law

@@ -1,6 +1,6 @@
 use Rattle.std.proofs.Common.{◌<◌, length, List, ap, ◌∙◌, sym, subst}
 use Rattle.std.proofs.lemmas.List.{get_or_default}
-use Rattle.safe_bit.specs.Cell.{read_answer}
+use Rattle.reader_copies.specs.safe_bit.Cell.{read_answer}
 use Rattle.reader_copies.specs.Row.{cell_at, HasCell}
 use Rattle.bakery.specs.Locks.{LockRows, no_lock, row_in, lock_of}
 use Rattle.bakery.proofs.Cells.{owner-there}

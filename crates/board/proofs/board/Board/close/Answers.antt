@@ -1,6 +1,6 @@
 use Rattle.std.proofs.Common.{◌≡◌, ◌+◌, ◌<◌, ℕ, suc, List, Some, length, refl, rules, sym, ap, ◌∙◌, subst, arith}
 use Rattle.std.specs.Prelude.{slice_get}
-use Rattle.critical.proofs.Widths.{ranges}
+use Rattle.process.proofs.critical.Widths.{ranges}
 use Rattle.board.specs.Boards.{BoardState, IsOf}
 use Rattle.plain_store.specs.declared.Setup.{Setup}
 use Rattle.board.specs.Closings.{AreQuiet, IsStill, StandsInRecord}

@@ -1,6 +1,6 @@
 use Rattle.std.proofs.Common.{◌≡◌, ℕ, List, length, get_or, [], sym, ap, ◌∙◌, subst, arith}
 use Rattle.std.proofs.lemmas.List.{length-replicate}
-use Rattle.safe_bit.specs.Cell.{Cell}
+use Rattle.reader_copies.specs.safe_bit.Cell.{Cell}
 use Rattle.reader_copies.specs.Row.{cell_at, IsClosed}
 use Rattle.safe_number.specs.Runs.{preset_number}
 use Rattle.record.specs.declared.access.Field.TheVariants.{Image0}

@@ -4,8 +4,8 @@ use Rattle.replayer.specs.declared.summaries.Summary.{Summary}
 use Rattle.drawer.specs.Drawings.{DrawsOn, kept}
 use Rattle.drawer.specs.Items.{GivesLine, GivesRead, says_of}
 use Rattle.drawer.specs.Overlaps.{shown_of}
-use Rattle.columns.specs.Stages.{marks_said}
-use Rattle.columns.specs.Told.{saying_text}
+use Rattle.picture.specs.columns.Stages.{marks_said}
+use Rattle.picture.specs.columns.Told.{saying_text}
 use Rattle.drawer.proofs.Drawn.{draws_on_both, draws_on_line}
 use Rattle.drawer.proofs.drawing.Drawing.draw.Goals as goal
 

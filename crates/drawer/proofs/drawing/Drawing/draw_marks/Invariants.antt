@@ -1,7 +1,7 @@
 use Rattle.std.proofs.Common.{◌≡◌, ℕ, ◌+◌, List, flat_map, map, take}
 use Rattle.record.specs.Histories.{history}
 use Rattle.record.specs.declared.marks.Mark.{Mark}
-use Rattle.columns.specs.declared.reads.OverlappedRead.{OverlappedRead}
+use Rattle.picture.specs.columns.declared.reads.OverlappedRead.{OverlappedRead}
 use Rattle.picture.specs.declared.reads.Reads.{Reads as Mode}
 use Rattle.replayer.specs.Runs.{Run, past_in}
 use Rattle.replayer.specs.Texts.{mark_line}

@@ -1,6 +1,6 @@
 -- What comes after an access, by whether its write is done.
 use Rattle.std.proofs.Common.{false, [], ◌∷◌, sym, ap, subst, ◌∙◌}
-use Rattle.safe_number.specs.Bytes.{bits_of_number}
+use Rattle.record.specs.safe_number.Bytes.{bits_of_number}
 use Rattle.failure.specs.Units.{work_after, IsWork}
 use Rattle.failure.proofs.Clearing.{no_bit, no_bit-alone}
 use Rattle.failure.proofs.Steps.{frees-on, frees-last, lowers-on, lowers-last, still}

@@ -1,6 +1,6 @@
 -- The next access of a clearing.
 use Rattle.std.proofs.Common.{false, [], ◌∷◌, Some, sym, ap, ◌∙◌}
-use Rattle.safe_number.specs.Bytes.{bits_of_number}
+use Rattle.record.specs.safe_number.Bytes.{bits_of_number}
 use Rattle.failure.specs.Units.{next_of_work}
 use Rattle.failure.proofs.Clearing.{no_bit, no_bit-alone}
 use Rattle.failure.proofs.work.Work.next.Goals as goal

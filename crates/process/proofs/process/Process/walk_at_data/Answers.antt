@@ -1,6 +1,6 @@
 -- Steps in a row at the data, by the place of the call.
 use Rattle.std.proofs.Common.{◌≡◌, ◌≤◌, sym, ap, subst, ◌∙◌, arith}
-use Rattle.flicks.specs.Flicks.{flick_of}
+use Rattle.critical.specs.flicks.Flicks.{flick_of}
 use Rattle.record.specs.Places.{place_of}
 use Rattle.critical.specs.Sections.{Section}
 use Rattle.laws.specs.Doings.{call}

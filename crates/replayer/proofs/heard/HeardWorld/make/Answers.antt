@@ -1,6 +1,6 @@
 use Rattle.std.proofs.Common.{length, sym, subst}
 use Rattle.record.specs.Records.{process_of}
-use Rattle.process.specs.Telling.{act_of}
+use Rattle.world.specs.process.Telling.{act_of}
 use Rattle.world.specs.Events.{Adds, GoesOn, IsTurnedAway}
 use Rattle.world.specs.Shows.{WorldState}
 use Rattle.replayer.proofs.Listeners.{adds_entry}

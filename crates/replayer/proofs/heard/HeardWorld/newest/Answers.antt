@@ -3,7 +3,7 @@ use Rattle.record.specs.declared.events.Event.{Event}
 use Rattle.record.specs.Records.{past_of}
 use Rattle.world.specs.Shows.{Shows, WorldState}
 use Rattle.record.specs.Newest.{newest}
-use Rattle.store_image.specs.Image.{image_of}
+use Rattle.record.specs.store_image.Image.{image_of}
 use Rattle.replayer.proofs.heard.HeardWorld.newest.Goals as goal
 
 pub returns : goal.returns

@@ -1,7 +1,7 @@
 use Rattle.std.proofs.Common.{IfErr, IfOk, OnOk, Some, length, subst}
 use Rattle.record.specs.declared.events.Event.TheVariants.{Step}
-use Rattle.process.specs.declared.told.Effect.TheVariants.{Steps}
-use Rattle.process.specs.Telling.{act_of}
+use Rattle.world.specs.process.declared.told.Effect.TheVariants.{Steps}
+use Rattle.world.specs.process.Telling.{act_of}
 use Rattle.world.specs.Events.{Adds, GoesOn, IsRefused}
 use Rattle.world.specs.Shows.{WorldState}
 use Rattle.world.specs.Walks.{KeepOthers}

@@ -1,6 +1,6 @@
 use Rattle.std.proofs.Common.{◌≤◌, ◌-◌, ◌∙◌, ap, sym, subst}
 use Rattle.std.specs.Prelude.{Some, None}
-use Rattle.flicks.specs.Flicks.{after_set}
+use Rattle.world.specs.flicks.Flicks.{after_set}
 use Rattle.scenario.specs.declared.lines.Line.TheVariants as line
 use Rattle.replayer.specs.Courses.{CourseState, Follows, MakesTurns, course}
 use Rattle.replayer.specs.Runs.{Run}

@@ -1,7 +1,7 @@
 use Rattle.std.proofs.Common.{◌≡◌, ◌∙◌, ℕ, Some, ap, length, refl, subst, sym}
 use Rattle.record.specs.declared.events.Event.TheVariants.{Step}
 use Rattle.world.specs.Events.{Adds, GoesOn, IsRefused}
-use Rattle.process.specs.Telling.{act_of}
+use Rattle.world.specs.process.Telling.{act_of}
 use Rattle.replayer.specs.Courses.{CourseState, Makes, course}
 use Rattle.replayer.specs.Steppers.{IsDrawn}
 use Rattle.replayer.specs.Telling.{with_told}

@@ -3,7 +3,7 @@ use Rattle.plain_store.specs.declared.setups.Setup.{Setup}
 use Rattle.record.specs.declared.events.Event.TheVariants.{Step}
 use Rattle.scenario.specs.declared.lines.Line.TheVariants.{Step as StepLine}
 use Rattle.world.specs.Events.{Adds, GoesOn, IsRefused}
-use Rattle.process.specs.Telling.{act_of}
+use Rattle.world.specs.process.Telling.{act_of}
 use Rattle.replayer.specs.Telling.{with_told}
 use Rattle.replayer.specs.Courses.{CourseState, MakesQuietly, course}
 use Rattle.replayer.proofs.Walks.{told_if_err, told_if_ok, told_is_err, told_on_err, told_on_ok, left_after, left_err, left_ok, quiet_ok, quietly_then, walk_on, walk_starts, walk_told}

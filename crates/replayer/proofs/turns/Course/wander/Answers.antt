@@ -2,13 +2,13 @@ use Rattle.std.proofs.Common.{Ok, Result, Some, ◌≡◌, ◌∙◌, ◌<◌, �
 use Rattle.plain_store.specs.declared.setups.Setup.{Setup}
 use Rattle.record.specs.declared.events.Event.TheVariants.{Step}
 use Rattle.record.specs.declared.refusals.Refusal.{Refusal}
-use Rattle.flicks.specs.Flicks.{FlickState, after_flick, after_pick, flick_of, pick_of}
+use Rattle.world.specs.flicks.Flicks.{FlickState, after_flick, after_pick, flick_of, pick_of}
 use Rattle.world.specs.Events.{Adds, GoesOn, IsRefused}
 use Rattle.world.specs.Shows.{WorldState}
-use Rattle.process.specs.declared.told.Effect.TheVariants.{Steps}
-use Rattle.process.specs.declared.told.Made.{Made}
-use Rattle.process.specs.declared.told.Told.TheVariants as step
-use Rattle.process.specs.Telling.{act_of}
+use Rattle.world.specs.process.declared.told.Effect.TheVariants.{Steps}
+use Rattle.world.specs.process.declared.told.Made.{Made}
+use Rattle.world.specs.process.declared.told.Told.TheVariants as step
+use Rattle.world.specs.process.Telling.{act_of}
 use Rattle.replayer.specs.Telling.{with_told}
 use Rattle.scenario.specs.declared.lines.Line.TheVariants.{Wander as WanderLine}
 use Rattle.replayer.specs.Courses.{CourseState, Follows, MakesTurns, course}

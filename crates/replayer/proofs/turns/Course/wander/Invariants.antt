@@ -1,6 +1,6 @@
 use Rattle.std.proofs.Common.{◌≡◌, ◌+◌, ℕ, length, slice_index, true}
 use Rattle.scenario.specs.declared.lines.Line.TheVariants.{Wander as WanderLine}
-use Rattle.flicks.specs.Flicks.{after_flick, after_pick, flick_of, pick_of}
+use Rattle.world.specs.flicks.Flicks.{after_flick, after_pick, flick_of, pick_of}
 use Rattle.replayer.specs.Counts.{IsCounted}
 use Rattle.replayer.specs.Courses.{Follows, KeepsCourse, course}
 use Rattle.replayer.specs.Runs.{Run}

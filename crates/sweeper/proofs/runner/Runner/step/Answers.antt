@@ -4,8 +4,8 @@ use Rattle.record.specs.declared.events.Event.{Event}
 use Rattle.record.specs.declared.events.Event.TheVariants.{Step}
 use Rattle.record.specs.declared.marks.Mark.{Mark}
 use Rattle.record.specs.Records.{placed}
-use Rattle.process.specs.declared.told.Effect.TheVariants.{Steps}
-use Rattle.process.specs.Telling.{marks_told}
+use Rattle.world.specs.process.declared.told.Effect.TheVariants.{Steps}
+use Rattle.world.specs.process.Telling.{marks_told}
 use Rattle.world.specs.Cores.{CoreState}
 use Rattle.sweeper.specs.Runners.{Follows, RunnerState, RunsOn}
 use Rattle.sweeper.specs.Sweeps.{is_accepted}

@@ -1,5 +1,5 @@
-use Rattle.board.specs.Boards.{IsOf}
-use Rattle.board.specs.Ports.{SamePort}
+use Rattle.board_runs.specs.board.Boards.{IsOf}
+use Rattle.board_runs.specs.board.Ports.{SamePort}
 use Rattle.workloads.proofs.boards.calls.calls_alone.Given as goal
 
 abbrev pub invariant-loop : goal.invariant-loop

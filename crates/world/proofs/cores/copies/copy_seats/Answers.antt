@@ -1,7 +1,7 @@
 use Rattle.std.proofs.Common.{◌≡◌, ◌<◌, List, get_or, set, length, ap, sym, ◌∙◌, arith}
 use Rattle.std.proofs.lemmas.List.{get_or-map, length-map}
 use Rattle.plain_store.specs.declared.Setup.{Setup}
-use Rattle.reader_copies.proofs.Copying.{get_or-written_over, written_over-more}
+use Rattle.record.proofs.reader_copies.Copying.{get_or-written_over, written_over-more}
 use Rattle.world.specs.Seats.{Seat}
 use Rattle.world.proofs.cores.copies.copy_seats.Goals as goal
 
