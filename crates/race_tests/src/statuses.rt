@@ -1,6 +1,5 @@
 //! The exit statuses of a race.
-use race::RaceFault;
-use race::{Weighed, race_status};
+use race::{RaceFault, Weighed, race_status};
 use std::test::Fail;
 
 #[test]
