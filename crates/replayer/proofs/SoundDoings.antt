@@ -6,6 +6,7 @@ use Rattle.plain_store.specs.declared.Setup.{Setup}
 use Rattle.record.specs.Calls.{last_call}
 use Rattle.record.specs.Closings.{Closing, Withdraws, Settles, Frees, Lowers, Quit, Ended, closing_after}
 use Rattle.record.specs.Entries.{Entry, Past, own}
+use Rattle.record.specs.Parts.{is_over}
 use Rattle.record.specs.Places.{Place, place_after, value_of}
 use Rattle.record.specs.Records.{start_in}
 use Rattle.record.specs.Unit.{value_written}
