@@ -137,7 +137,8 @@ def other_words(mark):
         elif word in REPLIES:
             other = REPLIES[(REPLIES.index(word) + 1) % len(REPLIES)]
         elif word.startswith("c:"):
-            other = f"c:{int(word[2:]) + 1}"
+            # (one that is in range too, at both ends)
+            other = f"c:{int(word[2:]) ^ 1}"
         elif word.startswith("t:"):
             other = word + "y"
         elif words[at - 1] in ("read", "write", "add", "cas"):
