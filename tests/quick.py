@@ -28,6 +28,8 @@ RECORDS = TOP / "examples" / "records"
 LESSONS = TOP / "lessons"
 # lessons that make a million events and more, which take minutes in a build with checks; and the one whose text threads decide
 LEFT_OUT = {"10-sixteen", "14-sweep", "15-race"}
+# the crate whose tests make hundreds of thousands of events, which take minutes in such a build too
+TOO_LONG = {"worked_runs"}
 # the command of a lesson's file by the end of its name
 COMMANDS_OF_LESSONS = {".bakery": "replay", ".bits": "bits", ".record": "judge"}
 SECONDS = 60
@@ -133,8 +135,8 @@ def sources(crate):
 
 
 def crates_tried():
-    """The crates whose tests are tried: none has a test that starts a thread. The greatest first."""
-    texts = {name: sources(name) for name in crates()}
+    """The crates whose tests are tried: none has a test that starts a thread, or takes minutes. The greatest first."""
+    texts = {name: sources(name) for name in crates() if name not in TOO_LONG}
     named = [name for name, text in texts.items() if "#[test]" in text and "Threads" not in text]
     return sorted(named, key=lambda name: -len(texts[name]))
 

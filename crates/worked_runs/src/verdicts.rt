@@ -16,6 +16,11 @@ fn a() -> Name {
     Name::new(b"a").unwrap()
 }
 
+/// The command that reads it.
+fn read() -> Command {
+    Command::Read(a())
+}
+
 /// So many runs, all good, none stuck.
 fn all_good(runs: u64) -> Swept {
     Swept {
@@ -108,22 +113,21 @@ fn verdicts_on_the_lone_write(rt: HostRuntime) -> Result<(), Fail> {
 #[test]
 fn sweeps_a_failed_process(rt: HostRuntime) -> Result<(), Fail> {
     let setup = Setup::one(1, 4, 4, 1);
-    let read = Command::Read(a());
     let mut events = Vec::new(rt.alloc());
     for event in [
-        Event::Call(0, read),
+        Event::Call(0, read()),
         Event::Fail(0),
         Event::Restart(0),
-        Event::Call(0, read),
+        Event::Call(0, read()),
     ] {
         events.push(event)?;
     }
     for _ in 0..10 {
         events.push(Event::Step(0, false))?;
     }
-    events.push(Event::Call(0, read))?;
+    events.push(Event::Call(0, read()))?;
     events.push(Event::Restart(0))?;
-    let found = sweep_again(rt.alloc(), &setup, &events, &[(0, read)])?;
+    let found = sweep_again(rt.alloc(), &setup, &events, &[(0, read())])?;
     assert_eq!(rt; found, all_good(4));
     Ok(())
 }
