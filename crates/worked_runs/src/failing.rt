@@ -91,7 +91,7 @@ fn tells_readers_that_fail(rt: HostRuntime) -> Result<(), Fail> {
 }
 
 // A writer that takes single bytes, and fails after so many, or takes none there: that is told, and a front is written; the whole
-// text, where it fails behind it. A record's lines before its entries are written by one call, and each entry by one.
+// text, where it fails behind it.
 #[test]
 fn tells_writers_that_fail(rt: HostRuntime) -> Result<(), Fail> {
     for (engine, file, text) in TEXTS {
@@ -112,6 +112,12 @@ fn tells_writers_that_fail(rt: HostRuntime) -> Result<(), Fail> {
             }
         }
     }
+    Ok(())
+}
+
+// A record's lines before its entries are written by one call, and each entry by one.
+#[test]
+fn writes_each_entry_by_one_call(rt: HostRuntime) -> Result<(), Fail> {
     for (fails_after, written) in FRONTS {
         let mut output = Paper::new(rt.alloc())?;
         output.fails_after = fails_after;

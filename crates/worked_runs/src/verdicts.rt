@@ -79,12 +79,11 @@ fn hear_all(
 }
 
 #[test]
-fn verdicts_on_the_lone_write(rt: HostRuntime) -> Result<(), Fail> {
+fn lists_events_and_their_record(rt: HostRuntime) -> Result<(), Fail> {
     let scenario = read_scenario(rt.alloc(), LONE_WRITE.as_bytes())?;
     let events = events_of(rt.alloc(), &scenario)?;
     assert_eq!(rt; events.len(), 761);
-    let setup = &scenario.setup;
-    let mut record = record_of(rt.alloc(), setup, &events)?;
+    let record = record_of(rt.alloc(), &scenario.setup, &events)?;
     assert_eq!(rt; record.entries.len(), 761);
     let Some(entry) = record.entries.get(8) else {
         panic!(rt; "the record has no entry 8");
@@ -93,18 +92,33 @@ fn verdicts_on_the_lone_write(rt: HostRuntime) -> Result<(), Fail> {
         entry.act.marks.as_slice(),
         [Mark::Waiting(1), Mark::Entered].as_slice()
     );
+    Ok(())
+}
+
+// The record of a run is good, and one without an access breaks the local program.
+#[test]
+fn hears_and_audits_a_record(rt: HostRuntime) -> Result<(), Fail> {
+    let scenario = read_scenario(rt.alloc(), LONE_WRITE.as_bytes())?;
+    let events = events_of(rt.alloc(), &scenario)?;
+    let setup = &scenario.setup;
+    let mut record = record_of(rt.alloc(), setup, &events)?;
     hear_all(&rt, rt.alloc(), setup, &record)?;
     assert_eq!(rt; audit_again(rt.alloc(), setup, &record)?, Verdict::Good);
-    let write = Command::Write(a(), Value::Count(5));
-    let found = sweep(rt.alloc(), &scenario.setup, &events, &[(0, write)])?;
-    assert_eq!(rt; found, all_good(1_522));
     if let Some(entry) = record.entries.get_mut(756) {
         entry.act.access = None;
     }
-    assert_eq!(rt;
-        audit_again(rt.alloc(), setup, &record)?,
-        Verdict::Bad(756, Law::Program)
-    );
+    let verdict = audit_again(rt.alloc(), setup, &record)?;
+    assert_eq!(rt; verdict, Verdict::Bad(756, Law::Program));
+    Ok(())
+}
+
+#[test]
+fn sweeps_the_lone_write(rt: HostRuntime) -> Result<(), Fail> {
+    let scenario = read_scenario(rt.alloc(), LONE_WRITE.as_bytes())?;
+    let events = events_of(rt.alloc(), &scenario)?;
+    let write = Command::Write(a(), Value::Count(5));
+    let found = sweep(rt.alloc(), &scenario.setup, &events, &[(0, write)])?;
+    assert_eq!(rt; found, all_good(1_522));
     Ok(())
 }
 

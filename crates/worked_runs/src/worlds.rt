@@ -1,9 +1,9 @@
 //! Worlds that are driven by single events.
-use crate::scenarios::{ASK_AFTER_TAKEN_CUT_CALL, LONE_WRITE, SCENARIOS, WITHDRAWAL};
+use crate::scenarios::{ASK_AFTER_TAKEN_CUT_CALL, LONE_WRITE, SCENARIOS};
 use crate::uses::two_events;
 use bstr::ByteSlice;
 use plain_store::{Command, Name, Reply, Setup, Store, Value};
-use record::{Event, Mark, Refusal, Taken};
+use record::{Event, Mark, Refusal, Stage, Taken};
 use replayer::{events_of, record_of, replay};
 use scenario::read_scenario;
 use std::alloc::Global;
@@ -62,29 +62,20 @@ fn single_events_make_the_marks_of_replays(rt: HostRuntime) -> Result<(), Fail> 
     Ok(())
 }
 
-/// A world after so many accepted events of a file.
-fn world_after(alloc: Global, file: &str, count: usize) -> Result<World, Fail> {
-    let scenario = read_scenario(alloc, file.as_bytes())?;
-    let events = events_of(alloc, &scenario)?;
-    let mut world = World::new(alloc, &scenario.setup)?;
-    for (number, event) in events.iter().enumerate() {
-        if number < count {
-            world.event(*event)?;
-        }
-    }
-    Ok(world)
-}
-
-// The history has the commands taken in their order, that of a call cut at its commit bit too, each with the process, the
-// reply and the number of its call. Who finished its doorway before a call began is ahead of it, until it gives up waiting:
-// process 0 does so at event 43.
+// The history of a world has the commands taken in their order, that of a call cut at its commit bit too, each with the
+// process, the reply and the number of its call.
 #[test]
-fn tells_its_history_and_who_is_ahead(rt: HostRuntime) -> Result<(), Fail> {
-    let world = world_after(rt.alloc(), ASK_AFTER_TAKEN_CUT_CALL, 1248)?;
+fn tells_its_history(rt: HostRuntime) -> Result<(), Fail> {
+    let write = Command::Write(Name::new(b"a")?, Value::Count(6));
+    let scenario = read_scenario(rt.alloc(), ASK_AFTER_TAKEN_CUT_CALL.as_bytes())?;
+    let mut world = World::new(rt.alloc(), &scenario.setup)?;
+    for event in &events_of(rt.alloc(), &scenario)? {
+        world.event(*event)?;
+    }
     let history = [
         Taken {
             process: 0,
-            command: Command::Write(Name::new(b"a")?, Value::Count(6)),
+            command: write,
             reply: Reply::Done,
             number: 1,
         },
@@ -96,25 +87,59 @@ fn tells_its_history_and_who_is_ahead(rt: HostRuntime) -> Result<(), Fail> {
         },
     ];
     assert_eq!(rt; world.history(), history.as_slice());
-    let written = world_after(rt.alloc(), LONE_WRITE, 761)?;
-    let Some(newest) = written.newest() else {
-        panic!(rt; "nobody is inside");
-    };
-    assert_eq!(rt; newest.entry(0), Some((Name::new(b"a")?, Value::Count(5))));
-    let both_wait = world_after(rt.alloc(), WITHDRAWAL, 42)?;
-    assert_eq!(rt; both_wait.ahead(0).as_slice(), [].as_slice());
-    assert_eq!(rt; both_wait.ahead(1).as_slice(), [0].as_slice());
-    let one_gave_up = world_after(rt.alloc(), WITHDRAWAL, 44)?;
-    assert_eq!(rt; one_gave_up.ahead(1).as_slice(), [].as_slice());
-    let inside = world_after(rt.alloc(), WITHDRAWAL, 58)?;
-    assert!(rt; inside.newest().is_none());
     Ok(())
 }
 
-// What a world of two processes answers to each event, one after another. Of two that are made by one call each has the act
-// that it would have alone, and the first refusal is told.
+// Who finished its doorway before a call began is ahead of it, until it gives up waiting.
 #[test]
-fn answers_events(rt: HostRuntime) -> Result<(), Fail> {
+fn tells_who_is_ahead(rt: HostRuntime) -> Result<(), Fail> {
+    let read = Command::Read(Name::new(b"a")?);
+    let mut world = World::new(rt.alloc(), &Setup::one(2, 2, 2, 1))?;
+    for process in 0..2 {
+        world.event(Event::Call(process, read))?;
+        for _ in 0..20 {
+            world.event(Event::Step(process, false))?;
+        }
+        assert_eq!(rt; world.stage(process), Some(Stage::Waiting));
+    }
+    assert_eq!(rt; world.ahead(0).as_slice(), [].as_slice());
+    assert_eq!(rt; world.ahead(1).as_slice(), [0].as_slice());
+    world.event(Event::Withdraw(0))?;
+    assert_eq!(rt; world.ahead(1).as_slice(), [].as_slice());
+    Ok(())
+}
+
+/// The value that a world's newest image has first, after so many accepted events of a file; none while somebody is inside.
+fn newest_value(alloc: Global, file: &str, count: usize) -> Result<Option<Value>, Fail> {
+    let scenario = read_scenario(alloc, file.as_bytes())?;
+    let events = events_of(alloc, &scenario)?;
+    let mut world = World::new(alloc, &scenario.setup)?;
+    for (number, event) in events.iter().enumerate() {
+        if number < count {
+            world.event(*event)?;
+        }
+    }
+    let Some(newest) = world.newest() else {
+        return Ok(None);
+    };
+    let Some((_, value)) = newest.entry(0) else {
+        return Ok(None);
+    };
+    Ok(Some(value))
+}
+
+// The value that was written; none while process 0 is inside, as after 700 events.
+#[test]
+fn tells_the_newest_image(rt: HostRuntime) -> Result<(), Fail> {
+    let value = newest_value(rt.alloc(), LONE_WRITE, 761)?;
+    assert_eq!(rt; value, Some(Value::Count(5)));
+    assert_eq!(rt; newest_value(rt.alloc(), LONE_WRITE, 700)?, None);
+    Ok(())
+}
+
+// What a world of two processes answers to each event, one after another.
+#[test]
+fn refuses_events(rt: HostRuntime) -> Result<(), Fail> {
     let mut world = World::new(rt.alloc(), &Setup::one(2, 4, 4, 1))?;
     let read = Command::Read(Name::new(b"a")?);
     for (event, refusal) in [
@@ -131,16 +156,25 @@ fn answers_events(rt: HostRuntime) -> Result<(), Fail> {
         let refused = world.event(event).err();
         assert_eq!(rt; refused, refusal, "{event:?}");
     }
+    Ok(())
+}
+
+// Two events have the acts that each would have alone, and the first refusal is told.
+#[test]
+fn makes_two_events(rt: HostRuntime) -> Result<(), Fail> {
     let mut world = World::new(rt.alloc(), &Setup::one(2, 4, 4, 1))?;
-    let (call, step) = (Event::Call(1, Command::Ask), Event::Step(1, false));
-    let (called, stepped) = two_events(&mut world, call, step)?;
+    let (called, stepped) = two_events(
+        &mut world,
+        Event::Call(1, Command::Ask),
+        Event::Step(1, false),
+    )?;
     assert_eq!(rt;
         called.marks.as_slice(),
         [Mark::Called(Command::Ask)].as_slice()
     );
     assert!(rt; called.access.is_none() && stepped.access.is_some());
     assert_eq!(rt; stepped.marks.len(), 0);
-    let refused = two_events(&mut world, step, Event::Step(0, false));
+    let refused = two_events(&mut world, Event::Step(1, false), Event::Step(0, false));
     assert_eq!(rt; refused.err(), Some(Refusal::NotRunning));
     Ok(())
 }
