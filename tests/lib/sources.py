@@ -1,0 +1,153 @@
+"""The sources of the crates, as far as pages speak of them: items with their documentation, and functions with their clauses."""
+
+import functools
+import re
+from typing import NamedTuple
+
+from lib.crates import crates
+from lib.places import TOP
+
+FOLDER = TOP / "crates"
+ITEM = re.compile(r"^ *pub (?:(?:const|unsafe|ghost) (?=fn))?(?P<kind>struct|enum|trait|fn|const|type) (?P<name>\w+)")
+FUNCTION = re.compile(r"^(?P<indent> *)(?:pub(?:\(\w+\))? )?(?:(?:const|unsafe) )?fn (?P<name>\w+)")
+BLOCK = re.compile(r"^(?:pub(?:\(\w+\))? )?(?P<kind>impl|trait)\b(?:<.*?>)? ?(?P<head>.*)")
+CLAUSE = re.compile(r"^(?P<indent> +)(?P<kind>requires|ensures|ghost) +(?P<name>\w*)")
+TESTS = re.compile(r"^#\[cfg\(test\)\]\nmod (\w+);", re.M)
+
+
+class Clause(NamedTuple):
+    """A clause of a function: `requires` or `ensures`, its name (empty, if it has none), its text and its line, from 1."""
+
+    kind: str
+    name: str
+    text: str
+    line: int
+
+
+class Function(NamedTuple):
+    """A function: the type or trait that it is of, if it is of one, its name, file and line, its head as one line, its clauses."""
+
+    owner: str
+    name: str
+    path: object
+    line: int
+    head: str
+    clauses: tuple
+
+
+class Item(NamedTuple):
+    """A public item, or a method of a public trait: its kind, name, file and line, and its documentation."""
+
+    kind: str
+    name: str
+    path: object
+    line: int
+    docs: str
+
+
+def lines_of(path):
+    return path.read_text().split("\n")
+
+
+def root_of(crate):
+    """The root file of a crate."""
+    folder = FOLDER / crate / "src"
+    return folder / "lib.rt" if (folder / "lib.rt").exists() else folder / "main.rt"
+
+
+def root_page(crate):
+    """What the root file says of the crate."""
+    return "\n".join(line[3:].removeprefix(" ") for line in lines_of(root_of(crate)) if line.startswith("//!"))
+
+
+def files_of(crate):
+    """The files of a crate that are no tests of its own."""
+    tests = set(TESTS.findall(root_of(crate).read_text()))
+    for path in sorted((FOLDER / crate / "src").rglob("*.rt")):
+        first = path.relative_to(FOLDER / crate / "src").parts[0].removesuffix(".rt")
+        if first not in tests:
+            yield path
+
+
+def docs_above(lines, at):
+    """The documentation above a line."""
+    words = []
+    while at > 0 and re.match(r"\s*(///|#\[)", lines[at - 1]):
+        at -= 1
+        if "///" in lines[at]:
+            words.insert(0, lines[at].split("///", 1)[1].removeprefix(" "))
+    return "\n".join(words)
+
+
+def items_of(crate):
+    """Each public item of a crate, and each method of its public traits."""
+    for path in files_of(crate):
+        lines, within_trait = lines_of(path), False
+        for at, line in enumerate(lines):
+            within_trait = line.startswith("pub trait ") or within_trait and line != "}"
+            found = ITEM.match(line)
+            method = FUNCTION.match(line) if within_trait else None
+            if found:
+                yield Item(found["kind"], found["name"], path, at + 1, docs_above(lines, at))
+            elif method and len(method["indent"]) == 4:
+                yield Item("method", method["name"], path, at + 1, docs_above(lines, at))
+
+
+def owner_of(line):
+    """The type that a block is of, or the name of a trait; none, if no block begins at the line."""
+    found = BLOCK.match(line)
+    if not found or not line.endswith("{"):
+        return None
+    head = found["head"].split(" for ")[-1]
+    return re.match(r"(?:[\w]+::)*(\w*)", head)[1]
+
+
+def clauses_of(lines, at, indent):
+    """The clauses behind the head of the function that begins at a line, and where its body begins."""
+    found, end = [], at
+    while end < len(lines):
+        line = lines[end]
+        clause = CLAUSE.match(line)
+        if clause and len(clause["indent"]) == indent + 4 and clause["kind"] != "ghost":
+            found.append([clause["kind"], clause["name"], [line.strip()], end + 1])
+        elif end > at and line.startswith((" " * indent + "{", " " * indent + "}")):
+            break
+        elif found:
+            found[-1][2].append(line.strip())
+        if line.endswith(";") or not found and line.endswith(("{", "}")):
+            break
+        end += 1
+    return tuple(Clause(kind, name, " ".join(text), line) for kind, name, text, line in found)
+
+
+def head_at(lines, at, clauses):
+    """The head of the function that begins at a line, as one line."""
+    end = clauses[0].line - 1 if clauses else at + 1
+    while not clauses and not lines[end - 1].endswith(("{", ";", "}")):
+        end += 1
+    text = " ".join(line.strip() for line in lines[at:end])
+    return re.sub(r"\s*[{;].*$", "", text).replace("( ", "(").replace(", )", ")")
+
+
+@functools.cache
+def functions_of(crate):
+    """All functions of a crate, those of its tests among them."""
+    found = []
+    for path in sorted((FOLDER / crate / "src").rglob("*.rt")):
+        lines, owner = lines_of(path), ""
+        for at, line in enumerate(lines):
+            owner = "" if line == "}" else owner_of(line) or owner
+            function = FUNCTION.match(line)
+            if function:
+                clauses = clauses_of(lines, at, len(function["indent"]))
+                head = head_at(lines, at, clauses)
+                found.append(Function(owner, function["name"], path, at + 1, head, clauses))
+    return found
+
+
+def functions_named(path):
+    """The functions that a path names: `crate::function` or `crate::Type::function`."""
+    crate, *owner, name = path.split("::")
+    if crate not in crates() or len(owner) > 1:
+        return []
+    return [it for it in functions_of(crate) if it.name == name and it.owner == "".join(owner)]
