@@ -104,6 +104,7 @@ impl Process {
         self.process
     }
 
+    /// Where it stands: idle, in its doorway, waiting, inside, leaving, settling or down.
     pub fn stage(&self) -> Stage
         ensures { result ≡ stage_kept self.now.kept }
     {

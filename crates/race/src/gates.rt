@@ -21,6 +21,7 @@ pub enum Pass {
 
 /// What each port of a race asks after each accepted begin, and each time that it comes inside.
 pub trait Gate {
+    /// Whether a port may go on at this moment, or has to ask anew.
     fn at(&self, port: u8, moment: Moment) -> Pass;
 }
 
