@@ -1,7 +1,8 @@
 #!/usr/bin/env python3
-"""Follows each link of the repository's pages: what it leads to is there, and where it names a heading, so is the heading.
+"""Follows each link of the repository's pages: what it leads to is there, and so is the heading or the line that it names.
 
-A heading is named as the usual viewers of Markdown name it: in small letters, without its marks, with `-` for each space.
+A heading is named as the usual viewers of Markdown name it: in small letters, without its marks, with `-` for each space. A
+line of another file is named as `L12`.
 Links to other places than the repository are left alone, and so is what stands in blocks of code.
 """
 
@@ -36,9 +37,12 @@ def fault_of(page, link):
     target = (page.parent / path).resolve() if path else page
     if not target.is_relative_to(TOP) or not target.exists():
         return "leads nowhere"
-    if name and (target.suffix != ".md" or name not in names_of_headings(target)):
-        return "names no heading"
-    return None
+    if not name:
+        return None
+    if target.suffix == ".md":
+        return None if name in names_of_headings(target) else "names no heading"
+    line = re.fullmatch(r"L(\d+)", name)
+    return None if line and 1 <= int(line[1]) <= len(target.read_text().splitlines()) else "names no line"
 
 
 def main():

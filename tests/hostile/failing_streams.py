@@ -1,9 +1,8 @@
-"""Failing streams: each read and each write of a run fails in turn, takes one byte, or takes none; streams that are closed, full,
-or of which the reader goes away; an input that never ends; and files that cannot be read.
+"""Failing streams: each read and each write in turn fails, takes one byte, or takes none; streams are closed or full; a reader
+goes away; an input never ends; files cannot be read.
 
-A failed read is a `read fault`, of which nothing was written; a read that takes nothing is the end of the file. A failed write,
-and one that takes nothing, is a `write fault`, and what was written is a front of the text. A fault that standard error does
-not take is told by the status alone.
+After a `read fault` nothing was written. A failed write, and one that takes nothing, is a `write fault` behind a front of the
+text. A fault that standard error does not take is told by the status alone.
 """
 
 import contextlib

@@ -1,5 +1,6 @@
-"""Races under load: the soaks of races and of ports, which draw what they race from numbers and judge what is left by a second
-reading, beside twice as many busy processes as there are cores.
+"""Races under load: soaks of races and of ports, beside twice as many busy processes as there are cores.
+
+What is raced is drawn from numbers; what is left is judged by a second reading.
 """
 
 import contextlib

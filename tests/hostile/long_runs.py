@@ -1,5 +1,7 @@
 """Long runs: `replay` and `audit` of hundreds of millions of events, and a record of millions of entries that `judge` reads from
-a pipe. What they print is worked out here, and at most 16 MiB of memory are resident beyond the file and the history.
+a pipe.
+
+What they print is worked out here. At most 16 MiB are resident beyond the file and the history.
 """
 
 import os

@@ -1,16 +1,14 @@
 """Refused memory: each growth is refused in turn, of each command on each file of examples/, of races, of a long replay, and of
-the tests of the crates. And each thread of a race.
+the tests of the crates; and each thread of a race.
 
-A run whose growth was refused must end with status 4 and tell `out of memory`, or `memory` on a line, and must have printed a
-front of what the file prints with ample memory; where no file is run, but words are answered, it must have printed nothing. One
-kind of growth is no need: the room that `collect` of the standard library takes by a hint. The program collects only where it
-looks for the nearest command to a word; there, and nowhere else, a run may end as with ample memory too, to the byte. A race
-must have printed nothing: its text is made when it has ended, and weighed. It tells `no thread` in place of that if not all
-threads were started, and only then. A test whose growth was refused must pass, or fail and tell want of memory. The growths
-are those of the compiled programs, which a library loaded before them counts and refuses: where a program starts no thread, to a
-copy of a run that is made at the growth, and else in a run of its own for each growth. A run that has very many growths makes the
-same worlds and audits again and again: there a growth is refused if fewer than twenty like it were, of the same size, from the
-same depth of the stack, and behind seven that were alike.
+A run must end with status 4 and tell want of memory, behind a front of its text; a race and an answer to words, behind nothing.
+One growth is a hint, in the search for the nearest command to a word: there a run may end as with ample memory. A race tells
+`no thread` only where a thread is missing. A test must pass, or fail and tell want of memory.
+
+The growths are those of the compiled programs, which a library loaded before them counts and refuses: where a program starts no
+thread, to a copy of a run that is made at the growth, and else in a run of its own for each growth. A run that has very many
+growths makes the same worlds and audits again and again: there a growth is refused if fewer than twenty like it were, of the same
+size, from the same depth of the stack, and behind seven that were alike.
 """
 
 import collections

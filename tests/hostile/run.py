@@ -9,6 +9,8 @@ programs, and the tests of the crates. The last line counts what was tried: `N p
 
 import argparse
 import pathlib
+import re
+import subprocess
 import sys
 import tempfile
 import time
@@ -23,11 +25,21 @@ from lib.running import CORES
 PARTS = {"files": spoiled_files, "streams": failing_streams, "memory": refused_memory, "long": long_runs, "races": loaded_races}
 PAGE = TOP / "docs" / "TESTED.md"
 # the heading from which on the page is written by hand
-BY_HAND = "\n## Where tests went\n"
-HEAD = """# What was tried by hostile use
+BY_HAND = "\n## What is only tested\n"
+HEAD = """# What was tried
 
-Made by `python3 tests/hostile/run.py`, which tries all of this by hand, over the programs that the gate leaves; no line is written by hand but those [at the end](#where-tests-went). `python3 tests/hostile/run.py short` tries a part of each, in the gate. Behind what was tried stand on how many files, calls or tests; how often; and how many of these ended otherwise than they must.
+## By hostile use
+
+Made by `python3 tests/hostile/run.py`. It was last run whole over the program of {state}. **What was changed since is not in these numbers**; the gate runs a part of each on the present program (`tests/hostile/run.py short`). The columns: what was tried, on how many files, calls or tests, how often, and how many of these ended otherwise than they must.
 """
+# what is alike stands on one line of a table
+ALIKE = {
+    r"^the same by `[\w-]+`": "the same by the other commands",
+    r"^each byte replaced by (0x\w\w|its neighbour)": "each byte replaced",
+    r"^each line (doubled|dropped|exchanged with the next)": "each line doubled, dropped, exchanged",
+    r" in turn (takes one byte|takes no byte|fails)$": " in turn",
+    r"^standard \w+ is closed$": "a standard stream is closed",
+}
 TABLE = "| What was tried | On | Tried | Otherwise |\n|---|---|---|---|\n"
 
 
@@ -49,17 +61,31 @@ def line_of(what, rows):
     return f"| {what} | {on} | {sum(row.tried for row in rows):,} | {sum(len(row.wrong) for row in rows)} |\n"
 
 
+def thing(row):
+    """What was tried, as a line of a table names it."""
+    what = row.what
+    for shape, name in ALIKE.items():
+        what = re.sub(shape, name, what)
+    return what
+
+
 def table_of(rows):
-    things = dict.fromkeys(row.what for row in rows)
-    return TABLE + "".join(line_of(what, [row for row in rows if row.what == what]) for what in things)
+    things = dict.fromkeys(map(thing, rows))
+    return TABLE + "".join(line_of(what, [row for row in rows if thing(row) == what]) for what in things)
 
 
 def section_of(module, rows, seconds):
-    """The section of a part: what its module says of itself, before the first colon its name, and its table."""
+    """The section of a part: its name, what is tried and what must come of it, as its module says, and its table."""
     heading, _, about = module.__doc__.strip().partition(": ")
-    first, *others = (" ".join(text.split()) for text in about.split("\n\n"))
-    paragraphs = "\n\n".join([first[0].upper() + first[1:], *others])
-    return f"\n## {heading}\n\n{paragraphs}\n\n{table_of(rows)}\n{seconds / 60:.1f} minutes, on {CORES} cores.\n"
+    tried, wanted = (" ".join(text.split()) for text in about.split("\n\n")[:2])
+    told = f"{tried[0].upper()}{tried[1:]} {wanted} {seconds / 60:.1f} minutes, on {CORES} cores."
+    return f"\n### {heading}\n\n{told}\n\n{table_of(rows)}"
+
+
+def state():
+    """The state of the sources: the day and the commit."""
+    words = ["git", "log", "-1", "--date=short", "--format=%cd (commit %h)"]
+    return subprocess.run(words, cwd=TOP, capture_output=True, text=True, check=True).stdout.strip()
 
 
 def by_hand():
@@ -83,7 +109,7 @@ def main():
     asked = read_words()
     is_short = "short" in asked.words
     parts = [part for part in PARTS if part in asked.words] or list(PARTS)
-    counter, page = Counter(), HEAD
+    counter, page = Counter(), ""
     for part in parts:
         begun = time.time()
         with tempfile.TemporaryDirectory() as name:
@@ -92,7 +118,7 @@ def main():
         counter.add(sum(row.tried for row in rows) - wrong, wrong)
         page += section_of(PARTS[part], rows, time.time() - begun)
     if not is_short and parts == list(PARTS):
-        PAGE.write_text(page + by_hand())
+        PAGE.write_text(HEAD.format(state=state()) + page + by_hand())
     counter.end()
 
 

@@ -1,10 +1,11 @@
-"""Spoiled files: each example cut after each of its bytes; each of its bytes replaced by 0x00, 0x0D, 0xFF and its neighbour; each
-of its lines doubled, dropped and exchanged with the next.
+"""Spoiled files: each example is cut after each byte; each byte is replaced by 0x00, 0x0D, 0xFF and its neighbour; each line is
+doubled, dropped and exchanged with the next.
 
-Each command must tell the one fault that a second reading of the file finds (`second/scenario_files.py`,
-`second/record_files.py`), and write nothing. Where it finds none, `plain`, `bits` and `judge` must write what a second reading
-of what the file does gives (`second/engines.py`, `second/judge.py`); `replay` must end well, `audit` and `record` must
-have as many entries as it has events, `record` the setup of the file, and a race must be good.
+Each command must tell the one fault that a second reading finds, and write nothing. Where there is none, `plain`, `bits` and
+`judge` must write what a second reading gives. `audit` and `record` must have as many entries as `replay` has events, `record`
+the setup of the file, and a race must be good.
+
+The second readings are `second/scenario_files.py`, `second/record_files.py`, `second/engines.py` and `second/judge.py`.
 """
 
 import random

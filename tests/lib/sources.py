@@ -151,3 +151,26 @@ def functions_named(path):
     if crate not in crates() or len(owner) > 1:
         return []
     return [it for it in functions_of(crate) if it.name == name and it.owner == "".join(owner)]
+
+
+def tests_named(path):
+    """The tests that a path names: `crate::function`."""
+    return [it for it in functions_named(path) if "#[test]" in "".join(lines_of(it.path)[max(0, it.line - 4) : it.line - 1])]
+
+
+def facts_of(crate, owner, name):
+    """The lines at which a type of a crate has a fact of this name: a `ghost` of its struct, or of what is implemented for it."""
+    for path in files_of(crate):
+        within = ""
+        for at, line in enumerate(lines_of(path), 1):
+            struct = re.match(r"(?:pub )?struct (\w+)", line)
+            within = "" if line == "}" else struct[1] if struct else owner_of(line) or within
+            if within == owner and re.match(rf"    (?:pub )?ghost {name}\b", line):
+                yield path, at
+
+
+def definition_at(path, name):
+    """The line at which a file of definitions has a name; none, if it has not exactly one."""
+    shape = re.compile(rf"\s*(?:abbrev|pub record|pub data|record|data)\b(?: pub)? {name}\b")
+    found = [at for at, line in enumerate(lines_of(path), 1) if shape.match(line)]
+    return found[0] if len(found) == 1 else None

@@ -1,0 +1,136 @@
+#!/usr/bin/env python3
+"""Keeps what the pages of docs/ claim tied to the sources.
+
+A page names a clause as [`crate::function`, `clause`](..) or [`crate::Type::function`, `one`, `another`](..), a clause without a
+name as `its clause`, a test as `its test`, a fact of a type as [`crate::Type`, `fact`](..), and a definition as [`Name`, in
+`crate/specs/File.antt`](..). Each must be there, once; and the link behind it must lead to its file and line. With `--write` the
+links are written anew. And docs/CLAIMS.md has each promise of README.md, word for word and in its order; each of its rows says
+how strong it is; a row that is proved names a clause, and one that is tested a script or a test that is there.
+"""
+
+import os
+import pathlib
+import re
+import sys
+
+sys.path.insert(0, str(pathlib.Path(__file__).resolve().parents[1]))
+
+from lib.counting import Counter
+from lib.crates import crates
+from lib.places import TOP
+from lib.sources import FOLDER, definition_at, facts_of, functions_named, tests_named
+
+CLAIMS = TOP / "docs" / "CLAIMS.md"
+CLAUSES = re.compile(r"\[`(?P<path>\w+(?:::\w+)+)`(?P<words>(?:, (?:`\w+`|its clause|its test))*)\]\((?P<link>[^()\s]*)\)")
+DEFINITION = re.compile(r"\[`(?P<name>[^`\s]+)`, in `(?P<file>\w+/specs/[\w/]+\.antt)`\]\((?P<link>[^()\s]*)\)")
+SCRIPT = re.compile(r"`(tests/[\w/]+\.\w+)`")
+STRENGTHS = {"proved", "tested", "measured", "trusted"}
+
+
+def clause_at(path, words):
+    """The file and line of the first of these clauses of a function; none, if one is not there."""
+    named = functions_named(path)
+    if len(named) != 1:
+        return None
+    clauses = [it for it in named[0].clauses if it.kind == "ensures"]
+    found = [[it.line for it in clauses if it.name == ("" if word == "its clause" else word)] for word in words]
+    if any(len(lines) != 1 for lines in found):
+        return None
+    return named[0].path, found[0][0] if found else named[0].line
+
+
+def fact_at(path, words):
+    """The file and line of the first of these facts of a type; none, if one is not there."""
+    crate, *owner = path.split("::")
+    if crate not in crates() or len(owner) != 1 or not words:
+        return None
+    found = [list(facts_of(crate, owner[0], word)) for word in words]
+    return found[0][0] if all(len(each) == 1 for each in found) else None
+
+
+def place_of(path, words):
+    """The file and line that a reference means; none, if it means nothing, or more than one thing."""
+    if words == ["its test"]:
+        tests = tests_named(path)
+        return (tests[0].path, tests[0].line) if len(tests) == 1 else None
+    return clause_at(path, words) or fact_at(path, words)
+
+
+def link_to(page, place):
+    """The link by which a page leads to a line of a file."""
+    path, line = place
+    return f"{os.path.relpath(path, page.parent)}#L{line}"
+
+
+def references(text):
+    """Each reference of a text: what was found, what it says, and the file and line that it means."""
+    for found in CLAUSES.finditer(text):
+        words = [word.strip("`") for word in found["words"].split(", ")[1:]]
+        yield found, place_of(found["path"], words)
+    for found in DEFINITION.finditer(text):
+        path = FOLDER / found["file"]
+        line = definition_at(path, found["name"]) if path.exists() else None
+        yield found, (path, line) if line else None
+
+
+def written(page, text):
+    """A page with its links written anew, as far as what they mean is there."""
+    for found, place in list(references(text)):
+        if place:
+            head, link = found.group().rpartition("](")[0], link_to(page, place)
+            text = text.replace(found.group(), f"{head}]({link})")
+    return text
+
+
+def promises():
+    """The promises of the README."""
+    part = re.search(r"^## What is promised\n(.*?)^\*\*Not promised", (TOP / "README.md").read_text(), re.M | re.S)[1]
+    return [line.rstrip(";.") for line in re.findall(r"^- (.*)$", part, re.M)]
+
+
+def rows(text):
+    """The rows of the page's tables, without their heads."""
+    for line in text.splitlines():
+        cells = [cell.strip() for cell in line.strip("|").split(" | ")]
+        if line.startswith("| ") and cells[0] != "Promise" and len(cells) == 4:
+            yield cells
+
+
+def fault_of_row(cells):
+    """What is wrong with a row of the claims; none, if nothing is."""
+    told, where, _, strength = cells[0], cells[1], cells[2], cells[3]
+    if strength not in STRENGTHS:
+        return f"says not how strong it is: {told}"
+    if strength == "proved" and not CLAUSES.search(where):
+        return f"is proved and names no clause: {told}"
+    scripts = SCRIPT.findall(where)
+    if strength == "tested" and not scripts and "its test" not in where:
+        return f"is tested and names no test: {told}"
+    return None
+
+
+def main():
+    counter = Counter()
+    for page in sorted((TOP / "docs").glob("*.md")):
+        text = page.read_text()
+        if sys.argv[1:] == ["--write"]:
+            text = written(page, text)
+            page.write_text(text)
+        for found, place in references(text):
+            name = f"{page.name}: {found.group()}"
+            counter.count(place, f"{name} is not there, or more than once")
+            if place:
+                counter.count(found["link"] == link_to(page, place), f"{name} leads elsewhere: python3 tests/gate/claims.py --write")
+    text = CLAIMS.read_text()
+    for script in SCRIPT.findall(text):
+        counter.count((TOP / script).exists(), f"CLAIMS.md: {script} is not there")
+    claimed = list(rows(text))
+    for cells in claimed:
+        fault = fault_of_row(cells)
+        counter.count(fault is None, f"CLAIMS.md: a row {fault}")
+    told = [cells[0].rstrip(".") for cells in claimed]
+    counter.count(told[: len(promises())] == promises(), "CLAIMS.md does not begin with the promises of README.md, word for word")
+    counter.end()
+
+
+main()
