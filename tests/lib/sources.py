@@ -174,3 +174,19 @@ def definition_at(path, name):
     shape = re.compile(rf"\s*(?:abbrev|pub record|pub data|record|data)\b(?: pub)? {name}\b")
     found = [at for at, line in enumerate(lines_of(path), 1) if shape.match(line)]
     return found[0] if len(found) == 1 else None
+
+
+def definition_text(path, name):
+    """A definition as its file has it, with the comment above it, as far as the next blank line; none, if it is not there."""
+    at = definition_at(path, name)
+    if at is None:
+        return None
+    lines = lines_of(path)
+    first = at - 1
+    while first > 0 and lines[first - 1].lstrip().startswith("--"):
+        first -= 1
+    last = at
+    while last < len(lines) and lines[last].strip():
+        last += 1
+    indent = len(lines[at - 1]) - len(lines[at - 1].lstrip())
+    return "\n".join(line[indent:] for line in lines[first:last])
