@@ -5,7 +5,8 @@ A page names a clause as [`crate::function`, `clause`](..) or [`crate::Type::fun
 name as `its clause`, a test as `its test`, a fact of a type as [`crate::Type`, `fact`](..), and a definition as [`Name`, in
 `crate/specs/File.antt`](..). Each must be there, once; and the link behind it must lead to its file and line. With `--write` the
 links are written anew. And docs/CLAIMS.md has each promise of README.md, word for word and in its order; each of its rows says
-how strong it is; a row that is proved names a clause, and one that is tested a script or a test that is there.
+how strong it is; a row that is proved names a clause, and one that is tested a script or a test that is there. docs/PLANTS.md
+names each must-fail edit, and no other.
 """
 
 import os
@@ -24,6 +25,7 @@ CLAIMS = TOP / "docs" / "CLAIMS.md"
 CLAUSES = re.compile(r"\[`(?P<path>\w+(?:::\w+)+)`(?P<words>(?:, (?:`\w+`|its clause|its test))*)\]\((?P<link>[^()\s]*)\)")
 DEFINITION = re.compile(r"\[`(?P<name>[^`\s]+)`, in `(?P<file>\w+/specs/[\w/]+\.antt)`\]\((?P<link>[^()\s]*)\)")
 SCRIPT = re.compile(r"`(tests/[\w/]+\.\w+)`")
+EDIT = re.compile(r"`(\w+)/([\w-]+)`")
 STRENGTHS = {"proved", "tested", "measured", "trusted"}
 
 
@@ -128,6 +130,9 @@ def main():
     for cells in claimed:
         fault = fault_of_row(cells)
         counter.count(fault is None, f"CLAIMS.md: a row {fault}")
+    named = set(EDIT.findall((TOP / "docs" / "PLANTS.md").read_text()))
+    there = {(path.parent.parent.name, path.stem) for path in FOLDER.glob("*/must-fail/*.edit")}
+    counter.count(named == there, f"PLANTS.md and the must-fail edits differ in {sorted(named ^ there)}")
     told = [cells[0].rstrip(".") for cells in claimed]
     counter.count(told[: len(promises())] == promises(), "CLAIMS.md does not begin with the promises of README.md, word for word")
     counter.end()
