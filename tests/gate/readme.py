@@ -20,7 +20,10 @@ from lib.places import PROGRAM, TOP
 
 PAGES = [
     TOP / name
-    for name in ("README.md", "examples/README.md", "lessons/README.md", "lessons/HOUR.md", "docs/RECORDS.md", "docs/FAULTS.md")
+    for name in (
+        *("README.md", "examples/README.md", "lessons/README.md", "lessons/HOUR.md", "lessons/ANSWERS.md"),
+        *("docs/RECORDS.md", "docs/FAULTS.md"),
+    )
 ]
 # the most words of the README
 MOST_WORDS = 900
