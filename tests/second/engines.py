@@ -1,6 +1,6 @@
 """A second reading of what `plain`, `bits` and `judge` write, and of the fault that any command tells of its file.
 
-It is written from docs/MODEL.md alone, and shares nothing with the programs that it is held against.
+It is written from docs/MODEL.md and docs/FORMATS.md alone, and shares nothing with the programs that it is held against.
 """
 
 from lib.running import SCENARIO_COMMANDS

@@ -1,7 +1,7 @@
 """A second reading of what a process does: the setup of a record, the local program of a call, and what a memory unit does.
 
-It is written from what docs/MODEL.md and docs/RECORDS.md say, and shares nothing with the programs that it is held against. The
-one-thread store is that of `store.py`.
+It is written from what docs/MODEL.md, docs/FORMATS.md and docs/RECORDS.md say, and shares nothing with the programs that it is held
+against. The one-thread store is that of `store.py`.
 """
 
 from second.store import SLOT, Call, Store

@@ -1,8 +1,8 @@
 """A second reading of runs: of a scenario what `replay` prints, and its record as `record` writes it.
 
-It is written from what docs/MODEL.md and docs/RECORDS.md say. The local program and the failure rule are those of `programs.py`,
-the safe rule is that of `judge.py`, the one-thread store that of `store.py`; nothing is shared with the programs that it is held
-against.
+It is written from what docs/MODEL.md, docs/FORMATS.md and docs/RECORDS.md say. The local program and the failure rule are those of
+`programs.py`, the safe rule is that of `judge.py`, the one-thread store that of `store.py`; nothing is shared with the programs that
+it is held against.
 """
 
 from second.engines import head_of
