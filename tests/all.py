@@ -12,8 +12,8 @@ from lib.counting import Counter, shown_counts
 from lib.places import TOP
 
 SCRIPTS = [
-    *["api", "claims", "quotes", "layers", "links", "worked", "picture_parts", "pictures", "cut_file", "command_line", "terminal", "record_files"],
-    *["changed_records", "short_files", "run_script", "readme", "lessons", "races", "refused_threads"],
+    *["api", "claims", "quotes", "layers", "links", "worked", "picture_parts", "pictures", "cut_file", "command_line", "terminal"],
+    *["record_files", "changed_records", "short_files", "run_script", "readme", "lessons", "races", "refused_threads"],
 ]
 RUNS = [
     *([sys.executable, f"tests/gate/{name}.py"] for name in SCRIPTS),

@@ -4,9 +4,12 @@
 A page names a clause as [`crate::function`, `clause`](..) or [`crate::Type::function`, `one`, `another`](..), a clause without a
 name as `its clause`, a test as `its test`, a fact of a type as [`crate::Type`, `fact`](..), and a definition as [`Name`, in
 `crate/specs/File.antt`](..). Each must be there, once; and the link behind it must lead to its file and line. With `--write` the
-links are written anew. And docs/CLAIMS.md has each promise of README.md, word for word and in its order; each of its rows says
-how strong it is; a row that is proved names a clause, and one that is tested a script or a test that is there. docs/PLANTS.md
-names each must-fail edit, and no other.
+links are written anew. What a page of docs/ or bench/README.md names otherwise, as `Type::function`, is there too; so is each
+lemma that the pages on the two proofs name.
+
+docs/CLAIMS.md has each promise of README.md, word for word and in its order. Each of its rows says how strong it is; one that is
+proved names a clause, and one that is tested a script or a test that is there. docs/PLANTS.md names each must-fail edit, and no
+other.
 """
 
 import os
@@ -19,13 +22,17 @@ sys.path.insert(0, str(pathlib.Path(__file__).resolve().parents[1]))
 from lib.counting import Counter
 from lib.crates import crates
 from lib.places import TOP
-from lib.sources import FOLDER, definition_at, facts_of, functions_named, tests_named
+from lib.sources import FOLDER, definition_at, facts_of, functions_named, names, tests_named, words_in
 
 CLAIMS = TOP / "docs" / "CLAIMS.md"
 CLAUSES = re.compile(r"\[`(?P<path>\w+(?:::\w+)+)`(?P<words>(?:, (?:`\w+`|its clause|its test))*)\]\((?P<link>[^()\s]*)\)")
 DEFINITION = re.compile(r"\[`(?P<name>[^`\s]+)`, in `(?P<file>\w+/specs/[\w/]+\.antt)`\]\((?P<link>[^()\s]*)\)")
 SCRIPT = re.compile(r"`(tests/[\w/]+\.\w+)`")
+NAME = re.compile(r"(?<!\[)`(\w+(?:::\w+)+)`")
 EDIT = re.compile(r"`(\w+)/([\w-]+)`")
+LEMMA = re.compile(r"`([\w'-]+(?:\.antt)?)`")
+# the crates whose lemmas a page on a proof names
+PROOFS = {"PROOF_OF_THE_LOCK.md": ["laws", "record"], "PROOF_OF_THE_HISTORY.md": ["history_laws", "laws", "record", "plain_store"]}
 STRENGTHS = {"proved", "tested", "measured", "trusted"}
 
 
@@ -93,36 +100,44 @@ def promises():
 def rows(text):
     """The rows of the page's tables, without their heads."""
     for line in text.splitlines():
-        cells = [cell.strip() for cell in line.strip("|").split(" | ")]
-        if line.startswith("| ") and cells[0] != "Promise" and len(cells) == 4:
-            yield cells
+        if line.startswith("| ") and not line.startswith("| Promise |"):
+            yield [cell.strip() for cell in line.strip("|").split(" | ")]
 
 
 def fault_of_row(cells):
     """What is wrong with a row of the claims; none, if nothing is."""
-    told, where, _, strength = cells[0], cells[1], cells[2], cells[3]
+    if len(cells) != 4:
+        return f"has not four cells: {cells}"
+    told, where, _, strength = cells
     if strength not in STRENGTHS:
         return f"says not how strong it is: {told}"
     if strength == "proved" and not CLAUSES.search(where):
         return f"is proved and names no clause: {told}"
-    scripts = SCRIPT.findall(where)
-    if strength == "tested" and not scripts and "its test" not in where:
+    if strength == "tested" and not SCRIPT.search(where) and "its test" not in where:
         return f"is tested and names no test: {told}"
     return None
 
 
-def main():
-    counter = Counter()
-    for page in sorted((TOP / "docs").glob("*.md")):
-        text = page.read_text()
-        if sys.argv[1:] == ["--write"]:
-            text = written(page, text)
-            page.write_text(text)
-        for found, place in references(text):
-            name = f"{page.name}: {found.group()}"
-            counter.count(place, f"{name} is not there, or more than once")
-            if place:
-                counter.count(found["link"] == link_to(page, place), f"{name} leads elsewhere: python3 tests/gate/claims.py --write")
+def check_references(counter, page):
+    """Whether each clause, test and definition that a page links to is there, and the link leads to it."""
+    for found, place in references(page.read_text()):
+        name = f"{page.name}: {found.group()}"
+        counter.count(place, f"{name} is not there, or more than once")
+        if place:
+            leads = found["link"] == link_to(page, place)
+            counter.count(leads, f"{name} leads elsewhere: python3 tests/gate/claims.py --write")
+
+
+def check_names(counter, page):
+    """Whether what a page names without a link is there."""
+    lost = set(NAME.findall(page.read_text())) - names()
+    if page.name in PROOFS:
+        lost |= set(LEMMA.findall(page.read_text())) - set().union(*map(words_in, PROOFS[page.name]))
+    counter.count(not lost, f"{page.name} names what is not there: {sorted(lost)}")
+
+
+def check_claims(counter):
+    """Whether docs/CLAIMS.md has each promise of the README, and each of its rows is one."""
     text = CLAIMS.read_text()
     for script in SCRIPT.findall(text):
         counter.count((TOP / script).exists(), f"CLAIMS.md: {script} is not there")
@@ -130,11 +145,27 @@ def main():
     for cells in claimed:
         fault = fault_of_row(cells)
         counter.count(fault is None, f"CLAIMS.md: a row {fault}")
+    told = [cells[0].rstrip(".") for cells in claimed]
+    counter.count(told[: len(promises())] == promises(), "CLAIMS.md does not begin with the promises of README.md, word for word")
+
+
+def check_edits(counter):
+    """Whether docs/PLANTS.md names each must-fail edit, and no other."""
     named = set(EDIT.findall((TOP / "docs" / "PLANTS.md").read_text()))
     there = {(path.parent.parent.name, path.stem) for path in FOLDER.glob("*/must-fail/*.edit")}
     counter.count(named == there, f"PLANTS.md and the must-fail edits differ in {sorted(named ^ there)}")
-    told = [cells[0].rstrip(".") for cells in claimed]
-    counter.count(told[: len(promises())] == promises(), "CLAIMS.md does not begin with the promises of README.md, word for word")
+
+
+def main():
+    counter, pages = Counter(), sorted((TOP / "docs").glob("*.md"))
+    for page in pages:
+        if sys.argv[1:] == ["--write"]:
+            page.write_text(written(page, page.read_text()))
+        check_references(counter, page)
+    for page in [*pages, TOP / "bench" / "README.md"]:
+        check_names(counter, page)
+    check_claims(counter)
+    check_edits(counter)
     counter.end()
 
 

@@ -49,7 +49,8 @@ def main():
         counter.count(quotes or page != MODEL, f"{page.name} quotes nothing")
         for found in quotes:
             quote = wanted(found["names"])
-            counter.count(quote == found["text"], f"{page.name}: {found['names']} says otherwise: python3 tests/gate/quotes.py --write")
+            told = f"{page.name}: {found['names']} says otherwise: python3 tests/gate/quotes.py --write"
+            counter.count(quote == found["text"], told)
     counter.end()
 
 

@@ -190,3 +190,22 @@ def definition_text(path, name):
         last += 1
     indent = len(lines[at - 1]) - len(lines[at - 1].lstrip())
     return "\n".join(line[indent:] for line in lines[first:last])
+
+
+@functools.cache
+def names():
+    """What stands in the sources under a name of several parts: functions of types, traits and crates, and variants of enums."""
+    found = set()
+    for crate in crates():
+        found |= {f"{it.owner}::{it.name}" if it.owner else f"{crate}::{it.name}" for it in functions_of(crate)}
+        found |= {f"{crate}::{it.owner}::{it.name}" for it in functions_of(crate) if it.owner}
+        for path in files_of(crate):
+            for name, block in re.findall(r"^(?:pub )?enum (\w+)[^\n]*\{\n(.*?)^\}", path.read_text(), re.M | re.S):
+                found |= {f"{name}::{variant}" for variant in re.findall(r"^    ([A-Z]\w*)", block, re.M)}
+    return found
+
+
+def words_in(crate):
+    """The words of a crate's sources, definitions and proofs, and the names of their files."""
+    paths = [path for path in (FOLDER / crate).glob("*/**/*") if path.suffix in (".rt", ".antt") and "out" not in path.parts]
+    return {word for path in paths for word in [path.stem, path.name, *re.findall(r"[\w'-]+", path.read_text())]}
