@@ -11,7 +11,7 @@ use plain_store::Setup;
 use record::Field;
 
 /// A number access, with what the process keeps of the numbers that it has read.
-#[derive(Clone, Copy, Debug, PartialEq, Eq)]
+#[derive(Clone, Copy, PartialEq, Eq)]
 pub enum Standing {
     /// None: the door was not started, or the process has passed it.
     Away,

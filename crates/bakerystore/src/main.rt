@@ -9,9 +9,8 @@ use command_line::{
 };
 use drawer::progress::Onlooker;
 use drawer::{Reads, draw, draw_svg};
-use engines::{run_bits, run_plain};
+use engines::{replay, run_audit, run_bits, run_judge, run_plain, run_record, run_sweep};
 use race::{RunFault, run_fault_status, run_race};
-use replayer::{replay_seen, run_audit_seen, run_judge, run_record_seen, run_sweep_seen};
 use scenario::{DONE, Fault, FromRead, IntoWrite, Sink, Source, ended};
 use std::env::{self, Env};
 use std::fs::{File, Files};
@@ -141,10 +140,10 @@ fn run_engine<T: AllocGlobal + Threads + Wait + Sync, R: Source, W: Sink, L: Onl
     let ran = match request.engine {
         Engine::Plain => ended(run_plain(alloc, input, output)),
         Engine::Bits => ended(run_bits(alloc, input, output)),
-        Engine::Replay => ended(replay_seen(alloc, input, output, onlooker)),
-        Engine::Audit => run_audit_seen(alloc, input, output, onlooker),
-        Engine::Sweep => run_sweep_seen(alloc, input, output, onlooker),
-        Engine::Record => ended(run_record_seen(alloc, input, output, onlooker)),
+        Engine::Replay => ended(replay(alloc, input, output, onlooker)),
+        Engine::Audit => run_audit(alloc, input, output, onlooker),
+        Engine::Sweep => run_sweep(alloc, input, output, onlooker),
+        Engine::Record => ended(run_record(alloc, input, output, onlooker)),
         Engine::Judge => run_judge(alloc, input, output),
         Engine::Race => return run_race(rt, alloc, input, output),
         Engine::Draw => ended(draw(alloc, reads_of(request), input, output, onlooker)),

@@ -9,7 +9,7 @@ use plain_store::Setup;
 use record::{Access, Field};
 
 /// What the word of a bit goes by.
-#[derive(Clone, Copy, Debug)]
+#[derive(Clone, Copy)]
 pub(crate) struct Layout {
     pub(crate) processes: u8,
     /// How many bits one owner has for one reader.

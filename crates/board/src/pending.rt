@@ -5,7 +5,7 @@ ghost use Rattle.board.specs.Pending.{nothing};
 use plain_store::Command;
 
 /// What joins the next word step of a port: a restart, then a call or a withdrawal, and then a failure.
-#[derive(Clone, Copy, Debug)]
+#[derive(Clone, Copy)]
 pub(crate) struct Pending {
     pub(crate) restarted: bool,
     pub(crate) called: Option<Command>,

@@ -8,7 +8,7 @@ use record::Field;
 use std::alloc::{AllocError, Global};
 
 /// A read that a write of its bit overlapped.
-#[derive(Clone, Copy, Debug, PartialEq, Eq)]
+#[derive(Clone, Copy, PartialEq, Eq)]
 pub struct OverlappedRead {
     pub reader: u8,
     pub owner: u8,

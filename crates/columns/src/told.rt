@@ -9,7 +9,7 @@ use record::{Mark, Refusal};
 use std::alloc::{AllocError, Global};
 
 /// What a command changed that was taken.
-#[derive(Debug, Drop)]
+#[derive(Drop)]
 pub struct Change {
     /// The pair that it changed or added, as `NAME=VALUE`.
     pub pair: String,
@@ -18,7 +18,7 @@ pub struct Change {
 }
 
 /// What a line says.
-#[derive(Debug, Drop)]
+#[derive(Drop)]
 pub enum Saying {
     /// An event of the process has this mark. The change is that of a command taken, if it changed the store.
     Marked {
@@ -44,7 +44,7 @@ pub enum Saying {
 }
 
 /// A line of a run's text.
-#[derive(Debug, Drop)]
+#[derive(Drop)]
 pub struct Line {
     /// The number of the line of the printed scenario that made it, from 1.
     pub source: u64,

@@ -14,7 +14,7 @@ use safe_number::{WriteRun, bits_of};
 use store_image::Image;
 
 /// Which register of a change is written: part G writes them in this order.
-#[derive(Clone, Copy, Debug)]
+#[derive(Clone, Copy)]
 pub(crate) enum Written {
     Image,
     Stamp,
@@ -22,7 +22,7 @@ pub(crate) enum Written {
 }
 
 /// A change of the store, while it is written over the version that its process has not committed.
-#[derive(Clone, Copy, Debug)]
+#[derive(Clone, Copy)]
 pub(crate) struct Change {
     /// The store after the command.
     pub store: Image,

@@ -4,7 +4,7 @@ ghost use Rattle.critical.specs.Newest.{newest_of};
 
 /// The newest of the versions of processes 0, 1 and so on: the greatest stamp, the lowest process that has
 /// it, and the commit bit of that process.
-#[derive(Clone, Copy, Debug)]
+#[derive(Clone, Copy)]
 pub(crate) struct Newest {
     pub stamp: u32,
     pub process: u8,

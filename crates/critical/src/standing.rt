@@ -23,7 +23,7 @@ use safe_number::{ReadRun, WriteRun, number_of};
 use store_image::Image;
 
 /// A call inside the critical section.
-#[derive(Clone, Copy, Debug)]
+#[derive(Clone, Copy)]
 pub(crate) struct Called {
     pub setup: Setup,
     pub process: u8,
@@ -33,7 +33,7 @@ pub(crate) struct Called {
 }
 
 /// What is kept of the versions that were read.
-#[derive(Clone, Copy, Debug)]
+#[derive(Clone, Copy)]
 pub(crate) struct Versions {
     pub newest: Newest,
     /// The process's own commit bit.
@@ -41,7 +41,7 @@ pub(crate) struct Versions {
 }
 
 /// What a section reads.
-#[derive(Clone, Copy, Debug)]
+#[derive(Clone, Copy)]
 pub(crate) enum Asked {
     /// The commit bit of a process.
     Commit { process: u8 },
@@ -52,7 +52,7 @@ pub(crate) enum Asked {
 }
 
 /// What a section does, and what it keeps of what it has read.
-#[derive(Clone, Copy, Debug)]
+#[derive(Clone, Copy)]
 pub(crate) enum Standing {
     Reads { part: Asked, versions: Versions },
     Writes { part: Written, change: Change },

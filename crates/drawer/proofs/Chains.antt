@@ -14,8 +14,8 @@ use Rattle.record.specs.Histories.{history, reply_taken}
 use Rattle.record.specs.Records.{entry_of, past_of}
 use Rattle.record.specs.Spans.{takings}
 use Rattle.record.proofs.Width.{IsGood, is_good}
-use Rattle.replayer.specs.history_laws.HistoryLaws.{taken_with}
-use Rattle.replayer.proofs.history_laws.Places.{at_its_place, grows_by_the_taken}
+use Rattle.course.specs.history_laws.HistoryLaws.{taken_with}
+use Rattle.course.proofs.history_laws.Places.{at_its_place, grows_by_the_taken}
 use Rattle.picture.specs.columns.Stages.{marks_in}
 use Rattle.drawer.specs.Chains.{ChainIsTheHistory, Knot, knot_of, knots, numbered}
 

@@ -4,21 +4,21 @@ use Rattle.plain_store.specs.Store.{Contents}
 use Rattle.plain_store.specs.declared.setups.Setup.{Setup}
 use Rattle.record.specs.declared.marks.Mark.{Mark}
 use Rattle.scenario.specs.declared.lines.Line.{Line}
-use Rattle.replayer.specs.Courses.{CourseState, Follows, Makes, MakesTurns}
-use Rattle.replayer.specs.Happenings.{Happening, past_after}
-use Rattle.replayer.specs.Replays.{Moves}
-use Rattle.replayer.specs.Runs.{Run, past_in, run_after, run_at_start, runs}
-use Rattle.replayer.specs.Summaries.{counted, summary_of}
-use Rattle.replayer.specs.Telling.{told_text}
-use Rattle.replayer.specs.Texts.{text_of}
-use Rattle.replayer.specs.Turns.{turn_of, turns_in}
-use Rattle.replayer.specs.Writing.{Counts}
-use Rattle.replayer.specs.declared.summaries.Summary.{Summary}
-use Rattle.replayer.specs.declared.told.Told.{Told}
-use Rattle.replayer.specs.declared.told.Turns.{Turns}
-use Rattle.replayer.proofs.Onwards.{Onward, onward_end}
-use Rattle.replayer.proofs.Underways.{Said, SaidTurns, said, with_events}
-use Rattle.replayer.proofs.Written.{appends_none}
+use Rattle.course.specs.Courses.{CourseState, Follows, Makes, MakesTurns}
+use Rattle.course.specs.Happenings.{Happening, past_after}
+use Rattle.course.specs.Replays.{Moves}
+use Rattle.course.specs.Runs.{Run, past_in, run_after, run_at_start, runs}
+use Rattle.course.specs.Summaries.{counted, summary_of}
+use Rattle.course.specs.Telling.{told_text}
+use Rattle.course.specs.Texts.{text_of}
+use Rattle.course.specs.Turns.{turn_of, turns_in}
+use Rattle.course.specs.Writing.{Counts}
+use Rattle.course.specs.declared.summaries.Summary.{Summary}
+use Rattle.course.specs.declared.told.Told.{Told}
+use Rattle.course.specs.declared.told.Turns.{Turns}
+use Rattle.course.proofs.Onwards.{Onward, onward_end}
+use Rattle.course.proofs.Underways.{Said, SaidTurns, said, with_events}
+use Rattle.course.proofs.Written.{appends_none}
 use Rattle.picture.specs.Bandings.{Plan}
 use Rattle.picture.specs.Pages.{page_of}
 use Rattle.picture.specs.columns.Stages.{marks_in}

@@ -17,8 +17,8 @@ use Rattle.picture.specs.columns.declared.reads.OverlappedRead.{OverlappedRead}
 use Rattle.picture.specs.declared.reads.Reads.{Reads as Mode}
 use Rattle.picture.specs.columns.declared.told.Line.{Line}
 use Rattle.scenario.specs.Reading.{Script}
-use Rattle.replayer.specs.Texts.{replayed}
-use Rattle.replayer.proofs.Written.{appends_both, appends_none}
+use Rattle.course.specs.Texts.{replayed}
+use Rattle.course.proofs.Written.{appends_both, appends_none}
 use Rattle.drawer.specs.Drawings.{Draws, DrawsAll, DrawsBands, DrawsOn, DrawsRest, Fills, IsPictureOf, Kept, Writes}
 use Rattle.drawer.specs.Items.{Gives, GivesLine, GivesRead, given, says_of}
 use Rattle.drawer.specs.Pictures.{ended_lines, lines_told}

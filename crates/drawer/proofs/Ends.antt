@@ -10,9 +10,9 @@ use Rattle.files.specs.declared.faults.Fault.TheVariants.{Line, Memory, Read, Wr
 use Rattle.files.specs.declared.faults.LineFault.{LineFault}
 use Rattle.scenario.proofs.CutTexts.{scenario_tells_at_limit}
 use Rattle.scenario.specs.Reading.{Script, scenario_of}
-use Rattle.replayer.specs.Replays.{ended}
-use Rattle.replayer.specs.Texts.{replay_text, replayed}
-use Rattle.replayer.specs.Writing.{IsWriteFault, failed_write}
+use Rattle.course.specs.Replays.{ended}
+use Rattle.course.specs.Texts.{replay_text, replayed}
+use Rattle.course.specs.Writing.{IsWriteFault, failed_write}
 use Rattle.picture.specs.declared.page.Form.{Form}
 use Rattle.picture.specs.declared.reads.Reads.{Reads as Mode}
 use Rattle.drawer.specs.Drawings.{DrawsAll, Drew}

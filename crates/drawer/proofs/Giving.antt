@@ -8,7 +8,7 @@ use Rattle.record.specs.Spans.{takings}
 use Rattle.record.specs.declared.history.Taken.{Taken}
 use Rattle.record.specs.declared.marks.Mark.{Mark}
 use Rattle.record.specs.declared.marks.Mark.TheVariants as mark
-use Rattle.replayer.specs.Texts.{mark_line}
+use Rattle.course.specs.Texts.{mark_line}
 use Rattle.picture.specs.columns.Told.{saying_text}
 use Rattle.picture.specs.columns.declared.reads.OverlappedRead.{OverlappedRead}
 use Rattle.picture.specs.declared.reads.Reads.{Reads as Mode}

@@ -4,25 +4,25 @@ use Rattle.plain_store.specs.Store.{Contents}
 use Rattle.plain_store.specs.declared.setups.Setup.{Setup}
 use Rattle.record.specs.declared.events.Event.TheVariants as event
 use Rattle.record.specs.Entries.{Entry, Past}
-use Rattle.replayer.specs.process.declared.told.Effect.TheVariants.{Steps}
-use Rattle.replayer.specs.process.declared.told.Told.TheVariants as step
+use Rattle.course.specs.process.declared.told.Effect.TheVariants.{Steps}
+use Rattle.course.specs.process.declared.told.Told.TheVariants as step
 use Rattle.scenario.specs.declared.lines.Line.{Line}
 use Rattle.picture.specs.columns.declared.reads.OverlappedRead.{OverlappedRead}
 use Rattle.picture.specs.declared.reads.Reads.{Reads as Mode}
-use Rattle.replayer.specs.Courses.{CourseState, Follows, Makes}
-use Rattle.replayer.specs.Runs.{Run, run_after}
-use Rattle.replayer.specs.Steppers.{AreNext, IsReady, MakesStep}
-use Rattle.replayer.specs.Summaries.{counted}
-use Rattle.replayer.specs.Telling.{entry_made, told_unmarked}
-use Rattle.replayer.specs.Turns.{turn_of}
-use Rattle.replayer.specs.declared.summaries.Summary.{Summary}
-use Rattle.replayer.specs.declared.told.Accepted.{Accepted}
-use Rattle.replayer.specs.declared.told.Drawn.{Drawn}
-use Rattle.replayer.specs.declared.told.Stepped.{Stepped}
-use Rattle.replayer.specs.declared.told.Told.{Told}
-use Rattle.replayer.specs.declared.turns.steps.Steppers.{Steppers}
-use Rattle.replayer.proofs.Recordings.{Draws, StepsNext, TellsNext}
-use Rattle.replayer.proofs.Underways.{with_events}
+use Rattle.course.specs.Courses.{CourseState, Follows, Makes}
+use Rattle.course.specs.Runs.{Run, run_after}
+use Rattle.course.specs.Steppers.{AreNext, IsReady, MakesStep}
+use Rattle.course.specs.Summaries.{counted}
+use Rattle.course.specs.Telling.{entry_made, told_unmarked}
+use Rattle.course.specs.Turns.{turn_of}
+use Rattle.course.specs.declared.summaries.Summary.{Summary}
+use Rattle.course.specs.declared.told.Accepted.{Accepted}
+use Rattle.course.specs.declared.told.Drawn.{Drawn}
+use Rattle.course.specs.declared.told.Stepped.{Stepped}
+use Rattle.course.specs.declared.told.Told.{Told}
+use Rattle.course.specs.declared.turns.steps.Steppers.{Steppers}
+use Rattle.engines.proofs.Recordings.{Draws, StepsNext, TellsNext}
+use Rattle.course.proofs.Underways.{with_events}
 use Rattle.drawer.specs.Drawings.{Advances, Kept}
 use Rattle.drawer.specs.Overlaps.{ComesInTurn, Overhears, overlapped_by}
 use Rattle.drawer.specs.declared.overlaps.Overlaps.{Overlaps}

@@ -21,22 +21,22 @@ use Rattle.record.specs.Scripts.{Call}
 use Rattle.record.specs.Stages.{inside, stage, stage_after}
 use Rattle.record.proofs.Staging.{stage-placed}
 use Rattle.record.proofs.Width.{IsGood, is_good}
-use Rattle.replayer.specs.laws.Doings.{call, doing, is_inside}
-use Rattle.replayer.proofs.laws.Always.{inv_of}
-use Rattle.replayer.proofs.laws.AtPlaces.{any-stepping}
-use Rattle.replayer.proofs.laws.DoorwayParts.{both}
-use Rattle.replayer.proofs.laws.FrameEvents.{accepted}
-use Rattle.replayer.proofs.laws.FrameInside.{inside-is}
-use Rattle.replayer.proofs.laws.Invariant.{Inv}
-use Rattle.replayer.proofs.laws.Theorems.{Enters, enters, mutual_exclusion, of_entered}
+use Rattle.course.specs.laws.Doings.{call, doing, is_inside}
+use Rattle.course.proofs.laws.Always.{inv_of}
+use Rattle.course.proofs.laws.AtPlaces.{any-stepping}
+use Rattle.course.proofs.laws.DoorwayParts.{both}
+use Rattle.course.proofs.laws.FrameEvents.{accepted}
+use Rattle.course.proofs.laws.FrameInside.{inside-is}
+use Rattle.course.proofs.laws.Invariant.{Inv}
+use Rattle.course.proofs.laws.Theorems.{Enters, enters, mutual_exclusion, of_entered}
 use Rattle.picture.specs.Bandings.{Item, Reads, Tells, state_after}
 use Rattle.picture.specs.columns.Stages.{StagesAreTheRecords, marks_in, stage_among}
 use Rattle.picture.specs.Standings.{sayings}
 use Rattle.picture.specs.columns.States.{at_first, before_in, line_of_first, state_told, ticket_in}
 use Rattle.picture.specs.columns.declared.state.State.{State}
-use Rattle.replayer.specs.laws.Lines.{ticket_told}
-use Rattle.replayer.proofs.laws.FirstInLine.{first_inside}
-use Rattle.replayer.proofs.laws.HeldTickets.{insiders}
+use Rattle.course.specs.laws.Lines.{ticket_told}
+use Rattle.course.proofs.laws.FirstInLine.{first_inside}
+use Rattle.course.proofs.laws.HeldTickets.{insiders}
 use Rattle.drawer.specs.InLine.{IsFirstInLine, WaitsNoMore, WhoEntersIsFirst, WhoIsInsideIsDrawnFirst, WhoIsInsideIsFirst, state_of_lines}
 use Rattle.drawer.proofs.Insides as insides
 use Rattle.drawer.proofs.LineOrder.{Below, HasTicket, stands_before}

@@ -11,10 +11,10 @@ use Rattle.record.specs.Entries.{Entry, Past}
 use Rattle.record.specs.Moves.{begins_read, moves_of, same_bit}
 use Rattle.record.specs.Records.{entry_of, past_of}
 use Rattle.record.proofs.Width.{is_good}
-use Rattle.replayer.specs.laws.Held.{cell_held, drops}
-use Rattle.replayer.proofs.laws.HeldCells.{held-entry, held-marks}
-use Rattle.replayer.proofs.laws.HeldThere.{access_there}
-use Rattle.replayer.proofs.laws.HeldTurns.{comes_in_turn}
+use Rattle.course.specs.laws.Held.{cell_held, drops}
+use Rattle.course.proofs.laws.HeldCells.{held-entry, held-marks}
+use Rattle.course.proofs.laws.HeldThere.{access_there}
+use Rattle.course.proofs.laws.HeldTurns.{comes_in_turn}
 use Rattle.drawer.specs.Overlaps.{ComesInTurn}
 
 -- where a read is open after a move, it began with that move or was open before

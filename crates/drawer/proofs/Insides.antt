@@ -11,8 +11,8 @@ use Rattle.record.specs.Entries.{Past}
 use Rattle.record.specs.Records.{past_of}
 use Rattle.record.specs.Stages.{inside, inside_after, stage, stage_after}
 use Rattle.record.proofs.Width.{is_good}
-use Rattle.replayer.proofs.laws.Always.{inv_of}
-use Rattle.replayer.proofs.laws.Theorems.{mutual_exclusion}
+use Rattle.course.proofs.laws.Always.{inv_of}
+use Rattle.course.proofs.laws.Theorems.{mutual_exclusion}
 use Rattle.picture.specs.columns.Stages.{StagesAreTheRecords, marks_in, marks_said, stage_among, stages_after}
 use Rattle.picture.specs.columns.declared.told.Saying.{Saying}
 use Rattle.drawer.specs.Insides.{OneIsInside}

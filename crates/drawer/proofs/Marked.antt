@@ -9,23 +9,23 @@ use Rattle.record.specs.Histories.{history, store_after}
 use Rattle.record.specs.Records.{entry_of, past_of, process_of, refused}
 use Rattle.picture.specs.columns.Stages.{marks_in}
 use Rattle.scenario.specs.declared.lines.Line.{Line}
-use Rattle.replayer.specs.Courses.{CourseState, Follows, IsQuiet, MakesTurns, QuietTurns}
-use Rattle.replayer.specs.Happenings.{Happening, Tries, Lacks, Tires, Looks, past_after, refusals, tried}
-use Rattle.replayer.specs.Runs.{Run, past_in, run_after}
-use Rattle.replayer.specs.Replays.{Moves}
-use Rattle.replayer.specs.Telling.{TellsOf, entry_made, told_text}
-use Rattle.replayer.specs.Texts.{text_at, text_of}
-use Rattle.replayer.specs.Turns.{Turn, turn_of, turns_in}
-use Rattle.replayer.specs.Summaries.{counted}
-use Rattle.replayer.specs.Writing.{Counts}
-use Rattle.replayer.specs.declared.summaries.Summary.{Summary}
-use Rattle.replayer.specs.declared.told.Told.{Told}
-use Rattle.replayer.specs.declared.told.Told.TheVariants as told
-use Rattle.replayer.specs.declared.told.Turns.{Turns}
-use Rattle.replayer.proofs.Refusals.{past_kept}
-use Rattle.replayer.proofs.Tellings.{Quietly, counts_more, quiet_counts, told_is}
-use Rattle.replayer.proofs.TurnLaw.{rest_of, rest_none, rest_whole, turn_less, turn_on}
-use Rattle.replayer.proofs.Underways.{Nothing, One, Said, SaidTurns, Turned, silent_one, told_none, told_one, turned, with_events}
+use Rattle.course.specs.Courses.{CourseState, Follows, IsQuiet, MakesTurns, QuietTurns}
+use Rattle.course.specs.Happenings.{Happening, Tries, Lacks, Tires, Looks, past_after, refusals, tried}
+use Rattle.course.specs.Runs.{Run, past_in, run_after}
+use Rattle.course.specs.Replays.{Moves}
+use Rattle.course.specs.Telling.{TellsOf, entry_made, told_text}
+use Rattle.course.specs.Texts.{text_at, text_of}
+use Rattle.course.specs.Turns.{Turn, turn_of, turns_in}
+use Rattle.course.specs.Summaries.{counted}
+use Rattle.course.specs.Writing.{Counts}
+use Rattle.course.specs.declared.summaries.Summary.{Summary}
+use Rattle.course.specs.declared.told.Told.{Told}
+use Rattle.course.specs.declared.told.Told.TheVariants as told
+use Rattle.course.specs.declared.told.Turns.{Turns}
+use Rattle.course.proofs.Refusals.{past_kept}
+use Rattle.course.proofs.Tellings.{Quietly, counts_more, quiet_counts, told_is}
+use Rattle.course.proofs.TurnLaw.{rest_of, rest_none, rest_whole, turn_less, turn_on}
+use Rattle.course.proofs.Underways.{Nothing, One, Said, SaidTurns, Turned, silent_one, told_none, told_one, turned, with_events}
 use Rattle.picture.specs.columns.declared.reads.OverlappedRead.{OverlappedRead}
 use Rattle.picture.specs.declared.reads.Reads.{Reads as Mode}
 use Rattle.picture.specs.declared.reads.Reads.TheVariants.{Hidden, Shown}

@@ -8,9 +8,9 @@ use Rattle.picture.specs.declared.reads.Reads.{Reads as Mode}
 use Rattle.scenario.specs.Printing.{scenario_text}
 use Rattle.scenario.specs.Reading.{Script}
 use Rattle.picture.specs.columns.Stages.{marks_in}
-use Rattle.replayer.specs.Happenings.{past_after}
-use Rattle.replayer.specs.Runs.{happenings}
-use Rattle.replayer.specs.Texts.{replayed}
+use Rattle.course.specs.Happenings.{past_after}
+use Rattle.course.specs.Runs.{happenings}
+use Rattle.course.specs.Texts.{replayed}
 use Rattle.drawer.specs.Drawings.{DrawsBands, IsPictureOf}
 use Rattle.drawer.specs.Items.{run_given}
 use Rattle.drawer.specs.Pictures.{plan_of, store_words}

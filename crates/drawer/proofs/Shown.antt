@@ -8,11 +8,11 @@ use Rattle.plain_store.specs.Store.{Contents}
 use Rattle.plain_store.specs.StoreLine.{pair_text, show_text}
 use Rattle.plain_store.specs.declared.setups.Setup.{Setup}
 use Rattle.record.specs.Entries.{Past}
-use Rattle.replayer.specs.Happenings.{Happening, Lacks, Looks, Tires, Tries}
-use Rattle.replayer.specs.Telling.{TellsOf}
-use Rattle.replayer.specs.Texts.{newest_store, store_text}
-use Rattle.replayer.specs.declared.told.Told.{Told}
-use Rattle.replayer.specs.declared.told.Told.TheVariants as told
+use Rattle.course.specs.Happenings.{Happening, Lacks, Looks, Tires, Tries}
+use Rattle.course.specs.Telling.{TellsOf}
+use Rattle.course.specs.Texts.{newest_store, store_text}
+use Rattle.course.specs.declared.told.Told.{Told}
+use Rattle.course.specs.declared.told.Told.TheVariants as told
 use Rattle.drawer.specs.Pictures.{shown_words, words_by}
 
 -- a front of a list

@@ -19,14 +19,14 @@ use Rattle.record.specs.Records.{entry_of, past_of, placed}
 use Rattle.record.specs.Scripts.{Call}
 use Rattle.record.specs.Stages.{stage, stage_after}
 use Rattle.record.proofs.Width.{IsGood}
-use Rattle.replayer.specs.laws.Doings.{call, doing}
-use Rattle.replayer.proofs.laws.AtPlaces.{IsOfLock, any-closing, any-placed, own-induction}
-use Rattle.replayer.proofs.laws.Doings as doings
-use Rattle.replayer.proofs.laws.Frame.{Happens, a_call, a_withdrawal, a_failure, a_restart, a_step, a_closing}
-use Rattle.replayer.proofs.laws.FrameEvents.{accepted}
-use Rattle.replayer.proofs.laws.FrameInside.{stage-is}
+use Rattle.course.specs.laws.Doings.{call, doing}
+use Rattle.course.proofs.laws.AtPlaces.{IsOfLock, any-closing, any-placed, own-induction}
+use Rattle.course.proofs.laws.Doings as doings
+use Rattle.course.proofs.laws.Frame.{Happens, a_call, a_withdrawal, a_failure, a_restart, a_step, a_closing}
+use Rattle.course.proofs.laws.FrameEvents.{accepted}
+use Rattle.course.proofs.laws.FrameInside.{stage-is}
 use Rattle.picture.specs.columns.Stages.{marks_in}
-use Rattle.replayer.specs.laws.Lines.{ticket_after, ticket_told}
+use Rattle.course.specs.laws.Lines.{ticket_after, ticket_told}
 
 -- what is shown after a mark
 abbrev pub shown_after : ℕ → Mark → ℕ

@@ -16,19 +16,19 @@ use Rattle.record.specs.declared.history.Taken.{Taken}
 use Rattle.record.specs.declared.marks.Mark.{Mark}
 use Rattle.record.specs.declared.refusals.Refusal.{Refusal}
 use Rattle.record.proofs.Width.{is_good}
-use Rattle.replayer.specs.history_laws.HistoryLaws.{taken_with}
-use Rattle.replayer.proofs.history_laws.Places.{at_its_place, grows_by_the_taken}
+use Rattle.course.specs.history_laws.HistoryLaws.{taken_with}
+use Rattle.course.proofs.history_laws.Places.{at_its_place, grows_by_the_taken}
 use Rattle.picture.specs.columns.declared.reads.OverlappedRead.{OverlappedRead}
 use Rattle.picture.specs.declared.reads.Reads.{Reads as Mode}
-use Rattle.replayer.specs.Courses.{CourseState}
-use Rattle.replayer.specs.Happenings.{Happening, Tries, Lacks, Tires, Looks, past_after, tried}
-use Rattle.replayer.specs.Runs.{Run, past_in}
-use Rattle.replayer.specs.Telling.{TellsOf, entry_made, marks_made, told_text}
-use Rattle.replayer.specs.Texts.{mark_line}
-use Rattle.replayer.specs.declared.told.Accepted.{Accepted}
-use Rattle.replayer.specs.declared.told.Told.{Told}
-use Rattle.replayer.specs.declared.told.Told.TheVariants as told
-use Rattle.replayer.proofs.Refusals.{none_added, past_kept}
+use Rattle.course.specs.Courses.{CourseState}
+use Rattle.course.specs.Happenings.{Happening, Tries, Lacks, Tires, Looks, past_after, tried}
+use Rattle.course.specs.Runs.{Run, past_in}
+use Rattle.course.specs.Telling.{TellsOf, entry_made, marks_made, told_text}
+use Rattle.course.specs.Texts.{mark_line}
+use Rattle.course.specs.declared.told.Accepted.{Accepted}
+use Rattle.course.specs.declared.told.Told.{Told}
+use Rattle.course.specs.declared.told.Told.TheVariants as told
+use Rattle.course.proofs.Refusals.{none_added, past_kept}
 use Rattle.drawer.specs.Drawings.{AreNext, DrawsOn, IsAmong, IsToDraw, Kept, Recalls, all_take, marks_told}
 use Rattle.drawer.specs.Items.{Says, SaysRefusal, SaysStore, SaysTired, given_at, lines_given, read_at, reads_since, said_at, said_of_event, says_mark, waiting}
 use Rattle.drawer.specs.Overlaps.{ComesInTurn, Overhears, overlapped_by}

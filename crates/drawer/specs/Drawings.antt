@@ -27,16 +27,16 @@ use Rattle.drawer.specs.Items.{Gives, given, given_from, reads_since, run_given}
 use Rattle.drawer.specs.Overlaps.{Overhears}
 use Rattle.drawer.specs.Pictures.{ended_lines, lines_told, picture_of, plan_of}
 use Rattle.drawer.specs.declared.overlaps.Overlaps.{Overlaps}
-use Rattle.replayer.specs.Courses.{CourseState, Follows}
-use Rattle.replayer.specs.Happenings.{Happening, past_after}
-use Rattle.replayer.specs.Replays.{Moves}
-use Rattle.replayer.specs.Runs.{Run, happenings, past_in, run_after}
-use Rattle.replayer.specs.Telling.{TellsOf, marks_made}
-use Rattle.replayer.specs.Texts.{replay_text, replayed}
-use Rattle.replayer.specs.Writing.{Counts}
-use Rattle.replayer.specs.declared.summaries.Summary.{Summary}
-use Rattle.replayer.specs.declared.told.Told.{Told}
-use Rattle.replayer.specs.declared.told.Told.TheVariants as told
+use Rattle.course.specs.Courses.{CourseState, Follows}
+use Rattle.course.specs.Happenings.{Happening, past_after}
+use Rattle.course.specs.Replays.{Moves}
+use Rattle.course.specs.Runs.{Run, happenings, past_in, run_after}
+use Rattle.course.specs.Telling.{TellsOf, marks_made}
+use Rattle.course.specs.Texts.{replay_text, replayed}
+use Rattle.course.specs.Writing.{Counts}
+use Rattle.course.specs.declared.summaries.Summary.{Summary}
+use Rattle.course.specs.declared.told.Told.{Told}
+use Rattle.course.specs.declared.told.Told.TheVariants as told
 
 -- This markup was written. However it goes on, what is read of it stays as it is.
 pub record Writes (old new : Option (List ℕ)) (markup : List ℕ) : Type 0 where

@@ -11,11 +11,11 @@ use Rattle.record.specs.declared.refusals.Refusal.TheVariants.{NoProcess}
 use Rattle.scenario.specs.Printing.{open_words, setup_words}
 use Rattle.scenario.specs.Reading.{Script}
 use Rattle.scenario.specs.declared.lines.Line.{Line as ScenarioLine}
-use Rattle.replayer.specs.Happenings.{Happening, Tries, Lacks, Tires, Looks, past_after}
-use Rattle.replayer.specs.Runs.{Run, happenings, run_after, run_at_start}
-use Rattle.replayer.specs.Summaries.{summary_of}
-use Rattle.replayer.specs.Texts.{newest_store, store_text}
-use Rattle.replayer.specs.declared.summaries.Summary.{Summary}
+use Rattle.course.specs.Happenings.{Happening, Tries, Lacks, Tires, Looks, past_after}
+use Rattle.course.specs.Runs.{Run, happenings, run_after, run_at_start}
+use Rattle.course.specs.Summaries.{summary_of}
+use Rattle.course.specs.Texts.{newest_store, store_text}
+use Rattle.course.specs.declared.summaries.Summary.{Summary}
 use Rattle.picture.specs.Bandings.{Item, Reads, Tells}
 use Rattle.picture.specs.columns.declared.reads.OverlappedRead.{OverlappedRead}
 use Rattle.picture.specs.declared.reads.Reads.{Reads as Mode}

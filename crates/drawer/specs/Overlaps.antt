@@ -5,12 +5,12 @@ use Rattle.record.specs.safe_bit.declared.Move.TheVariants.{BeginRead, EndRead}
 use Rattle.record.specs.declared.access.Access.{Access}
 use Rattle.plain_store.specs.Setups.{checked}
 use Rattle.plain_store.specs.declared.setups.Setup.{Setup}
-use Rattle.replayer.specs.laws.Held.{IsThere}
+use Rattle.course.specs.laws.Held.{IsThere}
 use Rattle.record.specs.Entries.{Entry, Past}
 use Rattle.record.specs.Moves.{begins_read, moves_of}
 use Rattle.record.specs.Registers.{width}
-use Rattle.replayer.specs.watch.Looks.{ends_overlapped}
-use Rattle.replayer.specs.watch.Watching.{HasHeard}
+use Rattle.course.specs.watch.Looks.{ends_overlapped}
+use Rattle.course.specs.watch.Watching.{HasHeard}
 use Rattle.picture.specs.Sheets.{held_in_64}
 use Rattle.picture.specs.columns.declared.reads.OverlappedRead.{OverlappedRead}
 use Rattle.picture.specs.declared.reads.Reads.{Reads as Mode}

@@ -2,10 +2,10 @@
 ghost use Rattle.std.specs.Prelude.{◌≡◌, ◌+◌, ◌-◌, ◌^◌, ◌<◌, IfErr, IfOk, Ok, OnOk};
 ghost use Rattle.files.specs.Streams.{ReadsFront};
 ghost use Rattle.scenario.specs.Reads.{script};
-ghost use Rattle.replayer.specs.Replays.{IsSummaryOf, ended};
-ghost use Rattle.replayer.specs.Runs.{happenings};
-ghost use Rattle.replayer.specs.Summaries.{summary_of};
-ghost use Rattle.replayer.specs.Writing.{IsWriteFault, failed_write};
+ghost use Rattle.course.specs.Replays.{IsSummaryOf, ended};
+ghost use Rattle.course.specs.Runs.{happenings};
+ghost use Rattle.course.specs.Summaries.{summary_of};
+ghost use Rattle.course.specs.Writing.{IsWriteFault, failed_write};
 ghost use Rattle.picture.specs.declared.page.Form.TheVariants as form_variants;
 ghost use Rattle.drawer.specs.Drawings.{DrawsAll, Drew};
 
@@ -13,9 +13,9 @@ use crate::changes::Changes;
 use crate::drawing::draw_bands;
 use crate::nowhere::Nowhere;
 use crate::writing::write_markup;
+use course::Summary;
 use files::progress::Onlooker;
 use picture::{FIRST_BAND, Form, Reads, page_end, page_head, picture_end, picture_head};
-use replayer::Summary;
 use scenario::{Fault, Scenario, Sink, Source, print_scenario, read_input, read_scenario};
 use std::alloc::Global;
 

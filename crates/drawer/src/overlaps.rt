@@ -9,10 +9,10 @@ ghost use Rattle.picture.specs.columns.declared.reads.OverlappedRead.{Overlapped
 ghost use Rattle.picture.specs.declared.reads.Reads.{Reads as Mode};
 ghost use Rattle.drawer.specs.Overlaps.{ComesInTurn, Hears, Overhears, begun_by, first_three, overlapped_by, read_ended, shown_of};
 
+use course::Watch;
 use picture::{OverlappedRead, Reads};
 use plain_store::{NestedTypes, Setup};
 use record::{Access, Field, Move};
-use replayer::Watch;
 use std::alloc::{AllocError, Global};
 
 /// How many reads are shown between two lines of the run.

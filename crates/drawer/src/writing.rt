@@ -3,7 +3,7 @@ ghost use Rattle.std.specs.Prelude.{◌≡◌, ◌+◌, ◌-◌, ◌^◌, ◌<�
 ghost use Rattle.picture.specs.shapes.Elements.{EndsAll};
 ghost use Rattle.picture.specs.shapes.Titles.{lines_in};
 ghost use Rattle.picture.specs.Pages.{band_text, lines_of_band};
-ghost use Rattle.replayer.specs.Writing.{IsWriteFault, failed_write};
+ghost use Rattle.course.specs.Writing.{IsWriteFault, failed_write};
 ghost use Rattle.drawer.specs.Drawings.{Draws, Writes};
 ghost use Rattle.drawer.specs.Pictures.{ended_lines};
 

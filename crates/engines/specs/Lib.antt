@@ -1,3 +1,8 @@
+pub mod Audits
 pub mod BitCells
 pub mod Bits
+pub mod Listings
 pub mod Plain
+pub mod RecordedRuns
+pub mod Recordings
+pub mod Sweepings

@@ -7,6 +7,8 @@ use Rattle.plain_store.specs.Store.{Contents, reply_to, after, number_of}
 use Rattle.plain_store.specs.declared.commands.Caller.{Caller}
 use Rattle.plain_store.specs.declared.commands.Command.{Command}
 use Rattle.plain_store.specs.declared.setups.Setup.{Setup}
+use Rattle.course.specs.«record».Shown.{refusal_line}
+use Rattle.course.specs.«record».declared.refusals.Refusal.TheVariants.{NoProcess}
 use Rattle.scenario.specs.Reading.{Script, scenario_of}
 use Rattle.scenario.specs.files.declared.faults.LineFault.{LineFault}
 use Rattle.scenario.specs.declared.lines.Line.{Line}
@@ -28,14 +30,11 @@ caller_of setup run p = record { process = p; number = if setup.version == 1 the
 abbrev pub reply_line : ℕ → ℕ → List ℕ → List ℕ
 reply_line place p reply = decimal place ++ codes " " ++ decimal p ++ codes " " ++ reply ++ codes "\n"
 
-abbrev pub refusal_line : ℕ → List ℕ
-refusal_line p = codes "- " ++ decimal p ++ codes " refused no-process\n"
-
 abbrev pub applied_text : Setup → Run → ℕ → Command → List ℕ
 applied_text setup run p command = reply_line run.place p (reply_text (reply_to run.store command (caller_of setup run p)))
 
 abbrev pub call_text : Setup → Run → ℕ → Command → List ℕ
-call_text setup run p command = if nat_lt p setup.processes then applied_text setup run p command else refusal_line p
+call_text setup run p command = if nat_lt p setup.processes then applied_text setup run p command else refusal_line p NoProcess
 
 -- what is printed for a line
 abbrev pub line_text : Setup → Run → Line → List ℕ

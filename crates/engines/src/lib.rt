@@ -1,8 +1,34 @@
-//! The commands `plain` and `bits`: the calls of a file, in order, on one store or on one safe bit.
+//! The engines: each reads a whole file, runs what it says, and writes what its command prints. `plain` and `bits` do the calls
+//! of a file on one store or on one safe bit; `replay`, `record`, `audit` and `sweep` make the run of a scenario on a world. The
+//! calls by which a program has the accepted events of a run, and the record of a list of events, stand beside them.
+//!
+//! ```rust
+//! replay(alloc, &mut Tape::new(file.as_bytes()), &mut output, &mut Nobody)?;
+//! ```
 #![tactic(auto)]
 
+mod auditing;
 mod bits;
+mod listing;
 mod plain;
+mod recording;
+mod replaying;
+mod sweeping;
+mod writing;
 
+pub use auditing::run_audit;
 pub use bits::run_bits;
-pub use plain::{no_process_line, run_plain};
+pub use course::Summary;
+pub use judge::{
+    Audited, Auditor, Judge, Law, Verdict, Watch, audit, good_records_are_of_events,
+    records_have_one_verdict, records_of_events_are_good, run_judge, status_of,
+};
+pub use listing::{events_of, record_of};
+pub use plain::run_plain;
+pub use recording::run_record;
+pub use replaying::replay;
+pub use sweeper::{
+    BadRun, Swept, fails_are_of_whom_stands, progress, steps_are_of_whom_moves, sweep,
+    swept_runs_are_good,
+};
+pub use sweeping::{run_sweep, status_of_sweep};

@@ -5,8 +5,9 @@ ghost use Rattle.plain_store.specs.Setups.{checked};
 ghost use Rattle.plain_store.specs.Shown.{reply_text};
 ghost use Rattle.scenario.specs.files.Engines.{Ran};
 ghost use Rattle.scenario.specs.files.Streams.{ReadsFront};
-ghost use Rattle.engines.specs.Plain.{line_text, run_after, text_from, run_at_start, plain_text, call_text, called, applied_text, applied, caller_of, counted, refusal_line, reply_line as line_of_reply};
+ghost use Rattle.engines.specs.Plain.{line_text, run_after, text_from, run_at_start, plain_text, call_text, called, applied_text, applied, caller_of, counted, reply_line as line_of_reply};
 
+use course::{Refusal, refusal_line};
 use plain_store::{Caller, Command, PlainStore, Reply, Setup, Store, opened, show_line};
 use scenario::{Fault, Line, Scenario, Sink, Source, read_input, read_scenario, write_all};
 use std::alloc::{AllocError, Global};
@@ -73,7 +74,7 @@ impl Plain {
         if process < setup.processes {
             self.apply(alloc, setup, process, command)
         } else {
-            no_process_line(alloc, process)
+            refusal_line(alloc, process, &Refusal::NoProcess)
         }
     }
 
@@ -126,13 +127,6 @@ fn reply_line(alloc: Global, place: u64, process: u8, reply: &Reply) -> Result<S
     ensures { IfOk result (λ line. string_bytes line ≡ line_of_reply place process (reply_text reply.now)) }
 {
     format!(in alloc; "{place} {process} {reply}\n")
-}
-
-/// The line that is printed for a call of a process that is not there.
-pub fn no_process_line(alloc: Global, process: u8) -> Result<String, AllocError>
-    ensures { IfOk result (λ line. string_bytes line ≡ refusal_line process) }
-{
-    format!(in alloc; "- {process} refused no-process\n")
 }
 
 /// What a scenario prints.

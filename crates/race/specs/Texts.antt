@@ -11,7 +11,8 @@ use Rattle.plain_store.specs.declared.setups.Setup.{Setup}
 use Rattle.scenario.specs.Reading.{Script}
 use Rattle.scenario.specs.declared.lines.Line.{Line}
 use Rattle.scenario.specs.declared.lines.Line.TheVariants as line
-use Rattle.engines.specs.Plain.{refusal_line}
+use Rattle.record.specs.Shown.{refusal_line}
+use Rattle.record.specs.declared.refusals.Refusal.TheVariants.{NoProcess}
 use Rattle.weigh.specs.Shown.{verdict_text}
 use Rattle.record.specs.declared.calls.Placed.{Placed}
 use Rattle.weigh.specs.declared.verdicts.Weighed.{Weighed}
@@ -31,7 +32,7 @@ plans_in said = map (plan_in said.lines) (range_with_len 0 said.setup.processes)
 
 -- what is printed for a line: a call of a process that is not there is refused
 abbrev pub refused_text : Setup → Line → List ℕ
-refused_text setup (line.Call p command) = if nat_lt p setup.processes then [] else refusal_line p
+refused_text setup (line.Call p command) = if nat_lt p setup.processes then [] else refusal_line p NoProcess
 refused_text setup other = []
 
 -- the refused calls of a file, in its order

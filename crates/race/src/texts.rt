@@ -6,9 +6,8 @@ ghost use Rattle.record.specs.CallLists.{lists_of};
 ghost use Rattle.race.specs.Texts.{answer_line as line_of_answer, answers_from, call_text, list_text, race_text as text_of_race, refused_lines as lines_of_refused, refused_text, verdict_line as line_of_verdict};
 
 use board::Image;
-use engines::no_process_line;
 use plain_store::{Answer, NestedTypes, Setup, show_line};
-use record::Placed;
+use record::{Placed, Refusal, refusal_line};
 use scenario::{Line, Scenario};
 use std::alloc::{AllocError, Global};
 use weigh::Weighed;
@@ -47,7 +46,9 @@ fn refused_line(alloc: Global, setup: &Setup, line: &Line) -> Result<String, All
     ensures { IfOk result (λ text. string_bytes text ≡ refused_text setup.now line.now) }
 {
     match line {
-        Line::Call(process, _) if *process >= setup.processes => no_process_line(alloc, *process),
+        Line::Call(process, _) if *process >= setup.processes => {
+            refusal_line(alloc, *process, &Refusal::NoProcess)
+        }
         _ => Ok(String::new(alloc)),
     }
 }

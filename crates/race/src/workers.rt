@@ -16,7 +16,7 @@ use std::sync::Wait;
 use std::thread;
 
 /// What a call has come to.
-#[derive(Clone, Copy, Debug, PartialEq, Eq)]
+#[derive(Clone, Copy, PartialEq, Eq)]
 pub(crate) enum Reached {
     /// Its port is inside.
     Section,

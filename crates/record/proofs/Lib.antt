@@ -33,6 +33,8 @@ pub mod Local
 pub mod World
 pub mod Writer
 pub mod Whole
+-- Lines as they are printed
+pub mod RefusalLines
 -- Numbers, and runs that are computed
 pub mod Bytes
 pub mod Width

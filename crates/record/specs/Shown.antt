@@ -33,3 +33,7 @@ refusal_text AlreadyFailed = codes "already-failed"
 refusal_text NotDown = codes "not-down"
 refusal_text CallsFull = codes "calls-full"
 refusal_text Memory = codes "memory"
+
+-- the line of a call, or another event, of a process that is refused
+abbrev pub refusal_line : ℕ → Refusal → List ℕ
+refusal_line p refusal = codes "- " ++ decimal p ++ codes " refused " ++ refusal_text refusal ++ codes "\n"

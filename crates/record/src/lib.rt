@@ -30,4 +30,5 @@ pub use plain_store::Setup;
 pub use records::{Entry, Record};
 pub use refusals::Refusal;
 pub use safe_bit::{Move, SafeBit};
+pub use shown::refusal_line;
 pub use stages::Stage;

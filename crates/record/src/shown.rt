@@ -1,9 +1,12 @@
 //! How marks and refusals are printed, in replays and wherever else.
-ghost use Rattle.record.specs.Shown.{mark_text, refusal_text};
+ghost use Rattle.std.specs.Prelude.{◌≡◌, IfOk};
+ghost use Rattle.std.specs.String.{string_bytes};
+ghost use Rattle.record.specs.Shown.{mark_text, refusal_line as line_of_refusal, refusal_text};
 
 use crate::marks::Mark;
 use crate::refusals::Refusal;
 use plain_store::NestedTypes;
+use std::alloc::{AllocError, Global};
 use std::fmt;
 
 impl fmt::Display for Mark {
@@ -48,4 +51,12 @@ impl fmt::Display for Refusal {
             Refusal::Memory => "memory",
         })
     }
+}
+
+/// The line that tells that a call, or another event, of a process is refused.
+#[tactic(auto, using(crate::proofs::RefusalLines::refusal_line_is))]
+pub fn refusal_line(alloc: Global, process: u8, refusal: &Refusal) -> Result<String, AllocError>
+    ensures { IfOk result (λ line. string_bytes line ≡ line_of_refusal process refusal.now) }
+{
+    format!(in alloc; "- {process} refused {refusal}\n")
 }

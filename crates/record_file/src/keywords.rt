@@ -5,7 +5,7 @@ ghost use Rattle.record_file.specs.Keywords.{field_of, mark_word_of, reply_word_
 use record::Field;
 
 /// The first word of a mark.
-#[derive(Clone, Copy, Debug, PartialEq, Eq)]
+#[derive(Clone, Copy)]
 pub enum MarkWord {
     Call,
     Wait,
@@ -21,7 +21,7 @@ pub enum MarkWord {
 }
 
 /// The first word of a reply.
-#[derive(Clone, Copy, Debug, PartialEq, Eq)]
+#[derive(Clone, Copy)]
 pub enum ReplyWord {
     Value,
     Done,
@@ -36,7 +36,7 @@ pub enum ReplyWord {
 }
 
 /// The first word of an answer.
-#[derive(Clone, Copy, Debug, PartialEq, Eq)]
+#[derive(Clone, Copy)]
 pub enum AnswerWord {
     Reply(ReplyWord),
     TicketsFull,

@@ -5,7 +5,7 @@ ghost use Rattle.record_file.specs.RecordFiles.{begins_with_digit as digit_first
 use scenario::keywords::{Heading, Opener};
 
 /// What the first word of a line says that it is.
-#[derive(Clone, Copy, Debug, PartialEq, Eq)]
+#[derive(Clone, Copy)]
 pub enum LineKind {
     Record,
     Heading(Heading),

@@ -35,7 +35,7 @@ pub fn read_bits(alloc: Global, text: &[u8]) -> Result<Vec<BitLine>, LineFault>
 }
 
 /// The first word of a line.
-#[derive(Clone, Copy, Debug, PartialEq, Eq)]
+#[derive(Clone, Copy)]
 pub enum BitWord {
     Bits,
     Write,

@@ -6,7 +6,7 @@ use crate::keywords::Heading;
 use plain_store::{Opening, Setup};
 
 /// Which headings were given.
-#[derive(Clone, Copy, Debug, PartialEq, Eq)]
+#[derive(Clone, Copy)]
 pub struct Given {
     pub processes: bool,
     pub tickets: bool,

@@ -5,7 +5,7 @@ ghost use Rattle.scenario.specs.Keywords.{opener_of, verb_of, target_of};
 use crate::lines::Target;
 
 /// What a heading gives the number of.
-#[derive(Clone, Copy, Debug, PartialEq, Eq)]
+#[derive(Clone, Copy)]
 pub enum Heading {
     Processes,
     Tickets,
@@ -14,7 +14,7 @@ pub enum Heading {
 }
 
 /// The first word of a line.
-#[derive(Clone, Copy, Debug, PartialEq, Eq)]
+#[derive(Clone, Copy)]
 pub enum Opener {
     Bakery,
     Heading(Heading),
@@ -23,7 +23,7 @@ pub enum Opener {
 }
 
 /// The first word of a line that is no heading and opens no pair.
-#[derive(Clone, Copy, Debug, PartialEq, Eq)]
+#[derive(Clone, Copy)]
 pub enum LineWord {
     Call,
     Step,
@@ -37,7 +37,7 @@ pub enum LineWord {
 }
 
 /// The third word of a call.
-#[derive(Clone, Copy, Debug, PartialEq, Eq)]
+#[derive(Clone, Copy)]
 pub enum Verb {
     Read,
     Write,

@@ -20,7 +20,7 @@ use std::marker::Model;
 use world::{Core, Effect, Told};
 
 /// The first entry of a run that breaks a law, counted from 0, and the law.
-#[derive(Clone, Copy, Debug, PartialEq, Eq)]
+#[derive(Clone, Copy, PartialEq, Eq)]
 pub(crate) struct BadEntry {
     pub entry: u64,
     pub law: Law,

@@ -14,7 +14,7 @@ ghost use Rattle.watch.specs.Safe.{KeepsSafe, MatchBool};
 use record::Move;
 
 /// What the end of the read that began last may give.
-#[derive(Clone, Copy, Debug, PartialEq, Eq)]
+#[derive(Clone, Copy, PartialEq, Eq)]
 pub(crate) enum Ending {
     /// Anything, and no write is open: a write overlapped the read, or no read has begun.
     Free,
@@ -72,7 +72,7 @@ impl Ending {
 }
 
 /// What the moves of one bit leave, as far as the safe rule looks back at them.
-#[derive(Clone, Copy, Debug)]
+#[derive(Clone, Copy)]
 pub(crate) struct Look {
     /// What the write that began last writes.
     pub begun: bool,

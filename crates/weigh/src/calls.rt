@@ -2,7 +2,7 @@
 use record::Placed;
 
 /// A call of the ports' lists: which list it stands in, and its index there.
-#[derive(Clone, Copy, Debug)]
+#[derive(Clone, Copy)]
 pub(crate) struct Call {
     pub placed: Placed,
     pub port: usize,

@@ -10,7 +10,7 @@ use std::alloc::{AllocError, Global};
 
 /// A call: which list it stands in, its index there, and how many calls there are up to the one before it with the same
 /// place; 0 if there is none.
-#[derive(Clone, Copy, Debug)]
+#[derive(Clone, Copy)]
 pub(crate) struct Link {
     pub port: usize,
     pub index: usize,

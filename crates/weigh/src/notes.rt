@@ -15,7 +15,7 @@ use std::alloc::{AllocError, Global};
 use store_image::Image;
 
 /// What the store at its place tells of a call.
-#[derive(Clone, Copy, Debug)]
+#[derive(Clone, Copy)]
 pub(crate) struct Note {
     /// Whether the call would change the store.
     pub changes: bool,
@@ -37,7 +37,7 @@ pub(crate) struct Followed {
 }
 
 /// The calls with a place that would change a store.
-#[derive(Clone, Copy, Debug)]
+#[derive(Clone, Copy)]
 pub(crate) enum Changes {
     Nothing,
     One(Call),

@@ -3,7 +3,7 @@ ghost use Rattle.std.specs.Prelude.{◌≡◌};
 
 use crate::scenarios::{LONE_WRITE, LONE_WRITE_PRINTS, RESTART_OF_FAILED_PROCESS};
 use crate::uses::printed_replies;
-use replayer::{run_audit, run_judge, run_record, run_sweep};
+use engines::{run_audit, run_judge, run_record, run_sweep};
 use scenario::Fault;
 use std::alloc::Global;
 use std::test::Fail;

@@ -4,8 +4,8 @@ ghost use Rattle.std.specs.Prelude.{◌-◌, ◌^◌, ◌<◌, IfOk, OnOk};
 ghost use Rattle.record.specs.Records.{process_of};
 ghost use Rattle.worked_runs.specs.Uses.{AreAlone, InputPrintsTrueReplies};
 
+use engines::{Summary, replay};
 use record::{Act, Event, Refusal};
-use replayer::{Summary, replay};
 use scenario::{Fault, Sink, Source};
 use std::alloc::Global;
 use world::World;

@@ -4,9 +4,9 @@ ghost use Rattle.std.specs.Prelude.{◌≡◌, Ok};
 ghost use Rattle.plain_store.specs.Setups.{checked};
 
 use crate::scenarios::LONE_WRITE;
+use engines::{Auditor, Law, Record, Swept, Verdict, audit, events_of, record_of, sweep};
 use plain_store::{Command, Name, Setup, Value};
 use record::{Event, Mark};
-use replayer::{Auditor, Law, Record, Swept, Verdict, audit, events_of, record_of, sweep};
 use scenario::read_scenario;
 use std::alloc::{AllocError, Global};
 use std::process::Abort;

@@ -2,9 +2,9 @@
 use crate::scenarios::{ASK_AFTER_TAKEN_CUT_CALL, LONE_WRITE, SCENARIOS};
 use crate::uses::two_events;
 use bstr::ByteSlice;
+use engines::{events_of, record_of, replay};
 use plain_store::{Command, Name, Reply, Setup, Store, Value};
 use record::{Event, Mark, Refusal, Stage, Taken};
-use replayer::{events_of, record_of, replay};
 use scenario::read_scenario;
 use std::alloc::Global;
 use std::test::Fail;

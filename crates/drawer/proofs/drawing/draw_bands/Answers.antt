@@ -5,15 +5,15 @@ use Rattle.drawer.specs.Drawings.{kept}
 use Rattle.scenario.specs.Reads.{script}
 use Rattle.scenario.specs.declared.lines.Line.{Line}
 use Rattle.scenario.proofs.Places.{drop_in}
-use Rattle.replayer.specs.Runs.{happenings}
-use Rattle.replayer.specs.Summaries.{summary_of}
-use Rattle.replayer.specs.Texts.{end_line}
-use Rattle.replayer.specs.declared.summaries.Summary.{Summary}
-use Rattle.replayer.proofs.Onwards.{onward_numbers}
-use Rattle.replayer.proofs.Written.{failed_same}
+use Rattle.course.specs.Runs.{happenings}
+use Rattle.course.specs.Summaries.{summary_of}
+use Rattle.course.specs.Texts.{end_line}
+use Rattle.course.specs.declared.summaries.Summary.{Summary}
+use Rattle.course.proofs.Onwards.{onward_numbers}
+use Rattle.course.proofs.Written.{failed_same}
 use Rattle.drawer.specs.Drawings.{DrawsRest}
 use Rattle.drawer.specs.Items.{SaysEnd, lines_given, reads_since}
-use Rattle.replayer.specs.Happenings.{past_after}
+use Rattle.course.specs.Happenings.{past_after}
 use Rattle.drawer.specs.Pictures.{plan_of}
 use Rattle.picture.specs.Bandings.{Plan}
 use Rattle.drawer.proofs.Drawn.{rest_at}

@@ -4,9 +4,9 @@ use Rattle.files.specs.declared.faults.Fault.TheVariants.{Line}
 use Rattle.scenario.proofs.CutTexts.{scenario_tells_at_limit}
 use Rattle.scenario.specs.Reading.{scenario_of}
 use Rattle.scenario.specs.Reads.{script}
-use Rattle.replayer.specs.Replays.{ended}
-use Rattle.replayer.specs.Texts.{replayed}
-use Rattle.replayer.proofs.ReplayEnds.{ended_err, replay_numbers}
+use Rattle.course.specs.Replays.{ended}
+use Rattle.course.specs.Texts.{replayed}
+use Rattle.course.proofs.ReplayEnds.{ended_err, replay_numbers}
 use Rattle.picture.specs.declared.page.Form.TheVariants as form
 use Rattle.drawer.proofs.Ends.{drew_all, drew_line}
 use Rattle.drawer.proofs.engines.draw.Goals as goal

@@ -1,6 +1,6 @@
 use Rattle.std.proofs.Common.{ℕ, [], ◌∷◌, ◌++◌, codes, map, subst}
-use Rattle.replayer.proofs.Written.{ok_then}
-use Rattle.replayer.specs.declared.summaries.Summary.{Summary}
+use Rattle.course.proofs.Written.{ok_then}
+use Rattle.course.specs.declared.summaries.Summary.{Summary}
 use Rattle.drawer.specs.Drawings.{DrawsOn, kept}
 use Rattle.drawer.specs.Items.{GivesLine, GivesRead, says_of}
 use Rattle.drawer.specs.Overlaps.{shown_of}

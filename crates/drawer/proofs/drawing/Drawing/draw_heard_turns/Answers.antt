@@ -1,13 +1,13 @@
 use Rattle.std.proofs.Common.{◌≡◌, ◌∙◌, Option, None, Some, ap, arith, refl, sym, subst}
 use Rattle.drawer.specs.Drawings.{kept}
-use Rattle.replayer.specs.Courses.{CourseState, Follows}
-use Rattle.replayer.specs.Runs.{Run}
-use Rattle.replayer.specs.Steppers.{AreNext, IsReady}
-use Rattle.replayer.specs.Summaries.{counted}
-use Rattle.replayer.specs.declared.summaries.Summary.{Summary}
-use Rattle.replayer.specs.declared.told.Told.{Told}
-use Rattle.replayer.proofs.Recordings.{Draws, StepsNext, TellsNext}
-use Rattle.replayer.proofs.Underways.{events_counted, refused_counted}
+use Rattle.course.specs.Courses.{CourseState, Follows}
+use Rattle.course.specs.Runs.{Run}
+use Rattle.course.specs.Steppers.{AreNext, IsReady}
+use Rattle.course.specs.Summaries.{counted}
+use Rattle.course.specs.declared.summaries.Summary.{Summary}
+use Rattle.course.specs.declared.told.Told.{Told}
+use Rattle.engines.proofs.Recordings.{Draws, StepsNext, TellsNext}
+use Rattle.course.proofs.Underways.{events_counted, refused_counted}
 use Rattle.drawer.proofs.Drawings.{DrawsTold, going_start}
 use Rattle.drawer.proofs.HeardTurns.{Hearing, hearing_ended, hearing_step, hearing_turn, hearing_with}
 use Rattle.drawer.proofs.drawing.Drawing.draw_heard_turns.Goals as goal

@@ -5,11 +5,11 @@ use Rattle.record.specs.declared.history.Taken.{Taken}
 use Rattle.record.specs.declared.marks.Mark.{Mark}
 use Rattle.picture.specs.columns.declared.reads.OverlappedRead.{OverlappedRead}
 use Rattle.picture.specs.declared.reads.Reads.{Reads as Mode}
-use Rattle.replayer.specs.Courses.{CourseState}
-use Rattle.replayer.specs.Runs.{Run, past_in}
-use Rattle.replayer.specs.Texts.{mark_line}
-use Rattle.replayer.specs.declared.summaries.Summary.{Summary}
-use Rattle.replayer.proofs.Written.{failed_same, items_more}
+use Rattle.course.specs.Courses.{CourseState}
+use Rattle.course.specs.Runs.{Run, past_in}
+use Rattle.course.specs.Texts.{mark_line}
+use Rattle.course.specs.declared.summaries.Summary.{Summary}
+use Rattle.course.proofs.Written.{failed_same, items_more}
 use Rattle.drawer.specs.Changes.{IsNext, takes}
 use Rattle.drawer.specs.Drawings.{DrawsOn, IsAmong, all_take, kept}
 use Rattle.drawer.specs.Items.{Gives, Says, lines_given, says_mark, waiting}

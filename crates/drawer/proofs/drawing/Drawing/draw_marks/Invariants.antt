@@ -3,8 +3,8 @@ use Rattle.record.specs.Histories.{history}
 use Rattle.record.specs.declared.marks.Mark.{Mark}
 use Rattle.picture.specs.columns.declared.reads.OverlappedRead.{OverlappedRead}
 use Rattle.picture.specs.declared.reads.Reads.{Reads as Mode}
-use Rattle.replayer.specs.Runs.{Run, past_in}
-use Rattle.replayer.specs.Texts.{mark_line}
+use Rattle.course.specs.Runs.{Run, past_in}
+use Rattle.course.specs.Texts.{mark_line}
 use Rattle.drawer.specs.Drawings.{AreNext, DrawsOn, IsAmong, all_take, kept}
 use Rattle.drawer.specs.Items.{lines_given, says_mark, waiting}
 use Rattle.drawer.proofs.drawing.Drawing.draw_marks.Given as goal

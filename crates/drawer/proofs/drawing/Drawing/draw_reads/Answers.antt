@@ -4,7 +4,7 @@ use Rattle.record.specs.declared.access.Field.TheVariants.{Choosing}
 use Rattle.picture.specs.columns.declared.reads.OverlappedRead.{OverlappedRead}
 use Rattle.drawer.specs.Drawings.{DrawsOn, kept}
 use Rattle.drawer.specs.Items.{GivesRead}
-use Rattle.replayer.proofs.Written.{failed_same}
+use Rattle.course.proofs.Written.{failed_same}
 use Rattle.drawer.proofs.Drawn.{draws_on_both, draws_on_none}
 use Rattle.drawer.proofs.Giving.{map_next}
 use Rattle.drawer.proofs.drawing.Drawing.draw_reads.Goals as goal

@@ -7,13 +7,13 @@ use Rattle.record.specs.Records.{process_of}
 use Rattle.record.specs.declared.history.Taken.{Taken}
 use Rattle.record.specs.declared.marks.Mark.{Mark}
 use Rattle.picture.specs.declared.reads.Reads.{Reads as Mode}
-use Rattle.replayer.specs.Happenings.{Happening, past_after}
-use Rattle.replayer.specs.Runs.{past_in}
-use Rattle.replayer.specs.Telling.{entry_made, marks_made, told_text}
-use Rattle.replayer.specs.Texts.{mark_line}
-use Rattle.replayer.specs.declared.told.Told.{Told}
-use Rattle.replayer.specs.declared.told.Told.TheVariants as told
-use Rattle.replayer.proofs.Written.{ok_then}
+use Rattle.course.specs.Happenings.{Happening, past_after}
+use Rattle.course.specs.Runs.{past_in}
+use Rattle.course.specs.Telling.{entry_made, marks_made, told_text}
+use Rattle.course.specs.Texts.{mark_line}
+use Rattle.course.specs.declared.told.Told.{Told}
+use Rattle.course.specs.declared.told.Told.TheVariants as told
+use Rattle.course.proofs.Written.{ok_then}
 use Rattle.drawer.specs.Drawings.{AreNext, DrawsOn, IsAmong, IsToDraw, Recalls, all_take, kept, marks_told}
 use Rattle.drawer.specs.Items.{SaysStore, given_at, lines_given, reads_since, says_mark, waiting}
 use Rattle.drawer.specs.Pictures.{shown_words}

@@ -1,11 +1,11 @@
 use Rattle.std.proofs.Common.{◌≡◌, ◌+◌, ◌<◌, ◌∙◌, ap, arith, refl, sym, subst}
 use Rattle.drawer.specs.Drawings.{Advances, kept}
 use Rattle.drawer.specs.Items.{reads_since}
-use Rattle.replayer.specs.Courses.{CourseState, Follows}
-use Rattle.replayer.specs.Runs.{Run, past_in, run_after}
-use Rattle.replayer.specs.Summaries.{counted}
-use Rattle.replayer.specs.declared.summaries.Summary.{Summary}
-use Rattle.replayer.proofs.Underways.{events_counted, refused_counted, with_events}
+use Rattle.course.specs.Courses.{CourseState, Follows}
+use Rattle.course.specs.Runs.{Run, past_in, run_after}
+use Rattle.course.specs.Summaries.{counted}
+use Rattle.course.specs.declared.summaries.Summary.{Summary}
+use Rattle.course.proofs.Underways.{events_counted, refused_counted, with_events}
 use Rattle.drawer.proofs.Drawings.{DrawsTold, Going, going_ended, going_on, going_start}
 use Rattle.drawer.proofs.Overhearing.{passes}
 use Rattle.drawer.proofs.drawing.Drawing.draw_turns.Goals as goal

@@ -1,10 +1,10 @@
 use Rattle.std.proofs.Common.{◌≡◌, ◌+◌, ◌≤◌}
 use Rattle.picture.specs.declared.reads.Reads.{Reads as Mode}
 use Rattle.drawer.specs.Drawings.{Recalls, kept}
-use Rattle.replayer.specs.Courses.{Follows}
-use Rattle.replayer.specs.Runs.{Run}
-use Rattle.replayer.specs.Turns.{turns_in}
-use Rattle.replayer.specs.Writing.{Counts}
+use Rattle.course.specs.Courses.{Follows}
+use Rattle.course.specs.Runs.{Run}
+use Rattle.course.specs.Turns.{turns_in}
+use Rattle.course.specs.Writing.{Counts}
 use Rattle.drawer.proofs.Drawings.{Going}
 use Rattle.drawer.proofs.drawing.Drawing.draw_turns.Given as goal
 

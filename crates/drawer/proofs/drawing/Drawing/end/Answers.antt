@@ -1,7 +1,7 @@
 use Rattle.std.proofs.Common.{[], ◌∷◌}
 use Rattle.picture.specs.Pages.{seen_page}
-use Rattle.replayer.proofs.Written.{ok_then}
-use Rattle.replayer.specs.Texts.{end_line}
+use Rattle.course.proofs.Written.{ok_then}
+use Rattle.course.specs.Texts.{end_line}
 use Rattle.drawer.specs.Drawings.{kept}
 use Rattle.drawer.specs.Items.{SaysEnd, lines_given}
 use Rattle.drawer.proofs.Drawn.{draws_on_rest}

@@ -1,0 +1,202 @@
+-- One turn of a course, by what the world answers.
+use Rattle.std.proofs.Common.{◌≡◌, ℕ, zero, suc, arith, ◌-◌, ◌<◌, ◌≤◌, Bool, true, false, nat_lt, cond, length, List, ◌∷◌, IfOk, Result, Ok, Err, Option, None, Some, refl, ap, sym, subst, ◌∙◌, inl, inr}
+use Rattle.std.proofs.lemmas.Bool.Decides.{nat_tests}
+use Rattle.std.specs.declared.alloc.AllocError.{AllocError}
+use Rattle.plain_store.specs.Store.{Contents}
+use Rattle.plain_store.specs.declared.setups.Setup.{Setup}
+use Rattle.record.specs.declared.events.Event.{Event}
+use Rattle.record.specs.declared.history.Taken.{Taken}
+use Rattle.record.specs.declared.refusals.Refusal.{Refusal}
+use Rattle.record.specs.declared.refusals.Refusal.TheVariants.{NoProcess, Memory}
+use Rattle.record.specs.declared.stages.Stage.{Stage}
+use Rattle.record.specs.Given.{is_event}
+use Rattle.record.specs.Histories.{history}
+use Rattle.record.specs.Records.{entry_of, past_of, process_of, refused}
+use Rattle.record.specs.Stages.{stage}
+use Rattle.scenario.specs.declared.lines.Flick.{Flick}
+use Rattle.scenario.specs.declared.lines.Line.{Line}
+use Rattle.scenario.specs.declared.lines.Line.TheVariants as line
+use Rattle.scenario.specs.declared.lines.Target.{Target}
+use Rattle.world.specs.process.Telling.{act_of}
+use Rattle.world.specs.Events.{Adds, GoesOn, IsTurnedAway, entry_with, stage_in}
+use Rattle.world.specs.flicks.Flicks.{FlickState, after_set}
+use Rattle.world.specs.Shows.{Shows, WorldState}
+use Rattle.course.specs.Courses.{CourseState, Follows, Makes, MakesTurns, QuietTurns, course}
+use Rattle.course.specs.Happenings.{Tries, Lacks, Looks, tried}
+use Rattle.course.specs.Runs.{Run, has_step, is_there, past_in, set_to}
+use Rattle.course.specs.Telling.{TellsOf}
+use Rattle.course.specs.Texts.{newest_store, store_text}
+use Rattle.course.specs.Turns.{Turn, ends, go_turn, happens, next_turn, on_turn, turn_of}
+use Rattle.course.specs.declared.told.Accepted.{Accepted}
+use Rattle.course.specs.declared.told.Told.{Told}
+use Rattle.course.specs.declared.told.Told.TheVariants as told
+use Rattle.course.specs.declared.told.Turns.{Turns}
+use Rattle.course.proofs.Refusals.{shows_refused}
+
+-- what was taken before an event is what the world keeps
+pub place_is : (w : WorldState) (events : List Event) (taken : List Taken) (place : ℕ) → Shows w events → taken ≡ history w.setup (past_of w.setup events) → place ≡ length taken → length w.history ≡ place
+place_is w events taken place shows are is = ap (λ (w : WorldState). length w.history) shows.shown ∙ ap length (sym are) ∙ sym is
+
+-- an event that is accepted
+pub event_accepted : (w w' : WorldState) (flicks : FlickState) (left : ℕ) (made : Accepted) (taken : List Taken) (turns : Turns) → ((events : List Event) → Shows w events → taken ≡ history w.setup (past_of w.setup events)) → made.place ≡ length taken →
+    Adds w made.event (process_of made.event) (act_of (length w.history) (record { access = made.access; effect = made.effect })) → GoesOn w made.event w' → w'.setup ≡ w.setup → turns ≡ record { quiet = 0; told = Some (told.Accepted made) } →
+    (run : Run) → Follows (course w flicks left) run → Makes (course w flicks left) run (happens (Tries made.event) (left - 1) run) turns.told (course w' flicks (left - 1))
+event_accepted w w' flicks left made taken turns taken_is place_at adds on same are run follows =
+    let at : length w.history ≡ made.place = place_is w (tried run.happened) taken made.place follows.shows (taken_is (tried run.happened) follows.shows) place_at in
+    let family : ℕ → Type 0 = λ n. entry_of w.setup (past_in w.setup run) made.event ≡ Some (entry_with (process_of made.event) (act_of n (record { access = made.access; effect = made.effect }))) in
+    let entry : family made.place = subst family at (adds (tried run.happened) follows.shows) in
+    subst (λ (answer : Option Told). Makes (course w flicks left) run (happens (Tries made.event) (left - 1) run) answer (course w' flicks (left - 1))) (sym (ap (λ (turns : Turns). turns.told) are))
+    (record {
+      tells = (refl, entry);
+      follows = record { shows = on (tried run.happened) follows.shows; flicks = follows.flicks };
+      left = refl;
+      setup = same;
+    })
+
+-- an event that is refused
+pub event_refused : (w w' : WorldState) (flicks : FlickState) (left p : ℕ) (event : Event) (r : Refusal) → p ≡ process_of event → is_event event ≡ true → IsTurnedAway w event r → (r ≡ Memory → ⊥) → w' ≡ w →
+    (run : Run) → Follows (course w flicks left) run → Makes (course w flicks left) run (happens (Tries event) (left - 1) run) (Some (told.Refused p r)) (course w' flicks (left - 1))
+event_refused w w' flicks left p event r is given (inr away) other same run follows = absurd (other away.1)
+event_refused w w' flicks left p event r is given (inl away) other same run follows =
+    let why : refused w.setup (past_of w.setup (tried run.happened)) event ≡ Some r = away (tried run.happened) follows.shows in
+    record {
+      tells = (is, why);
+      follows = record {
+        shows = subst (λ (w : WorldState). Shows w (event ∷ tried run.happened)) (sym same) (shows_refused w (tried run.happened) event r follows.shows given why);
+        flicks = follows.flicks;
+      };
+      left = refl;
+      setup = ap (λ (w : WorldState). w.setup) same;
+    }
+
+-- an event that is turned away, where that is told
+pub event_refused_by : (w w' : WorldState) (flicks : FlickState) (left p : ℕ) (event : Event) (r : Refusal) (result : Result Turns AllocError) → p ≡ process_of event → is_event event ≡ true → IsTurnedAway w event r → w' ≡ w →
+    IfOk result (λ turns. (turns ≡ record { quiet = 0; told = Some (told.Refused p r) }) × (r ≡ Memory → ⊥)) →
+    IfOk result (λ turns. (run : Run) → Follows (course w flicks left) run → Makes (course w flicks left) run (happens (Tries event) (left - 1) run) turns.told (course w' flicks (left - 1)))
+event_refused_by w w' flicks left p event r (Err e) is given away same answered = tt
+event_refused_by w w' flicks left p event r (Ok turns) is given away same answered =
+    let family : Option Told → Type 0 = λ answer. (run : Run) → Follows (course w flicks left) run → Makes (course w flicks left) run (happens (Tries event) (left - 1) run) answer (course w' flicks (left - 1)) in
+    subst family (sym (ap (λ (turns : Turns). turns.told) answered.0)) (event_refused w w' flicks left p event r is given away answered.1 same)
+
+-- a process that is not there
+pub beyond_told : (w : WorldState) (p : ℕ) (events : List Event) → Shows w events → stage_in w.setup (past_of w.setup events) p ≡ None → nat_lt p w.setup.processes ≡ false
+beyond_told w p events shows none = by (nat_lt p w.setup.processes) refl
+  where
+    by : (b : Bool) → nat_lt p w.setup.processes ≡ b → nat_lt p w.setup.processes ≡ false
+    by false h = h
+    by true h =
+        let no : Some (stage p (past_of w.setup events)) ≡ None = sym (ap (λ b. cond b (Some (stage p (past_of w.setup events))) None) h) ∙ none in absurd (cc)
+
+-- one that is there, and its stage
+pub stage_told : (w : WorldState) (p : ℕ) (at : Stage) (events : List Event) → Shows w events → stage_in w.setup (past_of w.setup events) p ≡ Some at → (nat_lt p w.setup.processes ≡ true) × (stage p (past_of w.setup events) ≡ at)
+stage_told w p at events shows some = by (nat_lt p w.setup.processes) refl
+  where
+    by : (b : Bool) → nat_lt p w.setup.processes ≡ b → (nat_lt p w.setup.processes ≡ true) × (stage p (past_of w.setup events) ≡ at)
+    by false h = let no : None ≡ Some at = sym (ap (λ b. cond b (Some (stage p (past_of w.setup events))) None) h) ∙ some in absurd (cc)
+    by true h = let same : Some (stage p (past_of w.setup events)) ≡ Some at = sym (ap (λ b. cond b (Some (stage p (past_of w.setup events))) None) h) ∙ some in (h, (cc))
+
+-- `go` of a process that is not there
+pub go_lacks : (w : WorldState) (flicks : FlickState) (had left p : ℕ) (target : Target) → ((events : List Event) → Shows w events → None ≡ stage_in w.setup (past_of w.setup events) p) →
+    (run : Run) → Follows (course w flicks had) run → Makes (course w flicks had) run (go_turn w.setup p target left run) (Some (told.Refused p NoProcess)) (course w flicks 0)
+go_lacks w flicks had left p target none run follows =
+    let no : nat_lt p w.setup.processes ≡ false = beyond_told w p (tried run.happened) follows.shows (sym (none (tried run.happened) follows.shows)) in
+    subst (λ b. Makes (course w flicks had) run (elim b as (λ _. Turn) [ false ↦ happens (Lacks p) 0 run | true ↦ elim (is_there target (stage p (past_in w.setup run))) [ true ↦ ends run | false ↦ on_turn w.setup p left run ] ]) (Some (told.Refused p NoProcess)) (course w flicks 0))
+    (sym no) (record { tells = (refl, refl); follows = record { shows = follows.shows; flicks = follows.flicks }; left = refl; setup = refl })
+
+-- where it is there, the turn goes by whether it is where it is to go
+pub go_turn_there : (w : WorldState) (left p : ℕ) (target : Target) (at : Stage) (b : Bool) → is_there target at ≡ b → ((events : List Event) → Shows w events → Some at ≡ stage_in w.setup (past_of w.setup events) p) → (run : Run) → Shows w (tried run.happened) →
+    go_turn w.setup p target left run ≡ (elim b as (λ _. Turn) [ true ↦ ends run | false ↦ on_turn w.setup p left run ])
+go_turn_there w left p target at b is some run shows =
+    let there : (nat_lt p w.setup.processes ≡ true) × (stage p (past_in w.setup run) ≡ at) = stage_told w p at (tried run.happened) shows (sym (some (tried run.happened) shows)) in
+    ap (λ b. elim b as (λ _. Turn) [ false ↦ happens (Lacks p) 0 run | true ↦ elim (is_there target (stage p (past_in w.setup run))) [ true ↦ ends run | false ↦ on_turn w.setup p left run ] ]) there.0
+    ∙ ap (λ b. elim b as (λ _. Turn) [ true ↦ ends run | false ↦ on_turn w.setup p left run ]) (ap (is_there target) there.1 ∙ is)
+
+-- `go` of one that is where it is to go
+pub go_ends : (w : WorldState) (flicks : FlickState) (had left p : ℕ) (target : Target) (at : Stage) → is_there target at ≡ true → ((events : List Event) → Shows w events → Some at ≡ stage_in w.setup (past_of w.setup events) p) →
+    (run : Run) → Follows (course w flicks had) run → Makes (course w flicks had) run (go_turn w.setup p target left run) None (course w flicks 0)
+go_ends w flicks had left p target at is some run follows =
+    subst (λ t. Makes (course w flicks had) run t None (course w flicks 0)) (sym (go_turn_there w left p target at true is some run follows.shows))
+    (record { tells = tt; follows = record { shows = follows.shows; flicks = follows.flicks }; left = refl; setup = refl })
+
+-- a process that is there has a Step to make by its stage
+pub mover_told : (w : WorldState) (p : ℕ) (at : Stage) → ((events : List Event) → Shows w events → Some at ≡ stage_in w.setup (past_of w.setup events) p) → (flicks : FlickState) (left : ℕ) →
+    (run : Run) → Follows (course w flicks left) run → has_step at ≡ has_step (stage p (past_in w.setup run))
+mover_told w p at some flicks left run follows = ap has_step (sym (stage_told w p at (tried run.happened) follows.shows (sym (some (tried run.happened) follows.shows))).1)
+
+-- one that is not there is none of the processes
+pub mover_beyond : (w : WorldState) (p : ℕ) → ((events : List Event) → Shows w events → None ≡ stage_in w.setup (past_of w.setup events) p) → (flicks : FlickState) (left : ℕ) →
+    (run : Run) → Follows (course w flicks left) run → p < w.setup.processes → ⊥
+mover_beyond w p none flicks left run follows within =
+    let no : nat_lt p w.setup.processes ≡ false = beyond_told w p (tried run.happened) follows.shows (sym (none (tried run.happened) follows.shows)) in
+    grind (arith, nat_tests)
+
+-- the next turn of a line that has one left
+pub turn_next : (s : Setup) (line : Line) (left : ℕ) (run : Run) → (left ≡ 0 → ⊥) → turn_of s line left run ≡ next_turn s line (left - 1) run
+turn_next s line zero run some_left = absurd (some_left refl)
+turn_next s line (suc left) run some_left = ap (λ n. next_turn s line n run) (omega arith)
+
+-- a turn that is made with none before it
+pub one_made : (old new : CourseState) (line : Line) (turns : Turns) → turns.quiet ≡ 0 → ((run : Run) → Follows old run → Makes old run (turn_of old.world.setup line old.left run) turns.told new) →
+    (run : Run) → Follows old run → MakesTurns old line run turns new
+one_made old new line turns none makes run follows = record {
+  left = old.left;
+  now = run;
+  quiet = subst (λ n. QuietTurns old.world.setup line n old.left run old.left run) (sym none) (refl, refl);
+  makes = makes run follows;
+}
+
+-- and back
+pub alone_made : (old new : CourseState) (line : Line) (turns : Turns) (run : Run) → turns.quiet ≡ 0 → MakesTurns old line run turns new → Makes old run (turn_of old.world.setup line old.left run) turns.told new
+alone_made old new line turns run none m =
+    let same : (m.left ≡ old.left) × (m.now ≡ run) = subst (λ n. QuietTurns old.world.setup line n old.left run m.left m.now) none m.quiet in
+    subst (λ n. Makes old run (turn_of old.world.setup line n run) turns.told new) same.0 (subst (λ (r : Run). Makes old r (turn_of old.world.setup line m.left r) turns.told new) same.1 m.makes)
+
+-- it is the next turn of its line
+pub turn_made : (old new : CourseState) (line l : Line) (turns : Turns) → turns.quiet ≡ 0 → (old.left ≡ 0 → ⊥) → line ≡ l →
+    ((run : Run) → Follows old run → Makes old run (next_turn old.world.setup l (old.left - 1) run) turns.told new) → (run : Run) → Follows old run → MakesTurns old line run turns new
+turn_made old new line l turns none some_left is makes = one_made old new line turns none
+    (λ run follows. subst (λ (turn : Turn). Makes old run turn turns.told new) (sym (ap (λ line. turn_of old.world.setup line old.left run) is ∙ turn_next old.world.setup l old.left run some_left)) (makes run follows))
+
+-- the same, where it is known what it tells
+pub one_told : (old new : CourseState) (line l : Line) (turns : Turns) (answer : Option Told) → turns ≡ record { quiet = 0; told = answer } → (old.left ≡ 0 → ⊥) → line ≡ l →
+    ((run : Run) → Follows old run → Makes old run (next_turn old.world.setup l (old.left - 1) run) answer new) → (run : Run) → Follows old run → MakesTurns old line run turns new
+one_told old new line l turns answer are some_left is makes = turn_made old new line l turns (ap (λ (turns : Turns). turns.quiet) are) some_left is
+    (subst (λ (answer : Option Told). (run : Run) → Follows old run → Makes old run (next_turn old.world.setup l (old.left - 1) run) answer new) (sym (ap (λ (turns : Turns). turns.told) are)) makes)
+
+-- the same, where there was memory
+pub turn_made_by : (old new : CourseState) (line l : Line) (result : Result Turns AllocError) → IfOk result (λ turns. turns.quiet ≡ 0) → (old.left ≡ 0 → ⊥) → line ≡ l →
+    IfOk result (λ turns. (run : Run) → Follows old run → Makes old run (next_turn old.world.setup l (old.left - 1) run) turns.told new) → IfOk result (λ turns. (run : Run) → Follows old run → MakesTurns old line run turns new)
+turn_made_by old new line l (Ok turns) none some_left is makes = turn_made old new line l turns none some_left is makes
+turn_made_by old new line l (Err e) none some_left is makes = tt
+
+-- a line that has ended
+pub turn_ended : (old : CourseState) (line : Line) (turns : Turns) → turns ≡ record { quiet = 0; told = None } → old.left ≡ 0 → (run : Run) → Follows old run → MakesTurns old line run turns old
+turn_ended old line turns are none = one_made old old line turns (ap (λ (turns : Turns). turns.quiet) are)
+    (λ run follows. subst (λ (answer : Option Told). Makes old run (turn_of old.world.setup line old.left run) answer old) (sym (ap (λ (turns : Turns). turns.told) are))
+    (subst (λ n. Makes old run (turn_of old.world.setup line n run) None old) (sym none) (record { tells = tt; follows = record { shows = follows.shows; flicks = follows.flicks }; left = none; setup = refl })))
+
+-- a line that sets where flicks come from
+pub flick_made : (w : WorldState) (flicks flicks' : FlickState) (left : ℕ) (flick : Flick) → left ≤ 1 → flicks' ≡ after_set (set_to flick) flicks →
+    (run : Run) → Follows (course w flicks left) run → Makes (course w flicks left) run (next_turn w.setup (line.Flick flick) (left - 1) run) None (course w flicks' (left - 1))
+flick_made w flicks flicks' left flick few is run follows = record {
+  tells = tt;
+  follows = record { shows = follows.shows; flicks = is ∙ ap (after_set (set_to flick)) follows.flicks };
+  left = omega (arith, few);
+  setup = refl;
+}
+
+-- the line of the newest store, where there was memory for it
+pub shown_by : {X : Type 0} (bytes : X → List ℕ) (w : WorldState) (store : Option Contents) (result : Result X AllocError) → ((events : List Event) → Shows w events → store ≡ newest_store w.setup (past_of w.setup events)) → IfOk result (λ line. bytes line ≡ store_text store) →
+    IfOk result (λ line. (events : List Event) → Shows w events → bytes line ≡ store_text (newest_store w.setup (past_of w.setup events)))
+shown_by bytes w store (Ok line) is wrote = λ events shows. wrote ∙ ap store_text (is events shows)
+shown_by bytes w store (Err e) is wrote = tt
+
+-- a line that shows it
+pub show_made : (w : WorldState) (flicks : FlickState) (left : ℕ) (answer : Told) → ((events : List Event) → Shows w events → TellsOf w.setup (past_of w.setup events) Looks answer) →
+    (run : Run) → Follows (course w flicks left) run → Makes (course w flicks left) run (next_turn w.setup line.Show (left - 1) run) (Some answer) (course w flicks (left - 1))
+show_made w flicks left answer is run follows = record {
+  tells = is (tried run.happened) follows.shows;
+  follows = record { shows = follows.shows; flicks = follows.flicks };
+  left = refl;
+  setup = refl;
+}

@@ -1,0 +1,25 @@
+pub use Rattle.world.proofs.history_laws_proofs as history_laws
+pub use Rattle.auditor.proofs.laws as laws
+pub use Rattle.auditor.proofs.watch as watch
+pub use Rattle.record.proofs as «record»
+-- The turns of a line
+pub mod TurnLaw
+pub mod CourseTurns
+pub mod Walks
+pub mod Goes
+pub mod Movers
+pub mod Wanders
+pub mod Counted
+pub mod Nexts
+pub mod Refusals
+-- What happens in a run, and its text
+pub mod Grows
+pub mod Tellings
+pub mod Images
+-- What the auditor of a run hears
+pub mod Listeners
+-- From line to line of a run to its end
+pub mod Underways
+pub mod Onwards
+pub mod Written
+pub mod ReplayEnds

@@ -1,0 +1,105 @@
+-- Pieces that are written one after the other, and fronts of them.
+use Rattle.std.proofs.Common.{◌≡◌, ℕ, zero, suc, ◌+◌, ◌<◌, Result, Ok, Err, IfOk, OnErr, OnOk, IsOk, IsErrAnd, flat_map, drop, get_or, List, [], ◌∷◌, ◌++◌, length, take, Option, Some, None, refl, ap, sym, subst, ◌∙◌, arith, append-nil, append_assoc}
+use Rattle.std.proofs.lemmas.Grind.{flat_map-append}
+use Rattle.std.proofs.lemmas.List.{take_more}
+use Rattle.std.specs.Io.KnownBytes.{Appends}
+use Rattle.std.specs.declared.alloc.AllocError.{AllocError}
+use Rattle.scenario.proofs.Places.{drop_in}
+use Rattle.scenario.specs.files.Streams.{WritesFront}
+use Rattle.scenario.specs.files.declared.faults.Fault.{Fault}
+use Rattle.scenario.specs.files.declared.faults.Fault.TheVariants as fault
+use Rattle.course.specs.Writing.{failed_write}
+
+-- one piece, and then the next
+pub appends_both : (a b c : Option (List ℕ)) (front more : List ℕ) → Appends a b front → Appends b c more → Appends a c (front ++ more)
+appends_both None b c front more first next = tt
+appends_both (Some xs) (Some ys) (Some zs) front more first next = next ∙ ap (λ l. l ++ more) first ∙ append_assoc xs front more
+appends_both (Some xs) (Some ys) None front more first next = next
+appends_both (Some xs) None c front more first next = elim first [ ]
+
+-- nothing
+pub appends_none : (a : Option (List ℕ)) → Appends a a []
+appends_none None = tt
+appends_none (Some xs) = sym (append-nil xs)
+
+-- the front of a list that is longer
+take_front : (n : ℕ) (xs ys : List ℕ) → take (length (take n xs)) (xs ++ ys) ≡ take n xs
+take_front zero xs ys = refl
+take_front (suc n) [] ys = refl
+take_front (suc n) (x ∷ xs) ys = ap (λ l. x ∷ l) (take_front n xs ys)
+
+take_after : (xs ys : List ℕ) (n : ℕ) → take (length xs + n) (xs ++ ys) ≡ xs ++ take n ys
+take_after [] ys n = ap (λ k. take k ys) {y = n} (omega arith)
+take_after (x ∷ xs) ys n = ap (λ k. take k (x ∷ (xs ++ ys))) {y = suc (length xs + n)} (omega arith) ∙ ap (λ l. x ∷ l) (take_after xs ys n)
+
+-- nothing is a front of every text
+pub front_none : (a b : Option (List ℕ)) (text : List ℕ) → b ≡ a → WritesFront a b text
+front_none a b text same = record { count = 0; front = subst (λ b. Appends a b []) (sym same) (appends_none a) }
+
+-- a front of a text is one of a longer text
+pub front_longer : (a b : Option (List ℕ)) (text more : List ℕ) → WritesFront a b text → WritesFront a b (text ++ more)
+front_longer a b text more front = record { count = length (take front.count text); front = subst (λ l. Appends a b l) (sym (take_front front.count text more)) front.front }
+
+-- and so is a whole text
+pub front_whole : (a b : Option (List ℕ)) (text more : List ℕ) → Appends a b text → WritesFront a b (text ++ more)
+front_whole a b text more whole = record { count = length text + 0; front = subst (λ l. Appends a b l) (sym (take_after text more 0 ∙ append-nil text)) whole }
+
+pub front_all : (a b : Option (List ℕ)) (text : List ℕ) → Appends a b text → WritesFront a b text
+front_all a b text whole = subst (λ l. WritesFront a b l) (append-nil text) (front_whole a b text [] whole)
+
+-- a text, and then a front of the next
+pub front_after : (a b c : Option (List ℕ)) (text more : List ℕ) → Appends a b text → WritesFront b c more → WritesFront a c (text ++ more)
+front_after a b c text more whole front = record { count = length text + front.count; front = subst (λ l. Appends a c l) (sym (take_after text more front.count)) (appends_both a b c text (take front.count more) whole front.front) }
+
+module _ {X : Type 0} (bytes : X → List ℕ) where
+  -- a line that was written, where there was memory for it
+  pub line_whole : (a b : Option (List ℕ)) (line : Result X AllocError) (text : List ℕ) → IfOk line (λ l. bytes l ≡ text) → IsOk line → IfOk line (λ l. Appends a b (bytes l)) → Appends a b text
+  line_whole a b (Ok l) text is made whole = subst (λ t. Appends a b t) is whole
+  line_whole a b (Err e) text is made whole = absurd (cc)
+
+  -- a text, and another one that is the same
+  pub ok_along : (line : Result X AllocError) (text other : List ℕ) → IfOk line (λ l. bytes l ≡ text) → text ≡ other → IfOk line (λ l. bytes l ≡ other)
+  ok_along (Ok l) text other is same = is ∙ same
+  ok_along (Err e) text other is same = tt
+
+  -- a front of it
+  pub line_front : (a b : Option (List ℕ)) (line : Result X AllocError) (text : List ℕ) → IfOk line (λ l. bytes l ≡ text) → IfOk line (λ l. WritesFront a b (bytes l)) → OnErr line (b ≡ a) → WritesFront a b text
+  line_front a b (Ok l) text is front none = subst (λ t. WritesFront a b t) is front
+  line_front a b (Err e) text is front none = front_none a b text none
+
+-- a list is its front and its rest
+front_rest : {X : Type 0} (k : ℕ) (xs : List X) → xs ≡ take k xs ++ drop k xs
+front_rest zero xs = refl
+front_rest (suc k) [] = refl
+front_rest (suc k) (x ∷ xs) = ap (λ l. x ∷ l) (front_rest k xs)
+
+-- what is printed for items up to a place, for the one there, and for the others
+pub items_split : {X : Type 0} (f : X → List ℕ) (xs : List X) (k : ℕ) (x : X) → k < length xs → x ≡ get_or xs k x → flat_map f xs ≡ flat_map f (take k xs) ++ (f x ++ flat_map f (drop (k + 1) xs))
+items_split f xs k x within is =
+    ap (flat_map f) (front_rest k xs) ∙ flat_map-append f (take k xs) (drop k xs) ∙ ap (λ l. flat_map f (take k xs) ++ flat_map f l) (drop_in xs k x within is)
+
+-- one item more
+pub items_more : {X : Type 0} (f : X → List ℕ) (xs : List X) (k : ℕ) (x : X) → k < length xs → x ≡ get_or xs k x → flat_map f (take (k + 1) xs) ≡ flat_map f (take k xs) ++ f x
+items_more f xs k x within is =
+    ap (flat_map f) (take_more xs k x within) ∙ flat_map-append f (take k xs) (get_or xs k x ∷ []) ∙ ap (λ l. flat_map f (take k xs) ++ l) (append-nil (f (get_or xs k x)) ∙ ap f (sym is))
+
+-- a fault that is passed on counts as it did
+pub failed_same : {A : Type 0} (r : Result A Fault) (e : Fault) → IsErrAnd r (λ x. x ≡ e) → failed_write r ≡ failed_write {A = Unit {0}} (Err e)
+failed_same (Ok done) e same = absurd same
+failed_same {A} (Err f) e same = failed_kind f ∙ ap (λ f. failed_write {A = Unit {0}} (Err f)) same
+  where
+    failed_kind : (f : Fault) → failed_write {A = A} (Err f) ≡ failed_write {A = Unit {0}} (Err f)
+    failed_kind fault.Write = refl
+    failed_kind fault.Memory = refl
+    failed_kind fault.Read = refl
+    failed_kind (fault.Line f) = refl
+
+-- what holds in any case holds after a fault
+pub on_err : {A : Type 0} (r : Result A Fault) (P : Type 0) → P → OnErr r P
+on_err (Ok done) P p = tt
+on_err (Err e) P p = p
+
+-- what follows, where there was memory
+pub ok_then : {A E : Type 0} (r : Result A E) {P Q : Type 0} → (P → Q) → OnOk r P → OnOk r Q
+ok_then (Ok a) then p = then p
+ok_then (Err e) then p = tt

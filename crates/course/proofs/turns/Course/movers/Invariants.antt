@@ -1,0 +1,14 @@
+use Rattle.std.proofs.Common.{◌≡◌, ◌≤◌, filter, length}
+use Rattle.std.specs.List.{range_with_len}
+use Rattle.record.specs.Stages.{stage}
+use Rattle.course.specs.Courses.{Follows}
+use Rattle.course.specs.Runs.{Run, has_step, past_in}
+use Rattle.course.proofs.turns.Course.movers.Given as goal
+
+-- those below the present process that have a Step to make; there is room for all 16
+abbrev pub invariant-loop-process : goal.invariant-loop-process
+invariant-loop-process l = record {
+  so_far : (run : Run) → Follows l.self run → l.movers.items ≡ filter (λ p. has_step (stage p (past_in l.self.world.setup run))) (range_with_len 0 l.process);
+  within : length l.movers.items ≤ l.process;
+  room : l.movers.capacity ≡ 16;
+}

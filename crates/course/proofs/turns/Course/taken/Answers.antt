@@ -1,0 +1,12 @@
+use Rattle.std.proofs.Common.{◌≡◌, ap, subst, length}
+use Rattle.record.specs.Histories.{history}
+use Rattle.course.specs.Courses.{CourseState, Follows}
+use Rattle.course.specs.Happenings.{tried}
+use Rattle.course.specs.Runs.{Run, past_in}
+use Rattle.course.proofs.turns.Course.taken.Goals as goal
+
+pub returns : goal.returns
+returns c =
+    let i = c.self.inside in
+    let family : CourseState → Type 0 = λ now. (run : Run) → Follows now run → length c.history.result.now ≡ length (history now.world.setup (past_in now.world.setup run)) in
+    subst family c.self.view_is (λ run follows. ap length (c.history.ensures (tried run.happened) follows.shows))

@@ -1,0 +1,69 @@
+-- What the cursor of a run keeps, and which run it shows.
+use Rattle.std.specs.Prelude.{◌≡◌, ◌≤◌, ℕ, zero, suc, [], Option, Some}
+use Rattle.plain_store.specs.declared.setups.Setup.{Setup}
+use Rattle.record.specs.Entries.{Past}
+use Rattle.scenario.specs.declared.lines.Line.{Line}
+use Rattle.world.specs.flicks.Flicks.{FlickState}
+use Rattle.world.specs.Shows.{Shows, WorldState}
+use Rattle.course.specs.Happenings.{Happening, Tries, past_after, tried}
+use Rattle.course.specs.Runs.{Run, past_in}
+use Rattle.course.specs.Telling.{AddsMarks, Tells}
+use Rattle.course.specs.Turns.{Turn, turn_of}
+use Rattle.course.specs.declared.told.Told.{Told}
+use Rattle.course.specs.declared.told.Turns.{Turns}
+
+-- the world, where flicks and picks come from, and how many turns of the present line are left
+pub record CourseState : Type 0 where
+  pub world : WorldState
+  pub flicks : FlickState
+  pub left : ℕ
+
+-- a course, by its parts
+abbrev pub course : WorldState → FlickState → ℕ → CourseState
+course w flicks left = record { world = w; flicks = flicks; left = left }
+
+-- how many processes there are
+pub record KeepsCourse (processes : ℕ) (world : WorldState) : Type 0 where
+  pub are : processes ≡ world.setup.processes
+  pub few : processes ≤ 16
+
+-- the course shows a run: its world shows the record of what has happened
+pub record Follows (course : CourseState) (run : Run) : Type 0 where
+  pub shows : Shows course.world (tried run.happened)
+  pub flicks : course.flicks ≡ run.flicks
+
+-- the course goes on by a turn, and tells what happens
+pub record Makes (old : CourseState) (run : Run) (turn : Turn) (answer : Option Told) (new : CourseState) : Type 0 where
+  pub tells : Tells old.world.setup (past_after old.world.setup run.happened) turn.this answer
+  pub follows : Follows new turn.run
+  pub left : new.left ≡ turn.left
+  pub setup : new.world.setup ≡ old.world.setup
+
+-- it makes the next turn of a line, whatever has happened before
+abbrev pub MakesTurn : CourseState → Line → Option Told → CourseState → Type 0
+MakesTurn old line answer new = (run : Run) → Follows old run → Makes old run (turn_of old.world.setup line old.left run) answer new
+
+-- an event is made that has no mark
+abbrev pub IsQuiet : Setup → Past → Option Happening → Type 0
+IsQuiet s past (Some (Tries event)) = AddsMarks s past event []
+IsQuiet s past _ = ⊥
+
+-- so many turns of a line without a mark: from a run with so many turns left, and on to another
+abbrev pub QuietTurns : Setup → Line → ℕ → ℕ → Run → ℕ → Run → Type 0
+QuietTurns s line zero left run left' run' = (left' ≡ left) × (run' ≡ run)
+QuietTurns s line (suc quiet) left run left' run' =
+    IsQuiet s (past_in s run) (turn_of s line left run).this × QuietTurns s line quiet (turn_of s line left run).left (turn_of s line left run).run left' run'
+
+-- the course goes on by so many of these
+pub record MakesQuietly (old : CourseState) (line : Line) (run : Run) (quiet : ℕ) (new : CourseState) : Type 0 where
+  pub now : Run
+  pub turns : QuietTurns old.world.setup line quiet old.left run new.left now
+  pub follows : Follows new now
+  pub setup : new.world.setup ≡ old.world.setup
+
+-- and by these, and then the turn that tells
+pub record MakesTurns (old : CourseState) (line : Line) (run : Run) (turns : Turns) (new : CourseState) : Type 0 where
+  pub left : ℕ
+  pub now : Run
+  pub quiet : QuietTurns old.world.setup line turns.quiet old.left run left now
+  pub makes : Makes old now (turn_of old.world.setup line left now) turns.told new

@@ -1,0 +1,21 @@
+-- The accepted events of a run, and its record.
+use Rattle.std.specs.Prelude.{List, reverse}
+use Rattle.plain_store.specs.declared.setups.Setup.{Setup}
+use Rattle.record.specs.declared.events.Event.{Event}
+use Rattle.record.specs.Entries.{Entry}
+use Rattle.record.specs.Records.{record_of}
+use Rattle.scenario.specs.Reading.{Script}
+use Rattle.course.specs.Happenings.{Happening, accepted, tried}
+use Rattle.course.specs.Runs.{happenings}
+
+-- those of what has happened that were accepted, the oldest first
+abbrev pub listed : Setup → List Happening → List Event
+listed s happened = reverse (accepted s (tried happened))
+
+-- the accepted events of a scenario's run
+abbrev pub accepted_events : Script → List Event
+accepted_events script = listed script.setup (happenings script)
+
+-- the record of a scenario's run
+abbrev pub run_record : Script → List Entry
+run_record said = record_of said.setup (accepted_events said)

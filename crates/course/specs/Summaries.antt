@@ -1,0 +1,23 @@
+-- The three numbers of a run.
+use Rattle.std.specs.Prelude.{◌+◌, List, length}
+use Rattle.plain_store.specs.declared.setups.Setup.{Setup}
+use Rattle.record.specs.Histories.{history}
+use Rattle.course.specs.Happenings.{Happening, past_after, refusals}
+use Rattle.course.specs.declared.summaries.Summary.{Summary}
+use Rattle.course.specs.declared.told.Told.{Told}
+use Rattle.course.specs.declared.told.Told.TheVariants as told
+
+-- events accepted, commands taken, refusals told
+abbrev pub summary_of : Setup → List Happening → Summary
+summary_of s happened = record {
+  events = length (past_after s happened);
+  taken = length (history s (past_after s happened));
+  refused = refusals s happened;
+}
+
+-- the counts after what is told; the commands taken are counted at the end
+abbrev pub counted : Told → Summary → Summary
+counted (told.Accepted made) summary = record summary { events = summary.events + 1 }
+counted (told.Refused p refusal) summary = record summary { refused = summary.refused + 1 }
+counted (told.Tired p) summary = summary
+counted (told.Shown line) summary = summary

@@ -1,0 +1,83 @@
+-- What a turn tells of what happens, and its text.
+use Rattle.std.specs.Prelude.{◌≡◌, ℕ, Bool, true, false, List, flat_map, map, Option, None, Some, Result, Ok, Err}
+use Rattle.std.specs.String.{string_bytes}
+use Rattle.record.specs.declared.access.Access.{Access}
+use Rattle.plain_store.specs.declared.setups.Setup.{Setup}
+use Rattle.record.specs.declared.events.Event.{Event}
+use Rattle.record.specs.declared.events.Event.TheVariants as event
+use Rattle.record.specs.declared.marks.Mark.{Mark}
+use Rattle.record.specs.declared.refusals.Refusal.{Refusal}
+use Rattle.record.specs.declared.refusals.Refusal.TheVariants.{NoProcess}
+use Rattle.record.specs.Entries.{Entry, Past}
+use Rattle.record.specs.Records.{entry_of, placed, process_of, refused}
+use Rattle.world.specs.process.Telling.{marks_of}
+use Rattle.world.specs.process.declared.told.Effect.{Effect}
+use Rattle.world.specs.process.declared.told.Effect.TheVariants.{Steps}
+use Rattle.world.specs.process.declared.told.Made.{Made}
+use Rattle.world.specs.process.declared.told.Told.{Told as Leads}
+use Rattle.world.specs.process.declared.told.Told.TheVariants as step
+use Rattle.course.specs.Happenings.{Happening, Tries, Lacks, Tires, Looks}
+use Rattle.course.specs.Texts.{mark_line, newest_store, store_text, turns_line}
+use Rattle.record.specs.Shown.{refusal_line}
+use Rattle.course.specs.declared.told.Accepted.{Accepted}
+use Rattle.course.specs.declared.told.Stepped.{Stepped}
+use Rattle.course.specs.declared.told.Told.{Told}
+use Rattle.course.specs.declared.told.Told.TheVariants as told
+
+-- the marks of the entry of an accepted event
+abbrev pub marks_made : Accepted → List Mark
+marks_made made = map (placed made.place) (marks_of made.effect)
+
+-- the entry of an accepted event
+abbrev pub entry_made : Accepted → Entry
+entry_made made = record { process = process_of made.event; access = made.access; marks = marks_made made }
+
+-- an event adds an entry with these marks
+abbrev pub AddsMarks : Setup → Past → Event → List Mark → Type 0
+AddsMarks s past event marks = (access : Option Access) × (entry_of s past event ≡ Some (record { process = process_of event; access = access; marks = marks }))
+
+-- what is told is what happens after this past
+abbrev pub TellsOf : Setup → Past → Happening → Told → Type 0
+TellsOf s past (Tries event) (told.Accepted made) = (made.event ≡ event) × (entry_of s past event ≡ Some (entry_made made))
+TellsOf s past (Tries event) (told.Refused p refusal) = (p ≡ process_of event) × (refused s past event ≡ Some refusal)
+TellsOf s past (Lacks p) (told.Refused q refusal) = (q ≡ p) × (refusal ≡ NoProcess)
+TellsOf s past (Tires p) (told.Tired q) = q ≡ p
+TellsOf s past Looks (told.Shown line) = string_bytes line ≡ store_text (newest_store s past)
+TellsOf s past _ _ = ⊥
+
+-- the same, where something or nothing happens
+abbrev pub Tells : Setup → Past → Option Happening → Option Told → Type 0
+Tells s past None None = Unit {0}
+Tells s past (Some this) (Some answer) = TellsOf s past this answer
+Tells s past _ _ = ⊥
+
+-- the text of what is told, where so many events were accepted before
+abbrev pub told_text : ℕ → Told → List ℕ
+told_text number (told.Accepted made) = flat_map (mark_line number (process_of made.event)) (marks_made made)
+told_text number (told.Refused p refusal) = refusal_line p refusal
+told_text number (told.Tired p) = turns_line p
+told_text number (told.Shown line) = string_bytes line
+
+-- a Step that is made or refused, with what it leads to
+abbrev pub with_told : Leads → Result Access Refusal → Result Made Refusal
+with_told leads (Ok access) = Ok (record { access = Some access; effect = Steps leads })
+with_told leads (Err refusal) = Err refusal
+
+-- what a Step of a process tells, with its flick and the place of a command that it takes
+abbrev pub told_step : ℕ → Bool → ℕ → Result Made Refusal → Told
+told_step p flick place (Ok made) = told.Accepted (record { event = event.Step p flick; place = place; access = made.access; effect = made.effect })
+told_step p flick place (Err refusal) = told.Refused p refusal
+
+-- what a Step tells that has no mark, made by this flick; since it takes no command, its place does not matter
+abbrev pub told_unmarked : Stepped → Bool → Told
+told_unmarked made flick = told.Accepted (record { event = event.Step made.process flick; place = 0; access = Some made.access; effect = Steps step.Nothing })
+
+-- a Step leads to nothing
+abbrev pub is_nothing : Effect → Bool
+is_nothing (Steps step.Nothing) = true
+is_nothing _ = false
+
+-- a Step was made that has no mark
+abbrev pub is_quiet : Result Made Refusal → Bool
+is_quiet (Ok made) = is_nothing made.effect
+is_quiet (Err refusal) = false

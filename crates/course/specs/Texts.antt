@@ -1,0 +1,73 @@
+-- The text of a run.
+use Rattle.std.specs.Prelude.{ℕ, cond, List, [], ◌∷◌, ◌++◌, codes, flat_map, length, Option, None, Some, Result}
+use Rattle.std.specs.Fmt.{decimal}
+use Rattle.plain_store.specs.declared.setups.Setup.{Setup}
+use Rattle.plain_store.specs.Store.{Contents}
+use Rattle.record.specs.declared.events.Event.{Event}
+use Rattle.record.specs.declared.marks.Mark.{Mark}
+use Rattle.record.specs.declared.refusals.Refusal.TheVariants.{NoProcess}
+use Rattle.record.specs.Entries.{Entry, Past}
+use Rattle.record.specs.Histories.{history, store_after}
+use Rattle.record.specs.Newest.{is_somebody_inside}
+use Rattle.record.specs.Records.{added, process_of, refused}
+use Rattle.record.specs.Shown.{mark_text, refusal_line}
+use Rattle.scenario.specs.files.Engines.{text_by}
+use Rattle.scenario.specs.Reading.{Script, scenario_of}
+use Rattle.scenario.specs.files.declared.faults.LineFault.{LineFault}
+use Rattle.course.specs.Happenings.{Happening, Tries, Lacks, Tires, Looks, past_after}
+use Rattle.course.specs.Runs.{happenings}
+use Rattle.plain_store.specs.StoreLine.{show_text}
+use Rattle.course.specs.Summaries.{summary_of}
+use Rattle.course.specs.declared.summaries.Summary.{Summary}
+
+-- a mark of the event with this number, of this process
+abbrev pub mark_line : ℕ → ℕ → Mark → List ℕ
+mark_line number p mark = decimal number ++ codes " " ++ decimal p ++ codes " " ++ mark_text mark ++ codes "\n"
+
+-- a process has made all the Steps of a `go`
+abbrev pub turns_line : ℕ → List ℕ
+turns_line p = codes "- " ++ decimal p ++ codes " turns\n"
+
+-- the marks of the entry with this number, in their order
+abbrev pub entry_text : ℕ → Entry → List ℕ
+entry_text number e = flat_map (mark_line number e.process) e.marks
+
+-- an event against the past before it: the marks that it adds, or why it is refused
+abbrev pub event_text : Setup → Past → Event → List ℕ
+event_text s past event = elim (refused s past event) [
+  | Some refusal ↦ refusal_line (process_of event) refusal
+  | None ↦ elim (added s past event) [ None ↦ [] | Some e ↦ entry_text (length past) e ]
+]
+
+-- the store after the history, while nobody is inside
+abbrev pub newest_store : Setup → Past → Option Contents
+newest_store s past = cond (is_somebody_inside s past) None (Some (store_after s (history s past)))
+
+-- a store, or that somebody is inside
+abbrev pub store_text : Option Contents → List ℕ
+store_text None = codes "show busy\n"
+store_text (Some store) = show_text store.pairs
+
+-- what happens, against the past before it
+abbrev pub text_at : Setup → Past → Happening → List ℕ
+text_at s past (Tries event) = event_text s past event
+text_at s past (Lacks p) = refusal_line p NoProcess
+text_at s past (Tires p) = turns_line p
+text_at s past Looks = store_text (newest_store s past)
+
+-- all that has happened
+abbrev pub text_of : Setup → List Happening → List ℕ
+text_of s [] = []
+text_of s (this ∷ before) = text_of s before ++ text_at s (past_after s before) this
+
+-- the last line
+abbrev pub end_line : Summary → List ℕ
+end_line summary = codes "end events " ++ decimal summary.events ++ codes " taken " ++ decimal summary.taken ++ codes " refused " ++ decimal summary.refused ++ codes "\n"
+
+-- the text of a scenario's run
+abbrev pub replayed : Script → List ℕ
+replayed script = text_of script.setup (happenings script) ++ end_line (summary_of script.setup (happenings script))
+
+-- the text of a file, or its fault
+abbrev pub replay_text : List ℕ → Result (List ℕ) LineFault
+replay_text = text_by scenario_of replayed

@@ -1,0 +1,79 @@
+-- A run turn by turn: what the next turn of a line does, and how many turns are left then. It stands beside the definition of the run.
+use Rattle.std.specs.Prelude.{ℕ, zero, suc, nat_lt, true, false, List, [], ◌∷◌, Option, None, Some}
+use Rattle.plain_store.specs.declared.setups.Setup.{Setup}
+use Rattle.record.specs.declared.events.Event.TheVariants as event
+use Rattle.record.specs.Stages.{stage}
+use Rattle.scenario.specs.declared.lines.Line.{Line}
+use Rattle.scenario.specs.declared.lines.Line.TheVariants as line
+use Rattle.scenario.specs.declared.lines.Target.{Target}
+use Rattle.world.specs.flicks.Flicks.{after_set}
+use Rattle.course.specs.Happenings.{Happening, Tries, Lacks, Tires, Looks}
+use Rattle.course.specs.Runs.{Run, past_in, with_happening, next_step, stepped, may_step, is_there, movers, pick_among, after_pick_in, set_to, go_limit}
+
+-- how many turns a line may make; the last one of a `go` looks where the process is, and makes no Step
+abbrev pub turns_in : Line → ℕ
+turns_in (line.Step p n) = n
+turns_in (line.Wander n) = n
+turns_in (line.Go p target) = suc go_limit
+turns_in (line.Call p command) = 1
+turns_in (line.Fail p) = 1
+turns_in (line.Withdraw p) = 1
+turns_in (line.Restart p) = 1
+turns_in (line.Flick flick) = 1
+turns_in line.Show = 1
+
+-- what happens, if something does, and then the turns that are left and the run
+pub record Turn : Type 0 where
+  pub this : Option Happening
+  pub left : ℕ
+  pub run : Run
+
+-- nothing happens, and the line has ended
+abbrev pub ends : Run → Turn
+ends run = record { this = None; left = 0; run = run }
+
+-- this happens
+abbrev pub happens : Happening → ℕ → Run → Turn
+happens this left run = record { this = Some this; left = left; run = with_happening this run }
+
+-- a Step
+abbrev pub made_turn : ℕ → ℕ → Run → Turn
+made_turn p left run = record { this = Some (Tries (next_step p run)); left = left; run = stepped p run }
+
+-- a Step, which ends the line where it is refused
+abbrev pub step_turn : Setup → ℕ → ℕ → Run → Turn
+step_turn s p left run = made_turn p (elim (may_step s p run) [ true ↦ left | false ↦ 0 ]) run
+
+-- a turn of `go` of a process that is not there yet
+abbrev pub on_turn : Setup → ℕ → ℕ → Run → Turn
+on_turn s p zero run = happens (Tires p) 0 run
+on_turn s p (suc left) run = step_turn s p (suc left) run
+
+-- a turn of `go`
+abbrev pub go_turn : Setup → ℕ → Target → ℕ → Run → Turn
+go_turn s p target left run = elim (nat_lt p s.processes) [
+  | false ↦ happens (Lacks p) 0 run
+  | true ↦ elim (is_there target (stage p (past_in s run))) [ true ↦ ends run | false ↦ on_turn s p left run ]
+]
+
+-- a turn of `wander`
+abbrev pub wander_turn : ℕ → Run → List ℕ → Turn
+wander_turn left run [] = ends run
+wander_turn left run (p ∷ ps) = made_turn (pick_among (p ∷ ps) run) left (after_pick_in run)
+
+-- the next turn of a line, where so many are left after it
+abbrev pub next_turn : Setup → Line → ℕ → Run → Turn
+next_turn s (line.Call p command) left run = happens (Tries (event.Call p command)) left run
+next_turn s (line.Step p n) left run = step_turn s p left run
+next_turn s (line.Go p target) left run = go_turn s p target left run
+next_turn s (line.Fail p) left run = happens (Tries (event.Fail p)) left run
+next_turn s (line.Withdraw p) left run = happens (Tries (event.Withdraw p)) left run
+next_turn s (line.Restart p) left run = happens (Tries (event.Restart p)) left run
+next_turn s (line.Flick flick) left run = ends (record run { flicks = after_set (set_to flick) run.flicks })
+next_turn s (line.Wander n) left run = wander_turn left run (movers s (past_in s run))
+next_turn s line.Show left run = happens Looks left run
+
+-- the next turn of a line with so many left; with none it has ended
+abbrev pub turn_of : Setup → Line → ℕ → Run → Turn
+turn_of s line zero run = ends run
+turn_of s line (suc left) run = next_turn s line left run

@@ -1,0 +1,102 @@
+//! What the turns of a run tell.
+ghost use Rattle.std.specs.Prelude.{◌≡◌};
+ghost use Rattle.course.specs.Telling.{entry_made, marks_made};
+
+use plain_store::NestedTypes;
+use record::{Access, Act, Entry, Event, Mark, Refusal};
+use smallvec::SmallVec;
+use std::alloc::Global;
+use world::Effect;
+
+/// An event that was accepted, the access that it makes, if it makes one, and what it leads to. A command that it takes
+/// gets this place in the history.
+#[derive(Clone, Copy)]
+pub struct Accepted {
+    pub event: Event,
+    pub place: u64,
+    pub access: Option<Access>,
+    pub effect: Effect,
+}
+
+impl Accepted {
+    /// The marks of its entry, in their order. They take no memory.
+    pub fn marks(&self, alloc: Global) -> SmallVec<Mark, 3>
+        ensures { result.items ≡ marks_made self.now }
+    {
+        let _nested: NestedTypes = None;
+        self.effect.marks(alloc, self.place)
+    }
+
+    /// Its entry. It takes no memory.
+    pub fn entry(&self, alloc: Global) -> Entry
+        ensures { result ≡ entry_made self.now }
+    {
+        let _nested: NestedTypes = None;
+        Entry {
+            process: self.event.process(),
+            act: Act {
+                access: self.access,
+                marks: self.marks(alloc),
+            },
+        }
+    }
+}
+
+/// A Step that is drawn, and not made yet.
+#[derive(Clone, Copy)]
+pub struct Drawn {
+    pub process: u8,
+    pub flick: bool,
+    /// Its line is of this process alone, and ends where the Step is refused.
+    pub alone: bool,
+}
+
+/// A Step that was made within a number access: whose it is, and its access. It has no mark.
+#[derive(Clone, Copy)]
+pub struct Stepped {
+    pub process: u8,
+    pub access: Access,
+}
+
+/// What a turn of a run tells.
+#[derive(Drop)]
+pub enum Told {
+    Accepted(Accepted),
+    /// An event of this process was refused, or `go` found no such process.
+    Refused { process: u8, refusal: Refusal },
+    /// This process has made all the Steps of a `go`.
+    Tired(u8),
+    /// The line that shows the newest store.
+    Shown(String),
+}
+
+/// Turns of a line.
+#[derive(Drop)]
+pub struct Turns {
+    /// How many Steps without a mark came first.
+    pub quiet: u32,
+    /// What the turn after them tells; nothing once the line has ended.
+    pub told: Option<Told>,
+}
+
+impl Turns {
+    /// The line has ended.
+    pub(crate) fn ended() -> Turns
+        ensures { result ≡ record { quiet = 0; told = None } }
+    {
+        Turns {
+            quiet: 0,
+            told: None,
+        }
+    }
+
+    /// One turn.
+    pub(crate) fn one(told: Told) -> Turns
+        ensures { result ≡ record { quiet = 0; told = Some told } }
+    {
+        Turns {
+            quiet: 0,
+            told: Some(told),
+        }
+    }
+}

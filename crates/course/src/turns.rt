@@ -1,0 +1,239 @@
+//! A run, turn by turn: what the next turns of a line do on the world.
+ghost use Rattle.std.specs.Prelude.{◌≡◌, ◌^◌, ◌+◌, ◌-◌, ◌<◌, ◌≤◌, true, false, Ok, Some, IfOk, IfSome, length, List};
+ghost use Rattle.std.specs.String.{string_bytes};
+ghost use Rattle.plain_store.specs.Setups.{checked};
+ghost use Rattle.record.specs.declared.Event.{Event as Happening};
+ghost use Rattle.record.specs.declared.Refusal.TheVariants.{Memory};
+ghost use Rattle.record.specs.Given.{is_event};
+ghost use Rattle.record.specs.Histories.{history};
+ghost use Rattle.record.specs.Records.{past_of};
+ghost use Rattle.world.specs.flicks.Flicks.{constant_flicks};
+ghost use Rattle.world.specs.Shows.{Shows};
+ghost use Rattle.auditor.specs.declared.verdicts.Verdict.TheVariants.{Good};
+ghost use Rattle.course.specs.Courses.{Follows, Makes, MakesTurns, CourseState};
+ghost use Rattle.course.specs.Happenings.{Tries};
+ghost use Rattle.course.specs.Runs.{Run, is_there as is_target, past_in, run_at_start, set_to as seed_set};
+ghost use Rattle.course.specs.Texts.{newest_store, store_text};
+ghost use Rattle.course.specs.Turns.{happens, turn_of, turns_in as turns_of};
+
+mod steps;
+mod walks;
+
+use crate::heard::HeardWorld;
+use crate::store_line::newest_line;
+use crate::told::{Accepted, Told, Turns};
+use auditor::Verdict;
+use plain_store::{NestedTypes, Setup};
+use record::{Event, Refusal, Taken};
+use scenario::{Flick, Line};
+use std::alloc::{AllocError, Global};
+use std::marker::Model;
+pub use steps::Steppers;
+use world::{Effect, Flicks, Image};
+
+/// The Steps that a `go` makes at most.
+const GO_LIMIT: u32 = 65_536;
+
+/// A run of a scenario: the world, where flicks and picks come from, and how many turns the present line may
+/// still make. Contracts see these three, and speak of every run that they show.
+#[derive(Drop)]
+pub struct Course {
+    alloc: Global,
+    processes: u8,
+    world: HeardWorld,
+    flicks: Flicks,
+    left: u32,
+}
+
+impl Model for Course {
+    ghost use Rattle.course.specs.Courses.{CourseState, KeepsCourse};
+
+    ghost Value = { CourseState };
+
+    ghost view = { λ c. record { world = c.world; flicks = c.flicks; left = c.left } };
+
+    ghost invariant = { λ c. KeepsCourse c.processes c.world };
+}
+
+impl Course {
+    /// A run in which nothing has happened; `audited`: an auditor hears each entry.
+    pub fn new(alloc: Global, setup: &Setup, audited: bool) -> Result<Course, AllocError>
+        requires { checked setup.now ≡ Ok tt }
+        ensures setup { IfOk result (λ course. course.world.setup ≡ setup.now) }
+        ensures follows { IfOk result (λ course. Follows course run_at_start) }
+    {
+        Ok(Course {
+            alloc,
+            processes: setup.processes,
+            world: HeardWorld::new(alloc, setup, audited)?,
+            flicks: Flicks::constant(false),
+            left: 0,
+        })
+    }
+
+    /// The auditor's verdict on the entries so far; good, if there is none.
+    pub fn verdict(&self) -> Verdict
+        ensures { result ≡ Good }
+    {
+        self.world.verdict()
+    }
+
+    /// How many commands were taken.
+    pub fn taken(&self) -> u64
+        ensures { (run : Run) → Follows self.now run → result ≡ length (history self.now.world.setup (past_in self.now.world.setup run)) }
+    {
+        self.world.history().len() as u64
+    }
+
+    /// The commands taken, in their order.
+    pub fn history(&self) -> &[Taken]
+        ensures { (run : Run) → Follows self.now run → result.now ≡ history self.now.world.setup (past_in self.now.world.setup run) }
+    {
+        self.world.history()
+    }
+
+    /// A line begins.
+    pub fn begin(&mut self, line: &Line)
+        ensures course { self.new ≡ record self.old { left = turns_of line.now } }
+        ensures few { self.new.left < 2 ^ 32 }
+    {
+        self.left = turns_in(line);
+    }
+
+    /// The next turn of the line; none once the line has ended.
+    pub fn turn(&mut self, line: &Line) -> Result<Option<Told>, AllocError>
+        requires { self.old.left ≤ turns_of line.now }
+        ensures left { IfOk result (λ told. IfSome told (λ _. self.new.left < self.old.left)) }
+        ensures made { IfOk result (λ told. (run : Run) → Follows self.old run → Makes self.old run (turn_of self.old.world.setup line.now self.old.left run) told self.new) }
+    {
+        Ok(self.make(line, true)?.told)
+    }
+
+    /// The turns of the line up to the first that tells more than a Step without a mark: how many such Steps came
+    /// before it, and what it tells; nothing once the line has ended.
+    pub fn turns(&mut self, line: &Line) -> Result<Turns, AllocError>
+        requires { self.old.left ≤ turns_of line.now }
+        ensures left { IfOk result (λ turns. turns.quiet + self.new.left ≤ self.old.left) }
+        ensures less { IfOk result (λ turns. IfSome turns.told (λ _. turns.quiet + self.new.left < self.old.left)) }
+        ensures made { IfOk result (λ turns. (run : Run) → Follows self.old run → MakesTurns self.old line.now run turns self.new) }
+    {
+        self.make(line, false)
+    }
+
+    /// The same; where `all` is asked, a Step without a mark is told too.
+    fn make(&mut self, line: &Line, all: bool) -> Result<Turns, AllocError>
+        requires { self.old.left ≤ turns_of line.now }
+        ensures left { IfOk result (λ turns. turns.quiet + self.new.left ≤ self.old.left) }
+        ensures less { IfOk result (λ turns. IfSome turns.told (λ _. turns.quiet + self.new.left < self.old.left)) }
+        ensures all { IfOk result (λ turns. all ≡ true → turns.quiet ≡ 0) }
+        ensures made { IfOk result (λ turns. (run : Run) → Follows self.old run → MakesTurns self.old line.now run turns self.new) }
+    {
+        let _nested: NestedTypes = None;
+        if self.left == 0 {
+            return Ok(Turns::ended());
+        }
+        match line {
+            Line::Step(process, _) => Ok(self.walk(*process, 0, all)),
+            Line::Go(process, target) => Ok(self.go(*process, *target, all)),
+            Line::Wander(_) => Ok(self.wander(all)),
+            Line::Call(process, command) => {
+                command.operands_are_sound();
+                self.event(Event::Call(*process, *command))
+            }
+            Line::Fail(process) => self.event(Event::Fail(*process)),
+            Line::Withdraw(process) => self.event(Event::Withdraw(*process)),
+            Line::Restart(process) => self.event(Event::Restart(*process)),
+            Line::Flick(flick) => {
+                self.left -= 1;
+                self.flicks.set(set_to(*flick));
+                Ok(Turns::ended())
+            }
+            Line::Show => {
+                self.left -= 1;
+                Ok(Turns::one(Told::Shown(self.shown()?)))
+            }
+        }
+    }
+
+    /// Makes an event, unless it is refused.
+    fn event(&mut self, event: Event) -> Result<Turns, AllocError>
+        requires some_left { 0 < self.old.left }
+        requires given { is_event event ≡ true }
+        ensures left { self.new.left ≡ self.old.left - 1 }
+        ensures quiet { IfOk result (λ turns. turns.quiet ≡ 0) }
+        ensures made { IfOk result (λ turns. (run : Run) → Follows self.old run → Makes self.old run (happens (Tries event) (self.old.left - 1) run) turns.told self.new) }
+    {
+        self.left -= 1;
+        let place = self.world.history().len() as u64;
+        let mut effect = Effect::Steps(world::Told::Nothing);
+        match self.world.make(&event, &mut effect) {
+            Ok(access) => {
+                let made = Accepted {
+                    event,
+                    place,
+                    access,
+                    effect,
+                };
+                Ok(Turns::one(Told::Accepted(made)))
+            }
+            Err(refusal) => refused(event.process(), refusal),
+        }
+    }
+
+    /// The line that shows the store after the history, or that somebody is inside.
+    fn shown(&self) -> Result<String, AllocError>
+        ensures { IfOk result (λ line. (events : List Happening) → Shows self.now.world events → string_bytes line ≡ store_text (newest_store self.now.world.setup (past_of self.now.world.setup events))) }
+    {
+        newest_line(self.alloc, &self.newest())
+    }
+
+    /// The store after the history; none while somebody is inside.
+    fn newest(&self) -> Option<Image>
+        ensures { (events : List Happening) → Shows self.now.world events → result ≡ newest_store self.now.world.setup (past_of self.now.world.setup events) }
+    {
+        let newest = self.world.newest();
+        if let Some(store) = &newest {
+            let _image = store.bytes();
+        }
+        newest
+    }
+}
+
+/// Tells that an event of this process was refused, unless it was so for want of memory.
+fn refused(process: u8, refusal: Refusal) -> Result<Turns, AllocError>
+    ensures { IfOk result (λ turns. (turns ≡ record { quiet = 0; told = Some (Told.Refused process refusal) }) × (refusal ≡ Memory → ⊥)) }
+{
+    match refusal {
+        Refusal::Memory => Err(AllocError),
+        _ => Ok(Turns::one(Told::Refused { process, refusal })),
+    }
+}
+
+/// How many turns a line may make. The last one of a `go` looks where the process is, and makes no Step.
+fn turns_in(line: &Line) -> u32
+    ensures { result ≡ turns_of line.now }
+{
+    let _nested: NestedTypes = None;
+    match line {
+        Line::Step(_, steps) => *steps,
+        Line::Wander(turns) => *turns,
+        Line::Go(..) => GO_LIMIT + 1,
+        Line::Call(..)
+        | Line::Fail(_)
+        | Line::Withdraw(_)
+        | Line::Restart(_)
+        | Line::Flick(_)
+        | Line::Show => 1,
+    }
+}
+
+/// Where flicks come from, as `Flicks` has it.
+fn set_to(flick: Flick) -> world::Flick
+    ensures { result ≡ seed_set flick }
+{
+    match flick {
+        Flick::Zero => world::Flick::Zero,
+        Flick::One => world::Flick::One,
+        Flick::Pcg(seed) => world::Flick::Pcg(seed),
+    }
+}

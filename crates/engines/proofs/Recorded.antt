@@ -1,0 +1,38 @@
+-- The record of a list of events, one event after the other.
+use Rattle.std.proofs.Common.{◌≡◌, ℕ, true, ◌+◌, ◌<◌, List, [], ◌∷◌, ◌++◌, length, reverse, take, get_or, Option, None, Some, ap, sym, subst, ◌∙◌, inl, inr}
+use Rattle.std.proofs.lemmas.List.{reverse-append, take_more}
+use Rattle.course.specs.«record».declared.events.Event.{Event}
+use Rattle.course.specs.«record».declared.refusals.Refusal.{Refusal}
+use Rattle.course.specs.«record».declared.refusals.Refusal.TheVariants.{Memory}
+use Rattle.course.specs.«record».Acts.{Act}
+use Rattle.course.specs.«record».Entries.{Entry, Past}
+use Rattle.course.specs.«record».Given.{is_event}
+use Rattle.course.specs.«record».Records.{past_of, process_of}
+use Rattle.course.specs.world.Events.{Adds, GoesOn, IsTurnedAway, entry_with}
+use Rattle.course.specs.world.Shows.{Shows, WorldState}
+use Rattle.engines.specs.Listings.{RecordsEvent}
+use Rattle.engines.proofs.Listed.{reverse-front}
+use Rattle.course.proofs.Refusals.{past_kept, shows_refused}
+
+-- an event that is accepted
+pub records_made : (old new : WorldState) (event : Event) (act : Act) (had has : List Entry) → Adds old event (process_of event) act → GoesOn old event new → new.setup ≡ old.setup → has ≡ had ++ entry_with (process_of event) act ∷ [] → RecordsEvent event old new had has
+records_made old new event act had has adds on same pushed events shows are = record {
+  shows = on events shows;
+  setup = same;
+  entries_are = pushed ∙ ap (λ l. l ++ entry_with (process_of event) act ∷ []) are ∙ sym (reverse-front (entry_with (process_of event) act) (past_of old.setup events))
+      ∙ ap reverse (sym (ap (λ (o : Option Entry). elim o as (λ _. Past) [ None ↦ past_of old.setup events | Some e ↦ e ∷ past_of old.setup events ]) (adds events shows)));
+}
+
+-- an event that is refused
+pub records_refused : (old new : WorldState) (event : Event) (r : Refusal) (had has : List Entry) → is_event event ≡ true → IsTurnedAway old event r → (r ≡ Memory → ⊥) → new ≡ old → has ≡ had → RecordsEvent event old new had has
+records_refused old new event r had has given (inr away) other same kept events shows are = absurd (other away.1)
+records_refused old new event r had has given (inl away) other same kept events shows are = record {
+  shows = subst (λ (w : WorldState). Shows w (event ∷ events)) (sym same) (shows_refused old events event r shows given (away events shows));
+  setup = ap (λ (w : WorldState). w.setup) same;
+  entries_are = kept ∙ are ∙ ap reverse (sym (past_kept old.setup events event r (away events shows)));
+}
+
+-- the events up to the next one
+pub events_more : (events : List Event) (k : ℕ) (event : Event) → k < length events → event ≡ get_or events k event → reverse (take (k + 1) events) ≡ event ∷ reverse (take k events)
+events_more events k event within is =
+    ap reverse (take_more events k event within) ∙ reverse-append (take k events) (get_or events k event ∷ []) ∙ ap (λ e. e ∷ reverse (take k events)) (sym is)

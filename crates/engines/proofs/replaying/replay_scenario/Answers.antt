@@ -1,0 +1,78 @@
+use Rattle.std.proofs.Common.{◌≡◌, ◌+◌, ℕ, List, [], ◌∷◌, drop, arith, subst}
+use Rattle.std.proofs.lemmas.List.{drop_all}
+use Rattle.std.specs.Io.KnownBytes.{Appends}
+use Rattle.scenario.specs.Reads.{script}
+use Rattle.scenario.specs.files.Streams.{WritesFront}
+use Rattle.scenario.specs.declared.lines.Line.{Line}
+use Rattle.scenario.proofs.Places.{drop_in}
+use Rattle.plain_store.specs.declared.setups.Setup.{Setup}
+use Rattle.course.specs.Texts.{end_line}
+use Rattle.course.specs.Summaries.{summary_of}
+use Rattle.course.specs.Runs.{happenings}
+use Rattle.course.specs.declared.summaries.Summary.{Summary}
+use Rattle.course.proofs.Onwards.{Onward, onward_end, onward_end_torn, onward_headline, onward_numbers, onward_on, onward_torn}
+use Rattle.course.proofs.Written.{front_all}
+use Rattle.engines.proofs.replaying.replay_scenario.Goals as goal
+
+pub returns-in_err-replay_line-clause-front : goal.returns-in_err-replay_line-clause-front
+returns-in_err-replay_line-clause-front g c =
+    let s : Setup = c.args.scenario.now.setup in
+    let lines : List Line = c.args.scenario.now.lines.items in
+    let k : ℕ = c.loop-line.line-index in
+    let here : Line = c.line-item.result in
+    let next : drop k lines ≡ here ∷ drop (k + 1) lines = drop_in lines k here (omega arith) (rw c.deref-line-items.ensures.value at c.line-item.is) in
+    onward_torn s lines (drop (k + 1) lines) here c.loop-line.course c.loop-line.summary _ _ _ (end_line (summary_of s (happenings (script c.args.scenario.now))))
+    (subst (λ (rest : List Line). Onward s lines rest c.loop-line.course c.loop-line.summary (g.W.Sink.taken c.args.output.now) (g.W.Sink.taken c.loop-line.output)) next c.loop-line.invariant.onward)
+    c.in_err-replay_line.ensures.cut
+
+pub loop-line-preserved : goal.loop-line-preserved
+loop-line-preserved g c =
+    let s : Setup = c.args.scenario.now.setup in
+    let lines : List Line = c.args.scenario.now.lines.items in
+    let k : ℕ = c.loop-line.line-index in
+    let here : Line = c.line-item.result in
+    let next : drop k lines ≡ here ∷ drop (k + 1) lines = drop_in lines k here (omega arith) (rw c.deref-line-items.ensures.value at c.line-item.is) in
+    record {
+      onward = onward_on s lines (drop (k + 1) lines) here c.loop-line.course c.replay_line.new.course c.loop-line.summary c.replay_line.new.summary _ _ _
+          (subst (λ (rest : List Line). Onward s lines rest c.loop-line.course c.loop-line.summary (g.W.Sink.taken c.args.output.now) (g.W.Sink.taken c.loop-line.output)) next c.loop-line.invariant.onward)
+          c.in_ok-replay_line.ensures.ok;
+      whole = omega (arith, c.in_ok-replay_line.ensures.failures, c.loop-line.invariant.whole);
+      events = omega (arith, c.in_ok-replay_line.ensures.events, c.loop-line.invariant.events);
+      refused = omega (arith, c.in_ok-replay_line.ensures.refused, c.loop-line.invariant.refused);
+    }
+
+pub returns-in_err-write_end-clause-front : goal.returns-in_err-write_end-clause-front
+returns-in_err-write_end-clause-front g c =
+    let s : Setup = c.args.scenario.now.setup in
+    let lines : List Line = c.args.scenario.now.lines.items in
+    let u : Onward s lines [] c.loop-line.course c.loop-line.summary (g.W.Sink.taken c.args.output.now) (g.W.Sink.taken c.loop-line.output) =
+    subst (λ (rest : List Line). Onward s lines rest c.loop-line.course c.loop-line.summary (g.W.Sink.taken c.args.output.now) (g.W.Sink.taken c.loop-line.output)) (drop_all c.loop-line.line-index lines (omega arith)) c.loop-line.invariant.onward in
+    let numbers = onward_numbers s lines c.loop-line.course c.loop-line.summary c.taken.result _ _ u c.taken.ensures in
+    onward_end_torn s lines c.loop-line.course c.loop-line.summary _ _ _ (end_line (summary_of s (happenings (script c.args.scenario.now)))) u (subst (λ (n : Summary). WritesFront (g.W.Sink.taken c.loop-line.output) (g.W.Sink.taken c.write_end.new.output) (end_line n)) numbers c.in_err-write_end.ensures.front)
+
+pub returns-clause-ok : goal.returns-clause-ok
+returns-clause-ok g c =
+    let s : Setup = c.args.scenario.now.setup in
+    let lines : List Line = c.args.scenario.now.lines.items in
+    let u : Onward s lines [] c.loop-line.course c.loop-line.summary (g.W.Sink.taken c.args.output.now) (g.W.Sink.taken c.loop-line.output) =
+    subst (λ (rest : List Line). Onward s lines rest c.loop-line.course c.loop-line.summary (g.W.Sink.taken c.args.output.now) (g.W.Sink.taken c.loop-line.output)) (drop_all c.loop-line.line-index lines (omega arith)) c.loop-line.invariant.onward in
+    let numbers = onward_numbers s lines c.loop-line.course c.loop-line.summary c.taken.result _ _ u c.taken.ensures in
+    onward_end s lines c.loop-line.course c.loop-line.summary _ _ _ (end_line (summary_of s (happenings (script c.args.scenario.now)))) u (subst (λ (n : Summary). Appends (g.W.Sink.taken c.loop-line.output) (g.W.Sink.taken c.write_end.new.output) (end_line n)) numbers c.in_ok-write_end.ensures.ok)
+
+pub returns-clause-front : goal.returns-clause-front
+returns-clause-front g c = front_all _ _ _ (returns-clause-ok g c)
+
+pub returns-clause-summary : goal.returns-clause-summary
+returns-clause-summary g c =
+    let s : Setup = c.args.scenario.now.setup in
+    let lines : List Line = c.args.scenario.now.lines.items in
+    let u : Onward s lines [] c.loop-line.course c.loop-line.summary (g.W.Sink.taken c.args.output.now) (g.W.Sink.taken c.loop-line.output) =
+    subst (λ (rest : List Line). Onward s lines rest c.loop-line.course c.loop-line.summary (g.W.Sink.taken c.args.output.now) (g.W.Sink.taken c.loop-line.output)) (drop_all c.loop-line.line-index lines (omega arith)) c.loop-line.invariant.onward in
+    onward_numbers s lines c.loop-line.course c.loop-line.summary c.taken.result _ _ u c.taken.ensures
+
+pub returns-clause-headline : goal.returns-clause-headline
+returns-clause-headline g c =
+    let s : Setup = c.args.scenario.now.setup in
+    let lines : List Line = c.args.scenario.now.lines.items in
+    onward_headline s lines c.loop-line.course c.loop-line.summary _ _
+    (subst (λ (rest : List Line). Onward s lines rest c.loop-line.course c.loop-line.summary (g.W.Sink.taken c.args.output.now) (g.W.Sink.taken c.loop-line.output)) (drop_all c.loop-line.line-index lines (omega arith)) c.loop-line.invariant.onward)

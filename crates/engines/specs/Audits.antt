@@ -1,0 +1,30 @@
+-- What an audit of a scenario's run answers and writes.
+use Rattle.std.specs.Prelude.{◌≡◌, ℕ, List, length, Option, IfSome, Result, Ok}
+use Rattle.std.specs.Io.KnownBytes.{Appends}
+use Rattle.judge.specs.auditor.Verdicts.{IsVerdict}
+use Rattle.judge.specs.auditor.declared.verdicts.Verdict.{Verdict}
+use Rattle.judge.specs.auditor.declared.verdicts.Verdict.TheVariants.{Good}
+use Rattle.judge.specs.Judgements.{status_of_verdict, verdict_line}
+use Rattle.scenario.specs.files.Engines.{text_by}
+use Rattle.scenario.specs.files.declared.faults.LineFault.{LineFault}
+use Rattle.scenario.specs.Reading.{Script, scenario_of}
+use Rattle.course.specs.RunRecords.{run_record}
+
+-- the text of the audit of a scenario's run: each entry of its record keeps each law
+abbrev pub audited : Script → List ℕ
+audited said = verdict_line (length (run_record said)) Good
+
+-- the text of a file, or its fault
+abbrev pub audit_text : List ℕ → Result (List ℕ) LineFault
+audit_text = text_by scenario_of audited
+
+-- the verdict on the record of a scenario's run: its status is answered, and its line is written
+pub record TellsVerdict (said : Script) (status : ℕ) (old new : Option (List ℕ)) : Type 0 where
+  pub verdict : Verdict
+  pub is : IsVerdict said.setup (run_record said) verdict
+  pub answer : status ≡ status_of_verdict verdict
+  pub line : Appends old new (verdict_line (length (run_record said)) verdict)
+
+-- that of the whole input
+abbrev pub InputTellsVerdict : Option (List ℕ) → ℕ → Option (List ℕ) → Option (List ℕ) → Type 0
+InputTellsVerdict to_come status old new = IfSome to_come (λ input. (said : Script) × (scenario_of input ≡ Ok said) × TellsVerdict said status old new)

@@ -1,0 +1,22 @@
+-- What `record` prints, `judge` reads as that setup and that record.
+use Rattle.std.specs.Prelude.{◌≡◌, ℕ, List, Option, IfSome, Ok}
+use Rattle.std.specs.Io.KnownBytes.{Appends}
+use Rattle.scenario.specs.Reading.{Script, scenario_of}
+use Rattle.scenario.specs.Scripts.{IsScenario}
+use Rattle.judge.specs.record_file.RecordFiles.{record_of}
+use Rattle.engines.specs.Recordings.{recorded}
+use Rattle.course.specs.RunRecords.{run_record}
+
+-- The text of the record of a scenario's run is read as the scenario's setup and that record.
+abbrev pub RecordedRunsAreReadAgain : Type 0
+RecordedRunsAreReadAgain = (said : Script) → IsScenario said → record_of (recorded said) ≡ Ok (record { setup = said.setup; entries = run_record said })
+
+-- what was written is read as the scenario's setup and the record of its run
+pub record WritesRecord (said : Script) (old new : Option (List ℕ)) : Type 0 where
+  pub text : List ℕ
+  pub written : Appends old new text
+  pub read : record_of text ≡ Ok (record { setup = said.setup; entries = run_record said })
+
+-- that of the whole input
+abbrev pub InputWritesRecord : Option (List ℕ) → Option (List ℕ) → Option (List ℕ) → Type 0
+InputWritesRecord to_come old new = IfSome to_come (λ input. (said : Script) × (scenario_of input ≡ Ok said) × WritesRecord said old new)

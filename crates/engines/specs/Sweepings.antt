@@ -1,0 +1,73 @@
+-- What a sweep over a scenario's run answers and writes.
+use Rattle.std.specs.Prelude.{◌≡◌, ℕ, List, [], ◌∷◌, ◌++◌, codes, flat_map, reverse, Option, None, Some, IfSome, Result, Ok}
+use Rattle.std.specs.Io.KnownBytes.{Appends}
+use Rattle.plain_store.specs.declared.commands.Command.{Command}
+use Rattle.course.specs.«record».declared.events.Event.{Event}
+use Rattle.course.specs.«record».declared.events.Event.TheVariants.{Call, Step, Fail, Withdraw, Restart}
+use Rattle.judge.specs.auditor.declared.verdicts.Verdict.{Verdict}
+use Rattle.judge.specs.auditor.declared.verdicts.Verdict.TheVariants.{Good, Bad}
+use Rattle.sweeper.specs.declared.swept.BadRun.{BadRun}
+use Rattle.sweeper.specs.declared.swept.Swept.{Swept}
+use Rattle.sweeper.specs.Shown.{swept_text}
+use Rattle.sweeper.specs.Sweeps.{IsSwept, all_good, cuts}
+use Rattle.scenario.specs.files.Engines.{text_by}
+use Rattle.scenario.specs.files.declared.faults.LineFault.{LineFault}
+use Rattle.scenario.specs.Reading.{Script, scenario_of}
+use Rattle.judge.specs.Judgements.{status_of_verdict}
+use Rattle.course.specs.RunRecords.{accepted_events}
+
+-- the call that an event is, if it is one
+abbrev pub call_of : Event → List (ℕ × Command)
+call_of (Call p command) = (p, command) ∷ []
+call_of (Step p flick) = []
+call_of (Fail p) = []
+call_of (Withdraw p) = []
+call_of (Restart p) = []
+
+-- the calls among events, in their order
+abbrev pub calls_in : List Event → List (ℕ × Command)
+calls_in events = flat_map call_of events
+
+-- the accepted calls of a scenario's run
+abbrev pub accepted_calls : Script → List (ℕ × Command)
+accepted_calls said = calls_in (accepted_events said)
+
+-- what a sweep over a scenario's run finds: it goes along the accepted events, and the accepted calls follow in each run
+abbrev pub IsRunSwept : Script → Swept → Type 0
+IsRunSwept said found = IsSwept said.setup (accepted_events said) (accepted_calls said) found
+
+-- every run is good, so that this is what it finds
+abbrev pub run_swept : Script → Swept
+run_swept said = all_good (cuts said.setup (accepted_calls said) (reverse (accepted_events said)))
+
+-- the lines of what a sweep finds
+abbrev pub swept_lines : Swept → List ℕ
+swept_lines found = swept_text found ++ codes "\n"
+
+-- the text of the sweep over a scenario's run
+abbrev pub swept : Script → List ℕ
+swept said = swept_lines (run_swept said)
+
+-- the text of a file, or its fault
+abbrev pub sweep_text : List ℕ → Result (List ℕ) LineFault
+sweep_text = text_by scenario_of swept
+
+-- the verdict on the first bad run, or that there is none
+abbrev pub first_verdict : Option BadRun → Verdict
+first_verdict None = Good
+first_verdict (Some bad) = Bad bad.entry bad.law
+
+-- the exit status of what a sweep finds: that of its first bad verdict
+abbrev pub status_of_swept : Swept → ℕ
+status_of_swept found = status_of_verdict (first_verdict found.first_bad)
+
+-- what a sweep over a scenario's run finds: its status is answered, and its lines are written
+pub record TellsSweep (said : Script) (status : ℕ) (old new : Option (List ℕ)) : Type 0 where
+  pub found : Swept
+  pub is : IsRunSwept said found
+  pub answer : status ≡ status_of_swept found
+  pub lines : Appends old new (swept_lines found)
+
+-- that of the whole input
+abbrev pub InputTellsSweep : Option (List ℕ) → ℕ → Option (List ℕ) → Option (List ℕ) → Type 0
+InputTellsSweep to_come status old new = IfSome to_come (λ input. (said : Script) × (scenario_of input ≡ Ok said) × TellsSweep said status old new)

@@ -1,0 +1,106 @@
+//! The engine `audit`: the verdict on the record of a scenario's run, of which an auditor hears each entry as the
+//! run makes it. No record is held.
+ghost use Rattle.std.specs.Prelude.{◌≡◌, ◌+◌, ◌-◌, ◌^◌, ◌<◌, IfErr, IfOk, OnOk, None, length};
+ghost use Rattle.std.specs.Io.KnownBytes.{Appends};
+ghost use Rattle.judge.specs.auditor.declared.verdicts.Verdict.TheVariants.{Good};
+ghost use Rattle.judge.specs.auditor.Verdicts.{IsVerdict};
+ghost use Rattle.scenario.specs.files.Engines.{Ran};
+ghost use Rattle.scenario.specs.files.Streams.{ReadsFront, WritesFront};
+ghost use Rattle.scenario.specs.Reads.{script};
+ghost use Rattle.engines.specs.Audits.{InputTellsVerdict, TellsVerdict, audit_text, audited};
+ghost use Rattle.course.specs.Replays.{MakesLine, ended};
+ghost use Rattle.course.specs.Writing.{IsWriteFault, failed_write};
+ghost use Rattle.course.specs.RunRecords.{run_record};
+
+use crate::writing::write_line;
+use course::{Course, Summary};
+use judge::{Audited, status_of, verdict_line};
+use scenario::{Fault, Line, Scenario, Sink, Source, read_input, read_scenario};
+use std::alloc::{AllocError, Global};
+use sweeper::progress::{Onlooker, Place};
+
+/// Reads a whole file, makes its run, of which an auditor hears each entry, and then writes the verdict on its
+/// record, on one line; answers the exit status. However it ends, at most `INPUT_LIMIT` bytes are taken from the
+/// front of the input.
+/// An onlooker hears how far it is: `Nobody`, where nobody is to know.
+pub fn run_audit<R: Source, W: Sink, L: Onlooker>(
+    alloc: Global,
+    input: &mut R,
+    output: &mut W,
+    onlooker: &mut L,
+) -> Result<u8, Fault>
+    requires reads { R.failures input.old < 2 ^ 64 - 1 }
+    requires writes { W.failures output.old < 2 ^ 64 - 1 }
+    ensures ran { Ran audit_text (ended result)
+        (record { to_come = R.to_come input.old; taken = W.taken output.old; read_failures = R.failures input.old; write_failures = W.failures output.old })
+        (record { to_come = R.to_come input.new; taken = W.taken output.new; read_failures = R.failures input.new; write_failures = W.failures output.new }) }
+    ensures input { ReadsFront (R.to_come input.old) (R.to_come input.new) }
+    ensures verdict { IfOk result (λ status. InputTellsVerdict (R.to_come input.old) status (W.taken output.old) (W.taken output.new)) }
+{
+    let file = read_input(alloc, input)?;
+    let scenario = read_scenario(alloc, file.as_slice())?;
+    audit_scenario(alloc, file.as_slice(), &scenario, output, onlooker)
+}
+
+/// Makes the run of a file's scenario, writes the verdict on its record, and answers the exit status.
+fn audit_scenario<W: Sink, L: Onlooker>(
+    alloc: Global,
+    file: &[u8],
+    scenario: &Scenario,
+    output: &mut W,
+    onlooker: &mut L,
+) -> Result<u8, Fault>
+    requires { W.failures output.old < 2 ^ 64 - 1 }
+    ensures ok { OnOk result (Appends (W.taken output.old) (W.taken output.new) (audited (script scenario.now))) }
+    ensures front { WritesFront (W.taken output.old) (W.taken output.new) (audited (script scenario.now)) }
+    ensures verdict { IfOk result (λ status. TellsVerdict (script scenario.now) status (W.taken output.old) (W.taken output.new)) }
+    ensures fault { IfErr result IsWriteFault }
+    ensures failures { W.failures output.new ≡ W.failures output.old + failed_write result }
+{
+    let audited = audit_run(alloc, file, scenario, onlooker)?;
+    write_line(output, verdict_line(alloc, &audited))?;
+    Ok(status_of(&audited.verdict))
+}
+
+/// Makes the run of a file's scenario, of which an auditor hears each entry. The one fault is want of memory.
+fn audit_run<L: Onlooker>(
+    alloc: Global,
+    file: &[u8],
+    scenario: &Scenario,
+    onlooker: &mut L,
+) -> Result<Audited, AllocError>
+    ensures verdict { IfOk result (λ audited. IsVerdict scenario.now.setup (run_record (script scenario.now)) audited.verdict) }
+    ensures good { IfOk result (λ audited. audited.verdict ≡ Good) }
+    ensures entries { IfOk result (λ audited. audited.entries ≡ length (run_record (script scenario.now))) }
+{
+    let mut course = Course::new(alloc, &scenario.setup, true)?;
+    let mut summary = Summary::new();
+    let mut place = Place::before(file, scenario.lines.len());
+    for line in &scenario.lines {
+        onlooker.reached(place.begin_line(summary.events));
+        count_line(&mut course, line, &mut summary)?;
+    }
+    Ok(Audited {
+        verdict: course.verdict(),
+        entries: summary.events,
+    })
+}
+
+/// Makes the turns of a line, and counts them.
+fn count_line(course: &mut Course, line: &Line, summary: &mut Summary) -> Result<(), AllocError>
+    requires events { summary.old.events < 2 ^ 63 }
+    requires refused { summary.old.refused < 2 ^ 63 }
+    ensures ok { OnOk result (MakesLine line.now course.old course.new summary.old summary.new None None) }
+    ensures events { OnOk result (summary.new.events < summary.old.events + 2 ^ 32) }
+    ensures refused { OnOk result (summary.new.refused < summary.old.refused + 2 ^ 32) }
+{
+    course.begin(line);
+    'turns: loop {
+        let turns = course.turns(line)?;
+        summary.events += u64::from(turns.quiet);
+        let Some(told) = turns.told else {
+            return Ok(());
+        };
+        summary.count(&told);
+    }
+}

@@ -1,0 +1,109 @@
+//! The events of a run, and the record of events.
+ghost use Rattle.std.specs.Prelude.{◌≡◌, ◌++◌, true, Ok, IfOk, OnOk, reverse};
+ghost use Rattle.plain_store.specs.Setups.{checked};
+ghost use Rattle.course.specs.«record».declared.Refusal.TheVariants.{Memory};
+ghost use Rattle.course.specs.«record».Given.{AreGiven, is_event};
+ghost use Rattle.course.specs.«record».Headline.{KeepsHeadlineThroughout};
+ghost use Rattle.course.specs.«record».Records.{record_of as record_made};
+ghost use Rattle.judge.specs.record_file.Printing.{record_text};
+ghost use Rattle.judge.specs.record_file.ReadAgain.{FitLines};
+ghost use Rattle.judge.specs.record_file.RecordFiles.{record_of as record_read};
+ghost use Rattle.scenario.specs.Reads.{script};
+ghost use Rattle.engines.specs.Listings.{ListsLine, RecordsEvent, event_told};
+ghost use Rattle.course.specs.RunRecords.{accepted_events};
+
+use course::{Course, Entry, Event, Record, Refusal, Told};
+use plain_store::{NestedTypes, Setup};
+use scenario::{Line, Scenario};
+use std::alloc::{AllocError, Global};
+
+/// The events of a scenario's run that are accepted, in order. The one fault is want of memory.
+pub fn events_of(alloc: Global, scenario: &Scenario) -> Result<Vec<Event>, AllocError>
+    ensures { IfOk result (λ events. events.items ≡ accepted_events (script scenario.now)) }
+{
+    let mut course = Course::new(alloc, &scenario.setup, false)?;
+    let mut events = Vec::new(alloc);
+    for line in &scenario.lines {
+        list_line(&mut course, line, &mut events)?;
+    }
+    Ok(events)
+}
+
+/// Makes the turns of a line, and lists the events that are accepted.
+fn list_line(course: &mut Course, line: &Line, events: &mut Vec<Event>) -> Result<(), AllocError>
+    ensures { OnOk result (ListsLine line.now course.old course.new events.old.items events.new.items) }
+{
+    course.begin(line);
+    'turns: while let Some(told) = course.turn(line)? {
+        list(told, events)?;
+    }
+    Ok(())
+}
+
+/// Lists the event that is told, if one is.
+fn list(told: Told, events: &mut Vec<Event>) -> Result<(), AllocError>
+    ensures { OnOk result (events.new.items ≡ events.old.items ++ event_told told) }
+{
+    let _nested: NestedTypes = None;
+    if let Told::Accepted(made) = &told {
+        events.push(made.event)?;
+    }
+    Ok(())
+}
+
+/// The record of a list of events: an entry for each that is accepted. The one fault is want of memory. Names,
+/// values and counts of the events are what their types allow, and of each entry of the record the headline holds. Each
+/// fits its line in a record file, and what is printed for the record is read as its setup and that record.
+pub fn record_of(alloc: Global, setup: &Setup, events: &[Event]) -> Result<Record, AllocError>
+    requires { checked setup.now ≡ Ok tt }
+    ensures entries { IfOk result (λ made. made ≡ record_made setup.now events.now) }
+    ensures given { OnOk result (AreGiven setup.now (reverse events.now)) }
+    ensures headline { IfOk result (λ made. KeepsHeadlineThroughout setup.now (reverse made)) }
+    ensures fit { IfOk result (λ made. FitLines made) }
+    ensures read_again { IfOk result (λ made. record_read (record_text setup.now made) ≡ Ok (record { setup = setup.now; entries = made })) }
+{
+    let mut world = World::new(alloc, setup)?;
+    let mut entries = Vec::new(alloc);
+    for event in events {
+        record_event(&mut world, event, &mut entries)?;
+    }
+    Ok(Record { entries })
+}
+
+/// Makes an event, and adds its entry, unless it is refused.
+fn record_event(
+    world: &mut World,
+    event: &Event,
+    entries: &mut Vec<Entry>,
+) -> Result<(), AllocError>
+    ensures { OnOk result (RecordsEvent event.now world.old world.new entries.old.items entries.new.items) }
+{
+    sound_event(event);
+    match world.event(*event) {
+        Ok(act) => {
+            let process = event.process();
+            entries.push(Entry { process, act })?;
+            Ok(())
+        }
+        Err(refusal) => passed_over(refusal),
+    }
+}
+
+/// A refused event adds nothing; want of memory is no refusal of the record.
+fn passed_over(refusal: Refusal) -> Result<(), AllocError>
+    ensures { OnOk result (refusal ≡ Memory → ⊥) }
+{
+    match refusal {
+        Refusal::Memory => Err(AllocError),
+        _ => Ok(()),
+    }
+}
+
+/// Does nothing. Its contract says that what the event calls is a command.
+fn sound_event(event: &Event)
+    ensures { is_event event.now ≡ true }
+{
+    if let Event::Call(_, command) = event {
+        command.operands_are_sound();
+    }
+}

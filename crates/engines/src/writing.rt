@@ -1,0 +1,137 @@
+//! How what is told is written, a line at a time.
+ghost use Rattle.std.specs.Prelude.{◌≡◌, ◌+◌, ◌-◌, ◌^◌, ◌<◌, IfOk, IfErr, IsOk, OnOk, OnErr, flat_map};
+ghost use Rattle.std.specs.String.{string_bytes};
+ghost use Rattle.std.specs.Io.KnownBytes.{Appends};
+ghost use Rattle.scenario.specs.files.Streams.{WritesFront};
+ghost use Rattle.course.specs.Summaries.{counted};
+ghost use Rattle.course.specs.Telling.{told_text};
+ghost use Rattle.course.specs.Texts.{mark_line as line_of_mark, turns_line as line_of_turns, end_line as line_at_end};
+ghost use Rattle.course.specs.Writing.{IsWriteFault, failed_write};
+
+use course::{Mark, Summary, Told, refusal_line};
+use scenario::{Fault, Sink, write_all};
+use std::alloc::{AllocError, Global};
+
+/// Writes what is told; `number` is how many events were accepted before it.
+fn write_told<W: Sink>(alloc: Global, number: u64, told: &Told, output: &mut W) -> Result<(), Fault>
+    requires { W.failures output.old < 2 ^ 64 - 1 }
+    ensures ok { OnOk result (Appends (W.taken output.old) (W.taken output.new) (told_text number told.now)) }
+    ensures front { WritesFront (W.taken output.old) (W.taken output.new) (told_text number told.now) }
+    ensures fault { IfErr result IsWriteFault }
+    ensures failures { W.failures output.new ≡ W.failures output.old + failed_write result }
+{
+    match told {
+        Told::Accepted(made) => {
+            let process = made.event.process();
+            write_marks(alloc, number, process, made.marks(alloc).as_slice(), output)
+        }
+        Told::Refused { process, refusal } => {
+            write_line(output, refusal_line(alloc, *process, refusal))
+        }
+        Told::Tired(process) => write_line(output, turns_line(alloc, *process)),
+        Told::Shown(line) => write_all(output, line.as_bytes()),
+    }
+}
+
+/// Writes the marks of the event with this number, in their order, a line each.
+fn write_marks<W: Sink>(
+    alloc: Global,
+    number: u64,
+    process: u8,
+    marks: &[Mark],
+    output: &mut W,
+) -> Result<(), Fault>
+    requires { W.failures output.old < 2 ^ 64 - 1 }
+    ensures ok { OnOk result (Appends (W.taken output.old) (W.taken output.new) (flat_map (line_of_mark number process) marks.now)) }
+    ensures front { WritesFront (W.taken output.old) (W.taken output.new) (flat_map (line_of_mark number process) marks.now) }
+    ensures fault { IfErr result IsWriteFault }
+    ensures failures { W.failures output.new ≡ W.failures output.old + failed_write result }
+{
+    for mark in marks {
+        write_line(output, mark_line(alloc, number, process, mark))?;
+    }
+    Ok(())
+}
+
+/// Writes a line, unless there was no memory for it.
+pub(crate) fn write_line<W: Sink>(
+    output: &mut W,
+    line: Result<String, AllocError>,
+) -> Result<(), Fault>
+    requires { W.failures output.old < 2 ^ 64 - 1 }
+    ensures ok { OnOk result (IfOk line (λ text. Appends (W.taken output.old) (W.taken output.new) (string_bytes text))) }
+    ensures made { OnOk result (IsOk line) }
+    ensures front { IfOk line (λ text. WritesFront (W.taken output.old) (W.taken output.new) (string_bytes text)) }
+    ensures none { OnErr line (W.taken output.new ≡ W.taken output.old) }
+    ensures fault { IfErr result IsWriteFault }
+    ensures failures { W.failures output.new ≡ W.failures output.old + failed_write result }
+{
+    let line = line?;
+    write_all(output, line.as_bytes())
+}
+
+#[tactic(auto, using(crate::proofs::Lines::mark_line_is))]
+fn mark_line(alloc: Global, number: u64, process: u8, mark: &Mark) -> Result<String, AllocError>
+    ensures { IfOk result (λ line. string_bytes line ≡ line_of_mark number process mark.now) }
+{
+    format!(in alloc; "{number} {process} {mark}\n")
+}
+
+#[tactic(auto, using(crate::proofs::Lines::turns_line_is))]
+fn turns_line(alloc: Global, process: u8) -> Result<String, AllocError>
+    ensures { IfOk result (λ line. string_bytes line ≡ line_of_turns process) }
+{
+    format!(in alloc; "- {process} turns\n")
+}
+
+/// The last line of a replay, with these numbers.
+#[tactic(auto, using(crate::proofs::Lines::end_line_is))]
+fn numbers_line(alloc: Global, events: u64, taken: u64, refused: u64) -> Result<String, AllocError>
+    ensures { IfOk result (λ line. string_bytes line ≡ line_at_end (record { events = events; taken = taken; refused = refused })) }
+{
+    format!(in alloc; "end events {events} taken {taken} refused {refused}\n")
+}
+
+/// The last line of a replay.
+fn end_line(alloc: Global, summary: &Summary) -> Result<String, AllocError>
+    ensures { IfOk result (λ line. string_bytes line ≡ line_at_end summary.now) }
+{
+    numbers_line(alloc, summary.events, summary.taken, summary.refused)
+}
+
+/// Writes the last line of a replay.
+#[tactic(auto, using(crate::proofs::Written::line_whole, crate::proofs::Written::line_front))]
+pub(crate) fn write_end<W: Sink>(
+    alloc: Global,
+    summary: &Summary,
+    output: &mut W,
+) -> Result<(), Fault>
+    requires { W.failures output.old < 2 ^ 64 - 1 }
+    ensures ok { OnOk result (Appends (W.taken output.old) (W.taken output.new) (line_at_end summary.now)) }
+    ensures front { WritesFront (W.taken output.old) (W.taken output.new) (line_at_end summary.now) }
+    ensures fault { IfErr result IsWriteFault }
+    ensures failures { W.failures output.new ≡ W.failures output.old + failed_write result }
+{
+    write_line(output, end_line(alloc, summary))
+}
+
+/// Writes and counts what is told.
+pub(crate) fn tell<W: Sink>(
+    alloc: Global,
+    told: Told,
+    summary: &mut Summary,
+    output: &mut W,
+) -> Result<(), Fault>
+    requires writes { W.failures output.old < 2 ^ 64 - 1 }
+    requires events { summary.old.events < 2 ^ 64 - 1 }
+    requires refused { summary.old.refused < 2 ^ 64 - 1 }
+    ensures ok { OnOk result (Appends (W.taken output.old) (W.taken output.new) (told_text summary.old.events told)) }
+    ensures count { OnOk result (summary.new ≡ counted told summary.old) }
+    ensures front { WritesFront (W.taken output.old) (W.taken output.new) (told_text summary.old.events told) }
+    ensures fault { IfErr result IsWriteFault }
+    ensures failures { W.failures output.new ≡ W.failures output.old + failed_write result }
+{
+    write_told(alloc, summary.events, &told, output)?;
+    summary.count(&told);
+    Ok(())
+}

@@ -1,9 +1,0 @@
-use Rattle.std.proofs.Common.{refl}
-use Rattle.replayer.proofs.Recorded.{records_refused}
-use Rattle.replayer.proofs.Written.{ok_then}
-use Rattle.replayer.proofs.listing.record_event.Goals as goal
-
-pub returns-in-Err : goal.returns-in-Err
-returns-in-Err c = ok_then c.passed_over.result
-    (λ other. records_refused c.args.world.now c.event.new.self c.args.event.now c.in-Err.refusal c.args.entries.now.items c.args.entries.now.items c.sound_event.ensures c.in-Err.ensures.refused other c.in-Err.ensures.unchanged refl)
-    c.passed_over.ensures
