@@ -2,8 +2,7 @@
 //! hear each entry as it is made.
 //!
 //! ```rust
-//! course.begin(line);
-//! let turns = course.turns(line)?;
+//! let mut course = Course::new(alloc, &scenario.setup, false)?;
 //! ```
 #![tactic(auto)]
 
