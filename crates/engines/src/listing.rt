@@ -12,7 +12,7 @@ ghost use Rattle.scenario.specs.Reads.{script};
 ghost use Rattle.engines.specs.Listings.{ListsLine, RecordsEvent, event_told};
 ghost use Rattle.course.specs.RunRecords.{accepted_events};
 
-use course::{Course, Entry, Event, Record, Refusal, Told};
+use course::{Course, Entry, Event, Record, Refusal, Told, World};
 use plain_store::{NestedTypes, Setup};
 use scenario::{Line, Scenario};
 use std::alloc::{AllocError, Global};
