@@ -1,7 +1,8 @@
 -- Pasts in which each entry keeps all laws are those of lists of events.
-use Rattle.std.proofs.Common.{◌≡◌, List, [], ◌∷◌, reverse, Option, Some, None, refl, sym, ap, subst, ◌∙◌}
+use Rattle.std.proofs.Common.{◌≡◌, List, [], ◌∷◌, reverse, Option, Some, None, Ok, refl, sym, ap, subst, ◌∙◌}
 use Rattle.std.proofs.lemmas.List.{reverse-reverse}
 use Rattle.plain_store.specs.declared.Setup.{Setup}
+use Rattle.plain_store.specs.Setups.{checked}
 use Rattle.record.specs.declared.events.Event.{Event}
 use Rattle.record.specs.Entries.{Entry, Past}
 use Rattle.record.specs.Records.{entry_of, past_of}
@@ -9,13 +10,15 @@ use Rattle.record.proofs.Width.{is_good}
 use Rattle.watch.proofs.laws.HeldThere.{access_there}
 use Rattle.world.proofs.WorldShows.{past-after}
 use Rattle.auditor.specs.Hearing.{AuditorState, HasHeard}
-use Rattle.auditor.specs.Verdicts.{AllKeep, GoodAccessesAreThere, GoodIsOfEvents, IsOfEvent, IsTrueRecord, OfEventsIsGood}
+use Rattle.auditor.specs.Verdicts.{AllKeep, GoodAccessesAreThere, GoodIsOfEvents, IsGoodOfEvents, IsOfEvent, IsTrueRecord, IsVerdict, OfEventsIsGood}
+use Rattle.auditor.specs.declared.verdicts.Verdict.{Verdict}
 use Rattle.record.specs.Given.{AreGiven}
 use Rattle.record.specs.Headline.{KeepsHeadlineThroughout}
 use Rattle.world.proofs.history_laws_proofs.Given.{given_before}
 use Rattle.world.proofs.history_laws_proofs.Headlines.{throughout}
 use Rattle.auditor.proofs.Obeys.{obeys}
 use Rattle.auditor.proofs.Recovers.{recovers}
+use Rattle.auditor.proofs.Unique.{good_only}
 
 pub of_events : (s : Setup) → (past : Past) → AllKeep s past → (events : List Event) × (past_of s events ≡ past)
 of_events s [] kept = ([], refl)
@@ -46,6 +49,11 @@ good_of s good (what ∷ events) given = go (entry_of s (past_of s events) what)
     go : (o : Option Entry) → entry_of s (past_of s events) what ≡ o → AllKeep s (past_of s events) → AllKeep s (past_of s (what ∷ events))
     go None k before = subst (AllKeep s) (sym (ap (λ o. elim o as (λ _. Past) [ None ↦ past_of s events | Some e ↦ e ∷ past_of s events ]) k)) before
     go (Some e) k before = subst (AllKeep s) (sym (past-after s events what e k)) (obeys s good events what e given k, before)
+
+-- The verdict on the record of given events is that it is good.
+pub good_of_events : (s : Setup) → checked s ≡ Ok tt → (entries : List Entry) (v : Verdict) → IsVerdict s entries v → IsGoodOfEvents s entries v
+good_of_events s good entries v is events same given =
+    good_only s entries v (subst (AllKeep s) (sym (reverse-reverse (past_of s (reverse events))) ∙ ap reverse same) (good_of s good (reverse events) given)) is
 
 pub there_of : GoodAccessesAreThere
 there_of s good [] kept = tt

@@ -124,6 +124,10 @@ pub record IsTrueRecord (s : Setup) (entries : List Entry) : Type 0 where
   pub given : AreGiven s (reverse events)
   pub headline : KeepsHeadlineThroughout s (reverse entries)
 
+-- if the entries are the record of some list of events, whose names, values and counts are what their types allow, the verdict is good
+abbrev pub IsGoodOfEvents : Setup → List Entry → Verdict → Type 0
+IsGoodOfEvents s entries v = (events : List Event) → record_of s events ≡ entries → AreGiven s (reverse events) → v ≡ Good
+
 -- A past in which each entry keeps all laws is that of some list of events.
 abbrev pub GoodIsOfEvents : Type 0
 GoodIsOfEvents = (s : Setup) → checked s ≡ Ok tt → (past : Past) → AllKeep s past → (events : List Event) × (past_of s events ≡ past)

@@ -2,7 +2,7 @@ ghost use Rattle.std.specs.Prelude.{◌≡◌, IfOk, Ok, reverse};
 ghost use Rattle.plain_store.specs.Setups.{checked};
 ghost use Rattle.auditor.specs.Hearing.{BreaksNext};
 ghost use Rattle.auditor.specs.declared.verdicts.Verdict.TheVariants.{Good};
-ghost use Rattle.auditor.specs.Verdicts.{BreaksFirst, IsTrueRecord, IsVerdict};
+ghost use Rattle.auditor.specs.Verdicts.{BreaksFirst, IsGoodOfEvents, IsTrueRecord, IsVerdict};
 
 use crate::auditor::Auditor;
 use crate::verdicts::{Law, Verdict};
@@ -13,11 +13,12 @@ use watch::is_unsafe;
 
 /// The verdict on a record: the lowest entry that breaks a law, and the first law that it breaks. The one fault is want
 /// of memory. It takes the entries one by one, and looks back at most once. A good record is that of some list of
-/// events, and the headline holds of each of its entries.
+/// events, and the headline holds of each of its entries. The record of every list of events is good.
 pub fn audit(alloc: Global, setup: &Setup, given: &Record) -> Result<Verdict, AllocError>
     requires { checked setup.now ≡ Ok tt }
     ensures verdict { IfOk result (λ verdict. IsVerdict setup.now given.now verdict) }
     ensures good { IfOk result (λ verdict. verdict ≡ Good → IsTrueRecord setup.now given.now) }
+    ensures of_events { IfOk result (λ verdict. IsGoodOfEvents setup.now given.now verdict) }
 {
     audit_all(alloc, setup, &given.entries)
 }
@@ -26,6 +27,7 @@ fn audit_all(alloc: Global, setup: &Setup, entries: &[Entry]) -> Result<Verdict,
     requires { checked setup.now ≡ Ok tt }
     ensures verdict { IfOk result (λ verdict. IsVerdict setup.now entries.now verdict) }
     ensures good { IfOk result (λ verdict. verdict ≡ Good → IsTrueRecord setup.now entries.now) }
+    ensures of_events { IfOk result (λ verdict. IsGoodOfEvents setup.now entries.now verdict) }
 {
     let mut auditor = Auditor::new(alloc, setup)?;
     for (number, entry) in entries.iter().enumerate() {

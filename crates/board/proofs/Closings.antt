@@ -44,6 +44,7 @@ use Rattle.history_laws.proofs.Codec.{bytes_read, store_is_read}
 use Rattle.history_laws.proofs.CountedChanges.{then}
 use Rattle.history_laws.proofs.DataAlways.{data_of}
 use Rattle.history_laws.proofs.DataHeadline as headline
+use Rattle.history_laws.proofs.Headlines.{throughout}
 use Rattle.history_laws.proofs.Sound.{IsStoreOf}
 use Rattle.history_laws.proofs.Sounding.{after_is_same}
 use Rattle.process.proofs.Stages.{stage-process}
@@ -54,7 +55,6 @@ use Rattle.board.proofs.CallsStand.{calls_in_the_changes}
 use Rattle.board.specs.Closings.{IsStill, Leaves, bits_shown, bytes_shown, version_shown, versions_shown}
 use Rattle.board.specs.Views.{OwnView, ViewState, own_view, spent_view, stage_in, with_joined}
 use Rattle.board.specs.Words.{closed_word, shown, word_of}
-use Rattle.board.proofs.Headlines.{keeps_all_clauses}
 use Rattle.board.proofs.Seats.{is_first, joins}
 use Rattle.board.proofs.ShownBits.{many-versions}
 
@@ -183,7 +183,7 @@ pub closes : (s : Setup) (id : ℕ) (v : ViewState) (words : List ℕ) (t : Stat
 closes s id v words t image agree at same live zero_ still joined is = record {
   events = events;
   given = f.given;
-  headline = keeps_all_clauses s f.good events f.given;
+  headline = throughout s f.good events f.given;
   quiet = quiet;
   calls = ap (λ (o : OwnView). o.calls) mine;
   seen = k.seen;

@@ -8,7 +8,6 @@ pub mod Closings
 pub mod Drives
 pub mod EntryMarks
 pub mod Happenings
-pub mod Headlines
 pub mod KnownCalls
 pub mod Leads
 pub mod Listings

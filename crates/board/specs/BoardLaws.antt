@@ -16,7 +16,7 @@ use Rattle.record.specs.declared.events.Event.{Event}
 use Rattle.record.specs.declared.history.Taken.{Taken}
 use Rattle.record.specs.Entries.{Past}
 use Rattle.record.specs.Given.{EachPastGiven}
-use Rattle.record.specs.Headline.{count_changes}
+use Rattle.record.specs.Headline.{KeepsHeadlineThroughout, count_changes}
 use Rattle.record.specs.Histories.{history, store_after}
 use Rattle.record.specs.Records.{past_of, process_of, refused}
 use Rattle.record.specs.Stages.{stage}
@@ -27,7 +27,6 @@ use Rattle.board.specs.Driving.{Drives}
 use Rattle.board.specs.declared.driving.Driven.{Driven}
 use Rattle.board.specs.Calls.{IsPrefix, and_then, calls_of, changes_of}
 use Rattle.record.specs.declared.calls.Placed.{Placed}
-use Rattle.board.specs.Headlines.{KeepsAllClauses}
 use Rattle.board.specs.Lists.{StandsIn, store_at}
 use Rattle.board.specs.Views.{MayAllHappen, ViewState, refusal_in, stage_in, with_events}
 use Rattle.board.specs.Words.{bit_of, word_of, words_in}
@@ -56,7 +55,7 @@ RefusalsAreTheRecords = EachView λ s events v since. (event : Event) → proces
 -- Where words and views agree, they show the record of some events, in which begin and end of each read are neighbours, and that record keeps the headline.
 abbrev pub BoardsKeepTheHeadline : Type 0
 BoardsKeepTheHeadline = (s : Setup) (words : List ℕ) (views : List ViewState) → Agree s words views →
-    (events : List Event) × Shows s events words views × (are_neighbours (past_of s events) ≡ true) × KeepsAllClauses s (past_of s events)
+    (events : List Event) × Shows s events words views × (are_neighbours (past_of s events) ≡ true) × KeepsHeadlineThroughout s (past_of s events)
 
 -- The store after the changes alone is the store after the history; so it is at each place of the history, after as many changes as were taken before.
 abbrev pub ChangesMakeTheStore : Type 0

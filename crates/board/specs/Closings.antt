@@ -11,6 +11,7 @@ use Rattle.record.specs.declared.events.Event.{Event}
 use Rattle.record.specs.declared.history.Taken.{Taken}
 use Rattle.record.specs.declared.stages.Stage.TheVariants.{Down, Idle}
 use Rattle.record.specs.Given.{AreGiven}
+use Rattle.record.specs.Headline.{KeepsHeadlineThroughout}
 use Rattle.record.specs.Histories.{store_after}
 use Rattle.record.specs.Newest.{copy}
 use Rattle.record.specs.Program.{Version, image_field, newest_process, stamp_field, version_of}
@@ -20,7 +21,6 @@ use Rattle.process.specs.laws.Doings.{doing}
 use Rattle.board.specs.Agreement.{IsIn, IsQuiet}
 use Rattle.board.specs.Boards.{BoardState, IsOf}
 use Rattle.board.specs.Calls.{Calls, IsPrefix, calls_of, changes_of}
-use Rattle.board.specs.Headlines.{KeepsAllClauses}
 use Rattle.board.specs.Lists.{StandsIn}
 use Rattle.board.specs.Ports.{PortState}
 use Rattle.board.specs.Views.{OwnView, ViewState, stage_in}
@@ -84,7 +84,7 @@ pub record HasJoined (count : ℕ) (v w : ViewState) : Type 0 where
 pub record Leaves (s : Setup) (its_calls : Calls) (has_seen : List Taken) (image : Contents) : Type 0 where
   pub events : List Event
   pub given : AreGiven s events
-  pub headline : KeepsAllClauses s (past_of s events)
+  pub headline : KeepsHeadlineThroughout s (past_of s events)
   pub quiet : (p : ℕ) → p < s.processes → IsQuiet (doing s p (past_of s events))
   pub calls : its_calls ≡ calls_of s 0 (past_of s events)
   pub seen : IsPrefix has_seen (changes_of s (past_of s events))

@@ -8,7 +8,6 @@ pub mod Boards
 pub mod Calls
 pub mod Closings
 pub mod Driving
-pub mod Headlines
 pub mod Listing
 pub mod Lists
 pub mod Pending

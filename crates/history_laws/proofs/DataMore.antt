@@ -3,13 +3,14 @@ use Rattle.std.proofs.Common.{ℕ, ◌<◌, ◌≤◌, ◌^◌, ◌-◌, sym, ap
 use Rattle.plain_store.specs.Setups.{callers_of}
 use Rattle.plain_store.specs.Store.{Contents}
 use Rattle.record.specs.Entries.{Past}
+use Rattle.record.specs.Headline.{ImagesAreOfTheStore}
 use Rattle.record.specs.Program.{newest_stamp}
 use Rattle.record.specs.Records.{past_of}
 use Rattle.record.specs.Registers.{bytes_of_bits, image_bytes}
 use Rattle.record.proofs.Width.{is_good}
 use Rattle.laws.specs.Doings.{doing}
 use Rattle.laws.proofs.Invariant.{wires}
-use Rattle.history_laws.specs.DataLaws.{ChangesFitTheStamps, ImagesAreOfTheStore, NewestStampCountsTheChanges}
+use Rattle.history_laws.specs.DataLaws.{ChangesFitTheStamps, NewestStampCountsTheChanges}
 use Rattle.history_laws.proofs.Codec.{image_read}
 use Rattle.history_laws.proofs.CountedChanges.{count_is}
 use Rattle.history_laws.proofs.DataAlways.{data_of}

@@ -5,14 +5,17 @@ use Rattle.plain_store.specs.Setups.{checked}
 use Rattle.record.specs.declared.events.Event.{Event}
 use Rattle.record.specs.Entries.{Entry, Past}
 use Rattle.record.specs.Given.{AreGiven}
-use Rattle.record.specs.Headline.{AnsweredCallsTakeNoMore, AnswersAreTaken, AnswersStandInHistory, CallsTakeOnce, CallsTakeWhatTheyAnswer, CutCallsAreNotAnswered, Headline, IsAlone, KeepsHeadline, KeepsHeadlineThroughout, KeepsOrder, MutualExclusion, NoOvertaking, OneHistory, PlacesKeepOrder, TakenOnce}
+use Rattle.record.specs.Headline.{AnsweredCallsTakeNoMore, AnswersAreTaken, AnswersStandInHistory, AsksTheLatestChange, CallsTakeOnce, CallsTakeWhatTheyAnswer, CutCallsAreNotAnswered, Headline, IsAlone, KeepsHeadline, KeepsHeadlineThroughout, KeepsOrder, MutualExclusion, NoOvertaking, OneHistory, PlacesKeepOrder, TakenOnce, TellsOfCutCalls}
 use Rattle.record.specs.Records.{entry_of, past_of}
 use Rattle.record.proofs.Width.{is_good}
 use Rattle.laws.proofs.Always.{inv_of}
 use Rattle.laws.proofs.Theorems as lock
+use Rattle.laws.proofs.DoorwayEnds.{full_names_the_lowest, waiters_read_none}
 use Rattle.history_laws.proofs.Answered.{answered_whole, answers_stand}
+use Rattle.history_laws.proofs.Asked.{ask_answers, ask_tells}
 use Rattle.history_laws.proofs.CallSpans.{before}
-use Rattle.history_laws.proofs.DataHeadline.{taken}
+use Rattle.history_laws.proofs.DataHeadline.{full, taken, unoverlapped}
+use Rattle.history_laws.proofs.DataMore.{images_of_the_store}
 use Rattle.history_laws.proofs.Given.{given_before}
 use Rattle.history_laws.proofs.Order as history
 
@@ -51,20 +54,27 @@ history_is_one = record {
   order = keeps_order;
 }
 
--- A past with one entry more is that of one event more.
-with-entry : (s : Setup) (P : Past → Type 0) → ((events : List Event) → P (past_of s events)) → (events : List Event) (event : Event) (e : Entry) → entry_of s (past_of s events) event ≡ Some e → P (e ∷ past_of s events)
-with-entry s P all events event e is = subst P (ap (λ o. elim o as (λ _. Past) [ None ↦ past_of s events | Some x ↦ x ∷ past_of s events ]) is) (all (event ∷ events))
+-- What holds of the past of one event more holds of the past with the entry that it adds.
+with-entry : (s : Setup) (P : Past → Type 0) (events : List Event) (event : Event) (e : Entry) → entry_of s (past_of s events) event ≡ Some e → P (past_of s (event ∷ events)) → P (e ∷ past_of s events)
+with-entry s P events event e is = subst P (ap (λ o. elim o as (λ _. Past) [ None ↦ past_of s events | Some x ↦ x ∷ past_of s events ]) is)
 
 pub the_headline : Headline
 the_headline s h events event e given is = record {
-  alone = with-entry s IsAlone (alone s h) events event e is;
+  alone = with-entry s IsAlone events event e is (alone s h (event ∷ events));
   overtakes = in_turn s h events event e is;
   place = taken s h events event e given is;
   stands = stand s h events event e given is;
-  answers = with-entry s CallsTakeWhatTheyAnswer (answered_take_no_more s h) events event e is;
+  answers = with-entry s CallsTakeWhatTheyAnswer events event e is (answered_take_no_more s h (event ∷ events));
   cut = cut_calls s h events event e is;
-  once = with-entry s CallsTakeOnce (taken_once s h) events event e is;
-  order = with-entry s PlacesKeepOrder (keeps_order s h) events event e is;
+  once = with-entry s CallsTakeOnce events event e is (taken_once s h (event ∷ events));
+  order = with-entry s PlacesKeepOrder events event e is (keeps_order s h (event ∷ events));
+  unoverlapped = unoverlapped s h events event e is;
+  images = images_of_the_store s h events event e given is;
+  waits = waiters_read_none s (is_good s h) events event e is;
+  tickets = full_names_the_lowest s (is_good s h) events event e is;
+  stamps = full s h events event e given is;
+  asks = with-entry s (AsksTheLatestChange s) events event e is (ask_answers taken s h (event ∷ events) given);
+  tells = with-entry s (TellsOfCutCalls s) events event e is (ask_tells taken s h (event ∷ events) given);
 }
 
 -- Each entry of a past keeps the headline: it was added by an event, to the past before it.

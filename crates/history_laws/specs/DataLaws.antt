@@ -1,25 +1,12 @@
 -- Laws of the data beside those that record's headline states, of the record of every list of events.
-use Rattle.std.specs.Prelude.{◌≡◌, ℕ, ◌+◌, ◌<◌, ◌≤◌, ◌∷◌, take, slice_get, Some, IsTrue, IsFalse}
-use Rattle.record.specs.declared.access.Access.{Access}
-use Rattle.record.specs.store_image.Reading.{IsImageOf}
-use Rattle.plain_store.specs.Setups.{callers_of}
+use Rattle.std.specs.Prelude.{◌≡◌, ℕ, ◌<◌, ◌≤◌, take, slice_get, Some, IsFalse}
 use Rattle.plain_store.specs.Store.{reply_to}
 use Rattle.record.specs.declared.history.Taken.{Taken}
-use Rattle.record.specs.Calls.{read_so_far}
-use Rattle.record.specs.Entries.{own, since, is_called}
-use Rattle.record.specs.Given.{EachEntryGiven, EachPastGiven}
-use Rattle.record.specs.Headline.{ends_read, is_image}
+use Rattle.record.specs.Given.{EachPastGiven}
 use Rattle.record.specs.Histories.{history, store_after}
 use Rattle.record.specs.Newest.{is_somebody_inside, versions_held}
 use Rattle.record.specs.Program.{max_of, newest_stamp}
-use Rattle.record.specs.Registers.{bytes_of_bits, image_bytes, width}
-use Rattle.record.specs.Unit.{last_read}
 use Rattle.history_laws.specs.Stamps.{changes_taken}
-
--- The image that a process reads inside is that of the store after the history so far.
-abbrev pub ImagesAreOfTheStore : Type 0
-ImagesAreOfTheStore = EachEntryGiven λ s past e. (a : Access) → e.access ≡ Some a → IsTrue (is_image a.field) → IsTrue (ends_read a.how) → a.bit + 1 ≡ width s a.field →
-    IsImageOf (callers_of s) (bytes_of_bits (image_bytes s) (last_read (read_so_far s (since is_called (own e.process (e ∷ past)))).finished)) (store_after s (history s past))
 
 -- Each command of the history has the one-thread store's reply after those before it.
 abbrev pub RepliesAreThoseOfTheirPlaces : Type 0

@@ -2,9 +2,9 @@
 //! is of every setup that the check passes, of every list of events, refused ones among them, and of every
 //! flick. Where a law speaks of a store, the names, values and counts of the events are what their types
 //! allow.
-ghost use Rattle.record.specs.Headline.{AskAnswersTheLatestChange, AskTellsOfCutCalls, Headline, HeadlineThroughout, ImagesAreRead, MutualExclusion, NewestIsTheHistorys, NoOvertaking, OneHistory, StampsFullAfterAllChanges, VersionReadsAreUnoverlapped, VersionsAreWholeOutside};
+ghost use Rattle.record.specs.Headline.{AskAnswersTheLatestChange, AskTellsOfCutCalls, Headline, HeadlineThroughout, ImagesAreOfTheStore, ImagesAreRead, MutualExclusion, NewestIsTheHistorys, NoOvertaking, OneHistory, StampsFullAfterAllChanges, VersionReadsAreUnoverlapped, VersionsAreWholeOutside};
 ghost use Rattle.history_laws.specs.Stamps.{HistoryStandsWhileInside, StampsCountTheChanges};
-ghost use Rattle.history_laws.specs.DataLaws.{ChangesFitTheStamps, ImagesAreOfTheStore, NewestStampCountsTheChanges, NumbersAscend, RepliesAreThoseOfTheirPlaces};
+ghost use Rattle.history_laws.specs.DataLaws.{ChangesFitTheStamps, NewestStampCountsTheChanges, NumbersAscend, RepliesAreThoseOfTheirPlaces};
 
 /// No read of a commit bit, of a stamp or of an image is overlapped by a write, and the bytes that a process
 /// reads as an image inside are an image: that of the one-thread store after the history so far.
@@ -55,10 +55,12 @@ pub fn ask_tells_of_changes()
 
 /// The headline: of every record, whatever overlapped reads return, no two processes are inside the critical
 /// section together; nobody overtakes a process whose doorway finished first; every store answer is the
-/// one-thread store's at its place in one history that keeps the order of calls that do not overlap.
+/// one-thread store's at its place in one history that keeps the order of calls that do not overlap; no read
+/// of the data is overlapped, and an image that is read is that of the store after the history so far;
+/// `TicketsFull`, `StampsFull` and the answer to `Ask` tell what is so.
 ///
-/// It is said of each entry and the past that it is added to, and so of each entry of a past. The first two
-/// hold also where names and values are not what their types allow.
+/// It is said of each entry and the past that it is added to, and so of each entry of a past. Mutual exclusion
+/// and no overtaking hold also where names and values are not what their types allow.
 pub fn headline()
     ensures entries { Headline }
     ensures pasts { HeadlineThroughout }

@@ -58,6 +58,7 @@ pub mod Theorems
 pub mod AheadLists
 pub mod FullAnswers
 pub mod Takings
+pub mod UnitSteps
 -- Who is first in the line of tickets
 pub mod PartTickets
 pub mod HeldTickets

@@ -13,7 +13,7 @@ use Rattle.record.specs.declared.marks.Mark.{Mark}
 use Rattle.record.specs.declared.marks.Mark.TheVariants.{Waiting, Taken, Answered}
 use Rattle.record.specs.declared.stages.Stage.TheVariants as stages
 use Rattle.record.specs.Doorways.{doorway_begin, doorway_end, is_before, is_queued, ahead}
-use Rattle.record.specs.Entries.{Entry, Past, has, is_entered}
+use Rattle.record.specs.Entries.{Entry, Past, has, is_entered, is_failed, own, since}
 use Rattle.record.specs.Headline.{EachPast, EachEntry, is_version, lowest_full, tickets_read}
 use Rattle.record.specs.Moves.{moves_of}
 use Rattle.record.specs.Program.{max_of}
@@ -102,3 +102,9 @@ is_taken _ = false
 -- Commands are taken by a process that is inside, or by its memory unit, alone.
 abbrev pub TakenInside : Type 0
 TakenInside = EachEntry λ s past e. IsTrue (has is_taken e) → IsTrue (inside e.process past) × ((j : ℕ) → IsTrue (inside j past) → j ≡ e.process)
+
+-- Memory units.
+
+-- The memory unit of a failed process makes 1,088 accesses at most: while it is at work, fewer were made since the failure.
+abbrev pub UnitsAreShort : Type 0
+UnitsAreShort = EachPast λ s past. (p : ℕ) → stage p past ≡ stages.Settling → length (since is_failed (own p past)) < 1088

@@ -2,7 +2,7 @@
 //! ones among them, and of every flick.
 ghost use Rattle.record.specs.Headline.{MutualExclusion, NoOvertaking, TicketsFullNamesTheLowest, WaitersReadNoGreatestTicket};
 ghost use Rattle.record.specs.Laws.{AcceptedAdds, OthersStay, OwnEntry, RefusedAddsNothing};
-ghost use Rattle.laws.specs.LockLaws.{AheadAreThoseBefore, AheadAscends, AheadIsOfTheQueued, AloneInside, EachTicketIsRead, NobodyIsAheadOfItself, NobodyIsAheadOfWhoEnters, ReadsEndAsTheyMay, ReadsEndByTheirFlick, TakenInside, TicketsFullExactly, VersionsAreTouchedInside, VersionsAreWrittenByTheirOwner, WaitersAreAheadOfACall};
+ghost use Rattle.laws.specs.LockLaws.{AheadAreThoseBefore, AheadAscends, AheadIsOfTheQueued, AloneInside, EachTicketIsRead, NobodyIsAheadOfItself, NobodyIsAheadOfWhoEnters, ReadsEndAsTheyMay, ReadsEndByTheirFlick, TakenInside, TicketsFullExactly, UnitsAreShort, VersionsAreTouchedInside, VersionsAreWrittenByTheirOwner, WaitersAreAheadOfACall};
 
 /// No two processes are inside the critical section together. A process that failed inside is inside until
 /// its memory unit begins to clear its ticket. (Lamport 1974, with this project's failure rule.)
@@ -63,4 +63,11 @@ pub fn alone_inside()
     ensures touched { VersionsAreTouchedInside }
     ensures written { VersionsAreWrittenByTheirOwner }
     ensures taken { TakenInside }
+{}
+
+/// The memory unit of a failed process makes at most 1,088 accesses, begin and end on each of 16 copies: of the torn
+/// bit, of 32 bits of the ticket, and of the choosing bit. While it is at work its process has made fewer entries
+/// since it failed. (This project's own failure rule.)
+pub fn units_are_short()
+    ensures { UnitsAreShort }
 {}

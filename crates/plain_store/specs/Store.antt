@@ -1,5 +1,5 @@
 -- The one-thread store: its state, the reply to each command and the state after it.
-use Rattle.std.specs.Prelude.{ℕ, Bool, true, ◌&&◌, nat_lt, if◌then◌else◌, List, [], ◌∷◌, length, Option, Some, None, is_none, slice_index, slice_set, replicate}
+use Rattle.std.specs.Prelude.{◌≢◌, ◌↔◌, IsTrue, ℕ, Bool, true, ◌&&◌, nat_lt, if◌then◌else◌, List, [], ◌∷◌, length, Option, Some, None, is_none, slice_index, slice_set, replicate}
 use Rattle.std.specs.List.{list_all}
 use Rattle.std.specs.Str.{bytes_eq}
 use Rattle.std.specs.Map.{lookup}
@@ -76,3 +76,7 @@ changes s command = is_new (value_for s.pairs (name_of command)) (outcome_in s c
 abbrev pub after : Contents → Command → Caller → Contents
 after s command caller =
     record { pairs = pairs_after s command; slots = s.slots; numbers = if changes s command then slice_set s.numbers caller.process caller.number else s.numbers }
+
+-- A command changes the store exactly if other pairs stand after it, whoever gives it.
+abbrev pub ChangesArePairs : Type 0
+ChangesArePairs = (s : Contents) (command : Command) (caller : Caller) → IsTrue (changes s command) ↔ ((after s command caller).pairs ≢ s.pairs)

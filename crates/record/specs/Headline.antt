@@ -133,28 +133,6 @@ pub record OneHistory : Type 0 where
   pub cut : CutCallsAreNotAnswered
   pub order : KeepsOrder
 
--- The headline, of one entry and the past that it is added to: the processes go inside one at a time and in the order of their doorways, and their replies are those of one thread that takes the commands of one history.
-pub record KeepsHeadline (s : Setup) (past : Past) (e : Entry) : Type 0 where
-  pub alone : IsAlone (e ∷ past)  -- no two are inside together, a failed one among them until its unit lets go
-  pub overtakes : OvertakesNobody past e  -- nobody gets inside past one that waits and had finished its doorway before the other began its own
-  pub place : TakesItsPlace s past e  -- what is taken has its place, and the one-thread store's reply there
-  pub stands : StandsInHistory s past e  -- a store answer stands in the history, with its process, command, reply and number
-  pub answers : CallsTakeWhatTheyAnswer (e ∷ past)  -- it is the reply of the one command of its call
-  pub cut : AnswersNoCutCall past e  -- a call that was cut is never answered
-  pub once : CallsTakeOnce (e ∷ past)  -- and is taken at most once
-  pub order : PlacesKeepOrder (e ∷ past)  -- places keep the order of calls that do not overlap
-
--- The headline: each entry of every record keeps it.
-abbrev pub Headline : Type 0
-Headline = EachEntryGiven KeepsHeadline
-
--- The headline of one past: each of its entries keeps it.
-abbrev pub KeepsHeadlineThroughout : Setup → Past → Type 0
-KeepsHeadlineThroughout s past = (later earlier : Past) (e : Entry) → past ≡ later ++ e ∷ earlier → KeepsHeadline s earlier e
-
-abbrev pub HeadlineThroughout : Type 0
-HeadlineThroughout = EachPastGiven KeepsHeadlineThroughout
-
 -- a register of a version
 abbrev pub is_version : Field → Bool
 is_version Choosing = false
@@ -173,13 +151,27 @@ ends_read (EndRead v) = true
 ends_read _ = false
 
 -- No read of a commit bit, a stamp or an image is overlapped.
+abbrev pub ReadsUnoverlapped : Past → Entry → Type 0
+ReadsUnoverlapped past e = (a : Access) → e.access ≡ Some a → IsTrue (is_version a.field) → IsTrue (ends_read a.how) → IsFalse (is_overlapped (moves_of a past))
+
 abbrev pub VersionReadsAreUnoverlapped : Type 0
-VersionReadsAreUnoverlapped = EachEntry λ s past e. (a : Access) → e.access ≡ Some a → IsTrue (is_version a.field) → IsTrue (ends_read a.how) → IsFalse (is_overlapped (moves_of a past))
+VersionReadsAreUnoverlapped = EachEntry λ s past e. ReadsUnoverlapped past e
+
+-- where an entry ends the read of an image, this holds of the bytes that its process has read
+abbrev pub OfImageRead : Setup → Past → Entry → (List ℕ → Type 0) → Type 0
+OfImageRead s past e P = (a : Access) → e.access ≡ Some a → IsTrue (is_image a.field) → IsTrue (ends_read a.how) → a.bit + 1 ≡ width s a.field →
+    P (bytes_of_bits (image_bytes s) (last_read (read_so_far s (since is_called (own e.process (e ∷ past)))).finished))
 
 -- The bytes that a process reads as an image are an image.
 abbrev pub ImagesAreRead : Type 0
-ImagesAreRead = EachEntryGiven λ s past e. (a : Access) → e.access ≡ Some a → IsTrue (is_image a.field) → IsTrue (ends_read a.how) → a.bit + 1 ≡ width s a.field →
-    (store : Contents) × IsImageOf (callers_of s) (bytes_of_bits (image_bytes s) (last_read (read_so_far s (since is_called (own e.process (e ∷ past)))).finished)) store
+ImagesAreRead = EachEntryGiven λ s past e. OfImageRead s past e (λ bytes. (store : Contents) × IsImageOf (callers_of s) bytes store)
+
+-- The image that a process reads inside is that of the store after the history so far.
+abbrev pub ReadsTheStore : Setup → Past → Entry → Type 0
+ReadsTheStore s past e = OfImageRead s past e (λ bytes. IsImageOf (callers_of s) bytes (store_after s (history s past)))
+
+abbrev pub ImagesAreOfTheStore : Type 0
+ImagesAreOfTheStore = EachEntryGiven ReadsTheStore
 
 -- the tickets that a process has read in its doorway, one of each other process, ascending
 abbrev pub tickets_read : Setup → ℕ → Past → List ℕ
@@ -191,13 +183,19 @@ lowest_full top (j ∷ js) (t ∷ ts) = cond (t == top) (Some j) (lowest_full to
 lowest_full top _ _ = None
 
 -- A doorway that ends with a ticket has read no greatest ticket.
+abbrev pub HasReadNoGreatest : Setup → Past → Entry → Type 0
+HasReadNoGreatest s past e = IsTrue (has is_waiting e) → lowest_full (max_of s.ticket_bits) (others s e.process) (tickets_read s e.process past) ≡ None
+
 abbrev pub WaitersReadNoGreatestTicket : Type 0
-WaitersReadNoGreatestTicket = EachEntry λ s past e. IsTrue (has is_waiting e) → lowest_full (max_of s.ticket_bits) (others s e.process) (tickets_read s e.process past) ≡ None
+WaitersReadNoGreatestTicket = EachEntry HasReadNoGreatest
 
 -- A doorway that ends with `TicketsFull` has read the greatest ticket, and it names the lowest process whose read gave it.
-abbrev pub TicketsFullNamesTheLowest : Type 0
-TicketsFullNamesTheLowest = EachEntry λ s past e. (j : ℕ) → Contains e.marks (Answered (answer.TicketsFull j)) →
+abbrev pub NamesTheLowest : Setup → Past → Entry → Type 0
+NamesTheLowest s past e = (j : ℕ) → Contains e.marks (Answered (answer.TicketsFull j)) →
     lowest_full (max_of s.ticket_bits) (others s e.process) (tickets_read s e.process past) ≡ Some j
+
+abbrev pub TicketsFullNamesTheLowest : Type 0
+TicketsFullNamesTheLowest = EachEntry NamesTheLowest
 
 -- p ends the read of an image
 abbrev pub ends_image_read : ℕ → Entry → Bool
@@ -216,10 +214,13 @@ count_changes store (t ∷ history) =
     cond (changes store t.command) (suc (count_changes next history)) (count_changes next history)
 
 -- `StampsFull` is answered only to a command that would change the store after the history when it was read, and only where as many changes were taken as the greatest stamp.
-abbrev pub StampsFullAfterAllChanges : Type 0
-StampsFullAfterAllChanges = EachEntryGiven λ s past e. Contains e.marks (Answered answer.StampsFull) →
+abbrev pub IsAfterAllChanges : Setup → Past → Entry → Type 0
+IsAfterAllChanges s past e = Contains e.marks (Answered answer.StampsFull) →
     let read = history s (before_image_read e.process past) in
     (changes (store_after s read) (call_of s past e).command ≡ true) × (count_changes (opening_store s) read ≡ max_of s.stamp_bits)
+
+abbrev pub StampsFullAfterAllChanges : Type 0
+StampsFullAfterAllChanges = EachEntryGiven IsAfterAllChanges
 
 -- While nobody is inside, the registers hold the image of the one-thread store after the history, call numbers too.
 abbrev pub NewestIsTheHistorys : Type 0
@@ -236,9 +237,12 @@ latest_change p store (t ∷ history) last =
     latest_change p (after store t.command (record { process = t.process; number = t.number })) history (cond ((t.process == p) && changes store t.command) t.number last)
 
 -- `Ask` answers the number of the asker's latest change in the history before its place, or 0.
-abbrev pub AskAnswersTheLatestChange : Type 0
-AskAnswersTheLatestChange = EachPastGiven λ s past. (k : ℕ) (t : Taken) → slice_get (history s past) k ≡ Some t → t.command ≡ Ask →
+abbrev pub AsksTheLatestChange : Setup → Past → Type 0
+AsksTheLatestChange s past = (k : ℕ) (t : Taken) → slice_get (history s past) k ≡ Some t → t.command ≡ Ask →
     t.reply ≡ Last (latest_change t.process (opening_store s) (take k (history s past)) 0)
+
+abbrev pub AskAnswersTheLatestChange : Type 0
+AskAnswersTheLatestChange = EachPastGiven AsksTheLatestChange
 
 -- among these commands, taken one after the other, there is a change by p whose number passes the test
 abbrev pub has_change : ℕ → (ℕ → Bool) → Contents → List Taken → Bool
@@ -248,7 +252,39 @@ has_change p test store (t ∷ history) =
     || has_change p test (after store t.command (record { process = t.process; number = t.number })) history
 
 -- In version 2, where `Ask` is answered and no change of its process that is later than its call number m stands before it, call m was taken as a change exactly if the answer is `Last(m)`.
-abbrev pub AskTellsOfCutCalls : Type 0
-AskTellsOfCutCalls = EachPastGiven λ s past. s.version ≡ 2 → (k m : ℕ) (t : Taken) → slice_get (history s past) k ≡ Some t → t.command ≡ Ask → 0 < m → m < t.number →
+abbrev pub TellsOfCutCalls : Setup → Past → Type 0
+TellsOfCutCalls s past = s.version ≡ 2 → (k m : ℕ) (t : Taken) → slice_get (history s past) k ≡ Some t → t.command ≡ Ask → 0 < m → m < t.number →
     IsFalse (has_change t.process (nat_lt m) (opening_store s) (take k (history s past))) →
     IsTrue (has_change t.process (λ n. n == m) (opening_store s) (history s past)) ↔ (t.reply ≡ Last m)
+
+abbrev pub AskTellsOfCutCalls : Type 0
+AskTellsOfCutCalls = EachPastGiven TellsOfCutCalls
+
+-- The headline, of one entry and the past that it is added to: the processes go inside one at a time and in the order of their doorways; their replies are those of one thread that takes the commands of one history; what they read of the data is whole; and the answers `TicketsFull`, `StampsFull` and that to `Ask` tell what is so.
+pub record KeepsHeadline (s : Setup) (past : Past) (e : Entry) : Type 0 where
+  pub alone : IsAlone (e ∷ past)  -- no two are inside together, a failed one among them until its unit lets go
+  pub overtakes : OvertakesNobody past e  -- nobody gets inside past one that waits and had finished its doorway before the other began its own
+  pub place : TakesItsPlace s past e  -- what is taken has its place, and the one-thread store's reply there
+  pub stands : StandsInHistory s past e  -- a store answer stands in the history, with its process, command, reply and number
+  pub answers : CallsTakeWhatTheyAnswer (e ∷ past)  -- it is the reply of the one command of its call
+  pub cut : AnswersNoCutCall past e  -- a call that was cut is never answered
+  pub once : CallsTakeOnce (e ∷ past)  -- and is taken at most once
+  pub order : PlacesKeepOrder (e ∷ past)  -- places keep the order of calls that do not overlap
+  pub unoverlapped : ReadsUnoverlapped past e  -- no read of a commit bit, a stamp or an image is overlapped
+  pub images : ReadsTheStore s past e  -- what is read as an image is that of the store after the history so far
+  pub waits : HasReadNoGreatest s past e  -- a doorway ends with a ticket only where no read of it gave the greatest one
+  pub tickets : NamesTheLowest s past e  -- and with `TicketsFull` only where one did, of the lowest process whose read did
+  pub stamps : IsAfterAllChanges s past e  -- `StampsFull` is answered only to a change, after as many as the greatest stamp
+  pub asks : AsksTheLatestChange s (e ∷ past)  -- `Ask` answers the number of the asker's latest change before its place, or 0
+  pub tells : TellsOfCutCalls s (e ∷ past)  -- and so tells of a call that was cut whether it was taken as a change
+
+-- The headline: each entry of every record keeps it.
+abbrev pub Headline : Type 0
+Headline = EachEntryGiven KeepsHeadline
+
+-- The headline of one past: each of its entries keeps it.
+abbrev pub KeepsHeadlineThroughout : Setup → Past → Type 0
+KeepsHeadlineThroughout s past = (later earlier : Past) (e : Entry) → past ≡ later ++ e ∷ earlier → KeepsHeadline s earlier e
+
+abbrev pub HeadlineThroughout : Type 0
+HeadlineThroughout = EachPastGiven KeepsHeadlineThroughout

@@ -6,7 +6,7 @@ use Rattle.auditor.specs.Hearing.{BreaksNext, HasHeard}
 use Rattle.auditor.specs.Verdicts.{AllKeep, KeepsAll}
 use Rattle.watch.proofs.Entries.{entries_more}
 use Rattle.auditor.proofs.Firsts.{is_bad_at}
-use Rattle.auditor.proofs.Whole.{true_record}
+use Rattle.auditor.proofs.Whole.{good_of_events, true_record}
 use Rattle.auditor.proofs.auditing.audit_all.Goals as goal
 
 pub first_law-requires-clause-breaks : goal.first_law-requires-clause-breaks
@@ -32,3 +32,9 @@ loop-number-preserved c =
 pub returns-clause-good : goal.returns-clause-good
 returns-clause-good c = λ is. true_record c.loop-number.auditor c.args.setup.now c.args.entries.now c.loop-number.invariant.setup
     (subst (λ (l : List Entry). HasHeard c.loop-number.auditor (reverse l)) (take_all c.loop-number.number c.args.entries.now c.loop-number-test.false) c.loop-number.invariant.heard)
+
+pub returns-clause-of_events : goal.returns-clause-of_events
+returns-clause-of_events c = λ events same given. refl
+
+pub returns-in-Some-clause-of_events : goal.returns-in-Some-clause-of_events
+returns-in-Some-clause-of_events c = good_of_events c.args.setup.now c.requires c.args.entries.now _ (returns-in-Some-clause-verdict c)
