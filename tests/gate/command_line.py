@@ -61,7 +61,7 @@ CASES = [
     (["draw", "-"], "bakery 1\nprocesses 0\n", (1, "", "line 2: bad-setup\n")),
     (["draw-svg", "-"], "bakery 1\nprocesses 0\n", (1, "", "line 2: bad-setup\n")),
     (["draw", "--reads", "-"], "bakery 1\nprocesses 0\n", (1, "", "line 2: bad-setup\n")),
-    (["--reads", "draw-svg", "."], SCENARIO, (1, "", "read fault\n")),
+    (["draw-svg", ".", "--reads"], SCENARIO, (1, "", "read fault\n")),
 ]
 
 

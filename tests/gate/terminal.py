@@ -1,6 +1,6 @@
 #!/usr/bin/env python3
 """How the proved program meets a person at a terminal: its pages, whose examples are made; why words are refused; lines that
-come as they are made, and the line that shows how far a run is; reads and writes that a signal interrupts.
+come as they are made, and the line that shows how far a run is; reads and writes that a signal interrupts, and a write that fails.
 
 It needs `cc`, `rt` and pseudo-terminals, and the program that `rt ci` or `rt run` leaves in crates/bakerystore. A library loaded
 before the program interrupts its calls, counts them, and sets its clock (`interrupt.c`).
@@ -29,7 +29,6 @@ from lib.preloading import built
 COMMANDS = ["plain", "bits", "replay", "audit", "sweep", "race", "record", "judge", "draw", "draw-svg"]
 KINDS = ["too-long", "not-first", "unknown", "words", "number", "bad-name", "bad-value", "bad-setup", "memory"]
 FAULT_LINES = ["read fault", "write fault", "out of memory", "no thread"]
-USAGE = "usage: bakerystore COMMAND FILE  (FILE - is standard input; without words: plain -; commands: bakerystore --help)\n"
 SCENARIO = "bakery 1\ncall 0 add a 1\n"
 PRINTED = "0 0 no-name\n"
 RECORD = "record 1\nprocesses 2\ntickets 4\nstamps 4\nslots 1\n0 : call add a 1\n"
@@ -37,35 +36,40 @@ RECORD = "record 1\nprocesses 2\ntickets 4\nstamps 4\nslots 1\n0 : call add a 1\
 SHOWN = re.compile(r"^( +)\$ (.*)\n((?:\1(?! |\$ ).*\n)*)", re.M)
 CLEAR = "\r\x1b[K"
 
-# words that ask for nothing that there is, and why
+# words that ask for nothing that there is: why, the tip if there is one, and what the usage line says behind the program's name
+ANY = "[OPTIONS] [COMMAND]"
+LONG = f"--{'y' * 62}.."
 REFUSED = [
-    (["rplay", "-"], "unknown command `rplay` (did you mean `replay`?)"),
-    (["Plain", "-"], "unknown command `Plain` (did you mean `plain`?)"),
-    (["show", "a file"], "unknown command `show`"),
-    (["", "-"], "unknown command ``"),
-    (["a\nb\x1b[K"], "unknown command `a\\nb\\u{1b}[K`"),
-    (["help", "raec"], "unknown command `raec` (did you mean `race`?)"),
-    (["hepl"], "unknown command `hepl` (did you mean `help`?)"),
-    (["bit", "--help"], "unknown command `bit` (did you mean `bits`?)"),
-    (["-"], "unknown command `-`"),
-    (["plain"], "no FILE behind `plain` (`-` is standard input)"),
-    (["--quiet", "audit"], "no FILE behind `audit` (`-` is standard input)"),
-    (["plain", "a file", "-"], "too many words, from `-` on"),
-    (["help", "plain", "bits", "race"], "too many words, from `bits` on"),
-    (["--version", "plain"], "too many words, from `plain` on"),
-    (["plain", "-x"], "unknown option `-x` (a file of that name is `./-x`)"),
-    (["--hlep"], "unknown option `--hlep` (a file of that name is `./--hlep`)"),
-    (["replay", "--reads", "-"], "`replay` has no option `--reads` (draw and draw-svg have)"),
-    (["--reads"], "`plain` has no option `--reads` (draw and draw-svg have)"),
-    (["--reads", "draw"], "no FILE behind `draw` (`-` is standard input)"),
-    (["draw", "--read", "-"], "unknown option `--read` (a file of that name is `./--read`)"),
-    (["plain", b"\xff"], "a word is not UTF-8 (a file of such a name can be given by: bakerystore COMMAND - < FILE)"),
+    (["a\nb\x1b[K"], "unrecognized subcommand 'a\\nb\\u{1b}[K'", "", ANY),
+    (["x" * 64], f"unrecognized subcommand '{'x' * 64}'", "", ANY),
+    (["x" * 100_000], f"unrecognized subcommand '{'x' * 64}..'", "", ANY),
+    (["plain", "a file", f"x{'é' * 100}"], f"unexpected argument 'x{'é' * 31}..' found", "", "plain [OPTIONS] <FILE>"),
+    (["plain", f"--{'y' * 63}"], f"unexpected argument '{LONG}' found", f"to pass '{LONG}' as a value, use '-- {LONG}'", "plain [OPTIONS] <FILE>"),
+    (["plain", "a file", "\x1b[31m"], "unexpected argument '\\u{1b}[31m' found", "", "plain [OPTIONS] <FILE>"),
+    (["plain"], "the following required arguments were not provided:\n  <FILE>", "", "plain <FILE>"),
+    (["plain", "-", "--quiet", "--quiet"], "the argument '--quiet' cannot be used multiple times", "", "plain [OPTIONS] <FILE>"),
+    (["draw", "--reads", "--reads", "-"], "the argument '--reads' cannot be used multiple times", "", "draw [OPTIONS] <FILE>"),
+    (["--quiet", "audit"], "the following required arguments were not provided:\n  <FILE>", "", "audit <FILE>"),
+    (["plain", "a file", "-"], "unexpected argument '-' found", "", "plain [OPTIONS] <FILE>"),
+    (["--", "plain", "a file"], "unexpected argument 'plain' found", "subcommand 'plain' exists; to use it, remove the '--' before it", ANY),
+    (["help", "plain", "bits", "race"], "unexpected argument 'bits' found", "", "help [OPTIONS] [PAGE]"),
+    (["plain", "-x"], "unexpected argument '-x' found", "to pass '-x' as a value, use '-- -x'", "plain [OPTIONS] <FILE>"),
+    (["--hlep"], "unexpected argument '--hlep' found", "a similar argument exists: '--help'", "--help"),
+    (["plain", "--version"], "unexpected argument '--version' found", "to pass '--version' as a value, use '-- --version'", "plain [OPTIONS] <FILE>"),
+    (["replay", "--reads", "-"], "unexpected argument '--reads' found", "to pass '--reads' as a value, use '-- --reads'", "replay [OPTIONS] <FILE>"),
+    (["--reads"], "unexpected argument '--reads' found", "", ANY),
+    (["--reads", "draw", "-"], "unexpected argument '--reads' found", "'draw --reads' exists", ANY),
+    (["draw", "--reads"], "the following required arguments were not provided:\n  <FILE>", "", "draw --reads <FILE>"),
+    (["draw", "--read", "-"], "unexpected argument '--read' found", "a similar argument exists: '--reads'", "draw --reads <FILE>"),
+    (["plain", b"\xff"], "a word is not UTF-8 (a file of such a name can be given by: bakerystore COMMAND - < FILE)", "", ANY),
 ]
+
+# words in the place of a command that are none
+NO_COMMANDS = ["rplay", "Plain", "show", "", "raec", "hepl", "bit", "-", "plian", *(f"{command}z" for command in [*COMMANDS, "help"])]
 
 # words that ask for something, and what is printed
 TAKEN = [
     (["--"], PRINTED),
-    (["--", "plain", "a file"], PRINTED),
     (["plain", "--", "a file"], PRINTED),
     (["plain", "--", "-x"], PRINTED),
     (["plain", "./-x"], PRINTED),
@@ -73,6 +77,7 @@ TAKEN = [
     (["--quiet"], PRINTED),
     (["plain", "--quiet", "a file"], PRINTED),
     (["plain", "a file", "--quiet"], PRINTED),
+    (["--quiet", "plain", "a file", "--quiet"], PRINTED),
 ]
 
 
@@ -82,6 +87,39 @@ class Ran(NamedTuple):
     status: int
     output: str | None
     errors: str | None
+
+
+def told(why, tip, usage):
+    """What `clap` tells of words that it does not take."""
+    tip = tip and f"\n\n  tip: {tip}"
+    return f"error: {why}{tip}\n\nUsage: bakerystore {usage}\n\nFor more information, try '--help'.\n"
+
+
+def jaro(one, other):
+    """The Jaro similarity of two words."""
+    if one == other:
+        return 1.0
+    apart = max(max(len(one), len(other)) // 2 - 1, 0)
+    met = [False] * len(other)
+    common = []
+    for at, letter in enumerate(one):
+        for place in range(max(at - apart, 0), min(at + apart + 1, len(other))):
+            if not met[place] and other[place] == letter:
+                met[place] = True
+                common.append(letter)
+                break
+    if not common:
+        return 0.0
+    there = [letter for letter, is_met in zip(other, met) if is_met]
+    swapped = sum(mine != theirs for mine, theirs in zip(common, there)) // 2
+    return (len(common) / len(one) + len(common) / len(other) + (len(common) - swapped) / len(common)) / 3
+
+
+def near(word):
+    """The tip that names the commands near to a word, the nearest last."""
+    names = sorted((name for name in [*COMMANDS, "help"] if jaro(word, name) > 0.7), key=lambda name: jaro(word, name))
+    are = "a similar subcommand exists" if len(names) == 1 else "some similar subcommands exist"
+    return f"{are}: " + ", ".join(f"'{name}'" for name in names) if names else ""
 
 
 def run(words, text="", **streams):
@@ -95,18 +133,18 @@ def pages(counter):
     """The pages come by each of their words, tell all there is, and each command that they show prints what they show."""
     general = run(["--help"])
     texts = {"--help": general.output}
-    for words in [["-h"], ["help"], ["help", "help"], ["help", "--help"], ["-h", "--quiet"]]:
+    for words in [["-h"], ["help"], ["help", "help"], ["help", "--help"], ["help", "-h"], ["-h", "--quiet"], ["--help", "plain"]]:
         counter.compare(words, run(words), general)
     listed = general.output.partition("\n\n  help COMMAND")[0]
     counter.compare("commands of the page", re.findall(r"^  ([a-z-]+) +\S", listed, re.M), COMMANDS)
     counter.compare("statuses of the page", re.findall(r"^  (\d)   ", general.output, re.M), list("01234"))
     for command in COMMANDS:
         page = texts[command] = run(["help", command])
-        for words in [[command, "--help"], ["-h", command], [command, "a file", "--help"]]:
+        for words in [[command, "--help"], [command, "-h"], ["help", "--quiet", command], [command, "a file", "--help"]]:
             counter.compare(words, run(words), page)
         texts[command] = page.output
-        option = " [--reads]" if command in ("draw", "draw-svg") else ""
-        counter.compare(f"begin of the page of {command}", page.output.splitlines()[0], f"usage: bakerystore {command}{option} FILE")
+        usage = run([command, "-", "-"]).errors.splitlines()[2]
+        counter.compare(f"begin of the page of {command}", (page.output.splitlines()[0], usage), (f"Usage: bakerystore {command} [OPTIONS] <FILE>",) * 2)
     faults = texts["faults"] = run(["help", "faults"]).output
     counter.compare("kinds of fault", re.findall(r"^([a-z]+(?:-[a-z]+)?)  +[A-Z]", faults, re.M), KINDS)
     counter.compare("other faults", re.findall(r"^([a-z]+(?: [a-z]+)+)  +[A-Z]", faults, re.M), FAULT_LINES)
@@ -134,14 +172,16 @@ def shell(command):
 
 
 def words(counter, folder):
-    """Words that are refused say why, above the usage line; `--` ends the options; the version names the logic."""
+    """Words that are refused say why, above the usage line, and a near command; `--` ends the options; the version names the
+    logic."""
     for name in ["a file", "-x"]:
         (folder / name).write_text(SCENARIO)
-    for asked, why in REFUSED:
-        counter.compare(asked, run(asked, SCENARIO, cwd=folder), Ran(2, "", f"{why}\n{USAGE}"))
-    for command in [*COMMANDS, "help"]:
-        why = f"unknown command `{command}z` (did you mean `{command}`?)"
-        counter.compare(f"nearest command to {command}z", run([f"{command}z", "-"]), Ran(2, "", f"{why}\n{USAGE}"))
+    for asked, *why in REFUSED:
+        counter.compare(asked, run(asked, SCENARIO, cwd=folder), Ran(2, "", told(*why)))
+    for word in NO_COMMANDS:
+        refused = Ran(2, "", told(f"unrecognized subcommand '{word}'", near(word), ANY))
+        for asked in [[word], [word, "-"], [word, "--help"], ["help", word]]:
+            counter.compare(asked, run(asked, SCENARIO, cwd=folder), refused)
     for asked, printed in TAKEN:
         counter.compare(asked, run(asked, SCENARIO, cwd=folder), Ran(0, printed, ""))
     with open(os.fsencode(folder) + b"/\xff", "w") as file:
@@ -155,6 +195,8 @@ def words(counter, folder):
     logics = {line.rpartition(" logic ")[2] for line in named[1].splitlines()} if named else None
     counter.compare("the logic of the toolchains that docs/CLAIMS.md names", logics, {logic})
     version = run(["--version"])
+    for asked in [["-V"], ["--version", "plain", "a file"]]:
+        counter.compare(asked, run(asked), version)
     counter.compare("the version, number left out", re.sub(r"\d+\.\d+\.\d+", "N", version.output), f"bakerystore N, proved in Rattle's logic {logic}\n")
     counter.compare("its status", (version.status, version.errors), (0, ""))
 
@@ -188,9 +230,10 @@ class Interrupter:
     def __init__(self, folder):
         self.library, self.met = built("interrupt", folder), folder / "met"
 
-    def run(self, asked, text="", tries=0, tick=0, **streams):
-        """A run, and how many reads and writes it met."""
+    def run(self, asked, text="", tries=0, tick=0, failing=0, **streams):
+        """A run, of which the write of the number `failing` to standard output fails, and how many reads and writes it met."""
         added = {"LD_PRELOAD": str(self.library), "MET": str(self.met), "TRIES": str(tries), "TICK": str(tick)}
+        added |= {"STREAM": "1", "CALL": str(failing), "HOW": "fail"} if failing else {}
         ran = run(asked, text, env={**os.environ, **added}, **streams)
         reads, writes, *_ = map(int, self.met.read_text().split())
         return ran, reads, writes
@@ -238,11 +281,10 @@ def progress(counter, interrupter):
     spaced = scenario.replace("\n", "\n# a comment\n")
     times = range(20, 33, 2)
     shown = "".join(f"\r{asked - 1} events so far, 9 a second, line {2 * asked + 3} of the file\x1b[K" for asked in times) + CLEAR
-    # `draw-svg` makes the run twice: its lines come again, at the times from 33 on
+    # `draw-svg` makes the run twice: its lines come again, at the times from 33 on, behind the 32 events of the first time
     again = shown.removesuffix(CLEAR)
     for asked in range(34, 65, 2):
-        events = asked - 33
-        again += f"\r{events} events so far, {10 * events // asked} a second, line {2 * events + 5} of the file\x1b[K"
+        again += f"\r{asked - 1} events so far, 9 a second, line {2 * (asked - 32) + 3} of the file, for the second time\x1b[K"
     again += CLEAR
     for command in ["replay", "record", "audit", "draw", "draw-svg"]:
         alone = run([command, "-"], spaced)
@@ -309,6 +351,24 @@ def interrupted(counter, interrupter, folder):
     counter.compare("a long text, interrupted at a terminal", (ran, terminal.text()), (Ran(0, None, ""), sums))
 
 
+def failed_writes(counter, interrupter):
+    """After a write that failed nothing is written: what stands there is what was written before it."""
+    scenario, text = marks(16)
+    lines = text.splitlines(keepends=True)
+    for failing in [1, 2, 3, len(lines)]:
+        terminal = Terminal()
+        ran, _, writes = interrupter.run(["replay", "-"], scenario, failing=failing, stdout=terminal.end)
+        counter.compare(f"write {failing} to a terminal fails", (ran, terminal.text()), (Ran(1, None, "write fault\n"), "".join(lines[: failing - 1])))
+        # the fault is told by a write of its own
+        counter.compare(f"writes made where write {failing} fails", writes, failing + 1)
+    for asked, given in [*(([command, "-"], SCENARIO) for command in COMMANDS if command not in ("bits", "judge")), (["judge", "-"], RECORD), (["--help"], "")]:
+        ran, *_ = interrupter.run(asked, given, failing=1)
+        counter.compare(f"the one write of {asked} fails", ran, Ran(1, "", "write fault\n"))
+    whole = run(["draw", "-"], scenario).output
+    ran, *_ = interrupter.run(["draw", "-"], scenario, failing=2)
+    counter.compare("the second block fails", (ran, 0 < len(ran.output) < len(whole)), (Ran(1, whole[: len(ran.output)], "write fault\n"), True))
+
+
 def gone(counter):
     """A reader that went away is a write fault, whatever is written."""
     streamed = [["plain", "-"], ["replay", "-"], ["record", "-"], ["draw", "-"], ["draw-svg", "-"]]
@@ -329,6 +389,7 @@ def main():
         lines_at_a_terminal(counter, interrupter)
         progress(counter, interrupter)
         interrupted(counter, interrupter, folder)
+        failed_writes(counter, interrupter)
         gone(counter)
     counter.end()
 

@@ -2,7 +2,7 @@
 goes away; an input never ends; files cannot be read.
 
 After a `read fault` nothing was written. A failed write, and one that takes nothing, is a `write fault` behind a front of the
-text. A fault that standard error does not take is told by the status alone.
+text, and nothing is written after it. A fault that standard error does not take is told by the status alone.
 """
 
 import contextlib
@@ -74,7 +74,7 @@ def spoiled_calls(spoiler, command, text, most):
                 yield command, text, most, stream, call, how
 
 
-def is_as_it_must(ran, whole, cut, stream, how):
+def is_as_it_must(ran, whole, cut, most, stream, call, how):
     """Whether a run of which a call was spoiled ended as it must; `whole` is the run without that, `cut` the one on what was read
     before a read that takes nothing."""
     if how == "one":
@@ -82,7 +82,9 @@ def is_as_it_must(ran, whole, cut, stream, how):
     if stream == READS:
         return ran == (READ_FAULT if how == "fail" else cut)
     if stream == OUTPUT:
-        return (ran.status, ran.errors) == WRITE_FAULT and whole.output.startswith(ran.output)
+        written = len(ran.output)
+        is_before = written < len(whole.output) and (written <= most * (call - 1) or most == 0 and call > 1)
+        return (ran.status, ran.errors) == WRITE_FAULT and whole.output.startswith(ran.output) and is_before
     return (ran.status, ran.output) == (whole.status, whole.output) and whole.errors.startswith(ran.errors)
 
 
@@ -99,7 +101,7 @@ def spoil(spoiler, job):
     cut = plainly(command, text[: most * (call - 1)] if most else b"" if call == 1 else text)
     ran, *_ = spoiler.run([command, "-"], text, MOST=most, STREAM=stream, CALL=call, HOW=how)
     what = f"each {STREAMS[stream]} in turn {HOWS[how]}"
-    if is_as_it_must(ran, whole, cut, stream, how):
+    if is_as_it_must(ran, whole, cut, most, stream, call, how):
         return what, f"`{command}`", None
     return what, f"`{command}`", f"call {call} of at most {most} bytes: {ran}, without it {whole}, on a cut file {cut}"
 

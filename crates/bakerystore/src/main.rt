@@ -4,15 +4,14 @@
 ghost use Rattle.std.specs.Prelude.{◌-◌, ◌<◌, ◌^◌};
 
 use command_line::{
-    Asked, Engine, Output, Page, Request, Terminals, USAGE, USAGE_STATUS, WatchedInput, Watcher,
-    WordsFault, read_words, text_of,
+    Asked, Engine, Intake, Output, Request, Terminals, WatchedInput, Watcher, all_words, read_words,
 };
 use drawer::progress::Onlooker;
 use drawer::{Reads, draw, draw_svg};
 use engines::{replay, run_audit, run_bits, run_judge, run_plain, run_record, run_sweep};
 use race::{RunFault, run_fault_status, run_race};
-use scenario::{DONE, Fault, FromRead, IntoWrite, Sink, Source, ended};
-use std::env::{self, Env};
+use scenario::{Fault, FromRead, IntoWrite, Sink, Source, ended};
+use std::env::Env;
 use std::fs::{File, Files};
 use std::io;
 use std::io::{BufReader, ErrorKind, Input, IsTerminal, Read, Write};
@@ -26,55 +25,22 @@ fn main(rt: HostRuntime) -> ExitCode {
         output: rt.stdout().is_terminal(),
         error: rt.stderr().is_terminal(),
     };
-    ExitCode::from(match all_words(&rt) {
-        Ok(words) => do_asked(&rt, words.as_slice(), terminals),
-        Err(fault) => misused(&rt, &fault),
-    })
-}
-
-/// The program's words, of which the first is its own name.
-fn all_words<T: Env + AllocGlobal>(rt: &T) -> Result<Vec<String>, WordsFault<'static>> {
-    let arguments = match env::args(rt) {
-        Ok(arguments) => arguments,
-        Err(error) if error.kind() == ErrorKind::OutOfMemory => return Err(WordsFault::Memory),
-        Err(_) => return Err(WordsFault::NotText),
-    };
-    let mut words = Vec::new(rt.alloc());
-    for word in arguments {
-        if words.push(word).is_err() {
-            return Err(WordsFault::Memory);
-        }
-    }
-    Ok(words)
+    ExitCode::from(told(&rt, do_asked(&rt, terminals)))
 }
 
 /// Does what the words ask for, and answers the exit status.
-fn do_asked<T: Files + Input + Print + Eprint + Clock + AllocGlobal + Threads + Wait + Sync>(
+fn do_asked<T: Env + Files + Input + Print + Eprint + Clock + AllocGlobal + Threads + Wait + Sync>(
     rt: &T,
-    words: &[String],
     terminals: Terminals,
-) -> u8 {
-    match read_words(rt.alloc(), words) {
-        Ok(Asked::Run(request)) => told(rt, run(rt, &request, terminals)),
-        Ok(Asked::Tell(page)) => told(rt, tell(rt, page)),
-        Err(fault) => misused(rt, &fault),
-    }
-}
-
-/// Tells why the words ask for nothing that there is, or that they could not be read; answers the exit status.
-fn misused<T: Eprint>(rt: &T, fault: &WordsFault<'_>) -> u8 {
-    if let WordsFault::Memory = fault {
-        return told(rt, Err(Fault::Memory.into()));
-    }
-    let _ = eprintln!(rt; "{fault}\n{USAGE}");
-    USAGE_STATUS
-}
-
-/// Prints a page to standard output.
-fn tell<T: Print>(rt: &T, page: Page) -> Result<u8, RunFault> {
-    match rt.write_all(text_of(page).as_bytes()) {
-        Ok(()) => Ok(DONE),
-        Err(_) => Err(Fault::Write.into()),
+) -> Result<u8, RunFault> {
+    let words = match all_words(rt) {
+        Ok(words) => words,
+        Err(notice) => return Ok(notice.tell(rt)?),
+    };
+    match read_words(rt.alloc(), words.as_slice()) {
+        Ok(Asked::Run(request)) => run(rt, &request, terminals),
+        Ok(Asked::Tell(page)) => Ok(page.tell(rt)?),
+        Err(notice) => Ok(notice.tell(rt)?),
     }
 }
 
@@ -108,8 +74,7 @@ fn run_on<T: Print + Eprint + Clock + AllocGlobal + Threads + Wait + Sync, R: Re
         return Err(Fault::Memory.into());
     };
     let shows = terminals.error && !terminals.output && !request.quiet;
-    // Of `judge` the input tells how far it is; the other engines have read all of theirs before they run.
-    let from_input = request.engine == Engine::Judge;
+    let from_input = request.command.intake == Intake::Streamed;
     let mut input = WatchedInput::new(FromRead::new(reader), rt, shows && from_input);
     let mut output = IntoWrite::new(&mut writer);
     let mut watcher = Watcher::new(rt, rt.alloc(), shows && !from_input);
@@ -137,7 +102,7 @@ fn run_engine<T: AllocGlobal + Threads + Wait + Sync, R: Source, W: Sink, L: Onl
     requires writes { W.failures output.old < 2 ^ 64 - 1 }
 {
     let alloc = rt.alloc();
-    let ran = match request.engine {
+    let ran = match request.command.engine {
         Engine::Plain => ended(run_plain(alloc, input, output)),
         Engine::Bits => ended(run_bits(alloc, input, output)),
         Engine::Replay => ended(replay(alloc, input, output, onlooker)),

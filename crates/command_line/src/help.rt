@@ -1,67 +1,24 @@
-//! The pages that tell the program's words and faults. Each line behind `$ ` is a command, with what it prints below.
-use crate::words::{Engine, Page};
-
-/// The text of a page.
-pub fn text_of(page: Page) -> &'static str {
-    match page {
-        Page::Words => WORDS,
-        Page::Command(engine) => text_of_command(engine),
-        Page::Faults => FAULTS,
-        Page::Version => VERSION,
-    }
-}
-
-/// The text of the page of a command.
-fn text_of_command(engine: Engine) -> &'static str {
-    match engine {
-        Engine::Plain => PLAIN,
-        Engine::Bits => BITS,
-        Engine::Replay => REPLAY,
-        Engine::Audit => AUDIT,
-        Engine::Sweep => SWEEP,
-        Engine::Race => RACE,
-        Engine::Record => RECORD,
-        Engine::Judge => JUDGE,
-        Engine::Draw => DRAW,
-        Engine::DrawSvg => DRAW_SVG,
-    }
-}
+//! The pages that tell the program's words and faults. Each line behind `$ ` is a command, with what it prints below. Above
+//! the page of a command, and of all words, stands the usage line, as `clap` has it.
 
 /// The program's version, and the logic in which it was proved, as the toolchain names it. Builds of the toolchain
 /// whose logic is the same prove the same.
-const VERSION: &str = "bakerystore 0.1.0, proved in Rattle's logic dac8208d650f15bf\n";
+pub const VERSION: &str = "0.1.0, proved in Rattle's logic dac8208d650f15bf";
 
-/// All words.
-const WORDS: &str = r"usage: bakerystore COMMAND FILE   (FILE - is standard input)
+/// The page of all words, from its usage line to the commands.
+pub const WORDS: &str = r"       bakerystore COMMAND FILE   (FILE - is standard input)
        bakerystore                does what `bakerystore plain -` does
 
 Commands, each with an example:
 
-  plain    the calls of a scenario, on the one-thread store
-           $ bakerystore plain examples/counters.bakery
-  bits     the accesses of a bits file, to one safe bit
-           $ bakerystore bits examples/overlap.bits
-  replay   the run of a scenario: calls, single steps, failures, restarts
-           $ bakerystore replay examples/torn-commit.bakery
-  audit    the same run, each entry of its record judged
-           $ bakerystore audit examples/torn-commit.bakery
-  sweep    runs in which a process fails after one event of that run, counted
-           $ bakerystore sweep examples/torn-commit.bakery
-  race     the calls of a scenario, each process on a thread of its own
-           $ bakerystore race examples/refusals.bakery
-  record   the record of a scenario's run, entry by entry
-           $ bakerystore record examples/failed-read.bakery
-  judge    a record, whoever made it: good, or the first law that is broken
-           $ bakerystore judge examples/failed-read.record
-  draw     the picture of a scenario's run, as a page for a browser
-           $ bakerystore draw examples/torn-commit.bakery
-  draw-svg the same as one picture
-           $ bakerystore draw-svg examples/torn-commit.bakery
+";
 
+/// The rest of that page, below the commands.
+pub const MORE_WORDS: &str = r"
   help COMMAND, COMMAND --help   what a command reads and prints
   help faults                    the kinds of fault, with their causes
   help, --help, -h               this page
-  --version                      the version, and the logic it was proved in
+  --version, -V                  the version, and the logic it was proved in
 
 Options:
 
@@ -70,7 +27,7 @@ Options:
             output is none, a run of more than two seconds shows there how far it is
             (but plain and bits, which are soon done, and race, of which all threads
             run at once, show nothing)
-  --        ends the options: what is behind it is a command or a file
+  --        ends the options: what is behind it is a file
 
 Exit status:
 
@@ -84,8 +41,7 @@ Where to read on: README.md, examples/README.md and docs/MODEL.md.
 ";
 
 /// The page of `plain`.
-const PLAIN: &str = r"usage: bakerystore plain FILE
-
+pub const PLAIN: &str = r"
 Makes the calls of a scenario on the one-thread store, in the order of the file.
 Each call prints its place, its process and its reply, and each `show` the store.
 Other lines are passed over. The lines of a scenario: bakerystore help replay
@@ -97,8 +53,7 @@ Other lines are passed over. The lines of a scenario: bakerystore help replay
 ";
 
 /// The page of `bits`.
-const BITS: &str = r"usage: bakerystore bits FILE
-
+pub const BITS: &str = r"
 Makes single accesses to one safe bit, which opens at 0. Each read that ends prints
 what it gave, and each line whose access is not in its turn prints `refused`.
 
@@ -118,8 +73,7 @@ The first line is `bits 1`. The other lines:
 ";
 
 /// The page of `replay`.
-const REPLAY: &str = r"usage: bakerystore replay FILE
-
+pub const REPLAY: &str = r"
 Makes the run of a scenario. Each line: the number of the event, the process, and
 what has happened; the last line counts events, commands taken and refusals.
 
@@ -149,8 +103,7 @@ README.md tells a longer run in words.
 ";
 
 /// The page of `audit`.
-const AUDIT: &str = r"usage: bakerystore audit FILE
-
+pub const AUDIT: &str = r"
 Makes the run of a scenario, as replay does, and judges each entry of its record.
 Prints `good` and the number of entries; or `bad`, the lowest entry that breaks a
 law, and the law, and then ends with status 3. The lines of a scenario:
@@ -161,8 +114,7 @@ bakerystore help replay
 ";
 
 /// The page of `sweep`.
-const SWEEP: &str = r"usage: bakerystore sweep FILE
-
+pub const SWEEP: &str = r"
 Makes the run of a scenario, as replay does, and after each of its events two more
 runs, in which the process of the event fails and is restarted, everybody goes on,
 and the calls of the file are made again. Prints how many such runs there are, how
@@ -174,8 +126,7 @@ bakerystore help replay
 ";
 
 /// The page of `race`.
-const RACE: &str = r"usage: bakerystore race FILE
-
+pub const RACE: &str = r"
 Makes the `call` lines of each process of a scenario on a thread of its own. Prints
 the refused calls; each answer, behind its process and its place; the store that is
 left; and `good` if all that is one history, else `bad`, with status 3. The threads
@@ -189,8 +140,7 @@ decide who comes first. The lines of a scenario: bakerystore help replay
 ";
 
 /// The page of `record`.
-const RECORD: &str = r"usage: bakerystore record FILE
-
+pub const RECORD: &str = r"
 Makes the run of a scenario, as replay does, and prints its record: the setup, and
 each entry on a line of its own. The lines of a scenario: bakerystore help replay
 The lines of a record: docs/RECORDS.md
@@ -206,8 +156,7 @@ The lines of a record: docs/RECORDS.md
 ";
 
 /// The page of `judge`.
-const JUDGE: &str = r"usage: bakerystore judge FILE
-
+pub const JUDGE: &str = r"
 Reads a record to its end, whoever made it. Prints `good` and the number of entries
 where it is the record of a run; else `bad`, the lowest entry that breaks a law, and
 the law, and then ends with status 3. The lines of a record: docs/RECORDS.md
@@ -217,8 +166,7 @@ the law, and then ends with status 3. The lines of a record: docs/RECORDS.md
 ";
 
 /// The page of `draw`.
-const DRAW: &str = r"usage: bakerystore draw [--reads] FILE
-
+pub const DRAW: &str = r"
 Makes the run of a scenario, as replay does, and writes its picture as one page for
 a browser, which needs nothing else: a lane for each process, its marks and what it
 is doing, above the one history; the lines that replay prints can be read off it.
@@ -234,8 +182,7 @@ The lines of a scenario: bakerystore help replay
 ";
 
 /// The page of `draw-svg`.
-const DRAW_SVG: &str = r"usage: bakerystore draw-svg [--reads] FILE
-
+pub const DRAW_SVG: &str = r"
 Writes the picture of the run of a scenario as one picture, without a page round it.
 With --reads it shows the reads too that writes overlapped, as draw does.
 What a picture shows: docs/PICTURE.md
@@ -247,7 +194,7 @@ The lines of a scenario: bakerystore help replay
 ";
 
 /// The kinds of fault.
-const FAULTS: &str =
+pub const FAULTS: &str =
     r"Of a file with faults one is told, on standard error: the first of the first faulty
 line, as `line <n>: <kind>`. Then nothing was run, no verdict is told, and the status
 is 1. Every line counts, from 1 on. The kinds, about in the order in which they are

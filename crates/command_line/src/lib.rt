@@ -1,14 +1,18 @@
 //! What stands between the program and who runs it: its words and pages, and how it writes to a terminal.
 #![tactic(auto)]
 
+mod commands;
 mod help;
+mod notices;
+mod pages;
+mod program;
 mod progress;
 mod terminal;
-mod usage;
 mod words;
 
-pub use help::text_of;
+pub use commands::{Engine, Entry, Intake};
+pub use notices::Notice;
+pub use pages::Page;
 pub use progress::{WatchedInput, Watcher};
 pub use terminal::{Output, Terminals};
-pub use usage::{USAGE, USAGE_STATUS, WordsFault};
-pub use words::{Asked, Engine, Page, Request, read_words};
+pub use words::{Asked, Request, all_words, read_words};

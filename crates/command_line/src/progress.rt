@@ -55,8 +55,13 @@ impl<'a, T: Clock + Eprint> Onlooker for Watcher<'a, T> {
             Reached::Line(place) => {
                 let (events, number) = (place.events(), place.number(self.alloc));
                 let speed = in_a_second(events, millis);
+                let again = if place.is_again() {
+                    ", for the second time"
+                } else {
+                    ""
+                };
                 let _ = eprint!(self.rt;
-                    "\r{events} events so far, {speed} a second, line {number} of the file\x1b[K"
+                    "\r{events} events so far, {speed} a second, line {number} of the file{again}\x1b[K"
                 );
             }
             Reached::Swept { events, of } => {

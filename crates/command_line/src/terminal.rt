@@ -1,6 +1,6 @@
-//! How the program writes: a line at a time to a terminal, and with a line that shows how far a run is.
+//! How the program writes: a line at a time to a terminal, else a block; and no more once a write has failed.
 use std::alloc::Global;
-use std::io::{self, BufWriter, LineWriter, Write};
+use std::io::{self, BufWriter, ErrorKind, LineWriter, Write};
 
 /// Which of the two streams that the program writes are terminals.
 #[derive(Clone, Copy, Debug, PartialEq, Eq)]
@@ -9,16 +9,54 @@ pub struct Terminals {
     pub error: bool,
 }
 
+/// A writer up to the first write that fails or takes nothing: no later one is made. A buffer in front of it would else write
+/// once more what it still holds, as it is flushed and as it is dropped.
+#[derive(Drop)]
+pub struct UpToFailure<W: Write + Drop> {
+    writer: W,
+    has_failed: bool,
+}
+
+impl<W: Write + Drop> UpToFailure<W> {
+    /// In front of this writer, which has not failed.
+    fn new(writer: W) -> UpToFailure<W> {
+        UpToFailure {
+            writer,
+            has_failed: false,
+        }
+    }
+}
+
+impl<W: Write + Drop> Write for UpToFailure<W> {
+    fn write(&mut self, bytes: &[u8]) -> io::Result<usize> {
+        if self.has_failed {
+            return Err(ErrorKind::BrokenPipe.into());
+        }
+        let written = self.writer.write(bytes);
+        self.has_failed = match &written {
+            Ok(count) => *count == 0 && !bytes.is_empty(),
+            // it is made again
+            Err(error) => error.kind() != ErrorKind::Interrupted,
+        };
+        written
+    }
+
+    fn flush(&mut self) -> io::Result<()> {
+        self.writer.flush()
+    }
+}
+
 /// A writer through a buffer: a line is written once it is whole where it goes to a terminal, else a block.
 #[derive(Drop)]
 pub enum Output<W: Write + Drop> {
-    Lines(LineWriter<W>),
-    Blocks(BufWriter<W>),
+    Lines(LineWriter<UpToFailure<W>>),
+    Blocks(BufWriter<UpToFailure<W>>),
 }
 
 impl<W: Write + Drop> Output<W> {
     /// The writer in front of this one. The one error is want of memory.
     pub fn new(alloc: Global, writer: W, at_terminal: bool) -> io::Result<Output<W>> {
+        let writer = UpToFailure::new(writer);
         if at_terminal {
             Ok(Output::Lines(LineWriter::new(alloc, writer)?))
         } else {

@@ -1,60 +1,23 @@
-//! The program's words.
-use crate::usage::{WordsFault, unknown_command};
-use std::alloc::Global;
+//! What the program's words ask for.
+ghost use Rattle.std.specs.Prelude.{◌≡◌, ◌⊎◌, IfErr, IfOk, None, Some, [], codes, map, option_map, true};
+ghost use Rattle.clap.specs.Words.{HasKind, fault_of, first_of, found_of, kind_of, rows_of, subcommand_rows_of, takes};
+ghost use Rattle.std.specs.String.{string_bytes};
+ghost use Rattle.command_line.specs.Meaning.{asked_by, asked_of, asked_of_command, asked_of_file, asked_of_help, asked_of_none, bakery, has_flag, meaning, says};
 
-/// What runs a file.
-#[derive(Clone, Copy, Debug, PartialEq, Eq)]
-pub enum Engine {
-    /// The calls of a scenario on the one-thread store.
-    Plain,
-    /// The calls of a bits file on one safe bit.
-    Bits,
-    /// The run of a scenario, mark by mark.
-    Replay,
-    /// The verdict on the record of a scenario's run.
-    Audit,
-    /// The runs in which a process fails after one event of a scenario's run, counted.
-    Sweep,
-    /// The calls of a scenario, those of each process on a thread of its own, weighed.
-    Race,
-    /// The record of a scenario's run, entry by entry.
-    Record,
-    /// The verdict on the record that a record file says.
-    Judge,
-    /// The page of a scenario's run: a picture from which its lines are read back.
-    Draw,
-    /// The same as one picture.
-    DrawSvg,
-}
+use crate::commands::{Entry, command_named};
+use crate::notices::{Notice, no_such_page, no_text, shown_error};
+use crate::pages::Page;
+use crate::program::matched;
+use clap::error::ErrorKind;
+use clap::{ArgMatches, Error};
+use std::alloc::{AllocError, Global};
+use std::env::{self, Env};
+use std::io;
 
-impl Engine {
-    /// The engine of this name.
-    fn of(word: &str) -> Option<Engine> {
-        match word {
-            "plain" => Some(Engine::Plain),
-            "bits" => Some(Engine::Bits),
-            "replay" => Some(Engine::Replay),
-            "audit" => Some(Engine::Audit),
-            "sweep" => Some(Engine::Sweep),
-            "race" => Some(Engine::Race),
-            "record" => Some(Engine::Record),
-            "judge" => Some(Engine::Judge),
-            "draw" => Some(Engine::Draw),
-            "draw-svg" => Some(Engine::DrawSvg),
-            _ => None,
-        }
-    }
-
-    /// Whether it draws a picture.
-    fn draws(self) -> bool {
-        matches!(self, Engine::Draw | Engine::DrawSvg)
-    }
-}
-
-/// An engine, and the file that it is to run.
-#[derive(Clone, Copy, Debug, PartialEq, Eq)]
+/// A command, and the file that it is to run.
+#[derive(Clone, Copy, Debug)]
 pub struct Request<'a> {
-    pub engine: Engine,
+    pub command: Entry,
     /// The path of the file; `-` is standard input.
     pub file: &'a str,
     /// Whether the picture shows the reads that writes overlapped.
@@ -63,159 +26,149 @@ pub struct Request<'a> {
     pub quiet: bool,
 }
 
-/// A page that tells the program's words.
-#[derive(Clone, Copy, Debug, PartialEq, Eq)]
-pub enum Page {
-    /// All words, the statuses, and where to read on.
-    Words,
-    /// One command.
-    Command(Engine),
-    /// The faults that are told, with their causes.
-    Faults,
-    /// The version.
-    Version,
-}
-
 /// What the words ask for.
-#[derive(Clone, Copy, Debug, PartialEq, Eq)]
+#[derive(Clone, Copy, Debug)]
 pub enum Asked<'a> {
-    /// That an engine runs a file.
+    /// That a command runs a file.
     Run(Request<'a>),
     /// That a page is printed.
     Tell(Page),
 }
 
-/// The words, sorted: at most two that are no options, the first one too many, and the options.
-#[derive(Clone, Copy, Debug)]
-struct Sorted<'a> {
-    first: Option<&'a str>,
-    second: Option<&'a str>,
-    third: Option<&'a str>,
-    unknown: Option<&'a str>,
-    help: bool,
-    version: bool,
-    reads: bool,
-    quiet: bool,
-    /// Whether a word `--` came, behind which no word is an option.
-    ended: bool,
+/// The program's words, of which the first is its own name.
+pub fn all_words<T: Env + AllocGlobal>(rt: &T) -> Result<Vec<String>, Notice> {
+    Ok(given_words(rt)?)
 }
 
-impl<'a> Sorted<'a> {
-    /// No words.
-    fn new() -> Sorted<'a> {
-        Sorted {
-            first: None,
-            second: None,
-            third: None,
-            unknown: None,
-            help: false,
-            version: false,
-            reads: false,
-            quiet: false,
-            ended: false,
-        }
-    }
-
-    /// One word more.
-    fn take(&mut self, word: &'a str) {
-        if self.ended || word == "-" || !word.starts_with("-") {
-            self.take_plain(word);
-            return;
-        }
-        match word {
-            "--" => self.ended = true,
-            "--help" | "-h" => self.help = true,
-            "--version" => self.version = true,
-            "--reads" => self.reads = true,
-            "--quiet" => self.quiet = true,
-            _ => self.unknown = self.unknown.or(Some(word)),
-        }
-    }
-
-    /// One word more that is no option.
-    fn take_plain(&mut self, word: &'a str) {
-        if self.first.is_none() {
-            self.first = Some(word);
-        } else if self.second.is_none() {
-            self.second = Some(word);
-        } else if self.third.is_none() {
-            self.third = Some(word);
-        }
-    }
-
-    /// The request that an engine runs a file, with the options; `command`: the engine's name.
-    fn request(
-        &self,
-        command: &'a str,
-        engine: Engine,
-        file: &'a str,
-    ) -> Result<Request<'a>, WordsFault<'a>> {
-        if self.reads && !engine.draws() {
-            return Err(WordsFault::ReadsOfAnother(command));
-        }
-        Ok(Request {
-            engine,
-            file,
-            reads: self.reads,
-            quiet: self.quiet,
-        })
-    }
-}
-
-/// What the words ask for, of which the first is the program's own name: `COMMAND FILE`, and without words `plain -`;
-/// a page; or why they ask for nothing that there is.
-pub fn read_words<'a>(alloc: Global, words: &'a [String]) -> Result<Asked<'a>, WordsFault<'a>> {
-    let mut sorted = Sorted::new();
-    for at in 1..words.len() {
-        sorted.take(words[at].as_str());
-    }
-    if let Some(word) = sorted.unknown {
-        return Err(WordsFault::UnknownOption(word));
-    }
-    if let Some(word) = sorted.third {
-        return Err(WordsFault::TooManyWords(word));
-    }
-    if sorted.version {
-        return match sorted.first {
-            None => Ok(Asked::Tell(Page::Version)),
-            Some(word) => Err(WordsFault::TooManyWords(word)),
-        };
-    }
-    read_command(alloc, &sorted)
-}
-
-/// What words without a fault of their own ask for.
-fn read_command<'a>(alloc: Global, sorted: &Sorted<'a>) -> Result<Asked<'a>, WordsFault<'a>> {
-    let Some(word) = sorted.first else {
-        return Ok(if sorted.help {
-            Asked::Tell(Page::Words)
-        } else {
-            Asked::Run(sorted.request("plain", Engine::Plain, "-")?)
-        });
+/// The words, or the error of words that cannot be read.
+fn given_words<T: Env + AllocGlobal>(rt: &T) -> Result<Vec<String>, Error> {
+    let arguments = match env::args(rt) {
+        Ok(arguments) => arguments,
+        Err(error) if error.kind() == io::ErrorKind::OutOfMemory => return Err(AllocError.into()),
+        Err(_) => return Err(no_text(rt.alloc())?),
     };
-    if word == "help" {
-        return Ok(Asked::Tell(read_page(alloc, sorted.second)?));
+    let mut words = Vec::new(rt.alloc());
+    for word in arguments {
+        words.push(word)?;
     }
-    let Some(engine) = Engine::of(word) else {
-        return Err(unknown_command(alloc, word));
-    };
-    if sorted.help {
-        return Ok(Asked::Tell(Page::Command(engine)));
-    }
-    let Some(file) = sorted.second else {
-        return Err(WordsFault::NoFile(word));
-    };
-    Ok(Asked::Run(sorted.request(word, engine, file)?))
+    Ok(words)
 }
 
-/// The page that `help` and a word, if there is one, ask for.
-fn read_page<'a>(alloc: Global, topic: Option<&'a str>) -> Result<Page, WordsFault<'a>> {
-    match topic {
-        None | Some("help") => Ok(Page::Words),
-        Some("faults") => Ok(Page::Faults),
-        Some(word) => match Engine::of(word) {
-            Some(engine) => Ok(Page::Command(engine)),
-            None => Err(unknown_command(alloc, word)),
+/// What the words ask for, of which the first is the program's own name. Else a notice: why `clap` does not take the words, or
+/// that they ask for its help or the version; that no page has the name that they give; or want of memory.
+pub fn read_words<'a>(alloc: Global, words: &'a [String]) -> Result<Asked<'a>, Notice>
+    ensures means { IfOk result (λ a. meaning (map string_bytes words.now) ≡ Some (asked_by a)) }
+    ensures faultless { IfOk result (λ _. fault_of bakery (map string_bytes words.now) ≡ []) }
+    ensures memory { IfErr result (λ n. takes bakery (map string_bytes words.now) ≡ true
+        → (a : _) → meaning (map string_bytes words.now) ≡ Some a
+        → kind_of n.error ≡ ErrorKind.OutOfMemory) }
+    ensures kinds { IfErr result (λ n. HasKind (fault_of bakery (map string_bytes words.now)) n.error
+        ⊎ (meaning (map string_bytes words.now) ≡ None)) }
+{
+    Ok(parse(alloc, words)?)
+}
+
+/// What the words ask for, or the error of words that ask for no run.
+fn parse<'a>(alloc: Global, words: &'a [String]) -> Result<Asked<'a>, Error>
+    ensures means { IfOk result (λ a. meaning (map string_bytes words.now) ≡ Some (asked_by a)) }
+    ensures faultless { IfOk result (λ _. fault_of bakery (map string_bytes words.now) ≡ []) }
+    ensures memory { IfErr result (λ e. takes bakery (map string_bytes words.now) ≡ true
+        → (a : _) → meaning (map string_bytes words.now) ≡ Some a
+        → kind_of e ≡ ErrorKind.OutOfMemory) }
+    ensures kinds { IfErr result (λ e. HasKind (fault_of bakery (map string_bytes words.now)) e
+        ⊎ (meaning (map string_bytes words.now) ≡ None)) }
+{
+    match matched(alloc, words) {
+        Ok(matches) => match asked_of(&matches) {
+            Some(asked) => Ok(asked),
+            None => Err(no_such_page(alloc, page_asked_for(&matches))?),
         },
+        Err(error) => Err(shown_error(alloc, words, error)?),
+    }
+}
+
+/// The word behind `help`.
+fn page_asked_for<'a>(matches: &ArgMatches<'a>) -> &'a str {
+    match matches.subcommand() {
+        Some((_, own)) => text_of(own, "PAGE").unwrap_or(""),
+        None => "",
+    }
+}
+
+/// What the matches ask for.
+fn asked_of<'a>(matches: &ArgMatches<'a>) -> Option<Asked<'a>>
+    ensures { option_map asked_by result
+        ≡ asked_of (rows_of (found_of matches.now)) (subcommand_rows_of matches.now) }
+{
+    let quiet = is_set(matches, "quiet");
+    let Some((name, own)) = matches.subcommand() else {
+        return asked_of_none(quiet);
+    };
+    asked_of_command(quiet, name, own)
+}
+
+/// What words ask for that name no command.
+fn asked_of_none<'a>(quiet: bool) -> Option<Asked<'a>>
+    ensures { option_map asked_by result ≡ asked_of_none quiet }
+{
+    Some(Asked::Run(Request {
+        command: command_named("plain")?,
+        file: "-",
+        reads: false,
+        quiet,
+    }))
+}
+
+/// What a command and its matches ask for.
+fn asked_of_command<'a>(quiet: bool, name: &str, own: &ArgMatches<'a>) -> Option<Asked<'a>>
+    ensures { option_map asked_by result
+        ≡ asked_of_command quiet name.now (rows_of (found_of own.now)) }
+{
+    if name == "help" {
+        return asked_of_help(own);
+    }
+    let command = command_named(name)?;
+    let file = text_of(own, "FILE")?;
+    Some(Asked::Run(request_of(quiet, command, own, file)))
+}
+
+/// What `help` and its matches ask for.
+fn asked_of_help<'a>(own: &ArgMatches<'a>) -> Option<Asked<'a>>
+    ensures { option_map asked_by result
+        ≡ asked_of_help (first_of (codes "PAGE") (rows_of (found_of own.now))) }
+{
+    match text_of(own, "PAGE") {
+        None => Some(Asked::Tell(Page::Words)),
+        Some(name) => Some(Asked::Tell(Page::named(name)?)),
+    }
+}
+
+/// The request that a command runs a file, with the options among its matches.
+fn request_of<'a>(quiet: bool, command: Entry, own: &ArgMatches<'a>, file: &'a str) -> Request<'a>
+    ensures { asked_by (Asked.Run result)
+        ≡ asked_of_file quiet (says command) (rows_of (found_of own.now)) file.now }
+{
+    Request {
+        command,
+        file,
+        reads: is_set(own, "reads"),
+        quiet: quiet | is_set(own, "quiet"),
+    }
+}
+
+/// The text of an argument.
+fn text_of<'a>(matches: &ArgMatches<'a>, id: &str) -> Option<&'a str>
+    ensures { option_map (λ s. s.now) result ≡ first_of id.now (rows_of (found_of matches.now)) }
+{
+    matches.get_str(id)
+}
+
+/// Whether the words have the flag.
+fn is_set(matches: &ArgMatches<'_>, id: &str) -> bool
+    ensures { result ≡ has_flag id.now (rows_of (found_of matches.now)) }
+{
+    match text_of(matches, id) {
+        Some(text) => text == "true",
+        None => false,
     }
 }

@@ -14,7 +14,7 @@ use crate::drawing::draw_bands;
 use crate::nowhere::Nowhere;
 use crate::writing::write_markup;
 use course::Summary;
-use files::progress::Onlooker;
+use files::progress::{Again, Onlooker};
 use picture::{FIRST_BAND, Form, Reads, page_end, page_head, picture_end, picture_head};
 use scenario::{Fault, Scenario, Sink, Source, print_scenario, read_input, read_scenario};
 use std::alloc::Global;
@@ -107,11 +107,12 @@ fn draw_picture<W: Sink, L: Onlooker>(
     ensures failures { W.failures output.new ≡ W.failures output.old + failed_write result }
 {
     let form = Form::Picture(FIRST_BAND);
-    let (_, height) = draw_bands(alloc, file, scenario, form, reads, &mut Nowhere, onlooker)?;
+    let (first, height) = draw_bands(alloc, file, scenario, form, reads, &mut Nowhere, onlooker)?;
     let head = picture_head(alloc, &scenario.setup, height, reads)?;
     let end = picture_end(alloc, height, reads)?;
     write_markup(&head, output)?;
-    let (summary, _) = draw_bands(alloc, file, scenario, form, reads, output, onlooker)?;
+    let mut again = Again::new(onlooker, first.events);
+    let (summary, _) = draw_bands(alloc, file, scenario, form, reads, output, &mut again)?;
     write_markup(&end, output)?;
     Ok(summary)
 }

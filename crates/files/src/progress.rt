@@ -33,6 +33,31 @@ impl Onlooker for Nobody {
     fn reached(&mut self, _reached: Reached<'_>) {}
 }
 
+/// Who looks on while a file is run for the second time. It hears of the events of both runs together.
+#[derive(Drop)]
+pub struct Again<'l, L> {
+    onlooker: &'l mut L,
+    /// How many events were accepted the first time.
+    earlier: u64,
+}
+
+impl<'l, L: Onlooker> Again<'l, L> {
+    /// Of an onlooker, behind a run that accepted so many events.
+    pub fn new(onlooker: &'l mut L, earlier: u64) -> Again<'l, L> {
+        Again { onlooker, earlier }
+    }
+}
+
+impl<'l, L: Onlooker> Onlooker for Again<'l, L> {
+    fn reached(&mut self, reached: Reached<'_>) {
+        let reached = match reached {
+            Reached::Line(place) => Reached::Line(place.after(self.earlier)),
+            swept => swept,
+        };
+        self.onlooker.reached(reached);
+    }
+}
+
 /// A line of a file that is run, or the place before the first one. The lines that are run are the last of those that
 /// are not skipped.
 #[derive(Clone, Copy, Debug)]
@@ -42,6 +67,8 @@ pub struct Place<'a> {
     behind: usize,
     /// How many events were accepted before it.
     events: u64,
+    /// Whether the file was run before, and those events are among them.
+    is_again: bool,
 }
 
 impl<'a> Place<'a> {
@@ -51,6 +78,16 @@ impl<'a> Place<'a> {
             file,
             behind: lines,
             events: 0,
+            is_again: false,
+        }
+    }
+
+    /// The same place, where the file was run before and accepted so many events.
+    fn after(self, earlier: u64) -> Place<'a> {
+        Place {
+            events: self.events.saturating_add(earlier),
+            is_again: true,
+            ..self
         }
     }
 
@@ -61,9 +98,14 @@ impl<'a> Place<'a> {
         Reached::Line(*self)
     }
 
-    /// How many events were accepted before the line.
+    /// How many events were accepted before the line, those of an earlier run of the file among them.
     pub fn events(&self) -> u64 {
         self.events
+    }
+
+    /// Whether the file is run for the second time.
+    pub fn is_again(&self) -> bool {
+        self.is_again
     }
 
     /// The number of the line in the file, counted from 1. It is looked for from the begin of the file, so it is not to

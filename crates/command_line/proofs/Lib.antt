@@ -1,0 +1,2 @@
+mod Faultless
+mod Tables

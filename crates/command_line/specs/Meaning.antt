@@ -1,0 +1,166 @@
+-- The program's command line, and what words mean on it.
+use Rattle.std.specs.Prelude.{Bool, true, false, ◌||◌, List, [], Option, Some, None}
+use Rattle.std.specs.Prelude.{codes, find, fold, if◌then◌else◌, map, option_and_then, option_map}
+use Rattle.std.specs.Option.{option_map_or}
+use Rattle.std.specs.Borrow.{Bor}
+use Rattle.std.specs.Str.{bytes_eq}
+use Rattle.clap.specs.Words.{App, Row as Found, Rule, Text, first_of, matches_of, new_app, new_rule}
+use Rattle.clap.specs.Words.{subcommand_of, with_rule, with_subcommand}
+use Rattle.clap.specs.declared.builder.action.ArgAction.TheVariants.{SetTrue}
+use Rattle.command_line.specs.declared.commands.Engine.{Engine}
+use Rattle.command_line.specs.declared.commands.Entry.{Entry}
+use Rattle.command_line.specs.declared.commands.Intake.{Intake}
+use Rattle.command_line.specs.declared.commands.TheConstants.{COMMANDS as table}
+use Rattle.command_line.specs.declared.words.Asked.{Asked}
+use Rattle.command_line.specs.declared.words.Asked.TheVariants.{Run, Tell}
+use Rattle.command_line.specs.declared.pages.Page.{Page}
+use Rattle.command_line.specs.declared.pages.Page.TheVariants.{Words, Faults, Command as OfCommand}
+
+-- ---- the command line
+
+abbrev pub flag_rule : Text → Rule
+flag_rule name = record (new_rule name) { long = Some name; action = Some SetTrue }
+
+abbrev pub file_rule : Rule
+file_rule = record (new_rule (codes "FILE")) { required = true }
+
+abbrev pub page_rule : Rule
+page_rule = new_rule (codes "PAGE")
+
+abbrev pub with_flag : App → Text → App
+with_flag a name = with_rule a (flag_rule name)
+
+-- the program without its commands
+abbrev pub bare_app : App
+bare_app = let a = new_app (codes "bakerystore") in with_flag (record a {
+  top = record a.top { has_version = true; disable_help_subcommand = true };
+}) (codes "quiet")
+
+-- what a command is called, what runs its file, and its options
+pub record Listed : Type 0 where
+  pub name : Text
+  pub engine : Engine
+  pub options : List Text
+
+abbrev pub says : Entry → Listed
+says e = record {
+  name = e.name.now;
+  engine = e.engine;
+  options = map (λ o. o.now) e.options.now;
+}
+
+-- a row of the table
+abbrev pub Row : Type 0
+Row = Bor Text × Engine × Intake × Bor (List (Bor Text)) × Bor Text × Bor Text × Bor Text
+
+abbrev pub listed : Row → Listed
+listed r = record { name = r.0.now; engine = r.1; options = map (λ o. o.now) r.3.now }
+
+-- the rows of the table
+abbrev pub commands : List Listed
+commands = map (λ r. record {
+  name = r.0.now;
+  engine = r.1;
+  options = map (λ o. o.now) r.3.now;
+}) table
+
+-- a command that runs a file, without options of its own
+abbrev pub plain_app : Text → App
+plain_app name = with_flag (with_rule (new_app name) file_rule) (codes "quiet")
+
+-- the command line of a command that runs a file
+abbrev pub command_app : Listed → App
+command_app c = fold with_flag (plain_app c.name) c.options
+
+abbrev pub with_command : App → Listed → App
+with_command a c = with_subcommand a (command_app c).top
+
+abbrev pub with_row : App → Row → App
+with_row a r = with_command a (listed r)
+
+abbrev pub help_app : App
+help_app = with_flag (with_rule (new_app (codes "help")) page_rule) (codes "quiet")
+
+abbrev pub bakery : App
+bakery = with_subcommand (fold with_command bare_app commands) help_app.top
+
+-- ---- what words mean
+
+-- that an engine runs a file, with these options
+pub record Running : Type 0 where
+  pub engine : Engine
+  pub file : Text
+  pub reads : Bool
+  pub quiet : Bool
+
+-- that a file is run; or that a page is printed: of all words, of the faults, or of a command
+pub data Meant : Type 0 where
+  runs : Running → Meant
+  tells_words : Meant
+  tells_faults : Meant
+  tells_command : Engine → Meant
+
+abbrev pub told_by : Page → Meant
+told_by Words = tells_words
+told_by Faults = tells_faults
+told_by (OfCommand e) = tells_command e.engine
+
+abbrev pub asked_by : Asked → Meant
+asked_by (Run r) = runs (record {
+  engine = r.command.engine;
+  file = r.file.now;
+  reads = r.reads;
+  quiet = r.quiet;
+})
+asked_by (Tell page) = told_by page
+
+-- the command of this name
+unfoldable pub command_named : Text → Option Listed
+command_named name = find (λ c. bytes_eq c.name name) commands
+
+-- the page of this name
+abbrev pub page_named : Text → Option Meant
+page_named name = if bytes_eq name (codes "help") then Some tells_words
+    else if bytes_eq name (codes "faults") then Some tells_faults
+    else option_map (λ e. tells_command e.engine) (command_named name)
+
+abbrev pub is_true : Option Text → Bool
+is_true text = option_map_or (λ t. bytes_eq t (codes "true")) text false
+
+-- the words have the flag
+abbrev pub has_flag : Text → List Found → Bool
+has_flag id rows = is_true (first_of id rows)
+
+-- what a command means with a file, and with the matches of its own
+abbrev pub asked_of_file : Bool → Listed → List Found → Text → Meant
+asked_of_file quiet command own file = runs (record {
+  engine = command.engine;
+  file = file;
+  reads = has_flag (codes "reads") own;
+  quiet = quiet || has_flag (codes "quiet") own;
+})
+
+-- what no command means: `plain -`
+abbrev pub asked_of_none : Bool → Option Meant
+asked_of_none quiet = option_map (λ plain. asked_of_file quiet plain [] (codes "-"))
+    (command_named (codes "plain"))
+
+-- what `help` means, with the word behind it
+abbrev pub asked_of_help : Option Text → Option Meant
+asked_of_help None = Some tells_words
+asked_of_help (Some name) = page_named name
+
+abbrev pub asked_of_command : Bool → Text → List Found → Option Meant
+asked_of_command quiet name own =
+    if bytes_eq name (codes "help") then asked_of_help (first_of (codes "PAGE") own)
+    else option_and_then (λ command. option_map (asked_of_file quiet command own)
+    (first_of (codes "FILE") own)) (command_named name)
+
+-- what the matches of the program and of its command mean
+abbrev pub asked_of : List Found → Option (Text × List Found) → Option Meant
+asked_of top None = asked_of_none (has_flag (codes "quiet") top)
+asked_of top (Some p) = asked_of_command (has_flag (codes "quiet") top) p.0 p.1
+
+-- what the words mean, of which the first is the program's own name
+abbrev pub meaning : List Text → Option Meant
+meaning words = asked_of (matches_of bakery words) (subcommand_of bakery words)

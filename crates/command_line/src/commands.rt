@@ -1,0 +1,223 @@
+//! The commands that run a file, in one table.
+ghost use Rattle.std.specs.Prelude.{◌≡◌, find, map, option_map};
+ghost use Rattle.std.specs.Str.{bytes_eq};
+ghost use Rattle.command_line.specs.Meaning.{command_named, listed, says};
+
+use crate::help::{AUDIT, BITS, DRAW, DRAW_SVG, JUDGE, PLAIN, RACE, RECORD, REPLAY, SWEEP};
+use std::fmt::{self, Display, Formatter};
+
+/// What runs a file.
+#[derive(Clone, Copy, Debug, PartialEq, Eq)]
+pub enum Engine {
+    /// The calls of a scenario on the one-thread store.
+    Plain,
+    /// The calls of a bits file on one safe bit.
+    Bits,
+    /// The run of a scenario, mark by mark.
+    Replay,
+    /// The verdict on the record of a scenario's run.
+    Audit,
+    /// The runs in which a process fails after one event of a scenario's run, counted.
+    Sweep,
+    /// The calls of a scenario, those of each process on a thread of its own, weighed.
+    Race,
+    /// The record of a scenario's run, entry by entry.
+    Record,
+    /// The verdict on the record that a record file says.
+    Judge,
+    /// The page of a scenario's run: a picture from which its lines are read back.
+    Draw,
+    /// The same as one picture.
+    DrawSvg,
+}
+
+/// How an engine takes its file.
+#[derive(Clone, Copy, Debug, PartialEq, Eq)]
+pub enum Intake {
+    /// It reads the whole file before it runs it.
+    Whole,
+    /// It runs the file while it reads it, so that the input tells how far it is.
+    Streamed,
+}
+
+/// A command that runs a file.
+#[derive(Clone, Copy, Debug)]
+pub struct Entry {
+    /// What it is called by.
+    pub name: &'static str,
+    /// What runs the file.
+    pub engine: Engine,
+    /// How it takes the file.
+    pub intake: Intake,
+    /// Its options, beside `--quiet`, which all have.
+    pub options: &'static [&'static str],
+    /// What it is, in a line of the page of all words.
+    pub about: &'static str,
+    /// The file that it runs on that page.
+    pub example: &'static str,
+    /// Its own page, below the usage line.
+    pub page: &'static str,
+}
+
+/// A row of the table: the fields of an `Entry`, one by one. (A definition reads no constant of a struct with texts.)
+pub type Row = (
+    &'static str,
+    Engine,
+    Intake,
+    &'static [&'static str],
+    &'static str,
+    &'static str,
+    &'static str,
+);
+
+/// The commands, in the order in which the page of all words lists them. This is all that words, pages and the program
+/// know of them.
+pub const COMMANDS: [(&str, Engine, Intake, &[&str], &str, &str, &str); 10] = [
+    (
+        "plain",
+        Engine::Plain,
+        Intake::Whole,
+        &[],
+        "the calls of a scenario, on the one-thread store",
+        "examples/counters.bakery",
+        PLAIN,
+    ),
+    (
+        "bits",
+        Engine::Bits,
+        Intake::Whole,
+        &[],
+        "the accesses of a bits file, to one safe bit",
+        "examples/overlap.bits",
+        BITS,
+    ),
+    (
+        "replay",
+        Engine::Replay,
+        Intake::Whole,
+        &[],
+        "the run of a scenario: calls, single steps, failures, restarts",
+        "examples/torn-commit.bakery",
+        REPLAY,
+    ),
+    (
+        "audit",
+        Engine::Audit,
+        Intake::Whole,
+        &[],
+        "the same run, each entry of its record judged",
+        "examples/torn-commit.bakery",
+        AUDIT,
+    ),
+    (
+        "sweep",
+        Engine::Sweep,
+        Intake::Whole,
+        &[],
+        "runs in which a process fails after one event of that run, counted",
+        "examples/torn-commit.bakery",
+        SWEEP,
+    ),
+    (
+        "race",
+        Engine::Race,
+        Intake::Whole,
+        &[],
+        "the calls of a scenario, each process on a thread of its own",
+        "examples/refusals.bakery",
+        RACE,
+    ),
+    (
+        "record",
+        Engine::Record,
+        Intake::Whole,
+        &[],
+        "the record of a scenario's run, entry by entry",
+        "examples/failed-read.bakery",
+        RECORD,
+    ),
+    (
+        "judge",
+        Engine::Judge,
+        Intake::Streamed,
+        &[],
+        "a record, whoever made it: good, or the first law that is broken",
+        "examples/failed-read.record",
+        JUDGE,
+    ),
+    (
+        "draw",
+        Engine::Draw,
+        Intake::Whole,
+        &["reads"],
+        "the picture of a scenario's run, as a page for a browser",
+        "examples/torn-commit.bakery",
+        DRAW,
+    ),
+    (
+        "draw-svg",
+        Engine::DrawSvg,
+        Intake::Whole,
+        &["reads"],
+        "the same as one picture",
+        "examples/torn-commit.bakery",
+        DRAW_SVG,
+    ),
+];
+
+impl Entry {
+    /// What a row says.
+    pub fn of(row: &Row) -> Entry
+        ensures { says result ≡ listed row.now }
+    {
+        let (name, engine, intake, options, about, example, page) = *row;
+        Entry {
+            name,
+            engine,
+            intake,
+            options,
+            about,
+            example,
+            page,
+        }
+    }
+}
+
+/// Two lines of the page of all words: what the command is, and an example.
+impl Display for Entry {
+    fn fmt<W: fmt::Write>(&self, f: &mut Formatter<W>) -> fmt::Result {
+        let Entry {
+            name,
+            about,
+            example,
+            ..
+        } = self;
+        write!(f, "  {name:<8} {about}\n")?;
+        write!(f, "           $ bakerystore {name} {example}\n")
+    }
+}
+
+/// The first of some rows that has this name.
+fn first_named<'a>(rows: &'a [Row], name: &str) -> Option<&'a Row>
+    ensures { option_map (λ e. e.now) result
+        ≡ find (λ e. bytes_eq e.0.now name.now) rows.now }
+{
+    rows.iter().find(|row| row.0 == name)
+}
+
+/// The same, by what each of them says.
+fn first_listed<'a>(rows: &'a [Row], name: &str) -> Option<&'a Row>
+    ensures { option_map (λ e. listed e.now) result
+        ≡ find (λ e. bytes_eq e.name name.now) (map listed rows.now) }
+{
+    first_named(rows, name)
+}
+
+/// The command of this name.
+#[tactic(auto, unfolding(crate::specs::Meaning::command_named))]
+pub fn command_named(name: &str) -> Option<Entry>
+    ensures { option_map says result ≡ command_named name.now }
+{
+    let row = first_listed(&COMMANDS, name)?;
+    Some(Entry::of(row))
+}

@@ -1,0 +1,138 @@
+//! What is told in place of a run.
+ghost use Rattle.std.specs.Prelude.{◌≡◌, ◌⊎◌, IfOk};
+ghost use Rattle.clap.specs.Words.{kind_of};
+
+use crate::pages::{Page, tell};
+use crate::program::{matched, program};
+use clap::Error;
+use clap::error::ErrorKind;
+use files::Fault;
+use std::alloc::{AllocError, Global};
+
+/// The exit status where the words ask for nothing that there is.
+const USAGE_STATUS: u8 = 2;
+
+/// What is told where a word is not UTF-8.
+const NOT_TEXT: &str =
+    "a word is not UTF-8 (a file of such a name can be given by: bakerystore COMMAND - < FILE)";
+
+/// How many bytes of a word an error shows.
+const MOST_SHOWN: usize = 64;
+
+/// What is told in place of a run: a page, the version, why the words ask for nothing that there is, or want of memory.
+#[derive(Debug, Drop)]
+pub struct Notice {
+    error: Error,
+}
+
+impl Notice {
+    /// Tells it, and answers the exit status.
+    pub fn tell<T: Print + Eprint + AllocGlobal>(&self, rt: &T) -> Result<u8, Fault> {
+        match self.error.kind() {
+            ErrorKind::OutOfMemory => Err(Fault::Memory),
+            ErrorKind::DisplayHelp => self.tell_page(rt),
+            ErrorKind::DisplayVersion => tell(rt, self.text(rt.alloc())?.as_str()),
+            _ => {
+                let _ = rt.eprint(&self.error);
+                Ok(USAGE_STATUS)
+            }
+        }
+    }
+
+    /// Tells the page that `clap` names: the help of each command is the name of its page (`program`).
+    fn tell_page<T: Print + AllocGlobal>(&self, rt: &T) -> Result<u8, Fault> {
+        let name = self.text(rt.alloc())?;
+        let page = Page::named(name.as_str().trim_end());
+        page.unwrap_or(Page::Words).tell(rt)
+    }
+
+    /// The text that `clap` has for it.
+    fn text(&self, alloc: Global) -> Result<String, Fault> {
+        let error = &self.error;
+        format!(in alloc; "{error}").map_err(|_| Fault::Memory)
+    }
+}
+
+impl From<Error> for Notice {
+    ghost from_gives = { λ error notice. notice.error ≡ error };
+
+    fn from(error: Error) -> Notice {
+        Notice { error }
+    }
+}
+
+/// An error of the same kind, of words that a terminal can show; or want of memory.
+pub fn shown_error(alloc: Global, words: &[String], error: Error) -> Result<Error, AllocError>
+    ensures { IfOk result (λ e. (kind_of e ≡ kind_of error)
+        ⊎ (kind_of e ≡ ErrorKind.OutOfMemory)) }
+{
+    if !error.use_stderr() {
+        return Ok(error);
+    }
+    let kind = error.kind();
+    let shown = shown_words(alloc, words)?;
+    match error_of(alloc, shown.as_slice()) {
+        Some(error) if error.kind() == kind || error.kind() == ErrorKind::OutOfMemory => Ok(error),
+        _ => program_error(alloc, kind, "the words ask for nothing that there is"),
+    }
+}
+
+/// The error of words that `clap` does not take.
+fn error_of(alloc: Global, words: &[String]) -> Option<Error> {
+    matched(alloc, words).err()
+}
+
+/// The words, with escapes for what a terminal is not to get, and no longer than an error shows them.
+fn shown_words(alloc: Global, words: &[String]) -> Result<Vec<String>, AllocError> {
+    let mut shown = Vec::new(alloc);
+    for word in words {
+        shown.push(shown_word(alloc, word.as_str())?)?;
+    }
+    Ok(shown)
+}
+
+/// A word as an error shows it: the letters that end within its first bytes, and `..` for the others.
+fn shown_word(alloc: Global, word: &str) -> Result<String, AllocError> {
+    let mut shown = String::new(alloc);
+    let mut bytes: usize = 0;
+    for letter in word.chars() {
+        bytes = bytes.saturating_add(letter.len_utf8());
+        if bytes > MOST_SHOWN {
+            shown.push_str("..")?;
+            return Ok(shown);
+        }
+        push_escaped(&mut shown, letter)?;
+    }
+    Ok(shown)
+}
+
+/// A letter more, or what stands for it where a terminal is not to get it.
+fn push_escaped(shown: &mut String, letter: char) -> Result<(), AllocError> {
+    for escaped in letter.escape_debug() {
+        shown.push(escaped)?;
+    }
+    Ok(())
+}
+
+/// Why there is no page of this name: what is told where it stands as a command.
+pub fn no_such_page(alloc: Global, name: &str) -> Result<Error, AllocError> {
+    let mut words = Vec::new(alloc);
+    words.push(String::from_str(alloc, "bakerystore")?)?;
+    words.push(shown_word(alloc, name)?)?;
+    match error_of(alloc, words.as_slice()) {
+        Some(error) if error.use_stderr() => Ok(error),
+        _ => program_error(alloc, ErrorKind::InvalidSubcommand, "there is no such page"),
+    }
+}
+
+/// The error of words of which some is not UTF-8.
+pub fn no_text(alloc: Global) -> Result<Error, AllocError> {
+    program_error(alloc, ErrorKind::InvalidValue, NOT_TEXT)
+}
+
+/// An error of this kind, with the usage of the program.
+fn program_error(alloc: Global, kind: ErrorKind, message: &str) -> Result<Error, AllocError>
+    ensures { IfOk result (λ e. kind_of e ≡ kind) }
+{
+    program(alloc)?.error(kind, message)
+}

@@ -1,0 +1,138 @@
+//! The program's command line, as `clap` reads it. Its help texts are names of pages, which `Notice` prints.
+ghost use Rattle.std.specs.Prelude.{◌≡◌, IfErr, IfOk, [], false, fold, map, true};
+ghost use Rattle.clap.specs.declared.builder.command.Command.TheViews.{out-Command};
+ghost use Rattle.clap.specs.Words.{HasKind, app_of, fault_of, found_of, kind_of, matches_of, subcommand_of, rows_of, rule_of, subcommand_rows_of, takes, with_subcommand};
+ghost use Rattle.std.specs.String.{string_bytes};
+ghost use Rattle.command_line.specs.Meaning.{bakery, bare_app, command_app, flag_rule, help_app, plain_app, says, with_flag, with_row};
+
+use crate::commands::{COMMANDS, Entry, Row};
+use crate::help::VERSION;
+use clap::error::ErrorKind;
+use clap::{Arg, ArgAction, ArgMatches, Command, Error};
+use std::alloc::{AllocError, Global};
+
+/// The matches of the words, of which the first is the program's own name.
+pub fn matched<'a>(alloc: Global, words: &'a [String]) -> Result<ArgMatches<'a>, Error>
+    ensures rows { IfOk result (λ m. rows_of (found_of m)
+        ≡ matches_of bakery (map string_bytes words.now)) }
+    ensures command { IfOk result (λ m. subcommand_rows_of m
+        ≡ subcommand_of bakery (map string_bytes words.now)) }
+    ensures faultless { IfOk result (λ _. fault_of bakery (map string_bytes words.now) ≡ []) }
+    ensures memory { IfErr result (λ e. takes bakery (map string_bytes words.now) ≡ true
+        → kind_of e ≡ ErrorKind.OutOfMemory) }
+    ensures kinds { IfErr result (HasKind (fault_of bakery (map string_bytes words.now))) }
+{
+    let command = program(alloc)?;
+    command.try_get_matches_from(words)
+}
+
+/// The program's command line.
+pub fn program<'a>(alloc: Global) -> Result<Command<'a>, AllocError>
+    ensures shape { IfOk result (λ c. app_of c ≡ bakery) }
+{
+    with_help(
+        alloc,
+        with_commands(alloc, bare_program(alloc)?, &COMMANDS)?,
+    )
+}
+
+/// The program without its commands.
+fn bare_program<'a>(alloc: Global) -> Result<Command<'a>, AllocError>
+    ensures shape { IfOk result (λ c. app_of c ≡ bare_app) }
+    ensures local { IfOk result (λ c. (out-Command c).has_globals ≡ false) }
+{
+    Command::new(alloc, "bakerystore")
+        .bin_name("bakerystore")?
+        .disable_help_subcommand(true)
+        .version(VERSION)
+        .override_help("help")
+        .arg(flag(alloc, "quiet"))
+}
+
+/// The program with the commands of these rows.
+#[tactic(auto, using(std::proofs::lemmas::List::Sums::fold_more))]
+fn with_commands<'a>(
+    alloc: Global,
+    program: Command<'a>,
+    rows: &[Row],
+) -> Result<Command<'a>, AllocError>
+    ensures shape { IfOk result (λ c. app_of c ≡ fold with_row (app_of program.entry) rows.now) }
+{
+    let mut program = program;
+    for row in rows {
+        program = with_row(alloc, program, row)?;
+    }
+    Ok(program)
+}
+
+/// The program with a command more, which runs a file.
+fn with_row<'a>(alloc: Global, program: Command<'a>, row: &Row) -> Result<Command<'a>, AllocError>
+    ensures shape { IfOk result (λ c. app_of c ≡ with_row (app_of program.entry) row.now) }
+{
+    program.subcommand(file_command(alloc, Entry::of(row))?)
+}
+
+/// The program with the command `help`.
+fn with_help<'a>(alloc: Global, program: Command<'a>) -> Result<Command<'a>, AllocError>
+    ensures shape { IfOk result (λ c. app_of c
+        ≡ with_subcommand (app_of program.entry) help_app.top) }
+{
+    program.subcommand(help(alloc)?)
+}
+
+/// A command that runs a file.
+pub fn file_command<'a>(alloc: Global, entry: Entry) -> Result<Command<'a>, AllocError>
+    ensures shape { IfOk result (λ c. app_of c ≡ command_app (says entry)) }
+    ensures local { IfOk result (λ c. (out-Command c).has_globals ≡ false) }
+{
+    with_options(alloc, plain_command(alloc, entry.name)?, entry.options)
+}
+
+/// A command that runs a file, without options of its own.
+fn plain_command<'a>(alloc: Global, name: &'static str) -> Result<Command<'a>, AllocError>
+    ensures shape { IfOk result (λ c. app_of c ≡ plain_app name.now) }
+    ensures local { IfOk result (λ c. (out-Command c).has_globals ≡ false) }
+{
+    Command::new(alloc, name)
+        .override_help(name)
+        .arg(Arg::new(alloc, "FILE").required(true))?
+        .arg(flag(alloc, "quiet"))
+}
+
+/// A command with these options.
+#[tactic(auto, using(std::proofs::lemmas::List::Sums::fold_more))]
+fn with_options<'a>(
+    alloc: Global,
+    command: Command<'a>,
+    names: &'static [&'static str],
+) -> Result<Command<'a>, AllocError>
+    requires local { (out-Command command).has_globals ≡ false }
+    ensures shape { IfOk result (λ c. app_of c
+        ≡ fold (λ a name. with_flag a name.now) (app_of command.entry) names.now) }
+    ensures local { IfOk result (λ c. (out-Command c).has_globals ≡ false) }
+{
+    let mut command = command;
+    for name in names {
+        command = command.arg(flag(alloc, name))?;
+    }
+    Ok(command)
+}
+
+/// The command `help`, which takes the name of a page.
+fn help<'a>(alloc: Global) -> Result<Command<'a>, AllocError>
+    ensures shape { IfOk result (λ c. app_of c ≡ help_app) }
+    ensures local { IfOk result (λ c. (out-Command c).has_globals ≡ false) }
+{
+    Command::new(alloc, "help")
+        .override_help("help")
+        .arg(Arg::new(alloc, "PAGE"))?
+        .arg(flag(alloc, "quiet"))
+}
+
+/// An option without a value.
+fn flag<'a>(alloc: Global, name: &'a str) -> Arg<'a>
+    ensures rule { rule_of result ≡ flag_rule name.now }
+    ensures local { result.global ≡ false }
+{
+    Arg::new(alloc, name).long(name).action(ArgAction::SetTrue)
+}
