@@ -13,6 +13,7 @@ pub mod Leads
 pub mod Listings
 pub mod Moves
 pub mod Neighbours
+pub mod Orders
 pub mod OwnWrites
 pub mod Pendings
 pub mod Places

@@ -48,6 +48,23 @@ bytes_shown s words =
     let newest = newest_process versions in
     bytes_of_bits (image_bytes s) (bits_shown s words newest (image_field (version_of versions newest)))
 
+-- each of these ports was made with the board
+abbrev pub AreMadeWith : BoardState → List PortState → Type 0
+AreMadeWith board ports = (k : ℕ) (port : PortState) → slice_get ports k ≡ Some port → IsOf board port
+
+-- the port of process p stands at this place
+abbrev pub IsPlaceOf : List PortState → ℕ → ℕ → Type 0
+IsPlaceOf ports p place = (port : PortState) × (slice_get ports place ≡ Some port) × (port.view.own.process ≡ p)
+
+-- the port of each process is among these, and no other
+pub record AreOfAll (processes : ℕ) (ports : List PortState) : Type 0 where
+  pub all : length ports ≡ processes
+  pub each : (p : ℕ) → p < processes → (place : ℕ) × IsPlaceOf ports p place
+
+-- port k is that of process k
+abbrev pub AreInOrder : List PortState → Type 0
+AreInOrder ports = (k : ℕ) (port : PortState) → slice_get ports k ≡ Some port → port.view.own.process ≡ k
+
 -- these are ports of the board, of the processes from 0 on, in order, and perhaps not of all
 pub record AreFirstPortsOf (board : BoardState) (ports : List PortState) : Type 0 where
   pub few : length ports ≤ board.setup.processes
@@ -94,6 +111,15 @@ pub record Leaves (s : Setup) (its_calls : Calls) (has_seen : List Taken) (image
 -- the finished calls of each of these ports
 abbrev pub done_calls : List PortState → List (List Placed)
 done_calls ports = map (λ (port : PortState). port.view.own.calls.done) ports
+
+-- list p is that of the finished calls of the port of process p
+pub record AreListsOf (ports : List PortState) (lists : List (List Placed)) : Type 0 where
+  pub all : length lists ≡ length ports
+  pub each : (k : ℕ) (port : PortState) → slice_get ports k ≡ Some port → slice_get lists port.view.own.process ≡ Some port.view.own.calls.done
+
+-- the board of these ports leaves this store: process 0's is the port by which it is told
+abbrev pub FirstLeaves : Setup → List PortState → Contents → Type 0
+FirstLeaves s ports image = (k : ℕ) (port : PortState) → slice_get ports k ≡ Some port → port.view.own.process ≡ 0 → Leaves s port.view.own.calls port.view.seen image
 
 -- the calls of process p stand in the changes of the record of some events
 pub record StandsInRecord (s : Setup) (p : ℕ) (calls : List Placed) : Type 0 where

@@ -1,10 +1,11 @@
 //! Closing a board.
 ghost use Rattle.std.specs.Prelude.{◌≡◌, ◌≤◌, ◌+◌, ◌<◌, ◌↔◌, ◌∷◌, ◌++◌, ℕ, IsOk, IfOk, IfErr, IsTrue, Some, false, length, slice_get, vec_capacity, vec_len};
-ghost use Rattle.board.specs.Closings.{AreFirstPortsOf, AreOthers, AreQuiet, EachStandsInRecord, HasJoined, IsStill, Leaves, StandsInRecord, done_calls};
+ghost use Rattle.board.specs.Closings.{AreFirstPortsOf, AreListsOf, AreMadeWith, AreOfAll, AreOthers, AreQuiet, EachStandsInRecord, FirstLeaves, HasJoined, IsStill, Leaves, StandsInRecord, done_calls};
 ghost use Rattle.board.specs.Ports.{PortState};
 ghost use Rattle.record.specs.CallLists.{lists_of};
 
 use crate::board::Board;
+use crate::order::{are_of_all, put_in_order};
 use crate::port::Port;
 use crate::rule::Return;
 use crate::shown_image::image_shown;
@@ -27,21 +28,35 @@ pub struct NotQuiet {
 }
 
 impl Board {
-    /// Ends the work where each process is idle or down, and all ports are given, in order; else gives all back. It
-    /// takes no memory.
+    /// Ends the work where the port of each process is given, in whatever order, and each process is idle or down; else
+    /// gives all back. It takes no memory.
     pub fn close(self, mut ports: Vec<Port>) -> Result<Closing, NotQuiet>
-        requires ports { AreFirstPortsOf self ports.items }
-        ensures quiet { IsOk result ↔ ((length ports.items ≡ self.setup.processes) × AreQuiet ports.items) }
-        ensures leaves { IfOk result (λ closing. (port : PortState) → slice_get ports.items 0 ≡ Some port → Leaves self.setup port.view.own.calls port.view.seen closing.image) }
-        ensures answers { IfOk result (λ closing. lists_of closing.answers.items ≡ done_calls ports.items) }
+        requires ports { AreMadeWith self ports.items }
+        ensures quiet { IsOk result ↔ (AreOfAll self.setup.processes ports.items × AreQuiet ports.items) }
+        ensures leaves { IfOk result (λ closing. FirstLeaves self.setup ports.items closing.image) }
+        ensures answers { IfOk result (λ closing. AreListsOf ports.items (lists_of closing.answers.items)) }
         ensures stand { IfOk result (λ closing. EachStandsInRecord self.setup (lists_of closing.answers.items)) }
         ensures back { IfErr result (λ back. (back.board ≡ self) × (back.ports.items ≡ ports.items)) }
     {
-        if ports.len() < usize::from(self.setup.processes) || !are_quiet(&ports) {
+        if !are_of_all(&ports, self.setup.processes) || !are_quiet(&ports) {
             return Err(NotQuiet { board: self, ports });
         }
+        put_in_order(&mut ports, self.setup.processes);
+        Ok(self.close_in_order(ports))
+    }
+
+    /// The same of quiet ports in the order of their processes.
+    fn close_in_order(self, mut ports: Vec<Port>) -> Closing
+        requires ports { AreFirstPortsOf self ports.items }
+        requires some { 0 < length ports.items }
+        requires all { length ports.items ≡ self.setup.processes }
+        requires quiet { AreQuiet ports.items }
+        ensures leaves { (port : PortState) → slice_get ports.items 0 ≡ Some port → Leaves self.setup port.view.own.calls port.view.seen result.image }
+        ensures answers { lists_of result.answers.items ≡ done_calls ports.items }
+        ensures stand { EachStandsInRecord self.setup (lists_of result.answers.items) }
+    {
         let (first, calls) = ports.remove(0).into_parts();
-        Ok(self.shut(first, calls, ports))
+        self.shut(first, calls, ports)
     }
 
     /// The image that its words show, once all seats are joined, and the lists: first that of port 0.

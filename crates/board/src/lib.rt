@@ -17,6 +17,7 @@ mod driving;
 mod laws_of_boards;
 mod layout;
 mod opening;
+mod order;
 mod pending;
 mod port;
 mod rule;

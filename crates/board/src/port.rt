@@ -83,6 +83,13 @@ impl Port {
         (seat, calls.into_done())
     }
 
+    /// The number of its process.
+    pub fn process(&self) -> u8
+        ensures { result ≡ self.now.view.own.process }
+    {
+        self.process.process()
+    }
+
     /// Where its process stands.
     pub fn stage(&self) -> Stage
         ensures { result ≡ stage_in self.now.setup self.now.view.own }

@@ -1,7 +1,8 @@
 -- What a race leaves, from what its ports have made and what closing leaves.
-use Rattle.std.proofs.Common.{◌≡◌, ◌≤◌, ℕ, zero, suc, List, [], ◌∷◌, inl, length, map, Some, refl, sym, ap, subst, ◌∙◌, arith}
+use Rattle.std.proofs.Common.{◌≡◌, ◌<◌, ◌≤◌, ℕ, zero, suc, List, [], ◌∷◌, inl, length, map, Some, refl, sym, ap, subst, ◌∙◌, arith}
 use Rattle.std.specs.Prelude.{Ok, slice_get}
 use Rattle.std.proofs.lemmas.List.{length-map}
+use Rattle.std.proofs.lemmas.Option.{slice_get_within}
 use Rattle.std.specs.Global.{Vec}
 use Rattle.plain_store.specs.declared.Command.{Command}
 use Rattle.plain_store.specs.declared.Setup.{Setup}
@@ -12,48 +13,57 @@ use Rattle.record.specs.Records.{past_of}
 use Rattle.record.specs.declared.calls.Placed.{Placed}
 use Rattle.board.specs.Boards.{ArePortsOf, BoardState}
 use Rattle.board.specs.Calls.{changes_of}
-use Rattle.board.specs.Closings.{AreFirstPortsOf, AreQuiet, EachStandsInRecord, Leaves, done_calls}
+use Rattle.board.specs.Closings.{AreInOrder, AreListsOf, AreMadeWith, AreOfAll, AreQuiet, EachStandsInRecord, FirstLeaves}
 use Rattle.board.specs.Lists.{StandsIn}
 use Rattle.board.specs.Ports.{PortState}
 use Rattle.board.specs.Views.{new_own}
 use Rattle.race.specs.Races.{AllHaveMade, AreMade, AreNew, IsRaced, plans_of}
 
--- what stands in a mapped list
-mapped_at : {A B : Type 0} (f : A → B) (xs : List A) (k : ℕ) (y : B) → slice_get (map f xs) k ≡ Some y → (x : A) × (slice_get xs k ≡ Some x) × (f x ≡ y)
-mapped_at f [] zero y h = cc
-mapped_at f [] (suc k) y h = cc
-mapped_at f (x ∷ xs) zero y h = (x, refl, cc)
-mapped_at f (x ∷ xs) (suc k) y h = mapped_at f xs k y h
+-- what stands in a list, at each place below its length
+some_at : {A : Type 0} (xs : List A) (k : ℕ) → k < length xs → (x : A) × (slice_get xs k ≡ Some x)
+some_at [] k h = absurd (omega arith)
+some_at (x ∷ xs) zero h = (x, refl)
+some_at (x ∷ xs) (suc k) h = some_at xs k (omega arith)
 
--- the port that leaves the list
-answer_at : (ports : List PortState) (k : ℕ) (calls : List Placed) → slice_get (done_calls ports) k ≡ Some calls → (port : PortState) × (slice_get ports k ≡ Some port) × (port.view.own.calls.done ≡ calls)
-answer_at ports k calls h = mapped_at (λ (port : PortState). port.view.own.calls.done) ports k calls h
+-- the port that leaves a list
+answer_at : (ports : List PortState) (answers : List (List Placed)) → AreListsOf ports answers → AreInOrder ports → (k : ℕ) (calls : List Placed) → slice_get answers k ≡ Some calls →
+    (port : PortState) × (slice_get ports k ≡ Some port) × (port.view.own.calls.done ≡ calls)
+answer_at ports answers lists order k calls h =
+    let port = some_at ports k (subst (λ n. k < n) lists.all (slice_get_within answers k calls h)) in
+    let same : Some port.0.view.own.calls.done ≡ Some calls = sym (lists.each k port.0 port.1) ∙ ap (slice_get answers) (order k port.0 port.1) ∙ h in
+    (port.0, port.1, cc)
 
-pub raced : (board : BoardState) (plans : List (List Command)) (ports : List PortState) (answers : List (List Placed)) (image : Contents) → AllHaveMade board plans ports → length plans ≡ board.setup.processes → answers ≡ done_calls ports →
-    EachStandsInRecord board.setup answers → ((port : PortState) → slice_get ports 0 ≡ Some port → Leaves board.setup port.view.own.calls port.view.seen image) → IsRaced board.setup plans answers image
-raced board plans ports answers image h all are stand leaves = record {
-  all = ap (λ (xs : List (List Placed)). length xs) are ∙ length-map ports (λ (port : PortState). port.view.own.calls.done) ∙ h.0 ∙ all;
+-- ports that have made their plans stand in order
+in_order : (board : BoardState) (plans : List (List Command)) (ports : List PortState) → AllHaveMade board plans ports → AreInOrder ports
+in_order board plans ports h k port at = (h.1 k port at).2.process
+
+pub raced : (board : BoardState) (plans : List (List Command)) (ports : List PortState) (answers : List (List Placed)) (image : Contents) → AllHaveMade board plans ports → length plans ≡ board.setup.processes → AreListsOf ports answers →
+    EachStandsInRecord board.setup answers → FirstLeaves board.setup ports image → IsRaced board.setup plans answers image
+raced board plans ports answers image h all lists stand leaves = record {
+  all = lists.all ∙ h.0 ∙ all;
   made = λ p calls at.
-      let a = answer_at ports p calls (sym (ap (λ (xs : List (List Placed)). slice_get xs p) are) ∙ at) in
+      let a = answer_at ports answers lists (in_order board plans ports h) p calls at in
       let m = h.1 p a.0 a.1 in
       (m.0, m.1, subst (AreMade m.0) a.2 m.2.calls);
   stands = stand;
   end = λ calls at.
-      let a = answer_at ports 0 calls (sym (ap (λ (xs : List (List Placed)). slice_get xs 0) are) ∙ at) in
-      let l = leaves a.0 a.1 in
+      let a = answer_at ports answers lists (in_order board plans ports h) 0 calls at in
+      let l = leaves 0 a.0 a.1 (in_order board plans ports h 0 a.0 a.1) in
       (changes_of board.setup (past_of board.setup l.events), (l.events, l.given, refl), subst (λ (xs : List Placed). StandsIn board.setup 0 xs (changes_of board.setup (past_of board.setup l.events))) a.2 l.stands, l.store);
 }
 
--- So the board can be closed: its ports are all there, in order, and at rest.
+-- So the board can be closed: its ports are all there, and at rest.
 
-pub closes : (board : BoardState) (plans : List (List Command)) (ports : List PortState) → AllHaveMade board plans ports → length plans ≡ board.setup.processes → AreFirstPortsOf board ports
-closes board plans ports h all = record {
-  few = let many = h.0 in omega (arith, many, all);
-  each = λ k port at. let m = (h.1 k port at).2 in (m.of_board, m.process);
+pub made_with : (board : BoardState) (plans : List (List Command)) (ports : List PortState) → AllHaveMade board plans ports → AreMadeWith board ports
+made_with board plans ports h k port at = (h.1 k port at).2.of_board
+
+pub of_all : (board : BoardState) (plans : List (List Command)) (ports : List PortState) → AllHaveMade board plans ports → length plans ≡ board.setup.processes → AreOfAll board.setup.processes ports
+of_all board plans ports h all = record {
+  all = h.0 ∙ all;
+  each = λ p below.
+      let port = some_at ports p (subst (λ n. p < n) (sym (h.0 ∙ all)) below) in
+      (p, (port.0, port.1, in_order board plans ports h p port.0 port.1));
 }
-
-pub all_there : (board : BoardState) (plans : List (List Command)) (ports : List PortState) → AllHaveMade board plans ports → length plans ≡ board.setup.processes → length ports ≡ board.setup.processes
-all_there board plans ports h all = h.0 ∙ all
 
 pub quiet : (board : BoardState) (plans : List (List Command)) (ports : List PortState) → AllHaveMade board plans ports → AreQuiet ports
 quiet board plans ports h k port at = inl (h.1 k port at).2.rests

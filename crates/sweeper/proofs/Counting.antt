@@ -8,8 +8,10 @@ use Rattle.plain_store.specs.declared.Command.{Command}
 use Rattle.plain_store.specs.declared.Setup.{Setup}
 use Rattle.record.specs.declared.events.Event.{Event}
 use Rattle.record.specs.declared.events.Event.TheVariants.{Fail}
+use Rattle.record.specs.Headline.{KeepsHeadlineThroughout}
 use Rattle.record.specs.Records.{past_of, process_of}
 use Rattle.auditor.specs.Verdicts.{AllKeep}
+use Rattle.world.proofs.history_laws_proofs.Headlines.{throughout}
 use Rattle.auditor.proofs.Whole.{good_of}
 use Rattle.sweeper.specs.declared.swept.BadRun.{BadRun}
 use Rattle.sweeper.specs.declared.swept.Swept.{Swept}
@@ -23,6 +25,18 @@ use Rattle.sweeper.specs.Tallies.{AreFew, Counts, HasSwept, bad_run, counted}
 kept_of : (r : RunnerState) (s : Setup) → r.core.setup ≡ s → (events : List Event) → Follows r events → AllKeep s (past_of s events)
 kept_of r s same events follows = subst (λ (s : Setup). AllKeep s (past_of s events)) same (good_of r.core.setup follows.shows.good events follows.shows.given)
 
+-- and keeps the headline
+headline_of : (r : RunnerState) (s : Setup) → r.core.setup ≡ s → (events : List Event) → Follows r events → KeepsHeadlineThroughout s (past_of s events)
+headline_of r s same events follows = subst (λ (s : Setup). KeepsHeadlineThroughout s (past_of s events)) same (throughout r.core.setup follows.shows.good events follows.shows.given)
+
+-- one run more, for which this holds too
+all_more : (P : Cut → Type 0) (cs : List Cut) (c : Cut) → All P cs → P c → All P (cs ++ c ∷ [])
+all_more P cs c all keeps = All-append P cs (c ∷ []) all one
+  where
+    one : All P (c ∷ [])
+    one zero d l = keeps
+    one (suc k) d l = absurd (omega (arith, l))
+
 stuck_more : (cs : List Cut) (c : Cut) → length (filter (λ (c : Cut). c.run.stuck) (cs ++ c ∷ [])) ≡ length (filter (λ (c : Cut). c.run.stuck) cs) + cond c.run.stuck 1 0
 stuck_more cs c =
     ap length (filter-append (λ (c : Cut). c.run.stuck) cs (c ∷ [])) ∙ length-append (filter (λ (c : Cut). c.run.stuck) cs) (filter (λ (c : Cut). c.run.stuck) (c ∷ []))
@@ -32,18 +46,15 @@ stuck_more cs c =
     by true = refl
     by false = refl
 
-counts_more : (s : Setup) (cs : List Cut) (found : Swept) (c : Cut) (number : ℕ) (value met : Bool) → met ≡ c.run.stuck → AllKeep s (past_of s c.run.events) → Counts s cs found → Counts s (cs ++ c ∷ []) (counted found number value met None)
-counts_more s cs found c number value met is keeps counts = record {
-  good = All-append (λ (c : Cut). AllKeep s (past_of s c.run.events)) cs (c ∷ []) counts.good one;
+counts_more : (s : Setup) (cs : List Cut) (found : Swept) (c : Cut) (number : ℕ) (value met : Bool) → met ≡ c.run.stuck → AllKeep s (past_of s c.run.events) → KeepsHeadlineThroughout s (past_of s c.run.events) → Counts s cs found → Counts s (cs ++ c ∷ []) (counted found number value met None)
+counts_more s cs found c number value met is keeps whole counts = record {
+  good = all_more (λ (c : Cut). AllKeep s (past_of s c.run.events)) cs c counts.good keeps;
+  headline = all_more (λ (c : Cut). KeepsHeadlineThroughout s (past_of s c.run.events)) cs c counts.headline whole;
   runs = ap (λ n. n + 1) counts.runs ∙ sym (length_push cs c);
   all = ap (λ n. n + 1) counts.all ∙ sym (length_push cs c);
   stuck = (λ i. counts.stuck i + cond (is i) 1 0) ∙ sym (stuck_more cs c);
   none_bad = ap (λ (o : Option BadRun). elim o as (λ _. Option BadRun) [ Some first ↦ Some first | None ↦ option_map (bad_run number value) None ]) counts.none_bad;
 }
-  where
-    one : All (λ (c : Cut). AllKeep s (past_of s c.run.events)) (c ∷ [])
-    one zero d l = keeps
-    one (suc k) d l = absurd (omega (arith, l))
 
 -- a run that was made from where the walker stands
 pub run_counts : (calls : List (ℕ × Command)) (walker copy new : RunnerState) (v : Bool) (p number : ℕ) (met : Bool) (found : Swept) → copy ≡ walker → new.core.setup ≡ copy.core.setup →
@@ -51,10 +62,16 @@ pub run_counts : (calls : List (ℕ × Command)) (walker copy new : RunnerState)
     (event : Event) (before : List Event) (cs : List Cut) → p ≡ process_of event → Follows walker (event ∷ before) → Counts walker.core.setup cs found →
     Counts walker.core.setup (cs ++ cut walker.core.setup calls event before v ∷ []) (counted found number v met None)
 run_counts calls walker copy new v p number met found same kept makes event before cs own follows counts =
-    counts_more s cs found (cut s calls event before v) number v met is.stuck (kept_of new s (kept ∙ ap (λ (r : RunnerState). r.core.setup) same) (cut s calls event before v).run.events is.follows) counts
+    counts_more s cs found (cut s calls event before v) number v met is.stuck (kept_of new s setup events is.follows) (headline_of new s setup events is.follows) counts
   where
     s : Setup
     s = walker.core.setup
+
+    setup : new.core.setup ≡ walker.core.setup
+    setup = kept ∙ ap (λ (r : RunnerState). r.core.setup) same
+
+    events : List Event
+    events = (cut walker.core.setup calls event before v).run.events
 
     made : (events : List Event) → Follows walker events → IsRun new met (on_from walker.core.setup calls v (cut_off walker.core.setup p v events))
     made = subst (λ (r : RunnerState). (events : List Event) → Follows r events → IsRun new met (on_from r.core.setup calls v (cut_off r.core.setup p v events))) same makes

@@ -23,7 +23,7 @@ again test on (suc n) now some holds =
     ap (λ b. cond b (as_long_as test on n (on now)) now) holds ∙ ap (λ n. as_long_as test on n (on now)) less
 
 -- the test fails
-ended : (test : List Event → Bool) (on : List Event → List Event) (left : ℕ) (now : List Event) → test now ≡ false → as_long_as test on left now ≡ now
+pub ended : (test : List Event → Bool) (on : List Event → List Event) (left : ℕ) (now : List Event) → test now ≡ false → as_long_as test on left now ≡ now
 ended test on zero now fails = refl
 ended test on (suc n) now fails = ap (λ b. cond b (as_long_as test on n (on now)) now) fails
 

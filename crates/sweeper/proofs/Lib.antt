@@ -7,6 +7,7 @@ pub mod Dues
 -- It goes on
 pub mod Going
 pub mod Onward
+pub mod Units
 -- Every run is good
 pub mod Soundness
 pub mod Goods

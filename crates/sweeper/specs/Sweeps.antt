@@ -1,6 +1,6 @@
 -- The runs of a sweep, and what is found in their records. In each run a process fails after one event of a list; then its memory unit settles, it is restarted, everybody goes on, and calls follow. Lists of events have the newest first here, and an event that is refused adds nothing to the record.
 use Rattle.std.specs.Prelude.{◌≡◌, ℕ, zero, suc, Bool, true, false, ◌&&◌, ◌||◌, List, [], ◌∷◌, ◌++◌, length, map, filter, fold, reverse, Option, None, Some, Ok, is_none, nat_lt, cond}
-use Rattle.std.specs.List.{list_all, list_any, AllZip}
+use Rattle.std.specs.List.{All, list_all, list_any, AllZip}
 use Rattle.plain_store.specs.declared.Command.{Command}
 use Rattle.plain_store.specs.declared.Setup.{Setup}
 use Rattle.plain_store.specs.Commands.{is_command}
@@ -11,6 +11,7 @@ use Rattle.record.specs.declared.stages.Stage.{Stage}
 use Rattle.record.specs.declared.stages.Stage.TheVariants.{Idle, Settling, Down}
 use Rattle.record.specs.Entries.{Entry}
 use Rattle.record.specs.Given.{AreGiven}
+use Rattle.record.specs.Headline.{KeepsHeadlineThroughout}
 use Rattle.record.specs.Records.{past_of, process_of, refused}
 use Rattle.record.specs.Registers.{processes}
 use Rattle.record.specs.Stages.{stage}
@@ -39,7 +40,7 @@ as_long_as test on (suc n) events = cond (test events) (as_long_as test on n (on
 abbrev pub steps_of : Setup → ℕ → Bool → ℕ → List Event → List Event
 steps_of s p v n events = as_long_as (λ events. is_accepted s events (Step p v)) (λ events. Step p v ∷ events) n events
 
--- p fails, its memory unit makes its steps, and p is restarted; a memory unit has far fewer steps to make than the bound allows
+-- p fails, its memory unit makes its steps, and p is restarted; a memory unit has far fewer steps to make than the bound allows, so p is down by then
 abbrev pub cut_off : Setup → ℕ → Bool → List Event → List Event
 cut_off s p v events = Restart p ∷ steps_of s p v most (Fail p ∷ events)
 
@@ -127,6 +128,14 @@ pub record IsFound (s : Setup) (cs : List Cut) (found : Swept) : Type 0 where
 abbrev pub IsSwept : Setup → List Event → List (ℕ × Command) → Swept → Type 0
 IsSwept s events calls found = IsFound s (cuts s calls (reverse events)) found
 
+-- each entry of each of these runs keeps the headline
+abbrev pub KeepHeadline : Setup → List Cut → Type 0
+KeepHeadline s cs = All (λ (c : Cut). KeepsHeadlineThroughout s (past_of s c.run.events)) cs
+
+-- so does each of each run that a sweep makes along events, the oldest first
+abbrev pub SweptKeepHeadline : Setup → List Event → List (ℕ × Command) → Type 0
+SweptKeepHeadline s events calls = KeepHeadline s (cuts s calls (reverse events))
+
 -- every run is good
 abbrev pub AreAllGood : Swept → Type 0
 AreAllGood found = (found.good ≡ found.runs) × (found.first_bad ≡ None)
@@ -139,6 +148,19 @@ all_good cs = record { runs = length cs; good = length cs; stuck = length (filte
 abbrev pub SweptRunsAreGood : Type 0
 SweptRunsAreGood = (s : Setup) → checked s ≡ Ok tt → (events : List Event) (calls : List (ℕ × Command)) → AreGiven s (reverse events) → list_all (λ (c : ℕ × Command). is_command c.1) calls ≡ true →
     (found : Swept) → IsSwept s events calls found → AreAllGood found
+
+-- when p, which fails after these events, is restarted, it is down
+abbrev pub IsDownInTime : Setup → ℕ → Bool → List Event → Type 0
+IsDownInTime s p v events = is_accepted s events (Fail p) ≡ true → stage p (past_of s (steps_of s p v most (Fail p ∷ events))) ≡ Down
+
+-- A memory unit has made all its steps when its process is restarted, whatever happened before.
+abbrev pub UnitsAreDownInTime : Type 0
+UnitsAreDownInTime = (s : Setup) → checked s ≡ Ok tt → (events : List Event) (p : ℕ) (v : Bool) → IsDownInTime s p v events
+
+-- so it is in each run that a sweep cuts
+abbrev pub AreDownInTime : Setup → List Event → Type 0
+AreDownInTime s [] = Unit {0}
+AreDownInTime s (event ∷ before) = AreDownInTime s before × ((v : Bool) → IsDownInTime s (process_of event) v (event ∷ before))
 
 -- a process runs, or its memory unit settles
 abbrev pub moves : Stage → Bool

@@ -10,11 +10,12 @@ use Rattle.sweeper.specs.declared.runner.BadEntry.{BadEntry}
 use Rattle.sweeper.specs.declared.swept.BadRun.{BadRun}
 use Rattle.sweeper.specs.declared.swept.Swept.{Swept}
 use Rattle.sweeper.specs.Runners.{Follows, RunnerState}
-use Rattle.sweeper.specs.Sweeps.{Cut, cuts}
+use Rattle.sweeper.specs.Sweeps.{Cut, KeepHeadline, cuts}
 
--- in these runs each entry keeps all laws, and so they are counted
+-- in these runs each entry keeps all laws and the headline, and so they are counted
 pub record Counts (s : Setup) (cs : List Cut) (found : Swept) : Type 0 where
   pub good : All (λ (c : Cut). AllKeep s (past_of s c.run.events)) cs
+  pub headline : KeepHeadline s cs
   pub runs : found.runs ≡ length cs
   pub all : found.good ≡ length cs
   pub stuck : found.stuck ≡ length (filter (λ (c : Cut). c.run.stuck) cs)

@@ -15,6 +15,8 @@ mod sweeping;
 mod swept;
 
 pub use files::progress;
-pub use laws_of_sweeps::{fails_are_of_whom_stands, steps_are_of_whom_moves, swept_runs_are_good};
+pub use laws_of_sweeps::{
+    fails_are_of_whom_stands, steps_are_of_whom_moves, swept_runs_are_good, units_are_down_in_time,
+};
 pub use sweeping::{sweep, sweep_seen};
 pub use swept::{BadRun, Swept};

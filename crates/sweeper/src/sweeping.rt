@@ -1,11 +1,11 @@
 //! A sweep: a runner goes along the events, and after each that is accepted another one goes on from there twice.
-ghost use Rattle.std.specs.Prelude.{◌≡◌, ◌+◌, ◌*◌, ◌^◌, ◌<◌, ◌≤◌, ◌++◌, ◌∷◌, [], ℕ, List, length, IfOk, Ok};
+ghost use Rattle.std.specs.Prelude.{◌≡◌, ◌+◌, ◌*◌, ◌^◌, ◌<◌, ◌≤◌, ◌++◌, ◌∷◌, [], ℕ, List, length, reverse, IfOk, Ok};
 ghost use Rattle.plain_store.specs.declared.Setup.{Setup as Made};
 ghost use Rattle.plain_store.specs.Setups.{checked};
 ghost use Rattle.record.specs.declared.Event.{Event as Happening};
 ghost use Rattle.record.specs.Records.{process_of};
 ghost use Rattle.sweeper.specs.Runners.{Follows, due};
-ghost use Rattle.sweeper.specs.Sweeps.{AreAllGood, Cut, IsSwept, cut as cut_of};
+ghost use Rattle.sweeper.specs.Sweeps.{AreAllGood, AreDownInTime, Cut, IsSwept, SweptKeepHeadline, cut as cut_of};
 ghost use Rattle.sweeper.specs.Tallies.{AreFew, Counts, HasSwept};
 
 use crate::runner::Runner;
@@ -19,9 +19,10 @@ use std::alloc::{AllocError, Global};
 const MOST: usize = 1 << 56;
 
 /// What is found in all runs in which a process fails after one accepted event, where it has neither failed before
-/// nor is down: its memory unit makes its steps, it is restarted, everybody goes on in rounds, and the calls follow in
-/// their order; there is one run for each value that the steps have as their flick. Each entry of each run is
-/// audited. The one fault is want of memory; nothing is taken after the first event.
+/// nor is down: its memory unit makes its steps, which bring it down, it is restarted, everybody goes on in rounds,
+/// and the calls follow in their order; there is one run for each value that the steps have as their flick. Each entry
+/// of each run is audited, is good, and keeps the headline. The one fault is want of memory, which is also the answer
+/// above 2^56 events or calls, more than any memory holds; nothing is taken after the first event.
 pub fn sweep(
     alloc: Global,
     setup: &Setup,
@@ -31,6 +32,8 @@ pub fn sweep(
     requires { checked setup.now ≡ Ok tt }
     ensures swept { IfOk result (λ found. IsSwept setup.now events.now calls.now found) }
     ensures good { IfOk result (λ found. AreAllGood found) }
+    ensures headline { IfOk result (λ found. SweptKeepHeadline setup.now events.now calls.now) }
+    ensures down { IfOk result (λ found. AreDownInTime setup.now (reverse events.now)) }
 {
     sweep_seen(alloc, setup, events, calls, &mut Nobody)
 }
@@ -46,6 +49,8 @@ pub fn sweep_seen<L: Onlooker>(
     requires { checked setup.now ≡ Ok tt }
     ensures swept { IfOk result (λ found. IsSwept setup.now events.now calls.now found) }
     ensures good { IfOk result (λ found. AreAllGood found) }
+    ensures headline { IfOk result (λ found. SweptKeepHeadline setup.now events.now calls.now) }
+    ensures down { IfOk result (λ found. AreDownInTime setup.now (reverse events.now)) }
 {
     if MOST < events.len() || MOST < calls.len() {
         return Err(AllocError);

@@ -2,7 +2,7 @@ use Rattle.std.proofs.Common.{◌≡◌, false, true, subst, sym, true≢false}
 use Rattle.plain_store.specs.declared.Setup.{Setup}
 use Rattle.record.specs.CallLists.{lists_of}
 use Rattle.race.specs.Races.{IsRaced, plans_of}
-use Rattle.race.proofs.Raced.{all_there, are_new, closes, plans_all, quiet, raced}
+use Rattle.race.proofs.Raced.{are_new, made_with, of_all, plans_all, quiet, raced}
 use Rattle.race.proofs.racing.race.Goals as goal
 
 pub run_all-requires-clause-new : goal.run_all-requires-clause-new
@@ -10,14 +10,14 @@ run_all-requires-clause-new g c κs within = are_new c.in_ok-board.board c.in_ok
 
 pub close-requires : goal.close-requires
 close-requires g c = record {
-  ports = closes c.in_ok-board.board (plans_of c.args.plans.now) c.in_ok-ports.ports.items c.in_ok-ports.ensures (plans_all c.args.setup.now c.in_ok-board.board c.args.plans.now c.in_ok-board.ensures.setup c.requires.all);
+  ports = made_with c.in_ok-board.board (plans_of c.args.plans.now) c.in_ok-ports.ports.items c.in_ok-ports.ensures;
 }
 
 pub unreachable-requires : goal.unreachable-requires
 unreachable-requires g c =
     let board = c.in_ok-board.board in let plans = plans_of c.args.plans.now in let ports = c.in_ok-ports.ports.items in
     let all = plans_all c.args.setup.now board c.args.plans.now c.in_ok-board.ensures.setup c.requires.all in
-    let is_ok : false ≡ true = c.in-Err.ensures.quiet.1 (all_there board plans ports c.in_ok-ports.ensures all, quiet board plans ports c.in_ok-ports.ensures) in
+    let is_ok : false ≡ true = c.in-Err.ensures.quiet.1 (of_all board plans ports c.in_ok-ports.ensures all, quiet board plans ports c.in_ok-ports.ensures) in
     true≢false (sym is_ok)
 
 pub returns : goal.returns

@@ -1,10 +1,11 @@
 use Rattle.std.proofs.Common.{◌≡◌, ℕ, ◌+◌, ◌*◌, List, ◌∷◌, reverse, take, sym, subst, arith}
 use Rattle.std.proofs.lemmas.List.{take_all}
 use Rattle.record.specs.declared.events.Event.{Event}
-use Rattle.sweeper.specs.Sweeps.{cuts}
+use Rattle.sweeper.specs.Sweeps.{SweptKeepHeadline, cuts}
 use Rattle.sweeper.specs.Tallies.{AreFew, Counts, HasSwept}
 use Rattle.sweeper.proofs.Counting.{events_more}
 use Rattle.sweeper.proofs.Goods.{is_found}
+use Rattle.sweeper.proofs.Units.{all_down}
 use Rattle.sweeper.proofs.sweeping.sweep_seen.Goals as goal
 
 pub loop-event-init : goal.loop-event-init
@@ -34,3 +35,12 @@ returns-clause-swept g c =
     let whole : take k c.args.events.now ≡ c.args.events.now = take_all k c.args.events.now (omega (arith, c.loop-event-test.false)) in
     is_found c.args.setup.now (cuts c.args.setup.now c.args.calls.now (reverse c.args.events.now)) c.loop-event.sweeper.found
     (subst (λ (l : List Event). Counts c.args.setup.now (cuts c.args.setup.now c.args.calls.now (reverse l)) c.loop-event.sweeper.found) whole c.loop-event.invariant.swept.counts)
+
+pub returns-clause-headline : goal.returns-clause-headline
+returns-clause-headline g c =
+    let k : ℕ = c.loop-event.event-index in
+    let whole : take k c.args.events.now ≡ c.args.events.now = take_all k c.args.events.now (omega (arith, c.loop-event-test.false)) in
+    subst (λ (l : List Event). SweptKeepHeadline c.args.setup.now l c.args.calls.now) whole c.loop-event.invariant.swept.counts.headline
+
+pub returns-clause-down : goal.returns-clause-down
+returns-clause-down g c = all_down c.args.setup.now c.requires (reverse c.args.events.now)

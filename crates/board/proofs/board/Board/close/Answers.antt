@@ -1,48 +1,39 @@
-use Rattle.std.proofs.Common.{◌≡◌, ◌+◌, ◌<◌, ℕ, suc, List, Some, length, refl, rules, sym, ap, ◌∙◌, subst, arith}
-use Rattle.std.specs.Prelude.{slice_get}
+use Rattle.std.proofs.Common.{◌≡◌, ◌<◌, ◌≤◌, ℕ, length, refl, rules, sym, ap, subst, ◌∙◌, arith}
 use Rattle.process.proofs.critical.Widths.{ranges}
-use Rattle.board.specs.Boards.{BoardState, IsOf}
-use Rattle.plain_store.specs.declared.Setup.{Setup}
-use Rattle.board.specs.Closings.{AreQuiet, IsStill, StandsInRecord}
-use Rattle.board.specs.Ports.{PortState}
-use Rattle.board.proofs.PortLists.{item_at, rest_of}
+use Rattle.board.specs.Boards.{BoardState}
+use Rattle.board.specs.Closings.{AreOfAll, AreQuiet}
+use Rattle.board.proofs.Orders.{all_later, are_lists, first_leaves, first_ports, quiet_later}
 use Rattle.board.proofs.board.Board.close.Goals as goal
 
-pub shut-requires-clause-board : goal.shut-requires-clause-board
-shut-requires-clause-board c =
-    let many = (ranges c.self.inside.setup c.self.invariant.good).some_processes in
-    let some : 0 < length c.args.ports.items = omega (arith, many, c.if-len-from.false, c.from.ensures, c.len.ensures, ap (λ (b : BoardState). b.setup.processes) c.self.view_is) in
-    let at = item_at c.args.ports.items 0 c.remove.result some c.remove.ensures.value in
-    c.into_parts-first.ensures.table ∙ (c.requires.ports.each 0 c.remove.result at).0.0
+pub put_in_order-requires : goal.put_in_order-requires
+put_in_order-requires c = c.are_of_all.ensures.0 (search rules)
 
-pub shut-requires-clause-first : goal.shut-requires-clause-first
-shut-requires-clause-first c =
-    let many = (ranges c.self.inside.setup c.self.invariant.good).some_processes in
-    let some : 0 < length c.args.ports.items = omega (arith, many, c.if-len-from.false, c.from.ensures, c.len.ensures, ap (λ (b : BoardState). b.setup.processes) c.self.view_is) in
-    let at = item_at c.args.ports.items 0 c.remove.result some c.remove.ensures.value in
-    let each = c.requires.ports.each 0 c.remove.result at in
-    let seat = c.into_parts-first.ensures.seat in
-    (seat.live, seat.process ∙ each.1, subst (λ s. IsStill s c.into_parts-first.result.0.me.0.own) each.0.1 seat.still)
+pub close_in_order-requires-clause-ports : goal.close_in_order-requires-clause-ports
+close_in_order-requires-clause-ports c =
+    let all : AreOfAll c.args.self.setup.processes c.args.ports.items = subst (λ (n : ℕ). AreOfAll n c.args.ports.items) (ap (λ (b : BoardState). b.setup.processes) c.self.view_is) (c.are_of_all.ensures.0 (search rules)) in
+    first_ports c.args.self c.args.ports.items c.put_in_order.new.ports.items c.requires.ports all c.put_in_order.ensures.moved c.put_in_order.ensures.order
 
-pub shut-requires-clause-others : goal.shut-requires-clause-others
-shut-requires-clause-others c =
-    let b = c.args.self in
-    let quiet : AreQuiet c.args.ports.items = c.are_quiet.ensures.0 (search rules) in (
-      (λ k port e. let r = subst (λ (xs : List PortState). (k : ℕ) (port : PortState) → slice_get xs k ≡ Some port → IsOf b port × (port.view.own.process ≡ suc k)) (sym c.remove.ensures.items)
-          (rest_of (λ k port. IsOf b port × (port.view.own.process ≡ k)) c.args.ports.items c.requires.ports.each) k port e in let z : suc k ≡ 1 + k = omega arith in (r.0.0, r.0.1, r.1 ∙ z)),
-      subst AreQuiet (sym c.remove.ensures.items) (rest_of (λ _ (port : PortState). IsStill port.setup port.view.own) c.args.ports.items quiet),
-    )
+pub close_in_order-requires-clause-some : goal.close_in_order-requires-clause-some
+close_in_order-requires-clause-some c =
+    let many : 1 ≤ c.self.inside.setup.processes = (ranges c.self.inside.setup c.self.invariant.good).some_processes in
+    let every : length c.put_in_order.new.ports.items ≡ c.self.inside.setup.processes = all_later c.self.inside.setup.processes c.args.ports.items c.put_in_order.new.ports.items (c.are_of_all.ensures.0 (search rules)) c.put_in_order.ensures.moved in
+    omega (arith, many, every)
 
-pub shut-requires-clause-calls : goal.shut-requires-clause-calls
-shut-requires-clause-calls c =
-    let many = (ranges c.self.inside.setup c.self.invariant.good).some_processes in
-    let some : 0 < length c.args.ports.items = omega (arith, many, c.if-len-from.false, c.from.ensures, c.len.ensures, ap (λ (b : BoardState). b.setup.processes) c.self.view_is) in
-    let each = c.requires.ports.each 0 c.remove.result (item_at c.args.ports.items 0 c.remove.result some c.remove.ensures.value) in
-    let calls = c.into_parts-first.result.1.items in
-    subst (λ (p : ℕ). StandsInRecord c.args.self.setup p calls) each.1 (subst (λ (s : Setup). StandsInRecord s c.remove.result.view.own.process calls) each.0.1 c.into_parts-first.ensures.stands)
+pub close_in_order-requires-clause-all : goal.close_in_order-requires-clause-all
+close_in_order-requires-clause-all c =
+    all_later c.self.inside.setup.processes c.args.ports.items c.put_in_order.new.ports.items (c.are_of_all.ensures.0 (search rules)) c.put_in_order.ensures.moved ∙ ap (λ (b : BoardState). b.setup.processes) c.self.view_is
+
+pub close_in_order-requires-clause-quiet : goal.close_in_order-requires-clause-quiet
+close_in_order-requires-clause-quiet c = quiet_later c.args.ports.items c.put_in_order.new.ports.items (c.are_quiet.ensures.0 (search rules)) c.put_in_order.ensures.moved
 
 pub returns-clause-quiet : goal.returns-clause-quiet
 returns-clause-quiet c =
-    let all : length c.args.ports.items ≡ c.args.self.setup.processes = omega (arith, c.requires.ports.few, c.if-len-from.false, c.from.ensures, c.len.ensures, ap (λ (b : BoardState). b.setup.processes) c.self.view_is) in
+    let all : AreOfAll c.args.self.setup.processes c.args.ports.items = subst (λ (n : ℕ). AreOfAll n c.args.ports.items) (ap (λ (b : BoardState). b.setup.processes) c.self.view_is) (c.are_of_all.ensures.0 (search rules)) in
     let quiet : AreQuiet c.args.ports.items = c.are_quiet.ensures.0 (search rules) in
     (λ _. (all, quiet), λ _. refl)
+
+pub returns-clause-leaves : goal.returns-clause-leaves
+returns-clause-leaves c = first_leaves c.args.self.setup c.args.ports.items c.put_in_order.new.ports.items c.close_in_order.result.image c.put_in_order.ensures.moved c.put_in_order.ensures.order c.close_in_order.ensures.leaves
+
+pub returns-clause-answers : goal.returns-clause-answers
+returns-clause-answers c = are_lists c.args.ports.items c.put_in_order.new.ports.items _ c.put_in_order.ensures.moved c.put_in_order.ensures.order c.close_in_order.ensures.answers

@@ -1,0 +1,40 @@
+use Rattle.std.proofs.Common.{◌≡◌, ◌+◌, ◌<◌, ℕ, suc, List, Some, length, refl, rules, sym, ap, ◌∙◌, subst, arith}
+use Rattle.std.specs.Prelude.{slice_get}
+use Rattle.process.proofs.critical.Widths.{ranges}
+use Rattle.board.specs.Boards.{BoardState, IsOf}
+use Rattle.plain_store.specs.declared.Setup.{Setup}
+use Rattle.board.specs.Closings.{AreQuiet, IsStill, StandsInRecord}
+use Rattle.board.specs.Ports.{PortState}
+use Rattle.board.proofs.PortLists.{item_at, rest_of}
+use Rattle.board.proofs.board.Board.close_in_order.Goals as goal
+
+pub shut-requires-clause-board : goal.shut-requires-clause-board
+shut-requires-clause-board c =
+    let some = c.requires.some in
+    let at = item_at c.args.ports.items 0 c.remove.result some c.remove.ensures.value in
+    c.into_parts-first.ensures.table ∙ (c.requires.ports.each 0 c.remove.result at).0.0
+
+pub shut-requires-clause-first : goal.shut-requires-clause-first
+shut-requires-clause-first c =
+    let some = c.requires.some in
+    let at = item_at c.args.ports.items 0 c.remove.result some c.remove.ensures.value in
+    let each = c.requires.ports.each 0 c.remove.result at in
+    let seat = c.into_parts-first.ensures.seat in
+    (seat.live, seat.process ∙ each.1, subst (λ s. IsStill s c.into_parts-first.result.0.me.0.own) each.0.1 seat.still)
+
+pub shut-requires-clause-others : goal.shut-requires-clause-others
+shut-requires-clause-others c =
+    let b = c.args.self in
+    let quiet : AreQuiet c.args.ports.items = c.requires.quiet in (
+      (λ k port e. let r = subst (λ (xs : List PortState). (k : ℕ) (port : PortState) → slice_get xs k ≡ Some port → IsOf b port × (port.view.own.process ≡ suc k)) (sym c.remove.ensures.items)
+          (rest_of (λ k port. IsOf b port × (port.view.own.process ≡ k)) c.args.ports.items c.requires.ports.each) k port e in let z : suc k ≡ 1 + k = omega arith in (r.0.0, r.0.1, r.1 ∙ z)),
+      subst AreQuiet (sym c.remove.ensures.items) (rest_of (λ _ (port : PortState). IsStill port.setup port.view.own) c.args.ports.items quiet),
+    )
+
+pub shut-requires-clause-calls : goal.shut-requires-clause-calls
+shut-requires-clause-calls c =
+    let some = c.requires.some in
+    let each = c.requires.ports.each 0 c.remove.result (item_at c.args.ports.items 0 c.remove.result some c.remove.ensures.value) in
+    let calls = c.into_parts-first.result.1.items in
+    subst (λ (p : ℕ). StandsInRecord c.args.self.setup p calls) each.1 (subst (λ (s : Setup). StandsInRecord s c.remove.result.view.own.process calls) each.0.1 c.into_parts-first.ensures.stands)
+

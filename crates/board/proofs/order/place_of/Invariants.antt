@@ -1,0 +1,7 @@
+use Rattle.std.proofs.Common.{◌<◌, ℕ}
+use Rattle.board.specs.Closings.{IsPlaceOf}
+use Rattle.board.proofs.order.place_of.Given as goal
+
+-- it stands at no place before this one
+abbrev pub invariant-loop-place : goal.invariant-loop-place
+invariant-loop-place l = (k : ℕ) → k < l.place → IsPlaceOf l.ports.items l.process k → ⊥

@@ -1,0 +1,85 @@
+-- The memory unit of a run has made its steps when its process is restarted.
+use Rattle.std.proofs.Common.{◌≡◌, ◌⊎◌, ℕ, zero, suc, ◌+◌, ◌≤◌, ◌&&◌, nat_lt, Bool, true, false, cond, List, [], ◌∷◌, length, Option, None, Some, Ok, refl, ap, sym, ◌∙◌, arith, inl, inr, eq-eqb}
+use Rattle.std.specs.Prelude.{is_none}
+use Rattle.plain_store.specs.declared.Setup.{Setup}
+use Rattle.plain_store.specs.Setups.{checked}
+use Rattle.record.specs.declared.events.Event.{Event}
+use Rattle.record.specs.declared.events.Event.TheVariants.{Step, Fail}
+use Rattle.record.specs.declared.marks.Mark.TheVariants.{Failed}
+use Rattle.record.specs.declared.refusals.Refusal.{Refusal}
+use Rattle.record.specs.declared.stages.Stage.{Stage}
+use Rattle.record.specs.declared.stages.Stage.TheVariants as stages
+use Rattle.record.specs.Entries.{Entry, Past, is_failed, own, since}
+use Rattle.record.specs.Records.{added, past_of, process_of, refused}
+use Rattle.record.specs.Stages.{stage}
+use Rattle.auditor.proofs.laws.UnitSteps.{GoesOn, few_accesses, unit_goes_on}
+use Rattle.sweeper.specs.Sweeps.{AreDownInTime, UnitsAreDownInTime, is_accepted, most, moves, stands, steps_of}
+use Rattle.sweeper.proofs.Going.{ended}
+use Rattle.sweeper.proofs.Movers.{fails_of_standing, steps_of_movers}
+
+-- how many accesses the unit of p has made
+abbrev pub made_by : Setup → ℕ → List Event → ℕ
+made_by s p events = length (since is_failed (own p (past_of s events)))
+
+first_of : (a b : Bool) → (a && b) ≡ true → a ≡ true
+first_of true b h = refl
+first_of false b h = h
+
+none_of : (o : Option Refusal) → is_none o ≡ true → o ≡ None
+none_of None h = refl
+none_of (Some r) h = cc
+
+-- a step of p at a stage
+step_at : (s : Setup) (events : List Event) (p : ℕ) (v : Bool) (x : Stage) → nat_lt p s.processes ≡ true → stage p (past_of s events) ≡ x → is_accepted s events (Step p v) ≡ moves x
+step_at s events p v x there at = steps_of_movers s events p v ∙ ap (λ b. b && moves (stage p (past_of s events))) there ∙ ap moves at
+
+-- a unit that has so many steps left at most comes to its end
+unit_ends : (s : Setup) → checked s ≡ Ok tt → (p : ℕ) (v : Bool) → nat_lt p s.processes ≡ true → (n : ℕ) (events : List Event) → stage p (past_of s events) ≡ stages.Settling → 1088 ≤ made_by s p events + n →
+    stage p (past_of s (steps_of s p v n events)) ≡ stages.Down
+unit_ends s good p v there zero events settles enough = let few = few_accesses s good events p settles in absurd (omega (arith, few, enough))
+unit_ends s good p v there (suc n) events settles enough =
+    ap (λ (l : List Event). stage p (past_of s l)) whole ∙ by (unit_ends s good p v there n on) (unit_goes_on s good events p v (none_of (refused s (past_of s events) (Step p v)) accepts) settles)
+  where
+    on : List Event
+    on = Step p v ∷ events
+
+    accepts : is_accepted s events (Step p v) ≡ true
+    accepts = step_at s events p v stages.Settling there settles
+
+    whole : steps_of s p v (suc n) events ≡ steps_of s p v n on
+    whole = ap (λ b. cond b (steps_of s p v n on) events) accepts
+
+    by : (stage p (past_of s on) ≡ stages.Settling → 1088 ≤ made_by s p on + n → stage p (past_of s (steps_of s p v n on)) ≡ stages.Down) → GoesOn s p events on → stage p (past_of s (steps_of s p v n on)) ≡ stages.Down
+    by more (inl down) = ap (λ (l : List Event). stage p (past_of s l)) (ended (λ events. is_accepted s events (Step p v)) (λ events. Step p v ∷ events) n on (step_at s on p v stages.Down there down)) ∙ down
+    by more (inr still) = let one : made_by s p on ≡ suc (made_by s p events) = still.1 in more still.0 (omega (arith, enough, one))
+
+-- after a failure
+failed_past : (s : Setup) (events : List Event) (p : ℕ) → refused s (past_of s events) (Fail p) ≡ None → past_of s (Fail p ∷ events) ≡ record { process = p; access = None; marks = Failed ∷ [] } ∷ past_of s events
+failed_past s events p is = ap (λ (o : Option Refusal). elim (elim o as (λ _. Option Entry) [ Some r ↦ None | None ↦ added s (past_of s events) (Fail p) ]) as (λ _. Past) [ None ↦ past_of s events | Some e ↦ e ∷ past_of s events ]) is
+
+far_enough : 1088 ≤ most
+unfolding most
+far_enough = omega arith
+
+pub down_in_time : UnitsAreDownInTime
+down_in_time s good events p v may = unit_ends s good p v there most (Fail p ∷ events) settles (omega (arith, far_enough))
+  where
+    past : Past
+    past = past_of s events
+
+    e : Entry
+    e = record { process = p; access = None; marks = Failed ∷ [] }
+
+    there : nat_lt p s.processes ≡ true
+    there = first_of (nat_lt p s.processes) (stands (stage p past)) (sym (fails_of_standing s events p) ∙ may)
+
+    after : past_of s (Fail p ∷ events) ≡ e ∷ past
+    after = failed_past s events p (none_of (refused s past (Fail p)) may)
+
+    settles : stage p (past_of s (Fail p ∷ events)) ≡ stages.Settling
+    settles = ap (stage p) after ∙ ap (λ b. cond b stages.Settling (stage p past)) (eq-eqb p p refl)
+
+-- in each run of a sweep
+pub all_down : (s : Setup) → checked s ≡ Ok tt → (events : List Event) → AreDownInTime s events
+all_down s good [] = tt
+all_down s good (event ∷ before) = (all_down s good before, λ v. down_in_time s good (event ∷ before) (process_of event) v)
