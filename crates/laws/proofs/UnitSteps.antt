@@ -60,7 +60,7 @@ settles-few made r (suc n) v = go (is_open_at made r) (settles-few made (r + 1) 
 settle-few : (n p : ℕ) (v : Bool) (a : Access) → length (settle_of n p v a) ≤ 2 * n
 settle-few n p v a =
     let long : length (settle_of n p v a) ≡ length (settles_from (made_with a) 0 n v) =
-        length-map {A = ℕ × Made} {B = Access} (map (at_bit a.bit) (settles_from (made_with a) 0 n v)) (access_of p a.field) ∙ length-map {A = Made} {B = ℕ × Made} (settles_from (made_with a) 0 n v) (at_bit a.bit) in
+    length-map {A = ℕ × Made} {B = Access} (map (at_bit a.bit) (settles_from (made_with a) 0 n v)) (access_of p a.field) ∙ length-map {A = Made} {B = ℕ × Made} (settles_from (made_with a) 0 n v) (at_bit a.bit) in
     let few : length (settles_from (made_with a) 0 n v) ≤ 2 * n = settles-few (made_with a) 0 n v in
     omega (arith, long, few)
 
@@ -70,7 +70,7 @@ writes-few n k [] copies = omega arith
 writes-few n k (b ∷ bits) copies =
     let one : length (map (at_bit k) (bit_writes n b)) ≡ 2 * n = length-map {A = Made} {B = ℕ × Made} (bit_writes n b) (at_bit k) ∙ length-writes 0 n b in
     let both : length (map (at_bit k) (bit_writes n b) ++ writes_from n (k + 1) bits) ≡ length (map (at_bit k) (bit_writes n b)) + length (writes_from n (k + 1) bits) =
-        length-append (map (at_bit k) (bit_writes n b)) (writes_from n (k + 1) bits) in
+    length-append (map (at_bit k) (bit_writes n b)) (writes_from n (k + 1) bits) in
     let more : length (writes_from n (k + 1) bits) ≤ 32 * length bits = writes-few n (k + 1) bits copies in
     omega (arith, copies, one, both, more)
 
