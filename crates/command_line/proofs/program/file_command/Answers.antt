@@ -9,5 +9,5 @@ pub returns-clause-shape : goal.returns-clause-shape
 returns-clause-shape c =
     let options = c.args.entry.options.now in
     IfOk-weaker c.with_options.result _ _ (λ m h. h
-        ∙ (ap (λ (a : App). fold (λ b (o : Bor Text). with_flag b o.now) a options) c.in_ok-plain_command.ensures.shape
-        ∙ sym (fold-map with_flag (λ (o : Bor Text). o.now) (plain_app c.args.entry.name.now) options))) c.with_options.ensures.shape
+    ∙ (ap (λ (a : App). fold (λ b (o : Bor Text). with_flag b o.now) a options) c.in_ok-plain_command.ensures.shape
+    ∙ sym (fold-map with_flag (λ (o : Bor Text). o.now) (plain_app c.args.entry.name.now) options))) c.with_options.ensures.shape
