@@ -1,2 +1,3 @@
+mod AnyFile
 mod Faultless
 mod Tables

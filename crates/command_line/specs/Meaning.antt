@@ -1,11 +1,12 @@
 -- The program's command line, and what words mean on it.
-use Rattle.std.specs.Prelude.{Bool, true, false, ◌||◌, List, [], Option, Some, None}
+use Rattle.std.specs.Prelude.{◌≡◌, ◌==◌, ◌∷◌, not, Bool, true, false, ◌||◌, List, [], Option}
+use Rattle.std.specs.Prelude.{Some, None}
 use Rattle.std.specs.Prelude.{codes, find, fold, if◌then◌else◌, map, option_and_then, option_map}
 use Rattle.std.specs.Option.{option_map_or}
 use Rattle.std.specs.Borrow.{Bor}
 use Rattle.std.specs.Str.{bytes_eq}
 use Rattle.clap.specs.Words.{App, Row as Found, Rule, Text, first_of, matches_of, new_app, new_rule}
-use Rattle.clap.specs.Words.{subcommand_of, with_rule, with_subcommand}
+use Rattle.clap.specs.Words.{subcommand_of, takes, with_rule, with_subcommand}
 use Rattle.clap.specs.declared.builder.action.ArgAction.TheVariants.{SetTrue}
 use Rattle.command_line.specs.declared.commands.Engine.{Engine}
 use Rattle.command_line.specs.declared.commands.Entry.{Entry}
@@ -164,3 +165,33 @@ asked_of top (Some p) = asked_of_command (has_flag (codes "quiet") top) p.0 p.1
 -- what the words mean, of which the first is the program's own name
 abbrev pub meaning : List Text → Option Meant
 meaning words = asked_of (matches_of bakery words) (subcommand_of bakery words)
+
+-- ---- what the plainest words mean
+
+-- the word begins with no hyphen
+abbrev pub is_plain_word : Text → Bool
+is_plain_word [] = true
+is_plain_word (x ∷ rest) = not (x == 45)
+
+-- that a command runs a file
+abbrev pub runs_file : Listed → Text → Bool → Option Meant
+runs_file c file quiet =
+    Some (runs (record { engine = c.engine; file = file; reads = false; quiet = quiet }))
+
+-- its name and a file mean that; with `--quiet` in front of the name, behind it or behind the file
+-- they mean the same, quietly
+abbrev pub RunsFile : Text → Text → Listed → Type 0
+RunsFile own file c = (takes bakery (own ∷ c.name ∷ file ∷ []) ≡ true)
+    × (meaning (own ∷ c.name ∷ file ∷ []) ≡ runs_file c file false)
+    × (meaning (own ∷ codes "--quiet" ∷ c.name ∷ file ∷ []) ≡ runs_file c file true)
+    × (meaning (own ∷ c.name ∷ codes "--quiet" ∷ file ∷ []) ≡ runs_file c file true)
+    × (meaning (own ∷ c.name ∷ file ∷ codes "--quiet" ∷ []) ≡ runs_file c file true)
+
+abbrev pub EachRunsFile : Text → Text → List Listed → Type 0
+EachRunsFile own file [] = Unit
+EachRunsFile own file (c ∷ rest) = RunsFile own file c × EachRunsFile own file rest
+
+-- each command of the table runs each file whose path begins with no hyphen
+abbrev pub RunsEachFile : Type 0
+RunsEachFile =
+    (own file : Text) → is_plain_word file ≡ true → EachRunsFile own file commands

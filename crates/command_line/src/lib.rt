@@ -15,4 +15,4 @@ pub use notices::Notice;
 pub use pages::Page;
 pub use progress::{WatchedInput, Watcher};
 pub use terminal::{Output, Terminals};
-pub use words::{Asked, Request, all_words, read_words};
+pub use words::{Asked, Request, all_words, each_file_runs, read_words};

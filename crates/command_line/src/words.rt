@@ -2,7 +2,7 @@
 ghost use Rattle.std.specs.Prelude.{◌≡◌, ◌⊎◌, IfErr, IfOk, None, Some, [], codes, map, option_map, true};
 ghost use Rattle.clap.specs.Words.{HasKind, fault_of, first_of, found_of, kind_of, rows_of, subcommand_rows_of, takes};
 ghost use Rattle.std.specs.String.{string_bytes};
-ghost use Rattle.command_line.specs.Meaning.{asked_by, asked_of, asked_of_command, asked_of_file, asked_of_help, asked_of_none, bakery, has_flag, meaning, says};
+ghost use Rattle.command_line.specs.Meaning.{RunsEachFile, asked_by, asked_of, asked_of_command, asked_of_file, asked_of_help, asked_of_none, bakery, has_flag, meaning, says};
 
 use crate::commands::{Entry, command_named};
 use crate::notices::{Notice, no_such_page, no_text, shown_error};
@@ -172,3 +172,8 @@ fn is_set(matches: &ArgMatches<'_>, id: &str) -> bool
         None => false,
     }
 }
+
+/// A law of the words: each command of the table runs each file whose path begins with no hyphen.
+pub fn each_file_runs()
+    ensures { RunsEachFile }
+{}
