@@ -12,6 +12,7 @@ pub mod Wanders
 pub mod Counted
 pub mod Nexts
 pub mod Refusals
+pub mod Steppings
 -- What happens in a run, and its text
 pub mod Grows
 pub mod Tellings

@@ -21,7 +21,7 @@ use Rattle.course.specs.declared.told.Drawn.{Drawn}
 use Rattle.course.specs.declared.told.Stepped.{Stepped}
 use Rattle.course.specs.declared.told.Told.{Told}
 use Rattle.course.specs.declared.turns.steps.Steppers.{Steppers}
-use Rattle.engines.proofs.Recordings.{Draws, StepsNext, TellsNext}
+use Rattle.course.proofs.Steppings.{Draws, StepsNext, TellsNext}
 use Rattle.course.proofs.Underways.{with_events}
 use Rattle.drawer.specs.Drawings.{Advances, Kept}
 use Rattle.drawer.specs.Overlaps.{ComesInTurn, Overhears, overlapped_by}

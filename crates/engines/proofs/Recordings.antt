@@ -26,6 +26,7 @@ use Rattle.course.specs.declared.turns.steps.Steppers.{Steppers}
 use Rattle.course.proofs.Grows.{Grows, lines_grow, rest_grows}
 use Rattle.course.proofs.Listeners.{run_past}
 use Rattle.course.proofs.Refusals.{past_kept}
+use Rattle.course.proofs.Steppings.{Draws, StepsNext, TellsNext}
 use Rattle.course.proofs.TurnLaw.{rest_of, rest_none, rest_whole, turn_on}
 use Rattle.course.proofs.Underways.{Said, Turned, One, Nothing, said, silent_one, told_none, told_one, turned}
 use Rattle.course.proofs.Written.{appends_both, appends_none, front_after, front_longer, front_whole}
@@ -143,14 +144,6 @@ copying_on s line start course course' answer old mid new now few u makes wrote 
           rest = ap (λ n. rest_of s line n t.run) is.left ∙ sym (turn_on s line course.left now few) ∙ u.rest;
         }
 
--- what the turn that comes next tells, where it may be drawn already
-abbrev pub TellsNext : CourseState → CourseState → Line → Option Drawn → Option Told → CourseState → Type 0
-TellsNext course ready line drawn answer course' = (run : Run) → Follows course run → IsReady course line run drawn ready → Makes course run (turn_of course.world.setup line course.left run) answer course'
-
--- what is drawn is so, however much has happened
-abbrev pub Draws : CourseState → Line → Steppers → Option Drawn → CourseState → Type 0
-Draws course line steppers drawn ready = (run : Run) → Follows course run → AreNext course.world.setup line run steppers → IsReady course line run drawn ready
-
 makes_next : (s : Setup) (line : Line) (start : Run) (course ready course' : CourseState) (steppers : Steppers) (drawn : Option Drawn) (answer : Option Told) (old new : Option (List ℕ)) → (u : Copying s line start course steppers old new) → Draws course line steppers drawn ready →
     TellsNext course ready line drawn answer course' → Makes course u.now (turn_of course.world.setup line course.left u.now) answer course'
 makes_next s line start course ready course' steppers drawn answer old new u draws tells = tells u.now u.at.follows (draws u.now u.at.follows (subst (λ (s : Setup). AreNext s line u.now steppers) (sym u.at.setup) u.next))
@@ -160,10 +153,6 @@ pub copying_turn : (s : Setup) (line : Line) (start : Run) (course ready course'
 copying_turn s line start course ready course' steppers steppers' drawn answer old mid new few u draws tells wrote next =
     copying_with s line start course' steppers' old new (turn_of s line course.left u.now).run
     (copying_on s line start course course' answer old mid new u.now few u.at (makes_next s line start course ready course' steppers drawn (Some answer) old mid u draws tells) wrote) next
-
--- a Step within a number access more
-abbrev pub StepsNext : CourseState → CourseState → Line → Option Drawn → Stepped → CourseState → Type 0
-StepsNext course ready line drawn made course' = (run : Run) → Follows course run → IsReady course line run drawn ready → MakesStep course line run made course'
 
 step_next : (s : Setup) (line : Line) (start : Run) (course ready course' : CourseState) (steppers : Steppers) (drawn : Option Drawn) (made : Stepped) (old new : Option (List ℕ)) → (u : Copying s line start course steppers old new) → Draws course line steppers drawn ready →
     StepsNext course ready line drawn made course' → MakesStep course line u.now made course'

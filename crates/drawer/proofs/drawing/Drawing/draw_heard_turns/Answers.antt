@@ -6,7 +6,7 @@ use Rattle.course.specs.Steppers.{AreNext, IsReady}
 use Rattle.course.specs.Summaries.{counted}
 use Rattle.course.specs.declared.summaries.Summary.{Summary}
 use Rattle.course.specs.declared.told.Told.{Told}
-use Rattle.engines.proofs.Recordings.{Draws, StepsNext, TellsNext}
+use Rattle.course.proofs.Steppings.{Draws, StepsNext, TellsNext}
 use Rattle.course.proofs.Underways.{events_counted, refused_counted}
 use Rattle.drawer.proofs.Drawings.{DrawsTold, going_start}
 use Rattle.drawer.proofs.HeardTurns.{Hearing, hearing_ended, hearing_step, hearing_turn, hearing_with}
