@@ -1,0 +1,105 @@
+//! Histories of one thread, in which processes call in turn.
+ghost use Rattle.std.specs.Prelude.{◌≡◌, Ok};
+ghost use Rattle.plain_store.specs.Setups.{checked};
+
+use crate::counters::counter;
+use anyhow::Result;
+use plain_store::{Answer, Caller, Command, Name, NestedTypes, Reply, Setup, Store, Value, opened};
+use record::Placed;
+use std::alloc::{AllocError, Global};
+use weigh::Image;
+
+/// What the processes of a history call.
+#[derive(Clone, Copy)]
+pub enum Calls {
+    /// Each call adds 1 to the counter.
+    Adds,
+    /// Each call reads the counter.
+    Reads,
+    /// Each process adds 1 and reads, by turns.
+    Mixed,
+}
+
+/// The finished calls of each process, and the image after them.
+#[derive(Drop)]
+pub struct History {
+    pub lists: Vec<Vec<Placed>>,
+    pub image: Image,
+}
+
+/// The history in which the processes of a setup call in turn, each so many times. The counter opens at 0 in version 2; in
+/// version 1 there is none, and the first call of all writes 1.
+pub fn called_in_turn(alloc: Global, setup: &Setup, calls: Calls, rounds: u32) -> Result<History>
+    requires { checked setup.now ≡ Ok tt }
+{
+    let _nested: NestedTypes = None;
+    let counter = counter()?;
+    let mut image = opened(Image::empty(setup.slots, setup.callers()), setup)?;
+    let mut lists = empty_lists(alloc, setup.processes, rounds)?;
+    let mut changes = 0;
+    let mut number = 0u16;
+    for round in 0..rounds {
+        number = number.wrapping_add(1);
+        let mut process = 0u8;
+        for list in lists.iter_mut() {
+            let command = if setup.version == 1 && changes == 0 {
+                Command::Write(counter, Value::Count(1))
+            } else {
+                command_in(calls, counter, round)
+            };
+            let caller = Caller { process, number };
+            process = process.wrapping_add(1);
+            list.push(finished(&mut image, command, caller, &mut changes)?)?;
+        }
+    }
+    Ok(History { lists, image })
+}
+
+/// A list for each process, with room for so many calls.
+fn empty_lists(alloc: Global, processes: u8, calls: u32) -> Result<Vec<Vec<Placed>>, AllocError> {
+    let _nested: NestedTypes = None;
+    let mut lists = Vec::new(alloc);
+    for _ in 0..processes {
+        lists.push(Vec::with_capacity(alloc, calls as usize)?)?;
+    }
+    Ok(lists)
+}
+
+/// What is called in a round.
+fn command_in(calls: Calls, counter: Name, round: u32) -> Command {
+    match calls {
+        Calls::Adds => Command::Add(counter, 1),
+        Calls::Mixed if round % 2 == 0 => Command::Add(counter, 1),
+        _ => Command::Read(counter),
+    }
+}
+
+/// A call that is carried out on the image, behind so many changes.
+fn finished(
+    image: &mut Image,
+    command: Command,
+    caller: Caller,
+    changes: &mut u32,
+) -> Result<Placed, AllocError> {
+    let place = *changes;
+    if image.would_change(&command) {
+        *changes = place.wrapping_add(1);
+    }
+    let reply = image.apply(&command, caller)?;
+    Ok(Placed {
+        command,
+        answer: Some(Answer::Reply(reply)),
+        place: Some(place),
+    })
+}
+
+impl History {
+    /// Gives the last call of all a reply that no store gives.
+    pub fn spoil(&mut self) {
+        if let Some(list) = self.lists.last_mut()
+            && let Some(call) = list.last_mut()
+        {
+            call.answer = Some(Answer::Reply(Reply::Sum(-1)));
+        }
+    }
+}
