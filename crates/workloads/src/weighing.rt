@@ -38,18 +38,18 @@ pub fn times<T: Print + Eprint + Clock + AllocGlobal>(
     let mut number = 0u32;
     for (name, version, calls, is_spoiled) in HISTORIES {
         if only.is_none_or(|only| only == number) {
-            let setup = setup_of(version)?;
             let rounds = if version == 1 {
                 rounds.saturating_mul(2)
             } else {
                 rounds
             };
-            let mut made = called_in_turn(rt.alloc(), &setup, calls, rounds)?;
-            if is_spoiled {
-                made.spoil();
-            }
-            let calls = u32::from(setup.processes).saturating_mul(rounds);
-            weighed(rt, name, &setup, &made, calls)?;
+            let history = History {
+                setup: setup_of(version)?,
+                calls,
+                rounds,
+                is_spoiled,
+            };
+            weighed(rt, name, &history)?;
         }
         number = number.wrapping_add(1);
     }
@@ -68,24 +68,25 @@ fn setup_of(version: u8) -> Result<Setup>
     Ok(setup)
 }
 
-/// Weighs a history of so many calls.
+/// Weighs a history.
 fn weighed<T: Print + Eprint + Clock + AllocGlobal>(
     rt: &T,
     name: &str,
-    setup: &Setup,
     history: &History,
-    calls: u32,
 ) -> Result<()>
-    requires { checked setup.now ≡ Ok tt }
+    requires { checked history.now.setup ≡ Ok tt }
 {
-    let lists = history.lists.as_slice();
-    if setup.version == 2 && !(lists.len() <= usize::from(setup.processes) && are_short(lists)) {
+    let (lists, image) = called_in_turn(rt.alloc(), history)?;
+    if history.setup.version == 2
+        && !(lists.len() <= usize::from(history.setup.processes) && are_short(&lists))
+    {
         bail!("there are too many calls");
     }
     let start = Instant::now(rt)?;
-    let verdict = weigh(rt.alloc(), setup, lists, &history.image)?;
+    let verdict = weigh(rt.alloc(), &history.setup, &lists, &image)?;
     let passed = start.elapsed(rt)?;
     println!(rt; "{name}: {verdict}")?;
+    let calls = u32::from(history.setup.processes).saturating_mul(history.rounds);
     eprintln!(rt; "{calls} {} {name}", passed.as_nanos())?;
     Ok(())
 }

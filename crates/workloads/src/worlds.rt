@@ -136,9 +136,7 @@ fn audits<T: Print + Eprint + Clock + AllocGlobal>(
     for _ in 0..times {
         let mut auditor = Auditor::new(rt.alloc(), &setup)?;
         let start = Instant::now(rt)?;
-        if !hear_all(&mut auditor, &record) {
-            bail!("an entry breaks a law");
-        }
+        hear_all(&mut auditor, &record)?;
         passed = passed.wrapping_add(start.elapsed(rt)?.as_nanos());
     }
     let entries = record.entries.len();

@@ -20,39 +20,46 @@ pub enum Calls {
     Mixed,
 }
 
-/// The finished calls of each process, and the image after them.
-#[derive(Drop)]
+/// What the processes of a setup call in turn, each so many times. The counter opens at 0 in version 2; in version 1 there is
+/// none, and the first call of all writes 1.
+#[derive(Clone, Copy)]
 pub struct History {
-    pub lists: Vec<Vec<Placed>>,
-    pub image: Image,
+    pub setup: Setup,
+    pub calls: Calls,
+    pub rounds: u32,
+    /// Whether the last call of all has a reply that no store gives.
+    pub is_spoiled: bool,
 }
 
-/// The history in which the processes of a setup call in turn, each so many times. The counter opens at 0 in version 2; in
-/// version 1 there is none, and the first call of all writes 1.
-pub fn called_in_turn(alloc: Global, setup: &Setup, calls: Calls, rounds: u32) -> Result<History>
-    requires { checked setup.now ≡ Ok tt }
+/// The finished calls of each process, and the image after them.
+pub fn called_in_turn(alloc: Global, history: &History) -> Result<(Vec<Vec<Placed>>, Image)>
+    requires { checked history.now.setup ≡ Ok tt }
 {
     let _nested: NestedTypes = None;
+    let setup = &history.setup;
     let counter = counter()?;
     let mut image = opened(Image::empty(setup.slots, setup.callers()), setup)?;
-    let mut lists = empty_lists(alloc, setup.processes, rounds)?;
+    let mut lists = empty_lists(alloc, setup.processes, history.rounds)?;
     let mut changes = 0;
     let mut number = 0u16;
-    for round in 0..rounds {
+    for round in 0..history.rounds {
         number = number.wrapping_add(1);
         let mut process = 0u8;
         for list in lists.iter_mut() {
             let command = if setup.version == 1 && changes == 0 {
                 Command::Write(counter, Value::Count(1))
             } else {
-                command_in(calls, counter, round)
+                command_in(history.calls, counter, round)
             };
             let caller = Caller { process, number };
             process = process.wrapping_add(1);
             list.push(finished(&mut image, command, caller, &mut changes)?)?;
         }
     }
-    Ok(History { lists, image })
+    if history.is_spoiled {
+        spoil(&mut lists);
+    }
+    Ok((lists, image))
 }
 
 /// A list for each process, with room for so many calls.
@@ -93,13 +100,11 @@ fn finished(
     })
 }
 
-impl History {
-    /// Gives the last call of all a reply that no store gives.
-    pub fn spoil(&mut self) {
-        if let Some(list) = self.lists.last_mut()
-            && let Some(call) = list.last_mut()
-        {
-            call.answer = Some(Answer::Reply(Reply::Sum(-1)));
-        }
+/// Gives the last call of all a reply that no store gives.
+fn spoil(lists: &mut Vec<Vec<Placed>>) {
+    if let Some(list) = lists.last_mut()
+        && let Some(call) = list.last_mut()
+    {
+        call.answer = Some(Answer::Reply(Reply::Sum(-1)));
     }
 }

@@ -2,22 +2,18 @@
 ghost use Rattle.std.specs.Prelude.{◌≡◌, Ok};
 ghost use Rattle.plain_store.specs.Setups.{checked};
 
+use anyhow::{Result, bail};
 use auditor::{Auditor, Entry, Flicks, Record, World};
 use plain_store::{Command, NestedTypes, Setup};
 use record::Event;
-use std::alloc::{AllocError, Global};
+use std::alloc::Global;
 
 /// How many steps a record has at most.
 const STEPS: u16 = 10_000;
 
 /// The record of a run in which so many processes, at least 1, call, and then make steps, as they are picked. They are few
 /// enough steps for a record that stays near the processor.
-pub fn recorded(
-    alloc: Global,
-    setup: &Setup,
-    callers: u8,
-    command: &Command,
-) -> Result<Record, AllocError>
+pub fn recorded(alloc: Global, setup: &Setup, callers: u8, command: &Command) -> Result<Record>
     requires { checked setup.now ≡ Ok tt }
 {
     let mut world = World::new(alloc, setup)?;
@@ -35,7 +31,7 @@ pub fn recorded(
 }
 
 /// Makes an event, and keeps its entry; one that is refused, as the step of a process that has none to make, is passed over.
-fn make(world: &mut World, event: Event, entries: &mut Vec<Entry>) -> Result<(), AllocError> {
+fn make(world: &mut World, event: Event, entries: &mut Vec<Entry>) -> Result<()> {
     let _nested: NestedTypes = None;
     let process = event.process();
     if let Ok(act) = world.event(event) {
@@ -44,12 +40,12 @@ fn make(world: &mut World, event: Event, entries: &mut Vec<Entry>) -> Result<(),
     Ok(())
 }
 
-/// Lets an auditor hear each entry. Whether none breaks a law.
-pub fn hear_all(auditor: &mut Auditor, record: &Record) -> bool {
+/// Lets an auditor hear each entry.
+pub fn hear_all(auditor: &mut Auditor, record: &Record) -> Result<()> {
     for entry in &record.entries {
         if auditor.hear(entry).is_some() {
-            return false;
+            bail!("an entry breaks a law");
         }
     }
-    true
+    Ok(())
 }
