@@ -1,11 +1,13 @@
-//! Ports that carry out plans on threads of their own: their calls are answered, cut by failures or given up.
+//! Ports that carry out the lines of a scenario, by turns on one thread or each on a thread of its own; and what they leave,
+//! as text.
 #![tactic(auto)]
 
-mod plans;
+mod left;
+mod lines;
 mod running;
 
-pub use board::{Board, Driven, Port};
-pub use flicks::{Flick, Flicks};
-pub use plans::{End, Plan, Undertaking};
+pub use board::{Board, Closing, Driven, NotQuiet, Port};
+pub use left::Left;
 pub use record::Placed;
-pub use running::run;
+pub use running::{played, run, take_turns};
+pub use scenario::{Line, Scenario, read_scenario};

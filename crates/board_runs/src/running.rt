@@ -1,22 +1,88 @@
-//! Carrying out plans, each on a thread of its own.
-ghost use Rattle.std.specs.Prelude.{◌≡◌};
-ghost use Rattle.board.specs.Boards.{IsOf};
+//! The ports of a board that carry out the lines of a scenario, by turns on one thread, or each on a thread of its own.
+ghost use Rattle.std.specs.Prelude.{◌≡◌, Ok, IfOk};
+ghost use Rattle.board.specs.Boards.{ArePortsOf, IsOf};
 ghost use Rattle.board.specs.Closings.{AreFirstPortsOf};
 ghost use Rattle.board.specs.Ports.{SamePort};
+ghost use Rattle.plain_store.specs.Setups.{checked};
 
-use crate::plans::{End, Plan, Undertaking};
-use board::{Board, Driven, Port};
+use crate::left::Left;
+use crate::lines::{carry_out, process_of, set_flicks};
+use board::{Board, Port};
 use flicks::Flicks;
-use plain_store::Command;
-use record::{Refusal, Stage};
+use plain_store::Setup;
+use scenario::{Line, Scenario};
+use std::alloc::{AllocError, Global};
 use std::thread::{self, Threads};
 
-/// More turns than a memory unit or a withdrawal has: at most 1,088, of 16 processes with 32 ticket bits.
-const TURNS: u64 = 65_536;
+/// What the lines of a scenario leave on a new board: so many are carried out by turns, and those behind them on threads. None
+/// where a call is left open. The one fault is want of memory.
+pub fn played<'a, R: Threads + AllocGlobal + Sync>(
+    rt: &R,
+    scenario: &'a Scenario,
+    by_turns: usize,
+) -> Result<Option<Left<'a>>, AllocError> {
+    let (board, mut ports) = made(rt.alloc(), &scenario.setup)?;
+    let lines = scenario.lines.as_slice();
+    let (first, others) = lines.split_at(by_turns.min(lines.len()));
+    take_turns(&board, &mut ports, first);
+    if !others.is_empty() {
+        run(rt, &board, &mut ports, others);
+    }
+    match board.close(ports) {
+        Ok(closing) => Ok(Some(Left {
+            setup: &scenario.setup,
+            closing,
+        })),
+        Err(_open) => Ok(None),
+    }
+}
 
-/// Each port carries out the plan at its place, if there is one, on a thread of its own where one can be made.
+/// A board with its ports, made at the second try where the first one was refused.
+fn made(alloc: Global, setup: &Setup) -> Result<(Board, Vec<Port>), AllocError>
+    requires { checked setup.now ≡ Ok tt }
+    ensures { IfOk result (λ made. ArePortsOf made.0 made.1.items) }
+{
+    match Board::new(alloc, setup) {
+        Ok(made) => Ok(made),
+        Err(AllocError) => Board::new(alloc, setup),
+    }
+}
+
+/// The ports carry out lines on this thread, one line after another.
+pub fn take_turns(board: &Board, ports: &mut Vec<Port>, lines: &[Line])
+    requires { AreFirstPortsOf board.now ports.old.items }
+    ensures { AreFirstPortsOf board.now ports.new.items }
+{
+    let mut flicks = Flicks::constant(false);
+    for line in lines {
+        set_flicks(&mut flicks, line, 0);
+        if let Some(process) = process_of(line) {
+            carry_out_at(board, ports, usize::from(process), line, &mut flicks);
+        }
+    }
+}
+
+/// The port at this place carries out a line, if there is one.
+#[tactic(auto, using(crate::proofs::PortsThen::is_of, crate::proofs::PortsThen::are_set))]
+fn carry_out_at(
+    board: &Board,
+    ports: &mut Vec<Port>,
+    place: usize,
+    line: &Line,
+    flicks: &mut Flicks,
+)
+    requires { AreFirstPortsOf board.now ports.old.items }
+    ensures { AreFirstPortsOf board.now ports.new.items }
+{
+    if let Some(port) = ports.get_mut(place) {
+        carry_out(board, port, line, flicks);
+    }
+}
+
+/// Each port carries out the lines of its process, on a thread of its own where one can be made. Its flicks are its own: where
+/// they come from a generator, its process's number is added to the seed.
 #[tactic(auto, using(crate::proofs::PortsThen::is_of, crate::proofs::PortsThen::are_then))]
-pub fn run<R: Threads + Sync>(rt: &R, board: &Board, ports: &mut Vec<Port>, plans: &[Plan])
+pub fn run<R: Threads + Sync>(rt: &R, board: &Board, ports: &mut Vec<Port>, lines: &[Line])
     requires { AreFirstPortsOf board.now ports.old.items }
     ensures { AreFirstPortsOf board.now ports.new.items }
 {
@@ -28,76 +94,22 @@ pub fn run<R: Threads + Sync>(rt: &R, board: &Board, ports: &mut Vec<Port>, plan
         &|place: usize, port: &mut Port|
             requires { IsOf board.now port.old }
             ensures { SamePort port.old port.new }
-        {
-            if let Some(plan) = plans.get(place) {
-                carry_out(board, port, plan);
-            }
-        },
+        { carry_out_own(board, port, place, lines) },
     );
 }
 
-/// A port carries out a plan.
-fn carry_out(board: &Board, port: &mut Port, plan: &Plan)
+/// A port carries out the lines of one process.
+fn carry_out_own(board: &Board, port: &mut Port, process: usize, lines: &[Line])
     requires { IsOf board.now port.old }
     ensures { SamePort port.old port.new }
 {
     let mut flicks = Flicks::constant(false);
-    flicks.set(plan.flick);
-    for undertaking in &plan.undertakings {
-        undertake(board, port, undertaking, &mut flicks);
-    }
-}
-
-/// One call, if it is accepted.
-fn undertake(board: &Board, port: &mut Port, undertaking: &Undertaking, flicks: &mut Flicks)
-    requires { IsOf board.now port.old }
-    ensures { SamePort port.old port.new }
-{
-    if !begins(board, port, &undertaking.command) {
-        return;
-    }
-    enter(board, port, undertaking.before, flicks);
-    if port.drive(board, undertaking.turns, flicks) == Driven::Turns {
-        end(board, port, undertaking.end, flicks);
-    }
-}
-
-/// Begins a call, at the second try where the first one was refused for want of memory; whether it is accepted.
-fn begins(board: &Board, port: &mut Port, command: &Command) -> bool
-    requires { IsOf board.now port.old }
-    ensures { SamePort port.old port.new }
-{
-    match port.begin(board, *command) {
-        Err(Refusal::Memory) => port.begin(board, *command).is_ok(),
-        begun => begun.is_ok(),
-    }
-}
-
-/// Makes turns until the process is inside or its call is answered, at most so many.
-fn enter(board: &Board, port: &mut Port, turns: u64, flicks: &mut Flicks)
-    requires { IsOf board.now port.old }
-    ensures { SamePort port.old port.new }
-{
-    for _ in 0..turns {
-        if !matches!(port.stage(), Stage::Doorway | Stage::Waiting) {
-            return;
+    for line in lines {
+        set_flicks(&mut flicks, line, process as u64);
+        if let Some(of) = process_of(line)
+            && usize::from(of) == process
+        {
+            carry_out(board, port, line, &mut flicks);
         }
-        let _turn: Driven = port.drive(board, 1, flicks);
-    }
-}
-
-/// Ends a call that is not answered.
-fn end(board: &Board, port: &mut Port, end: End, flicks: &mut Flicks)
-    requires { IsOf board.now port.old }
-    ensures { SamePort port.old port.new }
-{
-    if end == End::Withdraws && port.withdraw().is_ok() {
-        let _withdrawn: Driven = port.drive(board, TURNS, flicks);
-        return;
-    }
-    let _fails: Result<(), Refusal> = port.fail();
-    let _down: Driven = port.drive(board, TURNS, flicks);
-    if end != End::StaysDown {
-        let _restarts: Result<(), Refusal> = port.restart();
     }
 }

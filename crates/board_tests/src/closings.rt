@@ -1,34 +1,30 @@
-//! Boards that are closed.
-use crate::ports::a;
-use board::{Board, Image};
-use plain_store::{Opening, Setup, Store, Value};
+//! Boards that can't be closed.
+use board_runs::{Board, NotQuiet, read_scenario, take_turns};
+use plain_store::{Setup, Store};
 use std::test::Fail;
 
-// Nothing has happened: the image is that of the opening store.
+/// A write, and its last turn.
+const WRITE: &str = "bakery 1\ntickets 2\nstamps 2\ncall 0 write a c:5\nstep 0 966\nstep 0 1\n";
+
+// Before the last turn of the write the board and both ports come back, and the work goes on.
 #[test]
-fn a_board_closes(rt: HostRuntime) -> Result<(), Fail> {
-    let mut opening = Opening::empty();
-    assert!(rt; opening.add(a(&rt), Value::Count(7)).is_ok());
-    let pair = Setup {
-        version: 2,
-        processes: 3,
-        ticket_bits: 2,
-        stamp_bits: 2,
-        slots: 2,
-        opening,
+fn a_board_with_an_open_call_comes_back(rt: HostRuntime) -> Result<(), Fail> {
+    let scenario = read_scenario(rt.alloc(), WRITE.as_bytes())?;
+    let (begun, last) = scenario
+        .lines
+        .as_slice()
+        .split_at(2.min(scenario.lines.len()));
+    let (board, mut ports) = Board::new(rt.alloc(), &scenario.setup)?;
+    take_turns(&board, &mut ports, begun);
+    let Err(NotQuiet { board, mut ports }) = board.close(ports) else {
+        panic!(rt; "port 0 has a turn left");
     };
-    assert_eq!(rt; pair.check(), Ok(()));
-    let (board, ports) = Board::new(rt.alloc(), &pair)?;
+    assert!(rt; ports.len() == 2);
+    take_turns(&board, &mut ports, last);
     let Ok(closing) = board.close(ports) else {
-        panic!(rt; "all ports are idle");
+        panic!(rt; "both ports are idle");
     };
-    assert!(rt; closing.image.len() == 1);
-    assert!(rt; closing.image.entry(0) == Some((a(&rt), Value::Count(7))));
-    let (board, ports) = Board::new(rt.alloc(), &Setup::one(2, 2, 2, 1))?;
-    let Ok(closing) = board.close(ports) else {
-        panic!(rt; "all ports are idle");
-    };
-    assert!(rt; closing.image == Image::empty(1, 0));
+    assert!(rt; closing.answers.len() == 2 && closing.image.len() == 1);
     Ok(())
 }
 
@@ -40,7 +36,7 @@ fn a_board_without_a_port_comes_back(rt: HostRuntime) -> Result<(), Fail> {
     assert!(rt; one.is_some());
     match board.close(ports) {
         Ok(_) => panic!(rt; "a port is not there"),
-        Err(back) => assert_eq!(rt; back.ports.len(), 1),
+        Err(back) => assert!(rt; back.ports.len() == 1),
     }
     Ok(())
 }

@@ -1,173 +1,124 @@
 //! Ports on threads of their own, which add to one counter.
-ghost use Rattle.std.specs.Prelude.{◌≡◌, ℕ, IfOk, Some, slice_get};
-ghost use Rattle.board.specs.Boards.{IsOf};
-ghost use Rattle.board.specs.Ports.{PortState};
-
-use crate::ports::{a, done, last, once, read};
-use board::{Board, Driven, Port};
-use flicks::Flicks;
-use plain_store::{Answer, Command, Opening, Reply, Setup, Value};
-use record::Refusal;
-use std::alloc::AllocError;
+use board_runs::{Left, Scenario, played, read_scenario};
+use std::alloc::{AllocError, Global};
+use std::process::Abort;
 use std::test::Fail;
-use std::thread::{self, Threads, join};
+use std::thread::Threads;
+use weigh::{Weighed, weigh};
 
-/// Why additions have ended early.
-#[derive(Clone, Copy, Debug, PartialEq, Eq)]
-enum Ended {
-    Refused(Refusal),
-    Led(Driven),
-    TooOften,
+/// A head, and behind it these lines for each process, whose number stands in the place of `@`.
+fn for_each(alloc: Global, head: &str, processes: u8, lines: &str) -> Result<String, AllocError> {
+    let mut file = head.to_string(alloc)?;
+    for process in 0..processes {
+        let number = format!(in alloc; "{process}")?;
+        let own = lines.replace(alloc, "@", number.as_str())?;
+        file.push_str(own.as_str())?;
+    }
+    Ok(file)
 }
 
-/// So many additions of a port, each begun anew where the tickets are full, until all have their sums: then it is given
-/// back.
-fn adds(
-    board: &Board,
-    mut port: Port,
-    command: &Command,
-    times: u8,
-    seed: u64,
-) -> Result<Port, Ended>
-    requires { IsOf board.now port }
-    ensures { IfOk result (IsOf board.now) }
-{
-    let mut flicks = Flicks::pcg(seed);
-    let mut sums = 0u8;
-    for _ in 0..1000 {
-        if sums >= times {
-            return Ok(port);
-        }
-        match once(board, &mut port, command, &mut flicks) {
-            Ok(Driven::Answered(Answer::Reply(Reply::Sum(_)))) => sums += 1,
-            Ok(Driven::Answered(Answer::TicketsFull { .. })) => {}
-            Ok(end) => return Err(Ended::Led(end)),
-            Err(refusal) => return Err(Ended::Refused(refusal)),
+/// Whether the lists of version 1 stand in one history.
+fn is_good(alloc: Global, scenario: &Scenario, left: &Left<'_>) -> Result<bool, AllocError> {
+    if scenario.setup.version != 1 {
+        return Ok(false);
+    }
+    let lists = left.closing.answers.as_slice();
+    let weighed = weigh(alloc, &scenario.setup, lists, &left.closing.image)?;
+    Ok(weighed == Weighed::Good)
+}
+
+/// What a scenario leaves on a board, of which so many lines are carried out by turns and those behind them on threads; and
+/// `good` where the lists of version 1 stand in one history.
+fn raced(
+    rt: &(impl AllocGlobal + Threads + Sync + Abort),
+    file: &str,
+    by_turns: usize,
+) -> Result<String, Fail> {
+    let alloc = rt.alloc();
+    let scenario = read_scenario(alloc, file.as_bytes())?;
+    let Some(left) = played(rt, &scenario, by_turns)? else {
+        panic!(rt; "a call is open");
+    };
+    let good = if is_good(alloc, &scenario, &left)? {
+        "good\n"
+    } else {
+        ""
+    };
+    Ok(format!(in alloc; "{left}{good}")?)
+}
+
+/// How many lines have these words.
+fn lines_with(text: &str, words: &str) -> usize {
+    text.lines().filter(|line| line.contains(words)).count()
+}
+
+/// How often a race is run anew in which a call finds the tickets full.
+const RACES: u32 = 1000;
+
+/// Races in which so many additions are made, one after another until each addition of a race has its sum. In each the counter
+/// is at the number of sums, and what is left of each goes on so behind that.
+fn add_up(
+    rt: &(impl AllocGlobal + Threads + Sync + Abort),
+    file: &str,
+    by_turns: usize,
+    additions: usize,
+    end: &str,
+) -> Result<(), Fail> {
+    for _ in 0..RACES {
+        let text = raced(rt, file, by_turns)?;
+        let sums = lines_with(text.as_str(), " = sum ");
+        let full = lines_with(text.as_str(), " - add a 1 = tickets-full ");
+        assert!(rt; full == additions.saturating_sub(sums), "{text}");
+        let image = format!(in rt.alloc(); "image 0101610000000000000008{sums:016x}00000000{end}")?;
+        assert!(rt; text.contains(image.as_str()), "{text}");
+        if full == 0 {
+            return Ok(());
         }
     }
-    Err(Ended::TooOften)
+    panic!(rt; "the tickets were full in each race")
 }
 
-/// Three additions of each of two ports, on two threads.
-fn both_add<R: Threads + Sync>(
-    rt: &R,
-    board: &Board,
-    one: Port,
-    two: Port,
-    command: &Command,
-) -> (Result<Port, Ended>, Result<Port, Ended>)
-    requires { IsOf board.now one × IsOf board.now two }
-    ensures one { IfOk result.0 (IsOf board.now) }
-    ensures two { IfOk result.1 (IsOf board.now) }
-{
-    join(
-        rt,
-        move || -> Result<Port, Ended>
-            requires { IsOf board.now one }
-            ensures { IfOk result (IsOf board.entry.now) }
-        { adds(board, one, command, 3, 1) },
-        move || -> Result<Port, Ended>
-            requires { IsOf board.now two }
-            ensures { IfOk result (IsOf board.entry.now) }
-        { adds(board, two, command, 3, 2) },
-    )
-}
-
-/// An addition of each of these ports, each on a thread of its own: why it has ended early, if it has.
-fn each_adds<R: Threads + Sync>(
-    rt: &R,
-    board: &Board,
-    ports: Vec<Port>,
-    command: &Command,
-) -> Result<Vec<Option<Ended>>, AllocError>
-    requires { (k : ℕ) (port : PortState) → slice_get ports.items k ≡ Some port → IsOf board.now port }
-{
-    thread::map_vec(
-        rt,
-        ports,
-        &|port: Port| -> Option<Ended>
-            requires { IsOf board.now port }
-        { adds(board, port, command, 1, 2).err() },
-    )
-}
-
-/// An addition of one port and of each of these others, each on a thread of its own.
-fn all_add<R: Threads + Sync>(
-    rt: &R,
-    board: &Board,
-    one: Port,
-    others: Vec<Port>,
-    command: &Command,
-) -> (Result<Port, Ended>, Result<Vec<Option<Ended>>, AllocError>)
-    requires one { IsOf board.now one }
-    requires others { (k : ℕ) (port : PortState) → slice_get others.items k ≡ Some port → IsOf board.now port }
-    ensures { IfOk result.0 (IsOf board.now) }
-{
-    join(
-        rt,
-        move || -> Result<Port, Ended>
-            requires { IsOf board.now one }
-            ensures { IfOk result (IsOf board.entry.now) }
-        { adds(board, one, command, 1, 1) },
-        move || -> Result<Vec<Option<Ended>>, AllocError>
-            requires { (k : ℕ) (port : PortState) → slice_get others.items k ≡ Some port → IsOf board.now port }
-        { each_adds(rt, board, others, command) },
-    )
-}
-
+// A flick may show a ticket with all bits set, and then a call finds the tickets full.
 #[test]
 fn two_threads_add(rt: HostRuntime) -> Result<(), Fail> {
-    let (board, mut ports) = Board::new(rt.alloc(), &Setup::one(2, 4, 4, 1))?;
-    let (Some(two), Some(mut one)) = (last(&board, &mut ports), last(&board, &mut ports)) else {
-        panic!(rt; "there are two ports");
-    };
-    let name = a(&rt);
-    let mut flicks = Flicks::constant(false);
-    let write = Command::Write(name, Value::Count(0));
-    assert_eq!(rt; once(&board, &mut one, &write, &mut flicks), Ok(done()));
-    let (one, two) = both_add(&rt, &board, one, two, &Command::Add(name, 1));
-    assert_eq!(rt; two.err(), None);
-    let mut one = match one {
-        Ok(port) => port,
-        Err(ended) => panic!(rt; "{ended:?}"),
-    };
-    assert_eq!(rt;
-        once(&board, &mut one, &Command::Read(name), &mut flicks),
-        Ok(read(6))
-    );
-    Ok(())
+    let head = "bakery 1\ntickets 4\nstamps 4\ncall 0 write a c:0\ngo 0 idle\nflick pcg 1\n";
+    let adds = "call @ add a 1\ngo @ idle\ncall @ add a 1\ngo @ idle\ncall @ add a 1\ngo @ idle\n";
+    let file = for_each(rt.alloc(), head, 2, adds)?;
+    add_up(&rt, file.as_str(), 2, 6, "\ngood\n")
 }
 
-// There are 17 changes, and no ticket is above the number of calls: 6 bits hold the stamps and the tickets.
+// There are 17 changes, and overlapped bits are read as 0: 6 bits hold the stamps and the tickets.
 #[test]
 fn sixteen_threads_add(rt: HostRuntime) -> Result<(), Fail> {
-    let setup = Setup {
-        version: 2,
-        processes: 16,
-        ticket_bits: 6,
-        stamp_bits: 6,
-        slots: 1,
-        opening: Opening::empty(),
-    };
-    let (board, mut ports) = Board::new(rt.alloc(), &setup)?;
-    let Some(mut one) = last(&board, &mut ports) else {
-        panic!(rt; "there are sixteen ports");
-    };
-    let name = a(&rt);
-    let mut flicks = Flicks::constant(false);
-    let write = Command::Write(name, Value::Count(0));
-    assert_eq!(rt; once(&board, &mut one, &write, &mut flicks), Ok(done()));
-    let (one, others) = all_add(&rt, &board, one, ports, &Command::Add(name, 1));
-    let others = others?;
-    assert_eq!(rt; others.len(), 15);
-    assert_eq!(rt; others.iter().copied().find(|ended| ended.is_some()), None);
-    let mut one = match one {
-        Ok(port) => port,
-        Err(ended) => panic!(rt; "{ended:?}"),
-    };
-    assert_eq!(rt;
-        once(&board, &mut one, &Command::Read(name), &mut flicks),
-        Ok(read(16))
+    let head = "bakery 2\nprocesses 16\ntickets 6\nstamps 6\ncall 0 write a c:0\ngo 0 idle\n";
+    let file = for_each(rt.alloc(), head, 16, "call @ add a 1\ngo @ idle\n")?;
+    add_up(&rt, file.as_str(), 2, 16, "")
+}
+
+// Each port adds six times, and is given 1,390 turns and 1 to 6 more. Undisturbed that is the case so many steps into the write of
+// the commit bit.
+#[test]
+fn three_threads_with_failures(rt: HostRuntime) -> Result<(), Fail> {
+    let head =
+        "bakery 1\nprocesses 3\ntickets 4\nstamps 5\ncall 0 write a c:0\ngo 0 idle\nflick pcg 0\n";
+    let adds = "call @ add a 1\nstep @ 1391\nfail @\ngo @ down\nrestart @\n\
+        call @ add a 1\nstep @ 1392\nfail @\ngo @ down\nrestart @\n\
+        call @ add a 1\nstep @ 1393\nfail @\ngo @ down\nrestart @\n\
+        call @ add a 1\nstep @ 1394\nfail @\ngo @ down\nrestart @\n\
+        call @ add a 1\nstep @ 1395\nfail @\ngo @ down\nrestart @\n\
+        call @ add a 1\nstep @ 1396\nfail @\ngo @ down\nrestart @\n";
+    let file = for_each(rt.alloc(), head, 3, adds)?;
+    let text = raced(&rt, file.as_str(), 2)?;
+    let sums = lines_with(text.as_str(), " = sum ");
+    let full = lines_with(text.as_str(), " - add a 1 = tickets-full ");
+    let cut = lines_with(text.as_str(), " add a 1 = -");
+    assert!(rt;
+        sums.saturating_add(full).saturating_add(cut) == 18,
+        "{text}"
+    );
+    assert!(rt;
+        text.contains("\n0 0 write a c:0 = done\n") && text.ends_with("\ngood\n"),
+        "{text}"
     );
     Ok(())
 }

@@ -29,6 +29,6 @@ fn a_mark_has_its_line(rt: HostRuntime) -> Result<(), Fail> {
         &[number(Key::Width, 1200), words(Key::Fill, b"#fff")],
     )?;
     markup.enter(Tag::Svg, &[words(Key::Role, b"group")])?;
-    assert_eq!(&rt; markup.as_slice(), TAGS.as_bytes());
+    assert!(&rt; markup.as_slice() == TAGS.as_bytes());
     Ok(())
 }

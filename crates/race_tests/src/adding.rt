@@ -1,6 +1,6 @@
 //! Two ports that add to one counter in a race.
-use crate::plans::{a, additions, answer, is_good, raced};
-use plain_store::{Answer, Command, Reply, Setup, Store, Value};
+use crate::plans::{add, answer, raced};
+use plain_store::{Answer, Command, Name, Reply, Store, Value};
 use race::{Closing, Gate, Moment, Pass};
 use std::sync::atomic::AtomicU32;
 use std::sync::atomic::Ordering::SeqCst;
@@ -43,22 +43,22 @@ const RACES: u32 = 1000;
 // calls that it answered with a sum, and it is run anew until all six were.
 #[test]
 fn two_threads_add(rt: HostRuntime) -> Result<(), Fail> {
-    let setup = Setup::one(2, 4, 4, 1);
-    let name = a(&rt);
-    let alloc = rt.alloc();
+    let name = Name::new(b"a")?;
+    let first = [
+        Command::Write(name, Value::Count(0)),
+        add()?,
+        add()?,
+        add()?,
+    ];
+    let second = [add()?, add()?, add()?];
     for _ in 0..RACES {
-        let mut first = vec![in alloc; Command::Write(name, Value::Count(0))]?;
-        let mut more = additions(alloc, name, 3)?;
-        first.append(&mut more)?;
-        let plans = vec![in alloc; first, additions(alloc, name, 3)?]?;
         let gate = AfterTheFirst {
             begun: AtomicU32::new(0),
         };
-        let closing = raced(&rt, alloc, &setup, plans.as_slice(), &gate);
+        let closing = raced(&rt, rt.alloc(), 4, [&first, &second], &gate)?;
         let added = sums(&closing, 0, 4).saturating_add(sums(&closing, 1, 3));
-        assert!(&rt; is_good(alloc, &setup, &closing)?);
-        assert_eq!(&rt; answer(&closing, 0, 0), Some(Answer::Reply(Reply::Done)));
-        assert_eq!(&rt; closing.image.entry(0), Some((name, Value::Count(added))));
+        assert!(&rt; answer(&closing, 0, 0) == Some(Answer::Reply(Reply::Done)));
+        assert!(&rt; closing.image.entry(0) == Some((name, Value::Count(added))));
         if added == 6 {
             return Ok(());
         }

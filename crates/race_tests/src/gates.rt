@@ -1,10 +1,13 @@
 //! Gates that a race on one thread does not pass, and one that asks for patience.
-use crate::plans::{a, additions, answer, is_good, is_no_name_or_full, raced};
-use plain_store::{Answer, Setup};
+use crate::plans::{add, answer, is_no_name_or_full, race_of_two, raced};
+use plain_store::{Answer, NestedTypes, Setup};
 use race::{Gate, Moment, Pass, RaceFault, race};
+use std::alloc::Global;
+use std::sync::Wait;
 use std::sync::atomic::Ordering::SeqCst;
 use std::sync::atomic::{AtomicBool, AtomicU32};
 use std::test::Fail;
+use std::thread::Threads;
 
 /// Whether the flag is seen, in so many looks at most.
 fn sees(flag: &AtomicBool, looks: u32) -> bool {
@@ -113,17 +116,13 @@ impl Gate for Patient {
 /// Two ports add once each, and the gate holds one of them inside until the other has begun.
 #[test]
 fn one_waits_inside_for_the_other_to_begin(rt: HostRuntime) -> Result<(), Fail> {
-    let setup = Setup::one(2, 4, 4, 1);
-    let name = a(&rt);
-    let alloc = rt.alloc();
+    let adds = [add()?];
     for held in [0, 1] {
         let gate = UntilBegun {
             held,
             begun: AtomicBool::new(false),
         };
-        let plans = vec![in alloc; additions(alloc, name, 1)?, additions(alloc, name, 1)?]?;
-        let closing = raced(&rt, alloc, &setup, plans.as_slice(), &gate);
-        assert!(&rt; is_good(alloc, &setup, &closing)?);
+        let closing = raced(&rt, rt.alloc(), 4, [&adds, &adds], &gate)?;
         assert!(&rt; is_no_name_or_full(answer(&closing, 0, 0)));
         assert!(&rt; is_no_name_or_full(answer(&closing, 1, 0)));
     }
@@ -133,81 +132,74 @@ fn one_waits_inside_for_the_other_to_begin(rt: HostRuntime) -> Result<(), Fail> 
 // Within one ask each looks for the other, so that no body that serves the ports in turns lets them meet.
 #[test]
 fn two_ports_meet(rt: HostRuntime) -> Result<(), Fail> {
-    let setup = Setup::one(2, 4, 4, 1);
-    let name = a(&rt);
-    let alloc = rt.alloc();
+    let adds = [add()?];
     let gate = Meeting {
         came: [AtomicBool::new(false), AtomicBool::new(false)],
         found: [AtomicBool::new(false), AtomicBool::new(false)],
     };
-    let plans = vec![in alloc; additions(alloc, name, 1)?, additions(alloc, name, 1)?]?;
-    let closing = raced(&rt, alloc, &setup, plans.as_slice(), &gate);
-    assert!(&rt; is_good(alloc, &setup, &closing)?);
-    assert!(&rt; gate.found[0].load(SeqCst));
-    assert!(&rt; gate.found[1].load(SeqCst));
+    raced(&rt, rt.alloc(), 4, [&adds, &adds], &gate)?;
+    assert!(&rt; gate.found[0].load(SeqCst) && gate.found[1].load(SeqCst));
     Ok(())
 }
 
 // One ticket bit: while port 0 is inside, port 1 finds the tickets full, and calls again.
 #[test]
 fn one_passes_a_full_door_while_the_other_is_inside(rt: HostRuntime) -> Result<(), Fail> {
-    let setup = Setup::one(2, 1, 4, 1);
-    let name = a(&rt);
-    let alloc = rt.alloc();
+    let (one, two) = ([add()?], [add()?, add()?]);
     let gate = Passing {
         inside: AtomicBool::new(false),
         let_on: AtomicBool::new(false),
         begun_again: AtomicBool::new(false),
     };
-    let plans = vec![in alloc; additions(alloc, name, 1)?, additions(alloc, name, 2)?]?;
-    let closing = raced(&rt, alloc, &setup, plans.as_slice(), &gate);
-    assert!(&rt; is_good(alloc, &setup, &closing)?);
-    assert_eq!(&rt;
-        answer(&closing, 1, 0),
-        Some(Answer::TicketsFull { process: 0 })
-    );
+    let closing = raced(&rt, rt.alloc(), 1, [&one, &two], &gate)?;
+    assert!(&rt; answer(&closing, 1, 0) == Some(Answer::TicketsFull { process: 0 }));
     Ok(())
 }
 
+/// A race of one process, which adds once: whether it comes to its end, and how often its gate was asked that refuses so often.
+fn asked(
+    rt: &(impl Threads + Wait + Sync),
+    alloc: Global,
+    refused: u32,
+) -> Result<(Option<RaceFault>, u32), Fail> {
+    let _nested: NestedTypes = None;
+    let setup = Setup::one(1, 4, 4, 1);
+    let plans = vec![in alloc; vec![in alloc; add()?]?]?;
+    let gate = Patient {
+        asked: AtomicU32::new(0),
+        refused,
+    };
+    let fault = race(rt, alloc, &setup, plans.as_slice(), &gate).err();
+    Ok((fault, gate.asked.load(SeqCst)))
+}
+
+// The gate is asked once more when the port is inside.
 #[test]
 fn a_gate_is_asked_ten_million_times(rt: HostRuntime) -> Result<(), Fail> {
-    let setup = Setup::one(1, 4, 4, 1);
-    let name = a(&rt);
-    let alloc = rt.alloc();
-    let plans = vec![in alloc; additions(alloc, name, 1)?]?;
-    let gate = Patient {
-        asked: AtomicU32::new(0),
-        refused: 9_999_999,
-    };
-    let closing = raced(&rt, alloc, &setup, plans.as_slice(), &gate);
-    assert!(&rt; is_good(alloc, &setup, &closing)?);
-    let gate = Patient {
-        asked: AtomicU32::new(0),
-        refused: u32::MAX,
-    };
-    assert_eq!(&rt;
-        race(&rt, alloc, &setup, plans.as_slice(), &gate).err(),
-        Some(RaceFault::Held(0))
+    let (fault, times) = asked(&rt, rt.alloc(), 9_999_999)?;
+    assert!(&rt; fault.is_none() && times == 10_000_001, "{fault:?}");
+    let (fault, times) = asked(&rt, rt.alloc(), u32::MAX)?;
+    assert!(&rt;
+        fault == Some(RaceFault::Held(0)) && times == 10_000_000,
+        "{fault:?}"
     );
-    assert_eq!(&rt; gate.asked.load(SeqCst), 10_000_000);
     Ok(())
 }
 
 // Both ports are held for good: the lower one is told.
 #[test]
 fn the_lowest_held_port_is_told(rt: HostRuntime) -> Result<(), Fail> {
-    let setup = Setup::one(2, 4, 4, 1);
-    let name = a(&rt);
-    let alloc = rt.alloc();
-    let plans = vec![in alloc; additions(alloc, name, 1)?, additions(alloc, name, 1)?]?;
+    let adds = [add()?];
     let gate = Patient {
         asked: AtomicU32::new(0),
         refused: u32::MAX,
     };
-    let Err(fault) = race(&rt, alloc, &setup, plans.as_slice(), &gate) else {
+    let Err(fault) = race_of_two(&rt, rt.alloc(), 4, [&adds, &adds], &gate)? else {
         panic!(&rt; "both ports are held");
     };
-    assert_eq!(&rt; fault, RaceFault::Held(0));
-    assert_eq!(&rt; format!(in alloc; "{fault}")?.as_str(), "held 0");
+    assert!(&rt;
+        format!(in rt.alloc(); "{fault}")?.as_str() == "held 0",
+        "{fault:?}"
+    );
     Ok(())
 }

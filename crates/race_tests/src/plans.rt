@@ -1,53 +1,61 @@
-//! What the tests race: plans of additions to one name, and what they expect of each race.
-ghost use Rattle.std.specs.Prelude.{◌≡◌, Ok, length};
+//! What the tests race: two processes with their calls, and what is expected of each race.
+ghost use Rattle.std.specs.Prelude.{◌≡◌, Ok};
 ghost use Rattle.plain_store.specs.Setups.{checked};
 
 use plain_store::{Answer, Command, Name, NestedTypes, Reply, Setup};
-use race::{Closing, Gate, race};
+use race::{Closing, Gate, RaceFault, race};
 use std::alloc::{AllocError, Global};
 use std::process::Abort;
 use std::sync::Wait;
+use std::test::Fail;
 use std::thread::Threads;
 use weigh::{Weighed, weigh};
 
-/// The name of all values here.
-pub fn a(rt: &impl Abort) -> Name {
-    match Name::new(b"a") {
-        Ok(name) => name,
-        Err(_) => panic!(rt; "a is a name"),
-    }
+/// The command that adds 1 to the one name here.
+pub fn add() -> Result<Command, Fail> {
+    Ok(Command::Add(Name::new(b"a")?, 1))
 }
 
-/// So many additions of 1.
-pub fn additions(alloc: Global, name: Name, times: usize) -> Result<Vec<Command>, AllocError> {
+/// A race of two processes of version 1 with so many ticket bits, of which each makes its calls.
+pub fn race_of_two<R: Threads + Wait + Sync, G: Gate + Sync>(
+    rt: &R,
+    alloc: Global,
+    tickets: u8,
+    calls: [&[Command]; 2],
+    gate: &G,
+) -> Result<Result<Closing, RaceFault>, Fail> {
     let _nested: NestedTypes = None;
-    vec![in alloc; Command::Add(name, 1); times]
+    let setup = Setup::one(2, tickets, 4, 1);
+    setup.check()?;
+    let [first, second] = calls;
+    let plans = vec![in alloc;
+        Vec::from_slice(alloc, first)?,
+        Vec::from_slice(alloc, second)?,
+    ]?;
+    Ok(race(rt, alloc, &setup, plans.as_slice(), gate))
 }
 
-/// What a race leaves. Its fault fails the test.
+/// What such a race leaves, which stands in one history. Its fault fails the test.
 pub fn raced<R: Threads + Wait + Abort + Sync, G: Gate + Sync>(
     rt: &R,
     alloc: Global,
-    setup: &Setup,
-    plans: &[Vec<Command>],
+    tickets: u8,
+    calls: [&[Command]; 2],
     gate: &G,
-) -> Closing
-    requires good { checked setup.now ≡ Ok tt }
-    requires all { length plans.now ≡ setup.now.processes }
-    requires version { setup.now.version ≡ 1 }
-{
-    match race(rt, alloc, setup, plans, gate) {
-        Ok(closing) => closing,
+) -> Result<Closing, Fail> {
+    match race_of_two(rt, alloc, tickets, calls, gate)? {
+        Ok(closing) => {
+            assert!(rt; is_good(alloc, &closing)?);
+            Ok(closing)
+        }
         Err(fault) => panic!(rt; "{fault:?}"),
     }
 }
 
-/// What a race leaves stands in one history.
-pub fn is_good(alloc: Global, setup: &Setup, closing: &Closing) -> Result<bool, AllocError>
-    requires good { checked setup.now ≡ Ok tt }
-    requires version { setup.now.version ≡ 1 }
-{
-    let weighed = weigh(alloc, setup, closing.answers.as_slice(), &closing.image)?;
+/// Whether what two processes of version 1 have left stands in one history.
+fn is_good(alloc: Global, closing: &Closing) -> Result<bool, AllocError> {
+    let setup = Setup::one(2, 4, 4, 1);
+    let weighed = weigh(alloc, &setup, closing.answers.as_slice(), &closing.image)?;
     Ok(weighed == Weighed::Good)
 }
 

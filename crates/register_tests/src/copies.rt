@@ -10,8 +10,8 @@ use std::test::Fail;
 /// Checks what a step of a write tells: the copy of which reader, the move, and what remains.
 fn tells(rt: &impl Abort, step: (Made, Progress), want: (u8, Move, Progress)) {
     let ((made, progress), (reader, how, remains)) = (step, want);
-    assert_eq!(rt; made, Made { reader, how });
-    assert_eq!(rt; progress, remains);
+    assert!(rt; made == Made { reader, how });
+    assert!(rt; progress == remains);
 }
 
 /// A bit with two copies in which 1 was written, which takes four accesses.
@@ -39,7 +39,7 @@ fn writes_both_copies(rt: HostRuntime) -> Result<(), Fail> {
     let (_, _) = bit.read_step(1, &mut read, false);
     let step = bit.read_step(1, &mut read, false);
     tells(&rt, step, (1, Move::EndRead(true), Progress::Done));
-    assert_eq!(rt; read.value(), Some(true));
+    assert!(rt; read.value() == Some(true));
     Ok(())
 }
 
@@ -67,7 +67,7 @@ fn write_last(rt: &impl Abort, row: &mut CopiedRow)
     let (_, _) = row.write_step(64, &mut run);
     let (_, _) = row.write_step(64, &mut run);
     let (_, progress) = row.write_step(64, &mut run);
-    assert_eq!(rt; progress, Progress::Done);
+    assert!(rt; progress == Progress::Done);
 }
 
 // A write of bit 64 of a row takes four steps and changes no other bit: not bit 0, where an index that
@@ -77,12 +77,12 @@ fn a_row_of_sixty_five_bits(rt: HostRuntime) -> Result<(), Fail> {
     let (mut row, mut write, mut read) = with_open_bits(rt.alloc())?;
     write_last(&rt, &mut row);
     let (made, _) = row.read_step(63, 1, &mut read, true);
-    assert_eq!(rt; made.how, Move::EndRead(false));
+    assert!(rt; made.how == Move::EndRead(false));
     let (made, _) = row.write_step(0, &mut write);
-    assert_eq!(rt; made.how, Move::EndWrite);
+    assert!(rt; made.how == Move::EndWrite);
     for (bit, values) in [(0, [true, false]), (63, [false, false]), (64, [true, true])] {
         let copies = [row.value(bit, 0), row.value(bit, 1)];
-        assert_eq!(rt; copies, values, "bit {bit}");
+        assert!(rt; copies == values, "bit {bit}");
     }
     Ok(())
 }

@@ -11,10 +11,10 @@ fn register_steps_and_widths(rt: HostRuntime) -> Result<(), Fail> {
     let Some(writes) = write_all(&mut register, 4, &[5], 1) else {
         panic!(rt; "the write has no end");
     };
-    assert_eq!(rt; writes, 16);
+    assert!(rt; writes == 16);
     let reads = read_all(&mut register, 4, 1, &mut read);
-    assert_eq!(rt; reads, Some(8));
-    assert_eq!(rt; number_of(read.bytes()), 5);
+    assert!(rt; reads == Some(8));
+    assert!(rt; number_of(read.bytes()) == 5);
     Ok(())
 }
 
@@ -31,11 +31,11 @@ fn cut_after(
     let Some(cut) = cut_and_settle(&mut register, 2, &[3], steps, settled, 1) else {
         panic!(rt; "the settling after {steps} steps has no end");
     };
-    assert_eq!(rt; cut, want, "after {steps} steps");
+    assert!(rt; cut == want, "after {steps} steps");
     let mut read = ReadRun::new(rt.alloc(), 2)?;
     let reads = read_all(&mut register, 2, 1, &mut read);
-    assert_eq!(rt; reads, Some(4));
-    assert_eq!(rt; number_of(read.bytes()), number, "after {steps} steps");
+    assert!(rt; reads == Some(4));
+    assert!(rt; number_of(read.bytes()) == number, "after {steps} steps");
     Ok(())
 }
 

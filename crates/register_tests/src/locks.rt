@@ -14,19 +14,18 @@ fn steps_on_registers(rt: HostRuntime) -> Result<(), Fail> {
     let mut leaving = Leaving::new(1, &setup);
     let lock = locks.own(1);
     let (access, progress) = leaving.step(lock);
-    assert_eq!(rt;
-        (access.owner, access.field, access.bit, access.reader),
-        (1, Field::Ticket, 0, 0)
+    assert!(rt;
+        (access.owner, access.field, access.bit, access.reader) == (1, Field::Ticket, 0, 0)
     );
-    assert_eq!(rt; access.how, Move::BeginWrite(false));
-    assert_eq!(rt; progress, Progress::Going);
+    assert!(rt; access.how == Move::BeginWrite(false));
+    assert!(rt; progress == Progress::Going);
     let Progress::Going = progress else {
         panic!(rt; "the ticket was cleared");
     };
     let Some(torn) = leaving.fail() else {
         panic!(rt; "no bit is torn");
     };
-    assert_eq!(rt; (torn.field, torn.bit), (Field::Ticket, 0));
+    assert!(rt; (torn.field, torn.bit) == (Field::Ticket, 0));
     Ok(())
 }
 
@@ -39,22 +38,21 @@ fn door_on_registers(rt: HostRuntime) -> Result<(), Fail> {
     let mut door = Door::new(rt.alloc(), 0, &setup)?;
     door.start();
     let (access, told) = door.step(&mut locks, true);
-    assert_eq!(rt;
-        (access.owner, access.field, access.bit, access.reader),
-        (0, Field::Choosing, 0, 0)
+    assert!(rt;
+        (access.owner, access.field, access.bit, access.reader) == (0, Field::Choosing, 0, 0)
     );
-    assert_eq!(rt; access.how, Move::BeginWrite(true));
+    assert!(rt; access.how == Move::BeginWrite(true));
     let DoorProgress::Doorway = told else {
         panic!(rt; "the doorway does not go on: {told:?}");
     };
     let Some(torn) = door.fail(&mut locks) else {
         panic!(rt; "no bit is torn");
     };
-    assert_eq!(rt; (torn.field, torn.bit), (Field::Choosing, 0));
+    assert!(rt; (torn.field, torn.bit) == (Field::Choosing, 0));
     let settled = Made {
         reader: 0,
         how: Move::Settle(false),
     };
-    assert_eq!(rt; torn.torn.next(false), settled);
+    assert!(rt; torn.torn.next(false) == settled);
     Ok(())
 }

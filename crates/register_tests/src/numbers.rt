@@ -20,11 +20,11 @@ fn widths_and_bytes(rt: HostRuntime) -> Result<(), NumberFault> {
             "a read of width {width}"
         );
     }
-    assert_eq!(rt; bits_of(258), [2, 1, 0, 0, 0, 0, 0, 0]);
-    assert_eq!(rt; number_of(&[2, 1]), 258);
-    assert_eq!(rt; number_of(&[]), 0);
+    assert!(rt; bits_of(258) == [2, 1, 0, 0, 0, 0, 0, 0]);
+    assert!(rt; number_of(&[2, 1]) == 258);
+    assert!(rt; number_of(&[]) == 0);
     for number in [0, 5, 65_535, 4_294_967_295, u64::MAX] {
-        assert_eq!(rt; number_of(&bits_of(number)), number, "{number}");
+        assert!(rt; number_of(&bits_of(number)) == number, "{number}");
     }
     Ok(())
 }

@@ -19,7 +19,7 @@ fn clears_the_registers(rt: HostRuntime) -> Result<(), Fail> {
         reader: 0,
         how: Move::BeginWrite(false),
     };
-    assert_eq!(rt; access, first);
-    assert_eq!(rt; told, UnitProgress::Clearing);
+    assert!(rt; access == first);
+    assert!(rt; told == UnitProgress::Clearing);
     Ok(())
 }

@@ -1,6 +1,6 @@
 ghost use Rattle.std.specs.Prelude.{◌≤◌};
 
-use plain_store::{Caller, Command, Name, PlainStore, Reply, Store, Text, Value};
+use plain_store::{Caller, Command, Name, Store, Text, Value};
 use std::process::Abort;
 use std::test::Fail;
 use store_image::{BadImage, Image};
@@ -13,53 +13,12 @@ const COUNTER: [u8; 23] = [
     1, 1, 0x61, 0, 0, 0, 0, 0, 0, 0, 8, 0, 0, 0, 0, 0, 0, 0, 5, 0, 0, 0, 0,
 ];
 
-/// The same with one caller, whose last change has the number 1.
-const COUNTER_OF_ONE_CALLER: [u8; 25] = [
-    1, 1, 0x61, 0, 0, 0, 0, 0, 0, 0, 8, 0, 0, 0, 0, 0, 0, 0, 5, 0, 0, 0, 0, 0, 1,
-];
-
-fn counter() -> Result<(Name, Value), Fail> {
-    Ok((Name::new(b"a")?, Value::Count(5)))
-}
-
-/// The image of a store of one slot in which the counter was written, by process 0 as its first call.
-fn with_counter(rt: &impl Abort, callers: u8) -> Result<Image, Fail>
-    requires { callers ≤ 16 }
-{
-    let (name, value) = counter()?;
-    let mut image = Image::empty(1, callers);
-    let caller = Caller {
-        process: 0,
-        number: 1,
-    };
-    let reply = image.apply(&Command::Write(name, value), caller)?;
-    assert_eq!(rt; reply, Reply::Done);
-    Ok(image)
-}
-
 /// The image of two slots.
 fn of_two(first: &[u8; 23], second: &[u8; 23]) -> [u8; 46] {
     let mut bytes = [0; 46];
     bytes[..23].copy_from_slice(first);
     bytes[23..].copy_from_slice(second);
     bytes
-}
-
-#[test]
-fn images_have_the_bytes_of_the_format(rt: HostRuntime) -> Result<(), Fail> {
-    let image = with_counter(&rt, 0)?;
-    assert_eq!(rt; Image::empty(1, 0).bytes(), [0; 23].as_slice());
-    assert_eq!(rt; image.bytes(), COUNTER.as_slice());
-    assert_eq!(rt;
-        with_counter(&rt, 1)?.bytes(),
-        COUNTER_OF_ONE_CALLER.as_slice()
-    );
-    let read = Image::read(&COUNTER, 0)?;
-    assert!(rt; image == read);
-    assert!(rt; Image::empty(1, 1) != Image::empty(1, 0));
-    assert_eq!(rt; read.entry(0), Some(counter()?));
-    assert_eq!(rt; Image::read(&[0; 23], 0)?.len(), 0);
-    Ok(())
 }
 
 // Those of another length, and those of which a slot breaks a rule.
@@ -73,92 +32,28 @@ fn readers_refuse_bytes_that_are_no_image(rt: HostRuntime) {
         (&[0; 207], 0),
     ];
     for (bytes, callers) in cases {
-        assert_eq!(rt; Image::read(bytes, callers).err(), Some(BadImage::Length));
+        assert!(rt; Image::read(bytes, callers).err() == Some(BadImage::Length));
     }
     let mut unclean = COUNTER;
     unclean[22] = 1;
-    assert_eq!(rt; Image::read(&unclean, 0).err(), Some(BadImage::Slot(0)));
+    assert!(rt; Image::read(&unclean, 0).err() == Some(BadImage::Slot(0)));
     // An image of two slots that has the counter behind an unused slot, and one that has it twice.
     for first in [[0; 23], COUNTER] {
         let bytes = of_two(&first, &COUNTER);
-        assert_eq!(rt; Image::read(&bytes, 0).err(), Some(BadImage::Slot(1)));
+        assert!(rt; Image::read(&bytes, 0).err() == Some(BadImage::Slot(1)));
     }
-}
-
-/// The calls of a store of one slot, with the reply to each, and whether it changes the pairs.
-fn calls() -> Result<[(Command, Reply, bool); 10], Fail> {
-    let a = Name::new(b"a")?;
-    let b = Name::new(b"b")?;
-    let most = Value::Count(i64::MAX);
-    let hi = Value::Text(Text::new(b"hi")?);
-    let x = Value::Text(Text::new(b"x")?);
-    let (one, two) = (Value::Count(1), Value::Count(2));
-    Ok([
-        (Command::Add(a, 1), Reply::NoName, false),
-        (Command::Write(a, most), Reply::Done, true),
-        (Command::Add(a, 1), Reply::Overflow, false),
-        (Command::Add(a, 0), Reply::Sum(i64::MAX), false),
-        (Command::Read(a), Reply::Value(most), false),
-        (Command::Write(b, x), Reply::StoreFull, false),
-        (Command::Cas(b, one, two), Reply::NoName, false),
-        (Command::Cas(a, one, two), Reply::Kept(most), false),
-        (Command::Cas(a, most, hi), Reply::Swapped, true),
-        (Command::Add(a, 1), Reply::NotCounter, false),
-    ])
-}
-
-/// Makes a call of process 1, which has this reply.
-fn replies<S: Store>(
-    rt: &impl Abort,
-    store: &mut S,
-    number: u16,
-    call: &(Command, Reply, bool),
-) -> Result<(), Fail> {
-    let (command, reply, changes) = call;
-    let caller = Caller { process: 1, number };
-    assert_eq!(rt; store.would_change(command), *changes, "call {number}");
-    assert_eq!(rt; store.apply(command, caller)?, *reply, "call {number}");
-    Ok(())
-}
-
-/// Makes the calls, numbered from 1, and then asks for the last change, which has this number.
-fn replies_are_right<S: Store>(rt: &impl Abort, store: &mut S, last: u16) -> Result<(), Fail> {
-    let calls = calls()?;
-    let mut number = 0u16;
-    for call in &calls {
-        number = number.wrapping_add(1);
-        replies(rt, store, number, call)?;
-    }
-    replies(rt, store, 11, &(Command::Ask, Reply::Last(last), false))
-}
-
-/// Whether a store is as the calls leave it, of which the last change has this number.
-fn ends_right<S: Store>(rt: &impl Abort, store: &S, last: u16) -> Result<(), Fail> {
-    let hi = Value::Text(Text::new(b"hi")?);
-    assert_eq!(rt; store.len(), 1);
-    assert_eq!(rt; store.entry(0), Some((Name::new(b"a")?, hi)));
-    assert_eq!(rt; store.entry(1), None);
-    let lasts = [store.last(0), store.last(1), store.last(2)];
-    assert_eq!(rt; lasts, [0, last, 0]);
-    Ok(())
-}
-
-fn is_right<S: Store>(rt: &impl Abort, store: &mut S, last: u16) -> Result<(), Fail> {
-    replies_are_right(rt, store, last)?;
-    ends_right(rt, store, last)
-}
-
-#[test]
-fn both_stores_reply_alike(rt: HostRuntime) -> Result<(), Fail> {
-    for (callers, last) in [(0, 0), (2, 9)] {
-        is_right(&rt, &mut PlainStore::new(rt.alloc(), 1, callers), last)?;
-        is_right(&rt, &mut Image::empty(1, callers), last)?;
-    }
-    Ok(())
 }
 
 fn are_zeros(bytes: &[u8]) -> bool {
     bytes.iter().all(|byte| *byte == 0)
+}
+
+fn is_within(byte: u8, least: u8, greatest: u8) -> bool {
+    least <= byte && byte <= greatest
+}
+
+fn is_of_name(byte: u8) -> bool {
+    is_within(byte, b'a', b'z') || is_within(byte, b'0', b'9') || byte == b'_'
 }
 
 /// What stands in a slot, by the table of its bytes: `Some(None)` where it is unused.
@@ -176,14 +71,9 @@ fn table(slot: &[u8]) -> Option<Option<&[u8]>> {
     }
     let name = &slot[2..2 + name_length];
     let value = &slot[11..11 + value_length];
-    let good_value = match slot[0] {
-        1 => value_length == 8,
-        2 => value.iter().all(|byte| 0x21 <= *byte && *byte <= 0x7e),
-        _ => false,
-    };
-    let good_name = name
-        .iter()
-        .all(|byte| matches!(*byte, b'a'..=b'z' | b'0'..=b'9' | b'_'));
+    let good_value = (slot[0] == 1 && value_length == 8)
+        || (slot[0] == 2 && value.iter().all(|byte| is_within(*byte, 0x21, 0x7e)));
+    let good_name = name.iter().all(|byte| is_of_name(*byte));
     let clean = are_zeros(&slot[2 + name_length..10]) && are_zeros(&slot[11 + value_length..]);
     if good_name && good_value && clean {
         Some(Some(name))
@@ -226,8 +116,11 @@ fn is_read_by_the_table(
 {
     let read = Image::read(bytes, callers);
     match first_fault(bytes, slots) {
-        Some(place) => assert_eq!(rt; read.err(), Some(BadImage::Slot(place)), "changed at {at}"),
-        None => assert_eq!(rt; read?.bytes(), bytes, "changed at {at}"),
+        Some(place) => assert!(rt;
+            read.err() == Some(BadImage::Slot(place)),
+            "changed at {at}"
+        ),
+        None => assert!(rt; read?.bytes() == bytes, "changed at {at}"),
     }
     Ok(())
 }

@@ -12,6 +12,8 @@ mod images;
 mod places;
 #[cfg(test)]
 mod printing;
+#[cfg(test)]
+mod stores;
 mod streams;
 #[cfg(test)]
 mod weighing;

@@ -10,14 +10,13 @@ fn tells_the_number_of_each_line_that_is_run(rt: HostRuntime) -> Result<(), Fail
     let file = "# a comment\nbakery 2\n\nprocesses 3\nopen a c:1\n \t# behind blanks\n\
         call 0 read a\r\n \t\n\tstep 0 1\n#show\n\r\nshow\n\n#";
     let scenario = read_scenario(rt.alloc(), file.as_bytes())?;
-    assert_eq!(rt; scenario.lines.len(), 3);
+    assert!(rt; scenario.lines.len() == 3);
     let mut place = Place::before(file.as_bytes(), scenario.lines.len());
     for (events, number) in [(0, 7), (1, 9), (2, 12)] {
         let Reached::Line(line) = place.begin_line(events) else {
             panic!(rt; "a line begins");
         };
-        assert_eq!(rt; line.number(rt.alloc()), number);
-        assert_eq!(rt; line.events(), events);
+        assert!(rt; line.number(rt.alloc()) == number && line.events() == events);
     }
     Ok(())
 }

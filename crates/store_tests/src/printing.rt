@@ -39,7 +39,7 @@ fn prints_scenarios(rt: HostRuntime) -> Result<(), Fail> {
     for (text, prints) in PRINTED {
         let scenario = read_scenario(rt.alloc(), text.as_bytes())?;
         let printed = print_scenario(rt.alloc(), &scenario)?;
-        assert_eq!(rt; printed.as_slice(), prints.as_bytes());
+        assert!(rt; printed.as_slice() == prints.as_bytes(), "{prints}");
     }
     Ok(())
 }

@@ -9,7 +9,7 @@ use std::test::Fail;
 use store_image::Image;
 use weigh::{Placed, Weighed, weigh};
 
-/// Calls of version 1.
+/// Calls.
 #[derive(Clone, Copy)]
 enum Made {
     Write,
@@ -32,11 +32,16 @@ enum Made {
     Swap,
     SwapNoName,
     AddNothing,
+    // In version 2: asks after the first change, which are told these numbers, and one that a failure cut before it was taken.
+    AskOne,
+    AskTwo,
+    LostAsk,
 }
 
 use Made::{
-    AddNothing, AddOne, CutWrite, LostWrite, Read, ReadLate, ReadNever, ReadNoName, ReadNothing,
-    ReadNowhere, ReadOther, ReadSix, ReadWithdrawn, Swap, SwapNoName, Write,
+    AddNothing, AddOne, AskOne, AskTwo, CutWrite, LostAsk, LostWrite, Read, ReadLate, ReadNever,
+    ReadNoName, ReadNothing, ReadNowhere, ReadOther, ReadSix, ReadWithdrawn, Swap, SwapNoName,
+    Write,
 };
 
 /// The lists of two ports, and what they weigh.
@@ -149,6 +154,13 @@ fn placed(made: Made) -> Placed {
         AddNothing => add(0, 7, 3),
         Swap => swap(Reply::Swapped),
         SwapNoName => swap(Reply::NoName),
+        AskOne => replied(Command::Ask, Reply::Last(1), 1),
+        AskTwo => replied(Command::Ask, Reply::Last(2), 1),
+        LostAsk => Placed {
+            command: Command::Ask,
+            answer: None,
+            place: None,
+        },
     }
 }
 
@@ -190,7 +202,7 @@ fn weighed(alloc: Global, lists: &[Vec<Placed>], image: &Image) -> Result<Weighe
 fn weighs(rt: &(impl Abort + AllocGlobal), table: &[Row], image: &Image) -> Result<(), Fail> {
     for (row, (first, second, verdict)) in table.iter().enumerate() {
         let both = lists(rt.alloc(), first, second)?;
-        assert_eq!(rt; weighed(rt.alloc(), &both, image)?, *verdict, "row {row}");
+        assert!(rt; weighed(rt.alloc(), &both, image)? == *verdict, "row {row}");
     }
     Ok(())
 }
@@ -202,35 +214,50 @@ fn weighs_lists(rt: HostRuntime) -> Result<(), Fail> {
     weighs(&rt, &AT_SEVEN, &image(7, 0)?)
 }
 
-/// Weighs the true run, a call with another place.
-fn with_place(
-    alloc: Global,
-    port: usize,
-    index: usize,
-    place: Option<u32>,
-) -> Result<Weighed, AllocError> {
-    let mut both = lists(alloc, FIRST, SECOND)?;
-    if let Some(list) = both.get_mut(port)
-        && let Some(call) = list.get_mut(index)
-    {
-        call.place = place;
-    }
-    weighed(alloc, &both, &image(7, 0)?)
+/// How a call of the true run is another one.
+#[derive(Clone, Copy)]
+enum Change {
+    Place(Option<u32>),
+    Answer(Option<Answer>),
 }
 
-/// Weighs the true run, a call with another answer.
-fn with_answer(
+/// A list in which the call of this index, if there is one, is another one.
+fn changed(
+    alloc: Global,
+    calls: &[Made],
+    index: usize,
+    change: &Change,
+) -> Result<Vec<Placed>, AllocError> {
+    let _nested: NestedTypes = None;
+    let mut list = Vec::new(alloc);
+    for (number, made) in calls.iter().enumerate() {
+        let mut call = placed(*made);
+        if number == index {
+            match change {
+                Change::Place(place) => call.place = *place,
+                Change::Answer(answer) => call.answer = *answer,
+            }
+        }
+        list.push(call)?;
+    }
+    Ok(list)
+}
+
+/// Weighs the true run in which a call is another one.
+fn weighed_with(
     alloc: Global,
     port: usize,
     index: usize,
-    answer: Option<Answer>,
+    change: &Change,
 ) -> Result<Weighed, AllocError> {
-    let mut both = lists(alloc, FIRST, SECOND)?;
-    if let Some(list) = both.get_mut(port)
-        && let Some(call) = list.get_mut(index)
-    {
-        call.answer = answer;
-    }
+    let (first, second) = if port == 0 {
+        (index, usize::MAX)
+    } else {
+        (usize::MAX, index)
+    };
+    let mut both = Vec::new(alloc);
+    both.push(changed(alloc, FIRST, first, change)?)?;
+    both.push(changed(alloc, SECOND, second, change)?)?;
     weighed(alloc, &both, &image(7, 0)?)
 }
 
@@ -278,31 +305,18 @@ const OTHER_ANSWERS: [(usize, usize, Answer); 9] = [
 #[test]
 fn weighs_changes_of_the_true_run(rt: HostRuntime) -> Result<(), Fail> {
     for (port, index, place, verdict) in OTHER_PLACES {
-        assert_eq!(rt; with_place(rt.alloc(), port, index, place)?, verdict);
+        let found = weighed_with(rt.alloc(), port, index, &Change::Place(place))?;
+        assert!(rt; found == verdict, "{port} {index}");
     }
     for (port, index, answer) in OTHER_ANSWERS {
-        let found = with_answer(rt.alloc(), port, index, Some(answer))?;
-        assert_eq!(rt; found, Weighed::Bad(port, index));
+        let found = weighed_with(rt.alloc(), port, index, &Change::Answer(Some(answer)))?;
+        assert!(rt; found == Weighed::Bad(port, index), "{port} {index}");
     }
     for (port, index) in [(0, 0), (0, 1), (0, 2), (1, 0), (1, 1), (1, 2)] {
-        let found = with_answer(rt.alloc(), port, index, None)?;
-        assert_eq!(rt; found, Weighed::Good);
+        let found = weighed_with(rt.alloc(), port, index, &Change::Answer(None))?;
+        assert!(rt; found == Weighed::Good, "{port} {index}");
     }
     Ok(())
-}
-
-/// An `Ask` after the first change, which is told this number.
-fn ask(number: u16) -> Placed {
-    replied(Command::Ask, Reply::Last(number), 1)
-}
-
-/// An `Ask` that a failure cut before it was taken.
-fn lost() -> Placed {
-    Placed {
-        command: Command::Ask,
-        answer: None,
-        place: None,
-    }
 }
 
 /// The lists of a port with these calls and of one without.
@@ -327,19 +341,31 @@ fn weighed_in_two(alloc: Global, calls: &[Placed], image: &Image) -> Result<Weig
     weigh(alloc, &setup, &of_one_port(alloc, calls)?, image)
 }
 
-// The asker is told the number of its write. A cut call before it makes it the second one of its process: the asker is told so,
-// and the image has this number.
+/// The list of a port, and what it weighs against the image after the write, in which its number is 1.
+const IN_TWO: [(&[Made], Weighed); 3] = [
+    (&[Write, AskOne], Weighed::Good),
+    // A cut call before it makes the write the second one of its process: the asker is told so, and the image has this number.
+    (&[LostAsk, Write, AskOne], Weighed::Bad(0, 2)),
+    (&[LostAsk, Write, AskTwo], Weighed::BadEnd),
+];
+
+/// Weighs a list of version 2 that is short.
+fn weighed_short(alloc: Global, calls: &[Made], image: &Image) -> Result<Weighed, AllocError> {
+    let list = list(alloc, calls)?;
+    if list.len() > 65_535 {
+        return Ok(Weighed::BadEnd);
+    }
+    weighed_in_two(alloc, list.as_slice(), image)
+}
+
+// The asker is told the number of its write.
 #[test]
 fn weighs_version_two(rt: HostRuntime) -> Result<(), Fail> {
-    let calls = [placed(Write), ask(1)];
-    let found = weighed_in_two(rt.alloc(), &calls, &image(5, 2)?)?;
-    assert_eq!(rt; found, Weighed::Good);
-    let found = weighed_in_two(rt.alloc(), &calls, &Image::empty(1, 2))?;
-    assert_eq!(rt; found, Weighed::BadEnd);
-    for (told, verdict) in [(1, Weighed::Bad(0, 2)), (2, Weighed::BadEnd)] {
-        let calls = [lost(), placed(Write), ask(told)];
-        let found = weighed_in_two(rt.alloc(), &calls, &image(5, 2)?)?;
-        assert_eq!(rt; found, verdict, "told {told}");
+    for (calls, verdict) in IN_TWO {
+        let found = weighed_short(rt.alloc(), calls, &image(5, 2)?)?;
+        assert!(rt; found == verdict, "{verdict}");
     }
+    let found = weighed_short(rt.alloc(), &[Write, AskOne], &Image::empty(1, 2))?;
+    assert!(rt; found == Weighed::BadEnd);
     Ok(())
 }

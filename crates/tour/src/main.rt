@@ -41,25 +41,35 @@ fn main(rt: HostRuntime) -> Result<()> {
     Ok(())
 }
 
-/// Process 0 fails within the write of its commit bit. Its memory unit settles that at 1, so the change is taken, as `ask` tells.
+/// Process 0 fails within its change, and looks up what became of it.
 fn by_hand(rt: &HostRuntime, setup: &Setup, counter: Name) -> Result<()>
     requires { checked setup.now ≡ Ok tt }
 {
     let mut world = World::new(rt.alloc(), setup)?;
     make(rt, &mut world, Event::Call(0, Command::Add(counter, 1)))?;
-    make(rt, &mut world, Event::Call(1, Command::Add(counter, 10)))?;
-    go(rt, &mut world, 0, false, Stage::Inside)?;
-    begin_commit(rt, &mut world, 0)?;
-    make(rt, &mut world, Event::Fail(0))?;
-    go(rt, &mut world, 0, true, Stage::Down)?;
-    go(rt, &mut world, 1, false, Stage::Idle)?;
-    make(rt, &mut world, Event::Restart(0))?;
-    make(rt, &mut world, Event::Call(0, Command::Ask))?;
-    go(rt, &mut world, 0, false, Stage::Idle)?;
+    fail_at_commit(rt, &mut world, counter)?;
+    look_up(rt, &mut world)?;
     if let Some(store) = world.newest() {
         print!(rt; "{}", show_line(rt.alloc(), &store)?)?;
     }
     Ok(())
+}
+
+/// Process 1 calls too, and process 0 fails within the write of its commit bit. Its memory unit settles that at 1, so the change is taken, as `ask` tells.
+fn fail_at_commit<T: Print>(rt: &T, world: &mut World, counter: Name) -> Result<()> {
+    make(rt, world, Event::Call(1, Command::Add(counter, 10)))?;
+    go(rt, world, 0, false, Stage::Inside)?;
+    begin_commit(rt, world, 0)?;
+    make(rt, world, Event::Fail(0))?;
+    go(rt, world, 0, true, Stage::Down)?;
+    go(rt, world, 1, false, Stage::Idle)
+}
+
+/// Process 0 is back, and asks for its last change.
+fn look_up<T: Print>(rt: &T, world: &mut World) -> Result<()> {
+    make(rt, world, Event::Restart(0))?;
+    make(rt, world, Event::Call(0, Command::Ask))?;
+    go(rt, world, 0, false, Stage::Idle)
 }
 
 /// Makes an event, and prints its marks. The headline holds of its entry.

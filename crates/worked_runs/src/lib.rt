@@ -7,6 +7,8 @@ mod failing;
 #[cfg(test)]
 mod growths;
 #[cfg(test)]
+mod listed;
+#[cfg(test)]
 mod scenarios;
 mod uses;
 #[cfg(test)]

@@ -4,6 +4,7 @@ ghost use Rattle.std.specs.Prelude.{◌-◌, ◌^◌, ◌<◌, IfOk, OnOk};
 ghost use Rattle.record.specs.Records.{process_of};
 ghost use Rattle.worked_runs.specs.Uses.{AreAlone, InputPrintsTrueReplies};
 
+use engines::progress::Nobody;
 use engines::{Summary, replay};
 use record::{Act, Event, Refusal};
 use scenario::{Fault, Sink, Source};
@@ -30,5 +31,5 @@ pub fn printed_replies<R: Source, W: Sink>(
     requires writes { W.failures output.old < 2 ^ 64 - 1 }
     ensures replies { OnOk result (InputPrintsTrueReplies (R.to_come input.old) (W.taken output.old) (W.taken output.new)) }
 {
-    replay(alloc, input, output)
+    replay(alloc, input, output, &mut Nobody)
 }

@@ -3,14 +3,16 @@
 ghost use Rattle.std.specs.Prelude.{◌≡◌, Ok};
 ghost use Rattle.plain_store.specs.Setups.{checked};
 
-use crate::scenarios::LONE_WRITE;
-use engines::{Auditor, Law, Record, Swept, Verdict, audit, events_of, record_of, sweep};
+use crate::scenarios::{LONE_WRITE, LONE_WRITE_PRINTS};
+use engines::progress::Nobody;
+use engines::{Auditor, Law, Record, Swept, Verdict, audit, events_of, record_of, replay, sweep};
 use plain_store::{Command, Name, Setup, Value};
 use record::{Event, Mark};
 use scenario::read_scenario;
 use std::alloc::{AllocError, Global};
 use std::process::Abort;
 use std::test::Fail;
+use store_tests::{Paper, Tape};
 
 fn a() -> Name {
     Name::new(b"a").unwrap()
@@ -21,14 +23,9 @@ fn read() -> Command {
     Command::Read(a())
 }
 
-/// So many runs, all good, none stuck.
-fn all_good(runs: u64) -> Swept {
-    Swept {
-        runs,
-        good: runs,
-        stuck: 0,
-        first_bad: None,
-    }
+/// Whether there were so many runs, all good, none stuck.
+fn are_all_good(found: &Swept, runs: u64) -> bool {
+    found.runs == runs && found.good == runs && found.stuck == 0 && found.first_bad.is_none()
 }
 
 /// An audit that had no memory has it at the next try.
@@ -73,8 +70,28 @@ fn hear_all(
         } else {
             auditor.hear_parts(entry.process, &act.access, &act.marks)
         };
-        assert_eq!(rt; law, None, "entry {number}");
+        assert!(rt; law.is_none(), "entry {number}");
     }
+    Ok(())
+}
+
+/// What a replay of a file prints.
+fn printed(alloc: Global, file: &str) -> Result<Vec<u8>, Fail> {
+    let mut output = Paper::new(alloc)?;
+    replay(
+        alloc,
+        &mut Tape::new(file.as_bytes()),
+        &mut output,
+        &mut Nobody,
+    )?;
+    let Paper { written, .. } = output;
+    Ok(written)
+}
+
+#[test]
+fn prints_a_run(rt: HostRuntime) -> Result<(), Fail> {
+    let printed = printed(rt.alloc(), LONE_WRITE)?;
+    assert!(rt; printed.as_slice() == LONE_WRITE_PRINTS.as_bytes());
     Ok(())
 }
 
@@ -82,16 +99,13 @@ fn hear_all(
 fn lists_events_and_their_record(rt: HostRuntime) -> Result<(), Fail> {
     let scenario = read_scenario(rt.alloc(), LONE_WRITE.as_bytes())?;
     let events = events_of(rt.alloc(), &scenario)?;
-    assert_eq!(rt; events.len(), 761);
     let record = record_of(rt.alloc(), &scenario.setup, &events)?;
-    assert_eq!(rt; record.entries.len(), 761);
+    assert!(rt; events.len() == 761 && record.entries.len() == 761);
     let Some(entry) = record.entries.get(8) else {
         panic!(rt; "the record has no entry 8");
     };
-    assert_eq!(rt;
-        entry.act.marks.as_slice(),
-        [Mark::Waiting(1), Mark::Entered].as_slice()
-    );
+    let marks = entry.act.marks.as_slice();
+    assert!(rt; marks == [Mark::Waiting(1), Mark::Entered].as_slice());
     Ok(())
 }
 
@@ -103,12 +117,12 @@ fn hears_and_audits_a_record(rt: HostRuntime) -> Result<(), Fail> {
     let setup = &scenario.setup;
     let mut record = record_of(rt.alloc(), setup, &events)?;
     hear_all(&rt, rt.alloc(), setup, &record)?;
-    assert_eq!(rt; audit_again(rt.alloc(), setup, &record)?, Verdict::Good);
+    assert!(rt; audit_again(rt.alloc(), setup, &record)? == Verdict::Good);
     if let Some(entry) = record.entries.get_mut(756) {
         entry.act.access = None;
     }
     let verdict = audit_again(rt.alloc(), setup, &record)?;
-    assert_eq!(rt; verdict, Verdict::Bad(756, Law::Program));
+    assert!(rt; verdict == Verdict::Bad(756, Law::Program));
     Ok(())
 }
 
@@ -118,7 +132,7 @@ fn sweeps_the_lone_write(rt: HostRuntime) -> Result<(), Fail> {
     let events = events_of(rt.alloc(), &scenario)?;
     let write = Command::Write(a(), Value::Count(5));
     let found = sweep(rt.alloc(), &scenario.setup, &events, &[(0, write)])?;
-    assert_eq!(rt; found, all_good(1_522));
+    assert!(rt; are_all_good(&found, 1_522), "{found}");
     Ok(())
 }
 
@@ -142,6 +156,6 @@ fn sweeps_a_failed_process(rt: HostRuntime) -> Result<(), Fail> {
     events.push(Event::Call(0, read()))?;
     events.push(Event::Restart(0))?;
     let found = sweep_again(rt.alloc(), &setup, &events, &[(0, read())])?;
-    assert_eq!(rt; found, all_good(4));
+    assert!(rt; are_all_good(&found, 4), "{found}");
     Ok(())
 }

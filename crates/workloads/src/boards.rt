@@ -2,9 +2,10 @@
 //! to be made.
 mod calls;
 
+use crate::counters::{adds, counting};
 use anyhow::{Result, bail};
 use board_runs::Board;
-use calls::{adding, all_call, calls_alone, steps_of_a_call};
+use calls::{all_call, calls_alone, steps_of_a_call};
 use std::rt::Clock;
 use std::thread::Threads;
 use std::time::Instant;
@@ -13,7 +14,7 @@ use std::time::Instant;
 /// many times.
 pub fn times<T: Print + Eprint + Clock + AllocGlobal + Threads + Sync>(
     rt: &T,
-    calls: u16,
+    calls: u32,
     times: u32,
 ) -> Result<()> {
     largest(rt)?;
@@ -28,7 +29,7 @@ pub fn times<T: Print + Eprint + Clock + AllocGlobal + Threads + Sync>(
 
 /// The making of the largest board.
 fn largest<T: Print + Eprint + Clock + AllocGlobal>(rt: &T) -> Result<()> {
-    let (setup, _command) = adding(16, 8)?;
+    let setup = counting(16, 32, 8)?;
     let start = Instant::now(rt)?;
     let (_board, ports) = Board::new(rt.alloc(), &setup)?;
     let passed = start.elapsed(rt)?;
@@ -42,9 +43,9 @@ fn alone<T: Print + Eprint + Clock + AllocGlobal>(
     rt: &T,
     processes: u8,
     slots: u8,
-    calls: u16,
+    calls: u32,
 ) -> Result<()> {
-    let (setup, adds) = adding(processes, slots)?;
+    let (setup, adds) = (counting(processes, 32, slots)?, adds()?);
     let (board, mut ports) = Board::new(rt.alloc(), &setup)?;
     let Some(port) = ports.get_mut(0) else {
         bail!("there is no port");
@@ -73,7 +74,7 @@ fn together<T: Print + Eprint + Clock + AllocGlobal + Threads + Sync>(
     slots: u8,
     times: u32,
 ) -> Result<()> {
-    let (setup, adds) = adding(processes, slots)?;
+    let (setup, adds) = (counting(processes, 32, slots)?, adds()?);
     let (board, ports) = Board::new(rt.alloc(), &setup)?;
     let start = Instant::now(rt)?;
     let made = all_call(rt, &board, ports, &adds, times)?;

@@ -1,70 +1,55 @@
 //! How long a command on a full image takes.
-ghost use Rattle.std.specs.Prelude.{◌≤◌};
-
-use anyhow::{Result, bail};
+use anyhow::Result;
 use plain_store::{Caller, Command, Name, NestedTypes, Reply, Store, Value};
+use std::alloc::{AllocError, Global};
 use std::rt::Clock;
 use std::time::Instant;
 use weigh::Image;
 
+const NAMES: [&str; 8] = [
+    "first", "second", "third", "fourth", "fifth", "sixth", "seventh", "eighth",
+];
+
 /// Makes so many rounds of 8 adds, and prints what they left.
-pub fn times<T: Print + Eprint + Clock>(rt: &T, rounds: u32) -> Result<()> {
-    let mut image = full_image(16)?;
+pub fn times<T: Print + Eprint + Clock + AllocGlobal>(rt: &T, rounds: u32) -> Result<()> {
+    let mut image = Image::empty(8, 16);
+    let adds = fill(rt.alloc(), &mut image)?;
     let start = Instant::now(rt)?;
-    let sum = rounds_of_adds(&mut image, rounds)?;
+    let sum = rounds_of_adds(&mut image, &adds, rounds)?;
     let passed = start.elapsed(rt)?;
     println!(rt; "last sum {sum}, last number {}", image.last(0))?;
     eprintln!(rt; "{rounds} rounds of 8 adds in {passed:?}")?;
     Ok(())
 }
 
-fn names() -> Result<[Name; 8]> {
-    Ok([
-        Name::new(b"first")?,
-        Name::new(b"second")?,
-        Name::new(b"third")?,
-        Name::new(b"fourth")?,
-        Name::new(b"fifth")?,
-        Name::new(b"sixth")?,
-        Name::new(b"seventh")?,
-        Name::new(b"eighth")?,
-    ])
-}
-
-/// An image of 8 counters with 0.
-fn full_image(callers: u8) -> Result<Image>
-    requires { callers ≤ 16 }
-{
-    let mut image = Image::empty(8, callers);
-    for name in names()? {
-        let caller = Caller {
-            process: 0,
-            number: 0,
-        };
-        image.apply(&Command::Write(name, Value::Count(0)), caller)?;
-    }
-    Ok(image)
-}
-
-/// Adds 1 to a counter, and gives the sum.
-fn add_one(image: &mut Image, name: Name, number: u16) -> Result<i64> {
+/// Writes 0 to 8 counters. The commands that add 1 to each.
+fn fill(alloc: Global, image: &mut Image) -> Result<Vec<Command>> {
     let _nested: NestedTypes = None;
-    let caller = Caller { process: 0, number };
-    match image.apply(&Command::Add(name, 1), caller)? {
-        Reply::Sum(sum) => Ok(sum),
-        reply => bail!("{reply:?} is no sum"),
+    let caller = Caller {
+        process: 0,
+        number: 0,
+    };
+    let mut adds = Vec::new(alloc);
+    for word in NAMES {
+        let name = Name::new(word.as_bytes())?;
+        image.apply(&Command::Write(name, Value::Count(0)), caller)?;
+        adds.push(Command::Add(name, 1))?;
     }
+    Ok(adds)
 }
 
-/// Adds 1 to each counter, in each round, and gives the last sum.
-fn rounds_of_adds(image: &mut Image, rounds: u32) -> Result<i64> {
-    let names = names()?;
+/// Makes each add in each round, and gives the last sum.
+fn rounds_of_adds(image: &mut Image, adds: &[Command], rounds: u32) -> Result<i64, AllocError> {
+    let _nested: NestedTypes = None;
     let mut last_sum = 0;
     let mut number = 0u16;
     for _ in 0..rounds {
         number = number.wrapping_add(1);
-        for name in &names {
-            last_sum = add_one(image, *name, number)?;
+        let caller = Caller { process: 0, number };
+        for add in adds {
+            if let Reply::Sum(sum) = image.apply(add, caller)? {
+                last_sum = sum;
+            }
         }
     }
     Ok(last_sum)

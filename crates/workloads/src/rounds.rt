@@ -1,86 +1,40 @@
-//! Rounds of boards whose ports are cut by failures at random turns, on threads: what each leaves, to be judged by
+//! Rounds of boards whose ports are cut by failures, on threads: what each leaves, to be judged by
 //! `tests/byhand/soak_boards.py`.
-ghost use Rattle.std.specs.Prelude.{◌≡◌, Ok};
-ghost use Rattle.plain_store.specs.Setups.{checked};
-
-mod draws;
-mod fixed;
-mod lengths;
-mod lines;
-
 use anyhow::{Result, bail};
-use board_runs::{Board, Flicks, Placed, Plan, run};
-use draws::{draw_plans, draw_setup};
-use fixed::{alone, readers};
-use lines::{print_call, print_image, print_setup};
-use plain_store::Setup;
+use board_runs::{played, read_scenario};
+use std::env::{self, Env};
 use std::thread::Threads;
 
-/// Plays so many rounds, from that of this number on. If no number is said, it plays two rounds that are written down, whose
-/// lists do not depend on the schedule.
-pub fn play_all<T: Print + AllocGlobal + Threads + Sync>(
-    rt: &T,
-    first: Option<u32>,
-    rounds: u32,
-) -> Result<()> {
-    let Some(first) = first else {
-        alone(rt)?;
-        return readers(rt);
-    };
-    for number in first..first.saturating_add(rounds) {
-        drawn(rt, number)?;
+/// One process alone. Inside it reads its commit bit, 2 bits of a stamp and 200 of an image, and writes 200 bits of an image
+/// and 2 of a stamp, each by two turns: so after 608 turns the write of its commit bit is open. It is settled at 1, which the
+/// first change was writing, and the second was not.
+const ALONE: &str = "bakery 2\nprocesses 1\ntickets 2\nstamps 2\nflick 1\n\
+call 0 write a c:5\ngo 0 inside\nstep 0 608\nfail 0\ngo 0 down\nrestart 0\n\
+call 0 add a 2\ngo 0 inside\nstep 0 608\nfail 0\ngo 0 down\nrestart 0\n\
+call 0 ask\ngo 0 idle\ncall 0 add a 2\ngo 0 idle\n\
+call 0 read a\ngo 0 inside\nstep 0 1\nfail 0\ngo 0 down\nrestart 0\n\
+call 0 ask\ngo 0 idle\n";
+
+/// Two processes, on two threads, that change nothing. No ticket is above 2, since overlapped bits are read as 0.
+const READERS: &str = "bakery 1\nprocesses 2\ntickets 2\nstamps 2\n\
+call 0 read a\ngo 0 idle\ncall 1 add a 1\ngo 1 idle\n";
+
+/// Plays the round whose scenario the second word is; or two rounds whose lists do not depend on the schedule.
+pub fn play_all<T: Env + Print + AllocGlobal + Threads + Sync>(rt: &T) -> Result<()> {
+    if let Some(scenario) = env::args(rt)?.nth(2) {
+        return play(rt, scenario.as_str());
     }
-    Ok(())
+    play(rt, ALONE)?;
+    play(rt, READERS)
 }
 
-/// The round of this number: its setup and its plans are drawn from one generator.
-fn drawn<T: Print + AllocGlobal + Threads + Sync>(rt: &T, number: u32) -> Result<()> {
-    let mut draws = Flicks::pcg(u64::from(number));
-    let setup = draw_setup(&mut draws)?;
-    let plans = draw_plans(rt.alloc(), &mut draws, &setup)?;
-    println!(rt; "round {number}")?;
-    play(rt, &setup, &plans)
-}
-
-/// The ports of a board carry out these plans. Prints the setup, the ports' lists and the image that the board leaves.
-fn play<T: Print + AllocGlobal + Threads + Sync>(
-    rt: &T,
-    setup: &Setup,
-    plans: &[Plan],
-) -> Result<()>
-    requires { checked setup.now ≡ Ok tt }
-{
-    print_setup(rt, setup)?;
-    let (board, mut ports) = Board::new(rt.alloc(), setup)?;
-    run(rt, &board, &mut ports, plans);
-    let Ok(closing) = board.close(ports) else {
-        bail!("a process is at work");
-    };
-    for (process, calls) in closing.answers.iter().enumerate() {
-        print_list(rt, process, calls, plans.get(process))?;
-    }
-    print_image(rt, &closing.image)
-}
-
-/// The list of a process, in which each call that it undertook has its entry.
-fn print_list<T: Print + AllocGlobal>(
-    rt: &T,
-    process: usize,
-    calls: &[Placed],
-    plan: Option<&Plan>,
-) -> Result<()> {
-    let undertaken = match plan {
-        Some(plan) => plan.undertakings.len(),
-        None => 0,
-    };
-    if calls.len() != undertaken {
-        bail!(
-            "process {process} has {} calls of {undertaken}",
-            calls.len()
-        );
-    }
-    for call in calls {
-        print_call(rt, process, call)?;
+/// The ports of a board carry out the lines of a scenario. Prints the setup, the ports' lists and the image that the board
+/// leaves.
+fn play<T: Print + AllocGlobal + Threads + Sync>(rt: &T, file: &str) -> Result<()> {
+    let scenario = read_scenario(rt.alloc(), file.as_bytes())?;
+    match played(rt, &scenario, 0)? {
+        Some(left) => print!(rt; "{left}")?,
+        None => bail!("a process is at work"),
     }
     Ok(())
 }

@@ -6,9 +6,9 @@ ghost use Rattle.record.specs.CallLists.{lists_of};
 
 mod histories;
 
-use crate::counters::{counter, counting};
+use crate::counters::counting;
 use anyhow::{Result, bail};
-use histories::{Calls, History};
+use histories::{Calls, History, called_in_turn};
 use plain_store::Setup;
 use record::Placed;
 use std::rt::Clock;
@@ -18,6 +18,15 @@ use weigh::weigh;
 /// The most calls of a process in version 2.
 const MOST_CALLS: u32 = 65_535;
 
+/// What each history is, its version, what is called, and whether its last call is spoiled.
+const HISTORIES: [(&str, u8, Calls, bool); 5] = [
+    ("adds", 2, Calls::Adds, false),
+    ("reads", 2, Calls::Reads, false),
+    ("adds and reads", 2, Calls::Mixed, false),
+    ("adds of version 1", 1, Calls::Adds, false),
+    ("adds, the last one bad", 2, Calls::Adds, true),
+];
+
 /// Prints the verdict on each history, or on that of one number alone, with so many calls of each of 16 processes, 65,535 if
 /// not said. In version 1, which has no such bound, each of 8 makes twice as many.
 pub fn times<T: Print + Eprint + Clock + AllocGlobal>(
@@ -26,75 +35,48 @@ pub fn times<T: Print + Eprint + Clock + AllocGlobal>(
     only: Option<u32>,
 ) -> Result<()> {
     let rounds = calls.unwrap_or(MOST_CALLS);
-    for number in 0..5 {
+    let mut number = 0u32;
+    for (name, version, calls, is_spoiled) in HISTORIES {
         if only.is_none_or(|only| only == number) {
-            weighed(rt, number, rounds)?;
+            let rounds = if version == 1 {
+                rounds.saturating_mul(2)
+            } else {
+                rounds
+            };
+            let history = History {
+                setup: setup_of(version)?,
+                calls,
+                rounds,
+                is_spoiled,
+            };
+            weighed(rt, name, &history)?;
         }
+        number = number.wrapping_add(1);
     }
     Ok(())
 }
 
-/// What the history of this number is.
-fn name_of(number: u32) -> &'static str {
-    match number {
-        0 => "adds",
-        1 => "reads",
-        2 => "adds and reads",
-        3 => "adds of version 1",
-        _ => "adds, the last one bad",
+/// 16 processes, or the 8 that version 1 has at most.
+fn setup_of(version: u8) -> Result<Setup>
+    ensures { IfOk result (λ setup. checked setup ≡ Ok tt) }
+{
+    if version == 2 {
+        return counting(16, 2, 1);
     }
-}
-
-/// The history of this number.
-fn history(number: u32, rounds: u32) -> Result<History>
-    ensures { IfOk result (λ made. checked made.setup ≡ Ok tt) }
-{
-    match number {
-        0 => of_version_two(Calls::Adds, rounds, false),
-        1 => of_version_two(Calls::Reads, rounds, false),
-        2 => of_version_two(Calls::Mixed, rounds, false),
-        3 => of_version_one(rounds.saturating_mul(2)),
-        _ => of_version_two(Calls::Adds, rounds, true),
-    }
-}
-
-/// A history of 16 processes.
-fn of_version_two(calls: Calls, rounds: u32, is_spoiled: bool) -> Result<History>
-    ensures { IfOk result (λ made. checked made.setup ≡ Ok tt) }
-{
-    Ok(History {
-        setup: counting(16, 2, 1)?,
-        calls,
-        counter: counter()?,
-        rounds,
-        is_spoiled,
-    })
-}
-
-/// A history of the 8 processes that version 1 has at most.
-fn of_version_one(rounds: u32) -> Result<History>
-    ensures { IfOk result (λ made. checked made.setup ≡ Ok tt) }
-{
     let setup = Setup::one(8, 2, 2, 1);
     setup.check()?;
-    Ok(History {
-        setup,
-        calls: Calls::Adds,
-        counter: counter()?,
-        rounds,
-        is_spoiled: false,
-    })
+    Ok(setup)
 }
 
-/// Weighs the history of this number.
+/// Weighs a history.
 fn weighed<T: Print + Eprint + Clock + AllocGlobal>(
     rt: &T,
-    number: u32,
-    rounds: u32,
-) -> Result<()> {
-    let history = history(number, rounds)?;
-    let lists = history.lists(rt.alloc())?;
-    let image = history.image()?;
+    name: &str,
+    history: &History,
+) -> Result<()>
+    requires { checked history.now.setup ≡ Ok tt }
+{
+    let (lists, image) = called_in_turn(rt.alloc(), history)?;
     if history.setup.version == 2
         && !(lists.len() <= usize::from(history.setup.processes) && are_short(&lists))
     {
@@ -103,7 +85,6 @@ fn weighed<T: Print + Eprint + Clock + AllocGlobal>(
     let start = Instant::now(rt)?;
     let verdict = weigh(rt.alloc(), &history.setup, &lists, &image)?;
     let passed = start.elapsed(rt)?;
-    let name = name_of(number);
     println!(rt; "{name}: {verdict}")?;
     let calls = u32::from(history.setup.processes).saturating_mul(history.rounds);
     eprintln!(rt; "{calls} {} {name}", passed.as_nanos())?;

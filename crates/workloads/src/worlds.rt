@@ -1,10 +1,13 @@
 //! How long an event of a world takes, of a process that calls alone, and of a crowd whose steps are picked; and how
 //! long an auditor takes to hear an entry of a record.
+ghost use Rattle.std.specs.Prelude.{◌≡◌, Ok};
+ghost use Rattle.plain_store.specs.Setups.{checked};
+
 mod driver;
 mod hearings;
 
-use crate::counters::counting;
-use anyhow::Result;
+use crate::counters::{adds, counting};
+use anyhow::{Result, bail};
 use auditor::Auditor;
 use driver::{Calls, Driver};
 use hearings::{hear_all, recorded};
@@ -16,11 +19,16 @@ use std::time::Instant;
 /// rounds of calls of a crowd. Each record is heard as often as a lone process calls.
 pub fn times<T: Print + Eprint + Clock + AllocGlobal>(
     rt: &T,
-    calls: u16,
-    rounds: u16,
+    calls: u32,
+    rounds: u32,
 ) -> Result<()> {
-    lone_write(rt)?;
-    two_calls_under_a_seed(rt)?;
+    worked(rt, "lone write", &Setup::one(1, 2, 2, 1), Run::Alone(1))?;
+    worked(
+        rt,
+        "two calls under a seed",
+        &Setup::one(2, 4, 4, 1),
+        Run::Crowd(1),
+    )?;
     for (processes, slots) in [(2, 1), (2, 8), (16, 1), (16, 8)] {
         alone(rt, processes, slots, calls)?;
     }
@@ -33,21 +41,52 @@ pub fn times<T: Print + Eprint + Clock + AllocGlobal>(
     Ok(())
 }
 
-/// One write, by one process that is the only one.
-fn lone_write<T: Print + AllocGlobal>(rt: &T) -> Result<()> {
-    let mut driver = Driver::new(rt.alloc(), &Setup::one(1, 2, 2, 1), Calls::written()?)?;
-    driver.alone(1)?;
-    let (events, taken, value) = (driver.events(), driver.taken(), driver.value()?);
-    println!(rt; "lone write: {events} events, {taken} taken, a={value}")?;
-    Ok(())
+/// The calls of a run: so many of process 0 alone, or so many of each process, whose steps are picked.
+#[derive(Clone, Copy)]
+enum Run {
+    Alone(u32),
+    Crowd(u32),
 }
 
-/// A write and an add of two processes whose steps are picked.
-fn two_calls_under_a_seed<T: Print + AllocGlobal>(rt: &T) -> Result<()> {
-    let mut driver = Driver::new(rt.alloc(), &Setup::one(2, 4, 4, 1), Calls::written()?)?;
-    driver.crowd(1, 1)?;
-    let (events, taken, value) = (driver.events(), driver.taken(), driver.value()?);
-    println!(rt; "two calls under a seed: {events} events, {taken} taken, a={value}")?;
+/// What a run leaves, and how long it took.
+#[derive(Clone, Copy)]
+struct Ran {
+    events: u64,
+    taken: usize,
+    count: i64,
+    nanos: u128,
+}
+
+/// Makes a run of a new world.
+fn made<T: Clock + AllocGlobal>(rt: &T, setup: &Setup, calls: Calls, run: Run) -> Result<Ran>
+    requires { checked setup.now ≡ Ok tt }
+{
+    let mut driver = Driver::new(rt.alloc(), setup, calls)?;
+    let start = Instant::now(rt)?;
+    let has_ended = match run {
+        Run::Alone(calls) => driver.alone(calls),
+        Run::Crowd(rounds) => driver.crowd(rt.alloc(), 1, rounds)?,
+    };
+    let nanos = start.elapsed(rt)?.as_nanos();
+    let count = if has_ended { driver.count() } else { None };
+    let Some(count) = count else {
+        bail!("a call does not end");
+    };
+    Ok(Ran {
+        events: driver.events,
+        taken: driver.taken(),
+        count,
+        nanos,
+    })
+}
+
+/// A worked example.
+fn worked<T: Print + Clock + AllocGlobal>(rt: &T, name: &str, setup: &Setup, run: Run) -> Result<()>
+    requires { checked setup.now ≡ Ok tt }
+{
+    let ran = made(rt, setup, Calls::Worked, run)?;
+    let (events, taken, count) = (ran.events, ran.taken, ran.count);
+    println!(rt; "{name}: {events} events, {taken} taken, a=c:{count}")?;
     Ok(())
 }
 
@@ -56,16 +95,15 @@ fn alone<T: Print + Eprint + Clock + AllocGlobal>(
     rt: &T,
     processes: u8,
     slots: u8,
-    calls: u16,
+    calls: u32,
 ) -> Result<()> {
     let setup = counting(processes, 32, slots)?;
-    let mut driver = Driver::new(rt.alloc(), &setup, Calls::adds()?)?;
-    let start = Instant::now(rt)?;
-    driver.alone(calls)?;
-    let passed = start.elapsed(rt)?;
-    let (events, taken, value) = (driver.events(), driver.taken(), driver.value()?);
-    println!(rt; "alone of {processes}, slots {slots}: {events} events, {taken} taken, a={value}")?;
-    eprintln!(rt; "alone {processes} {slots} {events} {}", passed.as_nanos())?;
+    let ran = made(rt, &setup, Calls::Adds, Run::Alone(calls))?;
+    let (events, taken, count) = (ran.events, ran.taken, ran.count);
+    println!(rt;
+        "alone of {processes}, slots {slots}: {events} events, {taken} taken, a=c:{count}"
+    )?;
+    eprintln!(rt; "alone {processes} {slots} {events} {}", ran.nanos)?;
     Ok(())
 }
 
@@ -73,16 +111,15 @@ fn alone<T: Print + Eprint + Clock + AllocGlobal>(
 fn crowd<T: Print + Eprint + Clock + AllocGlobal>(
     rt: &T,
     processes: u8,
-    rounds: u16,
+    rounds: u32,
 ) -> Result<()> {
     let setup = counting(processes, 32, 1)?;
-    let mut driver = Driver::new(rt.alloc(), &setup, Calls::adds()?)?;
-    let start = Instant::now(rt)?;
-    driver.crowd(1, rounds)?;
-    let passed = start.elapsed(rt)?;
-    let (events, taken, value) = (driver.events(), driver.taken(), driver.value()?);
-    println!(rt; "crowd of {processes}: {taken} taken, a={value}")?;
-    eprintln!(rt; "crowd {processes} 1 {events} {}", passed.as_nanos())?;
+    let ran = made(rt, &setup, Calls::Adds, Run::Crowd(rounds))?;
+    println!(rt;
+        "crowd of {processes}: {} taken, a=c:{}",
+        ran.taken, ran.count
+    )?;
+    eprintln!(rt; "crowd {processes} 1 {} {}", ran.events, ran.nanos)?;
     Ok(())
 }
 
@@ -91,10 +128,10 @@ fn audits<T: Print + Eprint + Clock + AllocGlobal>(
     rt: &T,
     processes: u8,
     callers: u8,
-    times: u16,
+    times: u32,
 ) -> Result<()> {
     let setup = counting(processes, 32, 8)?;
-    let record = recorded(rt.alloc(), &setup, callers, Calls::adds()?)?;
+    let record = recorded(rt.alloc(), &setup, callers, &adds()?)?;
     let mut passed = 0u128;
     for _ in 0..times {
         let mut auditor = Auditor::new(rt.alloc(), &setup)?;

@@ -1,13 +1,11 @@
 //! Calls of one port, and what ports do on threads.
-ghost use Rattle.std.specs.Prelude.{◌≡◌, ℕ, Ok, IfOk, Some, slice_get};
-ghost use Rattle.plain_store.specs.Setups.{checked};
+ghost use Rattle.std.specs.Prelude.{◌≡◌, ℕ, Some, slice_get};
 ghost use Rattle.board_runs.specs.board.Boards.{IsOf};
 ghost use Rattle.board_runs.specs.board.Ports.{PortState, SamePort};
 
-use crate::counters::{counter, counting};
-use anyhow::Result;
-use board_runs::{Board, Driven, Flicks, Port};
-use plain_store::{Command, Setup};
+use auditor::Flicks;
+use board_runs::{Board, Driven, Port};
+use plain_store::Command;
 use record::Refusal;
 use std::alloc::AllocError;
 use std::thread::{self, Threads};
@@ -17,13 +15,6 @@ const STEPS: u64 = 65_536;
 
 /// How many turns a port on a thread is given at a time.
 const TURNS: u32 = 100;
-
-/// A setup of the most ticket and stamp bits, whose store opens with the counter, and a command that adds 1 to that.
-pub fn adding(processes: u8, slots: u8) -> Result<(Setup, Command)>
-    ensures { IfOk result (λ made. checked made.0 ≡ Ok tt) }
-{
-    Ok((counting(processes, 32, slots)?, Command::Add(counter()?, 1)))
-}
 
 /// How many word steps a call of this port takes, which meets nobody. Each such call takes as many.
 pub fn steps_of_a_call(board: &Board, port: &mut Port, command: &Command) -> Option<u64>
@@ -50,7 +41,7 @@ pub fn calls_alone(
     port: &mut Port,
     command: &Command,
     steps: u64,
-    calls: u16,
+    calls: u32,
 ) -> bool
     requires { IsOf board.now port.old }
     ensures { SamePort port.old port.new }

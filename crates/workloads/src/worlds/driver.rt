@@ -2,62 +2,30 @@
 ghost use Rattle.std.specs.Prelude.{◌≡◌, Ok};
 ghost use Rattle.plain_store.specs.Setups.{checked};
 
-use crate::counters::counter;
-use anyhow::{Result, bail};
 use auditor::{Flicks, Told, World};
-use plain_store::{Command, Setup, Store, Value};
-use record::{Event, Refusal, Stage};
+use plain_store::{Command, Name, NestedTypes, Setup, Store, Value};
+use record::{Event, Stage};
 use std::alloc::{AllocError, Global};
 
 /// The most steps of a call that waits for nobody, and some more.
 const STEPS: u32 = 65_536;
 
-/// What the processes of a world call.
-#[derive(Clone, Copy, Debug)]
-pub struct Calls {
-    /// Process 0.
-    pub first: Command,
-    /// Each other process.
-    pub others: Command,
-}
-
-impl Calls {
-    /// Each call adds 1 to the counter, so that it counts the calls.
-    pub fn adds() -> Result<Calls> {
-        let counter = counter()?;
-        Ok(Calls {
-            first: Command::Add(counter, 1),
-            others: Command::Add(counter, 1),
-        })
-    }
-
-    /// Process 0 writes 5, and each other adds 3.
-    pub fn written() -> Result<Calls> {
-        let counter = counter()?;
-        Ok(Calls {
-            first: Command::Write(counter, Value::Count(5)),
-            others: Command::Add(counter, 3),
-        })
-    }
-
-    /// What a process calls.
-    pub fn of(&self, process: u8) -> Command {
-        if process == 0 {
-            self.first
-        } else {
-            self.others
-        }
-    }
-}
-
-/// A world, what its processes call, and how many events it has accepted.
+/// A world, how many processes it has and what they call, and how many events it has accepted.
 #[derive(Drop)]
 pub struct Driver {
-    alloc: Global,
     world: World,
     processes: u8,
     calls: Calls,
-    events: u64,
+    pub events: u64,
+}
+
+/// What the processes of a world call.
+#[derive(Clone, Copy)]
+pub enum Calls {
+    /// Each call adds 1 to the counter, so that it counts the calls.
+    Adds,
+    /// Process 0 writes 5, and each other adds 3.
+    Worked,
 }
 
 impl Driver {
@@ -66,7 +34,6 @@ impl Driver {
         requires { checked setup.now ≡ Ok tt }
     {
         Ok(Driver {
-            alloc,
             world: World::new(alloc, setup)?,
             processes: setup.processes,
             calls,
@@ -74,52 +41,94 @@ impl Driver {
         })
     }
 
-    /// So many calls of process 0, one after another, while no other process has one.
-    pub fn alone(&mut self, calls: u16) -> Result<()> {
+    /// So many calls of process 0, one after another, while no other process has one. Whether each came to its end.
+    pub fn alone(&mut self, calls: u32) -> bool {
         for _ in 0..calls {
-            if let Err(refusal) = self.whole_call() {
-                bail!("an event is refused: {refusal:?}");
-            }
-            if !self.is_idle(0) {
-                bail!("the call does not end");
+            if !self.whole_call() {
+                return false;
             }
         }
-        Ok(())
+        true
+    }
+
+    /// A call of process 0, and its steps until it is idle, or a bound of steps.
+    fn whole_call(&mut self) -> bool {
+        if !self.call(0) {
+            return false;
+        }
+        for _ in 0..STEPS {
+            if self.is_idle(0) {
+                return true;
+            }
+            if !self.step(0, false) {
+                return false;
+            }
+        }
+        false
     }
 
     /// All processes call, and those that have a call make steps, as they are picked. Who is done calls again,
-    /// until there were `rounds` calls, at least 1, for each process.
-    pub fn crowd(&mut self, seed: u64, rounds: u16) -> Result<()> {
+    /// until there were `rounds` calls, at least 1, for each process. Whether all came to their ends.
+    pub fn crowd(&mut self, alloc: Global, seed: u64, rounds: u32) -> Result<bool, AllocError> {
         let mut flicks = Flicks::pcg(seed);
-        let mut running = self.all_call()?;
-        let mut left = u32::from(self.processes) * u32::from(rounds.saturating_sub(1));
+        let mut running = self.all_call(alloc)?;
+        let mut left = u32::from(self.processes).saturating_mul(rounds.saturating_sub(1));
         for _ in 0..u64::MAX {
             if running.is_empty() {
-                break;
+                return Ok(true);
             }
             let at = flicks.pick(running.len());
             let Some(process) = running.get(at).copied() else {
-                bail!("nobody is picked");
+                return Ok(false);
             };
-            if let Err(refusal) = self.step(process, flicks.flick()) {
-                bail!("process {process} can't step: {refusal:?}");
+            if !self.step(process, flicks.flick()) {
+                return Ok(false);
             }
             if self.is_idle(process) {
                 if left == 0 {
                     running.retain(|other| *other != process);
-                } else if let Err(refusal) = self.call(process) {
-                    bail!("process {process} can't call: {refusal:?}");
-                } else {
-                    left -= 1;
+                } else if !self.call(process) {
+                    return Ok(false);
                 }
+                left = left.saturating_sub(1);
             }
         }
-        Ok(())
+        Ok(false)
     }
 
-    /// How many events were accepted.
-    pub fn events(&self) -> u64 {
-        self.events
+    /// Each process calls; those that do are listed, ascending.
+    fn all_call(&mut self, alloc: Global) -> Result<Vec<u8>, AllocError> {
+        let mut running = Vec::new(alloc);
+        for process in 0..self.processes {
+            if self.call(process) {
+                running.push(process)?;
+            }
+        }
+        Ok(running)
+    }
+
+    fn call(&mut self, process: u8) -> bool {
+        let Ok(name) = Name::new(b"a") else {
+            return false;
+        };
+        let command = match self.calls {
+            Calls::Adds => Command::Add(name, 1),
+            Calls::Worked if process == 0 => Command::Write(name, Value::Count(5)),
+            Calls::Worked => Command::Add(name, 3),
+        };
+        let accepted = self.world.event(Event::Call(process, command)).is_ok();
+        self.events = self.events.wrapping_add(u64::from(accepted));
+        accepted
+    }
+
+    fn step(&mut self, process: u8, flick: bool) -> bool {
+        let accepted = self.world.step(process, flick, &mut Told::Nothing).is_ok();
+        self.events = self.events.wrapping_add(u64::from(accepted));
+        accepted
+    }
+
+    fn is_idle(&self, process: u8) -> bool {
+        matches!(self.world.stage(process), Some(Stage::Idle))
     }
 
     /// How many commands were taken.
@@ -127,55 +136,12 @@ impl Driver {
         self.world.history().len()
     }
 
-    /// The value of the first name in the newest store.
-    pub fn value(&self) -> Result<Value> {
-        let Some(store) = self.world.newest() else {
-            bail!("a process is inside");
-        };
-        let Some((_, value)) = store.entry(0) else {
-            bail!("the store is empty");
-        };
-        Ok(value)
-    }
-
-    /// Each process calls; they are listed, ascending.
-    fn all_call(&mut self) -> Result<Vec<u8>> {
-        let mut running = Vec::new(self.alloc);
-        for process in 0..self.processes {
-            if let Err(refusal) = self.call(process) {
-                bail!("process {process} can't call: {refusal:?}");
-            }
-            running.push(process)?;
+    /// The count of the first name in the newest store; none while a process is inside.
+    pub fn count(&self) -> Option<i64> {
+        let _nested: NestedTypes = None;
+        match self.world.newest()?.entry(0)? {
+            (_, Value::Count(count)) => Some(count),
+            _ => None,
         }
-        Ok(running)
-    }
-
-    /// A call of process 0, and its steps until it is idle, or a bound of steps.
-    fn whole_call(&mut self) -> Result<(), Refusal> {
-        self.call(0)?;
-        for _ in 0..STEPS {
-            if self.is_idle(0) {
-                break;
-            }
-            self.step(0, false)?;
-        }
-        Ok(())
-    }
-
-    fn call(&mut self, process: u8) -> Result<(), Refusal> {
-        let command = self.calls.of(process);
-        self.world.event(Event::Call(process, command))?;
-        self.events = self.events.wrapping_add(1);
-        Ok(())
-    }
-
-    fn step(&mut self, process: u8, flick: bool) -> Result<(), Refusal> {
-        self.world.step(process, flick, &mut Told::Nothing)?;
-        self.events = self.events.wrapping_add(1);
-        Ok(())
-    }
-
-    fn is_idle(&self, process: u8) -> bool {
-        matches!(self.world.stage(process), Some(Stage::Idle))
     }
 }

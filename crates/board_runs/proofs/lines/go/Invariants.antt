@@ -1,9 +1,9 @@
-use Rattle.std.proofs.Common.{◌≤◌}
 use Rattle.board.specs.Boards.{IsOf}
-use Rattle.board_tests.proofs.threads.adds.Given as goal
+use Rattle.board.specs.Ports.{SamePort}
+use Rattle.board_runs.proofs.lines.go.Given as goal
 
 abbrev pub invariant-loop : goal.invariant-loop
 invariant-loop l = record {
   board : IsOf l.board l.port;
-  few : l.sums ≤ l.times;
+  same : SamePort l.fn.port l.port;
 }

@@ -1,6 +1,6 @@
 use Rattle.std.proofs.Common.{◌≡◌, true}
 use Rattle.failure.specs.critical.Sections.{is_going}
-use Rattle.register_tests.proofs.sections.run.Given as goal
+use Rattle.register_tests.proofs.sections.taken.Given as goal
 
 abbrev pub invariant-loop-made : goal.invariant-loop-made
-invariant-loop-made o l = is_going l.section ≡ true
+invariant-loop-made l = is_going l.section ≡ true

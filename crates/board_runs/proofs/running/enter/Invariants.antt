@@ -1,9 +1,0 @@
-use Rattle.board.specs.Boards.{IsOf}
-use Rattle.board.specs.Ports.{SamePort}
-use Rattle.board_runs.proofs.running.enter.Given as goal
-
-abbrev pub invariant-loop : goal.invariant-loop
-invariant-loop l = record {
-  board : IsOf l.board l.port;
-  same : SamePort l.fn.port l.port;
-}
