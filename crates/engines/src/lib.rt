@@ -3,7 +3,7 @@
 //! calls by which a program has the accepted events of a run, and the record of a list of events, stand beside them.
 //!
 //! ```rust
-//! replay(alloc, &mut Tape::new(file.as_bytes()), &mut output, &mut Nobody)?;
+//! replay(alloc, input, output, &mut Nobody)
 //! ```
 #![tactic(auto)]
 
