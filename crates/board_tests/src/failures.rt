@@ -29,7 +29,7 @@ fn six_additions(alloc: Global, command: &Command, process: u64) -> Result<Plan,
 }
 
 /// One call, which is given all turns that it takes.
-fn one_call(alloc: Global, command: Command) -> Result<Plan, AllocError> {
+pub fn one_call(alloc: Global, command: Command) -> Result<Plan, AllocError> {
     let undertaking = Undertaking {
         command,
         before: 0,
@@ -52,6 +52,7 @@ fn is_ended(call: &Placed) -> bool {
     }
 }
 
+#[tactic(auto, using(board::proofs::Orders::all_are_made, board::proofs::Orders::first_are_made))]
 #[test]
 fn three_threads_with_failures(rt: HostRuntime) -> Result<(), Fail> {
     let alloc = rt.alloc();

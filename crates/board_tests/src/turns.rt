@@ -99,6 +99,7 @@ fn finish_at(rt: &impl Abort, board: &Board, ports: &mut Vec<Port>, place: usize
 }
 
 // Before the last turn of the write the board and both ports come back, and the work goes on.
+#[tactic(auto, using(board::proofs::Orders::all_are_made, board::proofs::Orders::first_are_made))]
 #[test]
 fn two_ports(rt: HostRuntime) -> Result<(), Fail> {
     let alloc = rt.alloc();

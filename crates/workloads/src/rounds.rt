@@ -43,6 +43,7 @@ fn drawn<T: Print + AllocGlobal + Threads + Sync>(rt: &T, number: u32) -> Result
 }
 
 /// The ports of a board carry out these plans. Prints the setup, the ports' lists and the image that the board leaves.
+#[tactic(auto, using(board::proofs::Orders::all_are_made, board::proofs::Orders::first_are_made))]
 fn play<T: Print + AllocGlobal + Threads + Sync>(
     rt: &T,
     setup: &Setup,
