@@ -7,6 +7,7 @@ use std::test::Fail;
 const WRITE: &str = "bakery 1\ntickets 2\nstamps 2\ncall 0 write a c:5\nstep 0 966\nstep 0 1\n";
 
 // Before the last turn of the write the board and both ports come back, and the work goes on.
+#[tactic(auto, using(board::proofs::Orders::all_are_made, board::proofs::Orders::first_are_made))]
 #[test]
 fn a_board_with_an_open_call_comes_back(rt: HostRuntime) -> Result<(), Fail> {
     let scenario = read_scenario(rt.alloc(), WRITE.as_bytes())?;
@@ -38,5 +39,21 @@ fn a_board_without_a_port_comes_back(rt: HostRuntime) -> Result<(), Fail> {
         Ok(_) => panic!(rt; "a port is not there"),
         Err(back) => assert!(rt; back.ports.len() == 1),
     }
+    Ok(())
+}
+
+// Ports are closed in whatever order they come; each list is that of its process.
+#[test]
+fn ports_come_in_any_order(rt: HostRuntime) -> Result<(), Fail> {
+    let scenario = read_scenario(rt.alloc(), WRITE.as_bytes())?;
+    let (board, mut ports) = Board::new(rt.alloc(), &scenario.setup)?;
+    take_turns(&board, &mut ports, &scenario.lines);
+    ports.reverse();
+    let Ok(closing) = board.close(ports) else {
+        panic!(rt; "both ports are idle");
+    };
+    let lists = closing.answers.as_slice();
+    assert!(rt; lists.len() == 2 && lists[0].len() == 1 && lists[1].is_empty());
+    assert!(rt; closing.image.len() == 1);
     Ok(())
 }

@@ -24,6 +24,7 @@ use std::thread::{self, Threads};
 use world::{Act, Event, Flicks, Stage, World};
 
 /// Both parts begin with two processes and the counter `a` at 5.
+#[tactic(auto, using(board::proofs::Orders::all_are_made, board::proofs::Orders::first_are_made))]
 fn main(rt: HostRuntime) -> Result<()> {
     let counter = Name::new(b"a")?;
     let mut setup = Setup::one(2, 2, 2, 1);
