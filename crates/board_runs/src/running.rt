@@ -16,7 +16,6 @@ use std::thread::{self, Threads};
 
 /// What the lines of a scenario leave on a new board: so many are carried out by turns, and those behind them on threads. None
 /// where a call is left open. The one fault is want of memory.
-#[tactic(auto, using(board::proofs::Orders::all_are_made, board::proofs::Orders::first_are_made))]
 pub fn played<'a, R: Threads + AllocGlobal + Sync>(
     rt: &R,
     scenario: &'a Scenario,

@@ -7,7 +7,6 @@ use std::test::Fail;
 const WRITE: &str = "bakery 1\ntickets 2\nstamps 2\ncall 0 write a c:5\nstep 0 966\nstep 0 1\n";
 
 // Before the last turn of the write the board and both ports come back, and the work goes on.
-#[tactic(auto, using(board::proofs::Orders::all_are_made, board::proofs::Orders::first_are_made))]
 #[test]
 fn a_board_with_an_open_call_comes_back(rt: HostRuntime) -> Result<(), Fail> {
     let scenario = read_scenario(rt.alloc(), WRITE.as_bytes())?;
