@@ -1,0 +1,265 @@
+#!/usr/bin/env python3
+"""Searches locks for the shortest records of which `judge --any-lock` says `together` and `overtaken`: every schedule, and all
+that reads may give that a write overlaps, of so many processes with so many calls each, breadth first.
+
+search.py [NAME ..] prints a row of each lock: its processes and calls; and for each law, on safe bits, on bits whose accesses
+never overlap, and on whole registers whose accesses never overlap, how many entries the shortest record has, or `none` and how
+many states were looked at. search.py --record LAW NAME prints that record.
+
+A process alone is a machine with few states, which is found by running the lock, and made as small as it can be. A state of the
+search has a state of each process, the bits, and who is ahead of whom. Where accesses never overlap, each is made whole. A run
+goes on as long as it breaks no law.
+"""
+
+import argparse
+from types import GeneratorType
+from typing import NamedTuple
+
+from locks import locks
+from writer import Process, read, write
+
+MEMORIES = ["safe", "bits", "registers"]
+LAWS = ["together", "overtaken"]
+# what makes an access of a register
+ACCESSES = [read.__code__, write.__code__]
+
+
+class Step(NamedTuple):
+    """An entry of a process: the bit and the move of its access, its marks, and the state behind it."""
+
+    bit: str
+    move: str
+    marks: tuple
+    to: int
+
+
+class State(NamedTuple):
+    """What is seen of a process: whether it waits, is inside, and has begun its doorway; whether it is within an access of a bit,
+    and of a register; and how many calls it has made."""
+
+    waits: bool
+    inside: bool
+    has_begun: bool
+    within_bit: bool
+    within_register: bool
+    calls: int
+
+
+def frozen(value):
+    """A value that two runs of a generator share where they go on alike."""
+    if isinstance(value, GeneratorType):
+        frame = value.gi_frame
+        said = tuple((name, frozen(local)) for name, local in sorted(frame.f_locals.items()))
+        return value.__name__, frame.f_lasti, said, frozen(value.gi_yieldfrom)
+    return tuple(map(frozen, value)) if isinstance(value, (list, tuple)) else value
+
+
+def innermost(lock):
+    """The generator that goes on, of those that a lock runs."""
+    held = (it for it in lock.gi_frame.f_locals.values() if isinstance(it, GeneratorType))
+    inner = lock.gi_yieldfrom or next(held, None)
+    return lock if inner is None else innermost(inner)
+
+
+class Machine:
+    """A process alone: its states, and of each the steps by the value that it reads, or by None."""
+
+    def __init__(self, lock, me, processes, calls):
+        self.new = lambda: Process(lock, me, processes)
+        self.calls, self.paths, self.found = calls, [()], {}
+        first = State(*[False] * 5, 0)
+        self.states, self.steps = [first], []
+        self.found[self.key(self.new(), first)] = 0
+        while len(self.steps) < len(self.paths):
+            self.steps.append(self.steps_from(len(self.steps)))
+        self.shrink()
+
+    def key(self, process, state):
+        return frozen(process.lock), process.next, state
+
+    def steps_from(self, at):
+        process = self.at(at)
+        if process.begins("call") and self.states[at].calls == self.calls:
+            return {}
+        is_read_end = isinstance(process.next, tuple) and process.next[1] == "value"
+        return {value: self.step(at, value) for value in ((0, 1) if is_read_end else (None,))}
+
+    def at(self, at):
+        """A process in a state, run up to it."""
+        process = self.new()
+        for value in self.paths[at]:
+            process.step(value)
+        return process
+
+    def step(self, at, value):
+        process, state = self.at(at), self.states[at]
+        register = innermost(process.lock)
+        bit, move, marks = process.step(value)
+        said = [mark.split()[0] for mark in marks]
+        is_open = move.startswith(("write", "read"))
+        state = State(
+            waits="enter" not in said and (state.waits or "wait" in said),
+            inside="leave" not in said and (state.inside or "enter" in said),
+            has_begun="answer" not in said and (state.has_begun or bit != ""),
+            within_bit=is_open,
+            within_register=is_open or register.gi_code in ACCESSES and innermost(process.lock) is register,
+            calls=state.calls + ("call" in said),
+        )
+        key = self.key(process, state)
+        if key not in self.found:
+            self.found[key] = len(self.paths)
+            self.paths.append((*self.paths[at], value))
+            self.states.append(state)
+        return Step(bit, move, tuple(marks), self.found[key])
+
+    def shrink(self):
+        """Makes one state of those that look alike and go on alike."""
+        kinds = [0] * len(self.steps)
+        while True:
+            looks = [
+                (kind, state, tuple((value, step._replace(to=kinds[step.to])) for value, step in steps.items()))
+                for kind, state, steps in zip(kinds, self.states, self.steps)
+            ]
+            numbers = {look: number for number, look in enumerate(dict.fromkeys(looks))}
+            if len(numbers) == len(set(kinds)):
+                break
+            kinds = [numbers[look] for look in looks]
+        of_kind = [kinds.index(kind) for kind in range(len(set(kinds)))]
+        self.steps = [
+            {value: step._replace(to=kinds[step.to]) for value, step in self.steps[at].items()} for at in of_kind
+        ]
+        self.states = [self.states[at] for at in of_kind]
+
+
+class Search:
+    """All runs of a lock in a memory, one entry more at a time."""
+
+    def __init__(self, lock, processes, calls, memory):
+        self.machines = [Machine(lock, me, processes, calls) for me in range(processes)]
+        bits = sorted({step.bit for machine in self.machines for steps in machine.steps for step in steps.values() if step.bit})
+        self.bits, self.memory = {bit: 1 << number for number, bit in enumerate(bits)}, memory
+
+    def first(self):
+        """A state of each process; the bits that are 1, those that are being written, those that are being read, and those whose
+        read is overlapped; and of each process who is ahead of it."""
+        return (0,) * len(self.machines), 0, 0, 0, 0, (0,) * len(self.machines)
+
+    def seen(self, state):
+        return [machine.states[at] for machine, at in zip(self.machines, state[0])]
+
+    def may_go(self, seen):
+        """The processes that may make the next entry."""
+        busy = lambda it: self.memory == "bits" and it.within_bit or self.memory == "registers" and it.within_register
+        return [me for me, it in enumerate(seen) if busy(it)] or range(len(seen))
+
+    def steps(self, state):
+        """Each next entry: its process, its step, the law that it breaks, if it does, and the state behind it."""
+        seen = self.seen(state)
+        waiting = sum(1 << me for me, it in enumerate(seen) if it.waits)
+        inside = sum(1 << me for me, it in enumerate(seen) if it.inside)
+        for me in self.may_go(seen):
+            for value, step in self.machines[me].steps[state[0][me]].items():
+                if value is None or self.may_give(state, self.bits[step.bit], value):
+                    yield me, step, *self.after(state, me, step, seen[me], waiting & ~(1 << me), inside & ~(1 << me))
+
+    def may_give(self, state, bit, value):
+        _, ones, _, _, overlapped, _ = state
+        return overlapped & bit or (ones & bit != 0) == value
+
+    def after(self, state, me, step, before, waiting, inside):
+        """The law that a step breaks, and the state behind it."""
+        those, *bits, ahead = state
+        to = self.machines[me].states[step.to]
+        those = (*those[:me], step.to, *those[me + 1 :])
+        ahead = list(ahead)
+        if not (to.has_begun and before.has_begun):
+            ahead[me] = waiting if to.has_begun else 0
+        law = None
+        if "enter" in step.marks:
+            is_overtaking = ahead[me] if to.has_begun else waiting
+            law = "together" if inside else "overtaken" if is_overtaking else None
+            ahead = [it & ~(1 << me) for it in ahead]
+            ahead[me] = 0
+        return law, (those, *self.moved(step, *bits), tuple(ahead))
+
+    def moved(self, step, ones, written, being_read, overlapped):
+        """The bits behind a step."""
+        bit = self.bits.get(step.bit, 0)
+        if step.move.startswith("write"):
+            ones = ones | bit if step.move == "write 1" else ones & ~bit
+            return ones, written | bit, being_read, overlapped | being_read & bit
+        if step.move == "read":
+            return ones, written, being_read | bit, overlapped | written & bit
+        if step.move == "end":
+            return ones, written & ~bit, being_read, overlapped
+        return ones, written, being_read & ~bit, overlapped & ~bit
+
+    def run(self, law):
+        """The entries of a shortest record that breaks this law, or None, and how many states were looked at."""
+        first = self.first()
+        came, states = {first: None}, [first]
+        for state in states:
+            for me, step, broken, after in self.steps(state):
+                if broken == law:
+                    return [*self.entries(came, state), (me, step)], len(states)
+                if broken is None and after not in came:
+                    came[after] = state, me, step
+                    states.append(after)
+        return None, len(states)
+
+    def entries(self, came, state):
+        found = []
+        while came[state]:
+            state, me, step = came[state]
+            found.append((me, step))
+        return found[::-1]
+
+
+def lines_of(entries):
+    """The lines of entries, in which what is taken gets its place."""
+    taken = 0
+    for me, step in entries:
+        place = f" {step.bit} {step.move}" if step.bit else ""
+        marks = [mark.replace("taken", f"taken {taken}", 1) for mark in step.marks]
+        taken += "taken no-name" in step.marks
+        yield " : ".join([f"{me}{place}", *marks])
+
+
+def row(name, lock):
+    """What the search finds of a lock, in a row of a table."""
+    cells = []
+    for law in LAWS:
+        for memory in MEMORIES:
+            entries, states = Search(lock.lock, lock.processes, lock.calls, memory).run(law)
+            cells.append(f"none, {states}" if entries is None else str(len(entries)))
+    return f"| {name} | {lock.processes}, {lock.calls} | {' | '.join(cells)} |"
+
+
+def record(lock, law, memory):
+    """The shortest record of a lock that breaks a law, or what was looked at."""
+    entries, states = Search(lock.lock, lock.processes, lock.calls, memory).run(law)
+    if entries is None:
+        return f"# none, {states} states\n"
+    head = ["record 1", f"processes {lock.processes}", f"tickets {lock.tickets}", "stamps 1", "slots 1"]
+    return "".join(f"{line}\n" for line in [*head, *lines_of(entries)])
+
+
+def main():
+    parser = argparse.ArgumentParser(description=__doc__, formatter_class=argparse.RawDescriptionHelpFormatter)
+    parser.add_argument("names", metavar="NAME", nargs="*", help="a lock of locks.py; all, if none is named")
+    parser.add_argument("--record", metavar="LAW", choices=LAWS, help="prints the shortest record that breaks this law")
+    parser.add_argument("--memory", choices=MEMORIES, default="safe", help="of the record")
+    for what in ("processes", "calls", "tickets"):
+        parser.add_argument(f"--{what}", type=int, help=f"so many {what}, in place of those that a lock has in locks.py")
+    said = parser.parse_args()
+    known = locks(said.tickets) if said.tickets else locks()
+    if not set(said.names) <= set(known):
+        parser.error(f"the locks are {', '.join(known)}")
+    others = {what: number for what in ("processes", "calls") if (number := getattr(said, what))}
+    for name in said.names or known:
+        lock = known[name]._replace(**others)
+        print(record(lock, said.record, said.memory) if said.record else row(name, lock) + "\n", end="", flush=True)
+
+
+if __name__ == "__main__":
+    main()
