@@ -96,16 +96,16 @@ class Past:
         return next((part for part in self.call(process) if part.is_mark(mark)), None)
 
     def open(self, process):
-        return open_in(self.of_process[process])
+        return open_in(reversed(self.of_process[process]))
 
     def torn(self, process):
         """The write that was open as it last failed, if it has settled nothing since."""
-        own = self.of_process[process]
-        for at in range(len(own) - 1, -1, -1):
-            if own[at].is_move("settle"):
+        back = reversed(self.of_process[process])
+        for part in back:
+            if part.is_move("settle"):
                 return None
-            if own[at].is_mark("fail"):
-                cut = open_in(own[:at])
+            if part.is_mark("fail"):
+                cut = open_in(back)
                 return cut if cut and cut.is_move("write") else None
         return None
 
@@ -163,10 +163,10 @@ class Past:
         return int(next((move.words[1] for move in reversed(writes) if len(move.words) == 2), self.opens_at(bit)))
 
 
-def open_in(own):
-    """The begin that is open behind these parts of a process."""
+def open_in(back):
+    """The begin that is open behind these parts of a process, of which the newest comes first."""
     withdrawn = False
-    for part in reversed(own):
+    for part in back:
         if part.is_mark("fail"):
             return None
         withdrawn = withdrawn or part.is_mark("withdraw")
@@ -183,6 +183,9 @@ class Entry(NamedTuple):
     process: int
     access: Part | None
     marks: list
+
+    def parts(self):
+        return [self.access, *self.marks] if self.access else self.marks
 
     def has(self, word):
         return any(mark.words[0] == word for mark in self.marks)
@@ -237,7 +240,7 @@ def refused_marks(past, entry):
         return "not-alone"
     added = []
     try:
-        for part in [entry.access, *entry.marks] if entry.access else entry.marks:
+        for part in entry.parts():
             refusal = None if part.bit else refused_mark(past, part)
             if refusal:
                 return refusal
@@ -381,7 +384,7 @@ def first_bad(head, lines):
         law = broken_law(past, entry)
         if law:
             return past, entry, law
-        for part in [entry.access, *entry.marks] if entry.access else entry.marks:
+        for part in entry.parts():
             past.add(part)
     return None
 
