@@ -225,14 +225,17 @@ def lines_of(entries):
         yield " : ".join([f"{me}{place}", *marks])
 
 
-def row(name, lock):
-    """What the search finds of a lock, in a row of a table."""
-    cells = []
+def cells(lock):
+    """What the search finds of a lock: of each law, in each memory."""
     for law in LAWS:
         for memory in MEMORIES:
             entries, states = Search(lock.lock, lock.processes, lock.calls, memory).run(law)
-            cells.append(f"none, {states}" if entries is None else str(len(entries)))
-    return f"| {name} | {lock.processes}, {lock.calls} | {' | '.join(cells)} |"
+            yield f"none ({states:,})" if entries is None else str(len(entries))
+
+
+def row(name, lock):
+    """A row of the table."""
+    return f"| {name} | {lock.processes}, {lock.calls} | {' | '.join(cells(lock))} |"
 
 
 def record(lock, law, memory):
