@@ -4,7 +4,7 @@ that reads may give that a write overlaps, of so many processes with so many cal
 
 search.py [NAME ..] prints a row of each lock: its processes and calls; and for each law, on safe bits, on bits whose accesses
 never overlap, and on whole registers whose accesses never overlap, how many entries the shortest record has, or `none` and how
-many states were looked at. search.py --record LAW NAME prints that record.
+many states were looked at. search.py --record LAW NAME prints that record. A lock of your own is named as FILE.py:NAME.
 
 A process alone is a machine with few states, which is found by running the lock, and made as small as it can be. A state of the
 search has a state of each process, the bits, and who is ahead of whom. Where accesses never overlap, each is made whole. A run
@@ -12,10 +12,11 @@ goes on as long as it breaks no law.
 """
 
 import argparse
+import runpy
 from types import GeneratorType
 from typing import NamedTuple
 
-from locks import locks
+from locks import Lock, locks
 from writer import Process, read, write
 
 MEMORIES = ["safe", "bits", "registers"]
@@ -247,20 +248,27 @@ def record(lock, law, memory):
     return "".join(f"{line}\n" for line in [*head, *lines_of(entries)])
 
 
+def lock_of(name, known):
+    """The lock of a name; or None."""
+    file, _, own = name.rpartition(":")
+    return Lock(runpy.run_path(file)[own]) if file else known.get(name)
+
+
 def main():
     parser = argparse.ArgumentParser(description=__doc__, formatter_class=argparse.RawDescriptionHelpFormatter)
-    parser.add_argument("names", metavar="NAME", nargs="*", help="a lock of locks.py; all, if none is named")
+    parser.add_argument("names", metavar="NAME", nargs="*", help="a lock of locks.py, or FILE.py:NAME; all, if none is named")
     parser.add_argument("--record", metavar="LAW", choices=LAWS, help="prints the shortest record that breaks this law")
     parser.add_argument("--memory", choices=MEMORIES, default="safe", help="of the record")
     for what in ("processes", "calls", "tickets"):
         parser.add_argument(f"--{what}", type=int, help=f"so many {what}, in place of those that a lock has in locks.py")
     said = parser.parse_args()
     known = locks(said.tickets) if said.tickets else locks()
-    if not set(said.names) <= set(known):
+    chosen = {name.rpartition(":")[2]: lock_of(name, known) for name in said.names or known}
+    if None in chosen.values():
         parser.error(f"the locks are {', '.join(known)}")
     others = {what: number for what in ("processes", "calls") if (number := getattr(said, what))}
-    for name in said.names or known:
-        lock = known[name]._replace(**others)
+    for name, lock in chosen.items():
+        lock = lock._replace(**others)
         print(record(lock, said.record, said.memory) if said.record else row(name, lock) + "\n", end="", flush=True)
 
 
