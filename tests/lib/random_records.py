@@ -28,6 +28,8 @@ REPLIES += ["last 0", "last 1"]
 ANSWERS = [*REPLIES, "tickets-full 0", "stamps-full", "withdrawn"]
 MARKS = [*EVENTS, "wait 0", "wait 1", "enter", "leave", "down", "settled 0", "settled 1"]
 MARKS += [*(f"taken {place} {reply}" for place in (0, 1) for reply in REPLIES), *(f"answer {answer}" for answer in ANSWERS)]
+# laws that an entry breaks often, and those that it breaks seldom
+OFTEN, SELDOM = ["safe", "access", "marks"], ["together", "overtaken", "history"]
 MOST_MARKS = 3
 # a record of more lines is seldom the one that is changed
 LONG = 200
@@ -76,6 +78,9 @@ def likely_access(draws, past, process):
     if stage not in (*RUNNING, "settling"):
         return ""
     owner, field, bit, reader = any_bit(draws, past.setup.processes).split(".")
+    cut = [bit_of(torn) for other in past.others(process) if (torn := past.torn(other)) and torn.bit[3] == process]
+    if cut and stage != "settling":
+        return f" {cut[0]} read"
     if stage == "settling" or draws.random() < 0.5:
         return f" {process}.{field}.{bit}.{reader} write {draws.randint(0, 1)}"
     return f" {owner}.{field}.{bit}.{process} read"
@@ -93,11 +98,11 @@ def likely_mark(draws, past, process):
     answer = " ".join(taken.words[2:]) if taken else draws.choice(["withdrawn", "stamps-full", "tickets-full 0"])
     return draws.choice(
         {
-            "idle": [f"call {any_command(draws, past.setup.version)}"],
+            "idle": [*[f"call {any_command(draws, past.setup.version)}"] * 8, "restart"],
             "doorway": ["wait 0", "wait 1", "answer stamps-full"],
             "waiting": ["enter", "enter", "enter", "withdraw"],
             "inside": [f"taken {place} {reply}", "leave"],
-            "leaving": [f"answer {answer}"],
+            "leaving": [f"answer {answer}", f"answer {answer}", f"answer {draws.choice(REPLIES)}"],
             "settling": ["settled 0", "settled 1", "leave", f"taken {place} {reply}", "down", "down", "call ask"],
             "down": ["restart", "restart", "call read a"],
         }[past.stage(process)]
@@ -105,10 +110,12 @@ def likely_mark(draws, past, process):
 
 
 def likely_entry(draws, past):
+    """An entry that a process may well make. Who fails does so mostly within a write, or inside."""
     process = draws.randrange(past.setup.processes)
-    if draws.random() < 0.04:
+    now, is_inside = past.open(process), past.inside(process) is not None
+    if draws.random() < (0.08 if is_inside or now and now.is_move("write") else 0.01):
         return f"{process} : fail"
-    mark, is_alone = likely_mark(draws, past, process), draws.random() < 0.3
+    mark, is_alone = likely_mark(draws, past, process), draws.random() < 0.4
     access = "" if is_alone or mark.startswith(tuple(EVENTS)) else likely_access(draws, past, process)
     return f"{process}{access}" + f" : {mark}" * (not access or draws.random() < 0.4)
 
@@ -119,16 +126,22 @@ def drawn_record(draws):
     opening = [f"open a {draws.choice(VALUES)}"] if version == 2 and draws.random() < 0.5 else []
     head = [f"record {version}", f"processes {processes}", "tickets 1", "stamps 1", f"slots {slots}", *opening]
     past, lines = Past(Setup(head)), []
-    for left in range(draws.randint(5, 80), -40, -1):
-        line = any_entry(draws, processes) if draws.random() < 0.1 else likely_entry(draws, past)
-        entry = entry_from(len(lines), line)
-        if broken_law(past, entry) is None:
+    wanted, least = draws.choice([*OFTEN, *SELDOM]), draws.randint(5, 100)
+    for tries in range(160):
+        line, law = candidate(draws, past, len(lines))
+        if law is None:
             lines.append(line)
-            for part in entry.parts():
+            for part in entry_from(len(lines) - 1, line).parts():
                 past.add(part)
-        elif left <= 0:
+        elif law == wanted and (tries > least or law in SELDOM):
             return [*head, *lines, line]
     return [*head, *lines]
+
+
+def candidate(draws, past, number):
+    """An entry, and the law that it breaks as the next one, or None."""
+    line = any_entry(draws, past.setup.processes) if draws.random() < 0.05 else likely_entry(draws, past)
+    return line, broken_law(past, entry_from(number, line))
 
 
 def record_of_a_lock(draws):
