@@ -10,8 +10,11 @@ import random
 import sys
 
 from lib.places import TOP
-from second.any_lock import RUNNING, Past, any_lock, broken_law, entry_from
+from second.any_lock import broken_law, entry_from
+from second.looking_back import RUNNING, Past
 from second.programs import Setup
+from second.record_files import read_record
+from second.scenario_files import Fault
 
 LOCKS = TOP / "examples" / "other-locks"
 sys.path.append(str(LOCKS))
@@ -37,13 +40,16 @@ SETUPS = [*locks(1).values(), *locks(2).values()]
 
 
 def kept_records():
-    """The records that stand in examples/ and have no fault."""
-    files = [*TOP.glob("examples/*.record"), *TOP.glob("examples/records/*/record-file"), *LOCKS.glob("*/record")]
-    texts = [file.read_bytes() for file in sorted(files)]
-    return [text.decode().splitlines() for text in texts if any_lock(text)[0] != 1]
+    """The lines of the records that stand in examples/ and have no fault."""
+    for file in sorted([*TOP.glob("examples/*.record"), *TOP.glob("examples/records/*/record-file"), *LOCKS.glob("*/record")]):
+        try:
+            head, entries = read_record(file.read_bytes())
+        except Fault:
+            continue
+        yield head + entries
 
 
-KEPT = kept_records()
+KEPT = [*kept_records()]
 SHORT = [lines for lines in KEPT if len(lines) < LONG]
 
 
