@@ -10,12 +10,14 @@ from writer import main, one_bit, read, write
 
 
 class Lock(NamedTuple):
-    """A lock with what it is searched by: so many processes, calls of each, and bits of a ticket."""
+    """A lock with what it is searched by: so many processes, calls of each, and bits of a ticket; and the registers that the memory
+    unit of a failed process clears, or who withdraws, if that is told: their fields and bits."""
 
     lock: object
     processes: int = 2
     calls: int = 2
     tickets: int = 1
+    clears: tuple = ()
 
 
 def until(values, owner, field, me, width=1):
@@ -193,19 +195,20 @@ def locks(tickets=2):
         "bakery-choosing-ends-early": bakery(tickets, "crCt"),
         "bakery-ticket-first": bakery(tickets, looks="tc"),
     }
+    flag = (("choosing", 1),)
     return {
         "no-lock": Lock(no_lock),
         "look-then-raise": Lock(look_then_raise),
-        "raise-then-look": Lock(flags(others)),
+        "raise-then-look": Lock(flags(others), clears=flag),
         "lower-numbers-only": Lock(flags(lambda me, processes: range(me))),
         "next-only": Lock(flags(lambda me, processes: [(me + 1) % processes]), processes=3, calls=1),
-        "one-bit": Lock(one_bit),
+        "one-bit": Lock(one_bit, clears=flag),
         "one-bit-raised-again": Lock(one_bit_raised_again),
         "by-turns": Lock(by_turns),
         "kessels": Lock(two_turns(is_saving=False)),
         "kessels-saving": Lock(two_turns(is_saving=True)),
         "flags-of-five": Lock(flags_of_five, calls=1, tickets=3),
-        **{name: Lock(lock, calls=1, tickets=tickets) for name, lock in bakeries.items()},
+        **{name: Lock(lock, calls=1, tickets=tickets, clears=(("ticket", tickets), *flag)) for name, lock in bakeries.items()},
     }
 
 

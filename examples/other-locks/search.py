@@ -36,13 +36,16 @@ class Step(NamedTuple):
 
 class State(NamedTuple):
     """What is seen of a process: whether it waits, is inside, and has begun its doorway; whether it is within an access of a bit,
-    and of a register; and how many calls it has made."""
+    and of a register; whether it has failed, is failed, and has withdrawn; and how many calls it has made."""
 
     waits: bool
     inside: bool
     has_begun: bool
     within_bit: bool
     within_register: bool
+    has_failed: bool
+    is_down: bool
+    has_withdrawn: bool
     calls: int
 
 
@@ -62,54 +65,95 @@ def innermost(lock):
     return lock if inner is None else innermost(inner)
 
 
-class Machine:
-    """A process alone: its states, and of each the steps by the value that it reads, or by None."""
+def after_failure(lock, me, processes, cut, is_inside):
+    """What the memory unit of a failed process does, and then the process again. It settles the write that is cut, if one is."""
+    if cut:
+        yield cut, "settle"
+    if is_inside:
+        yield "leave"
+    for field, width in lock.clears:
+        yield from write(me, field, 0, processes, width)
+    yield "down"
+    yield "restart"
+    yield from lock.lock(me, processes)
 
-    def __init__(self, lock, me, processes, calls):
-        self.new = lambda: Process(lock, me, processes)
-        self.calls, self.paths, self.found = calls, [()], {}
-        first = State(*[False] * 5, 0)
-        self.states, self.steps = [first], []
-        self.found[self.key(self.new(), first)] = 0
-        while len(self.steps) < len(self.paths):
+
+def after_withdrawal(lock, me, processes, cut):
+    """What a process does that has withdrawn. It ends the write that is open, if one is."""
+    if cut:
+        yield cut, "end"
+    for field, width in lock.clears:
+        yield from write(me, field, 0, processes, width)
+    yield "answer withdrawn"
+    yield from lock.lock(me, processes)
+
+
+class Machine:
+    """A process alone: its states, and of each the steps, by the value that it reads, by None, or by `fail` and `withdraw`, if that
+    is asked for; it does each of these once at most."""
+
+    def __init__(self, lock, me, with_failures):
+        self.lock, self.me, self.with_failures = lock, me, with_failures
+        first = State(*[False] * 8, 0)
+        self.came, self.states, self.steps = [None], [first], []
+        self.found = {self.key(self.at(0), first): 0}
+        while len(self.steps) < len(self.states):
             self.steps.append(self.steps_from(len(self.steps)))
         self.shrink()
 
     def key(self, process, state):
         return frozen(process.lock), process.next, state
 
-    def steps_from(self, at):
-        process = self.at(at)
-        if process.begins("call") and self.states[at].calls == self.calls:
-            return {}
-        is_read_end = isinstance(process.next, tuple) and process.next[1] == "value"
-        return {value: self.step(at, value) for value in ((0, 1) if is_read_end else (None,))}
-
     def at(self, at):
         """A process in a state, run up to it."""
-        process = self.new()
-        for value in self.paths[at]:
-            process.step(value)
+        if self.came[at] is None:
+            return Process(self.lock.lock, self.me, self.lock.processes)
+        before, value = self.came[at]
+        process = self.at(before)
+        self.go(process, self.states[before], value)
         return process
+
+    def go(self, process, state, value):
+        """Makes the next entry of a process: its bit, its move and its marks."""
+        if value not in ("fail", "withdraw"):
+            return process.step(value)
+        bit, move = process.next if state.within_bit else (None, None)
+        cut, parts = bit if move == "end" else None, (self.lock, self.me, self.lock.processes)
+        process.lock = after_failure(*parts, cut, state.inside) if value == "fail" else after_withdrawal(*parts, cut)
+        process.next = next(process.lock)
+        return ("", "", [value]) if move != "value" else (bit, "drop", [value])
+
+    def steps_from(self, at):
+        process, state, values = self.at(at), self.states[at], []
+        if not (process.begins("call") and state.calls == self.lock.calls):
+            is_open = not process.begins("") and process.next[1] in ("value", "settle")
+            values += (0, 1) if is_open else (None,)
+        if self.with_failures:
+            values += ["fail"] * (not state.is_down and not state.has_failed)
+            values += ["withdraw"] * (state.waits and not state.has_withdrawn)
+        return {value: self.step(at, value) for value in values}
 
     def step(self, at, value):
         process, state = self.at(at), self.states[at]
         register = innermost(process.lock)
-        bit, move, marks = process.step(value)
+        bit, move, marks = self.go(process, state, value)
         said = [mark.split()[0] for mark in marks]
-        is_open = move.startswith(("write", "read"))
+        is_open, is_cut = move.startswith(("write", "read")), value in ("fail", "withdraw")
         state = State(
-            waits="enter" not in said and (state.waits or "wait" in said),
+            waits=not is_cut and "enter" not in said and (state.waits or "wait" in said),
             inside="leave" not in said and (state.inside or "enter" in said),
-            has_begun="answer" not in said and (state.has_begun or bit != ""),
+            has_begun=not is_cut and not state.is_down and "answer" not in said and (state.has_begun or bit != ""),
             within_bit=is_open,
             within_register=is_open or register.gi_code in ACCESSES and innermost(process.lock) is register,
+            has_failed=state.has_failed or value == "fail",
+            is_down=(state.is_down or value == "fail") and "restart" not in said,
+            has_withdrawn=state.has_withdrawn or value == "withdraw",
             calls=state.calls + ("call" in said),
         )
         key = self.key(process, state)
         if key not in self.found:
-            self.found[key] = len(self.paths)
-            self.paths.append((*self.paths[at], value))
+            self.found[key] = len(self.states)
+            self.came.append((at, value))
             self.states.append(state)
         return Step(bit, move, tuple(marks), self.found[key])
 
@@ -135,8 +179,8 @@ class Machine:
 class Search:
     """All runs of a lock in a memory, one entry more at a time."""
 
-    def __init__(self, lock, processes, calls, memory):
-        self.machines = [Machine(lock, me, processes, calls) for me in range(processes)]
+    def __init__(self, lock, memory, with_failures=False):
+        self.machines = [Machine(lock, me, with_failures) for me in range(lock.processes)]
         bits = sorted({step.bit for machine in self.machines for steps in machine.steps for step in steps.values() if step.bit})
         self.bits, self.memory = {bit: 1 << number for number, bit in enumerate(bits)}, memory
 
@@ -158,14 +202,17 @@ class Search:
         seen = self.seen(state)
         waiting = sum(1 << me for me, it in enumerate(seen) if it.waits)
         inside = sum(1 << me for me, it in enumerate(seen) if it.inside)
+        is_over = {"fail": any(it.has_failed for it in seen), "withdraw": any(it.has_withdrawn for it in seen)}
         for me in self.may_go(seen):
             for value, step in self.machines[me].steps[state[0][me]].items():
-                if value is None or self.may_give(state, self.bits[step.bit], value):
+                if not is_over.get(value) and self.may_give(state, step, value):
                     yield me, step, *self.after(state, me, step, seen[me], waiting & ~(1 << me), inside & ~(1 << me))
 
-    def may_give(self, state, bit, value):
+    def may_give(self, state, step, value):
+        """Whether a read may end with this value."""
         _, ones, _, _, overlapped, _ = state
-        return overlapped & bit or (ones & bit != 0) == value
+        bit = self.bits.get(step.bit, 0)
+        return not step.move.startswith("value") or overlapped & bit or (ones & bit != 0) == value
 
     def after(self, state, me, step, before, waiting, inside):
         """The law that a step breaks, and the state behind it."""
@@ -179,8 +226,9 @@ class Search:
         if "enter" in step.marks:
             is_overtaking = ahead[me] if to.has_begun else waiting
             law = "together" if inside else "overtaken" if is_overtaking else None
-            ahead = [it & ~(1 << me) for it in ahead]
             ahead[me] = 0
+        if not to.waits:
+            ahead = [it & ~(1 << me) for it in ahead]
         return law, (those, *self.moved(step, *bits), tuple(ahead))
 
     def moved(self, step, ones, written, being_read, overlapped):
@@ -191,7 +239,9 @@ class Search:
             return ones, written | bit, being_read, overlapped | being_read & bit
         if step.move == "read":
             return ones, written, being_read | bit, overlapped | written & bit
-        if step.move == "end":
+        if step.move.startswith("settle"):
+            ones = ones | bit if step.move == "settle 1" else ones & ~bit
+        if step.move.startswith(("end", "settle")):
             return ones, written & ~bit, being_read, overlapped
         return ones, written, being_read & ~bit, overlapped & ~bit
 
@@ -216,36 +266,41 @@ class Search:
         return found[::-1]
 
 
+def head_of(lock):
+    """The lines with which a record of a lock begins."""
+    return ["record 1", f"processes {lock.processes}", f"tickets {lock.tickets}", "stamps 1", "slots 1"]
+
+
 def lines_of(entries):
     """The lines of entries, in which what is taken gets its place."""
     taken = 0
     for me, step in entries:
-        place = f" {step.bit} {step.move}" if step.bit else ""
+        place = f" {step.bit} {step.move}" if step.bit and step.move != "drop" else ""
         marks = [mark.replace("taken", f"taken {taken}", 1) for mark in step.marks]
         taken += "taken no-name" in step.marks
         yield " : ".join([f"{me}{place}", *marks])
 
 
-def cells(lock):
+def cells(lock, memories, with_failures):
     """What the search finds of a lock: of each law, in each memory."""
     for law in LAWS:
-        for memory in MEMORIES:
-            entries, states = Search(lock.lock, lock.processes, lock.calls, memory).run(law)
+        for memory in memories:
+            entries, states = Search(lock, memory, with_failures).run(law)
             yield f"none ({states:,})" if entries is None else str(len(entries))
 
 
-def row(name, lock):
-    """A row of the table."""
-    return f"| {name} | {lock.processes}, {lock.calls} | {' | '.join(cells(lock))} |"
+def row(name, lock, with_failures=False):
+    """A row of the table; with failures that of safe bits alone."""
+    found = cells(lock, MEMORIES[:1] if with_failures else MEMORIES, with_failures)
+    return f"| {name} | {lock.processes}, {lock.calls} | {' | '.join(found)} |"
 
 
 def record(lock, law, memory):
     """The shortest record of a lock that breaks a law, or what was looked at."""
-    entries, states = Search(lock.lock, lock.processes, lock.calls, memory).run(law)
+    entries, states = Search(lock, memory).run(law)
     if entries is None:
         return f"# none, {states} states\n"
-    head = ["record 1", f"processes {lock.processes}", f"tickets {lock.tickets}", "stamps 1", "slots 1"]
-    return "".join(f"{line}\n" for line in [*head, *lines_of(entries)])
+    return "".join(f"{line}\n" for line in [*head_of(lock), *lines_of(entries)])
 
 
 def lock_of(name, known):
@@ -259,17 +314,22 @@ def main():
     parser.add_argument("names", metavar="NAME", nargs="*", help="a lock of locks.py, or FILE.py:NAME; all, if none is named")
     parser.add_argument("--record", metavar="LAW", choices=LAWS, help="prints the shortest record that breaks this law")
     parser.add_argument("--memory", choices=MEMORIES, default="safe", help="of the record")
+    told = "once a process fails and once one withdraws, at any time: rows of safe bits, of locks that say what is cleared then"
+    parser.add_argument("--failures", action="store_true", help=told)
     for what in ("processes", "calls", "tickets"):
         parser.add_argument(f"--{what}", type=int, help=f"so many {what}, in place of those that a lock has in locks.py")
     said = parser.parse_args()
     known = locks(said.tickets) if said.tickets else locks()
+    if said.failures:
+        known = {name: lock for name, lock in known.items() if lock.clears}
     chosen = {name.rpartition(":")[2]: lock_of(name, known) for name in said.names or known}
     if None in chosen.values():
         parser.error(f"the locks are {', '.join(known)}")
     others = {what: number for what in ("processes", "calls") if (number := getattr(said, what))}
     for name, lock in chosen.items():
         lock = lock._replace(**others)
-        print(record(lock, said.record, said.memory) if said.record else row(name, lock) + "\n", end="", flush=True)
+        found = record(lock, said.record, said.memory) if said.record else f"{row(name, lock, said.failures)}\n"
+        print(found, end="", flush=True)
 
 
 if __name__ == "__main__":

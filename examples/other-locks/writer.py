@@ -80,10 +80,10 @@ class Process:
         bit, move, is_call = "", "", self.begins("call")
         marks = [self.take()] if self.begins("") else []
         if marks in ([], ["leave"]) and not self.begins(""):
-            is_value = self.next[1] == "value"
+            is_value = self.next[1] in ("value", "settle")
             bit, move = self.take(value if is_value else None)
             move += f" {value}" * is_value
-        while not is_call and self.begins("wait", "enter", "answer"):
+        while not is_call and self.begins("wait", "enter", "answer", "down"):
             marks.append(self.take())
         return bit, move, marks
 
