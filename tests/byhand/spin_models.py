@@ -16,10 +16,10 @@ import tempfile
 sys.path.insert(0, str(pathlib.Path(__file__).resolve().parents[1]))
 
 from lib.counting import Counter
-from lib.places import PROGRAM, TOP
+from lib.places import OTHER_LOCKS, PROGRAM
 from second.any_lock import any_lock
 
-MODELS = TOP / "examples" / "other-locks" / "spin"
+MODELS = OTHER_LOCKS / "spin"
 # a model, its options, and the entries of the shortest record and the law that it breaks, or None
 WANTED = [
     ("bakery", "-DNOCHOOSING -DCALLS=1", (14, "together")),

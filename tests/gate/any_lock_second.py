@@ -19,7 +19,8 @@ import sys
 sys.path.insert(0, str(pathlib.Path(__file__).resolve().parents[1]))
 
 from lib.counting import Counter
-from lib.random_records import LOCKS, record
+from lib.places import OTHER_LOCKS
+from lib.random_records import record
 from lib.running import runner, workers
 from second.any_lock import any_lock
 
@@ -91,7 +92,7 @@ def kept(folder, name):
 
 def kept_records(counter):
     """The examples, by the second reading and by the program."""
-    folders = sorted(path.parent for path in LOCKS.glob("*/record"))
+    folders = sorted(path.parent for path in OTHER_LOCKS.glob("*/record"))
     counter.count(folders, "no examples stand in examples/other-locks")
     for folder in folders:
         text, wanted = (folder / "record").read_bytes(), {name: kept(folder, name) for name in WORDS}
@@ -101,7 +102,7 @@ def kept_records(counter):
 
 def told_refusals(counter):
     """The records of the file `refusals`: a block is a law, a refusal and entries, of which the last is the bad one."""
-    blocks = re.sub(r"^#.*\n", "", (LOCKS / "refusals").read_text(), flags=re.M).strip().split("\n\n")
+    blocks = re.sub(r"^#.*\n", "", (OTHER_LOCKS / "refusals").read_text(), flags=re.M).strip().split("\n\n")
     for block in blocks:
         told, *lines = block.split("\n")
         law, refusal = told.split(" ")

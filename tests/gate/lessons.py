@@ -17,7 +17,7 @@ import sys
 sys.path.insert(0, str(pathlib.Path(__file__).resolve().parents[1]))
 
 from lib.counting import Counter
-from lib.places import PROGRAM, TOP
+from lib.places import OTHER_LOCKS, PROGRAM, TOP
 from second.race_texts import texts_beside, texts_of_orders
 
 LESSONS = TOP / "lessons"
@@ -26,7 +26,6 @@ PARTS = ["**Expect.**", "**Run.**", "**See.**", "**Question.**", "<summary>Answe
 RACES = 50
 # the words that run a file, if a lesson names none
 WORDS = {"bits": "bits", "bakery": "replay"}
-WRITER = TOP / "examples" / "other-locks"
 
 
 def lessons():
@@ -49,7 +48,7 @@ def stand_in_order(lines, printed):
 def ran(words, file):
     """What the program prints that runs a file by these words; none, if it ends with a fault."""
     command = [sys.executable] if words == "python3" else [PROGRAM, *words.split()]
-    environment = dict(os.environ, PYTHONPATH=str(WRITER))
+    environment = dict(os.environ, PYTHONPATH=str(OTHER_LOCKS))
     told = subprocess.run([*command, LESSONS / file], capture_output=True, text=True, timeout=600, env=environment)
     return told.stdout if (told.returncode, told.stderr) == (status_of(told.stdout), "") else None
 

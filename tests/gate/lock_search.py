@@ -12,10 +12,10 @@ import sys
 sys.path.insert(0, str(pathlib.Path(__file__).resolve().parents[1]))
 
 from lib.counting import Counter
-from lib.places import TOP
-from lib.random_records import LOCKS
+from lib.places import OTHER_LOCKS, TOP
 from second.any_lock import any_lock
 
+sys.path.append(str(OTHER_LOCKS))
 from locks import locks
 from search import LAWS, MEMORIES, Search, head_of, lines_of, record, row
 

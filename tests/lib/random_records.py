@@ -9,15 +9,14 @@ otherwise changed.
 import random
 import sys
 
-from lib.places import TOP
+from lib.places import OTHER_LOCKS, TOP
 from second.any_lock import broken_law, entry_from
 from second.looking_back import RUNNING, Past
 from second.programs import Setup
 from second.record_files import read_record
 from second.scenario_files import Fault
 
-LOCKS = TOP / "examples" / "other-locks"
-sys.path.append(str(LOCKS))
+sys.path.append(str(OTHER_LOCKS))
 from locks import locks
 from writer import run
 
@@ -41,7 +40,7 @@ SETUPS = [*locks(1).values(), *locks(2).values()]
 
 def kept_records():
     """The lines of the records that stand in examples/ and have no fault."""
-    for file in sorted([*TOP.glob("examples/*.record"), *TOP.glob("examples/records/*/record-file"), *LOCKS.glob("*/record")]):
+    for file in sorted([*TOP.glob("examples/*.record"), *TOP.glob("examples/records/*/record-file"), *OTHER_LOCKS.glob("*/record")]):
         try:
             head, entries = read_record(file.read_bytes())
         except Fault:
