@@ -12,8 +12,10 @@ goes on as long as it breaks no law.
 """
 
 import argparse
+import gc
 import runpy
-from types import GeneratorType
+from collections.abc import Iterator
+from types import CellType, FrameType, GeneratorType
 from typing import NamedTuple
 
 from locks import Lock, locks
@@ -50,11 +52,19 @@ class State(NamedTuple):
 
 
 def frozen(value):
-    """A value that two runs of a generator share where they go on alike."""
+    """A value that two runs of a generator share only where they go on alike. It has where the generator stands and all that it
+    holds: the loops that it is within, too, and values that are not used yet."""
     if isinstance(value, GeneratorType):
-        frame = value.gi_frame
-        said = tuple((name, frozen(local)) for name, local in sorted(frame.f_locals.items()))
-        return value.__name__, frame.f_lasti, said, frozen(value.gi_yieldfrom)
+        held = [it for it in gc.get_referents(value) if not isinstance(it, FrameType)]
+        return value.gi_code, value.gi_frame.f_lasti, tuple(map(frozen, held))
+    if isinstance(value, CellType):
+        return tuple(map(frozen, gc.get_referents(value)))
+    if isinstance(value, Iterator):
+        return tuple(map(frozen, value.__reduce__()))
+    if isinstance(value, (set, frozenset)):
+        return frozenset(map(frozen, value))
+    if isinstance(value, dict):
+        return tuple(map(frozen, value.items()))
     return tuple(map(frozen, value)) if isinstance(value, (list, tuple)) else value
 
 
@@ -89,8 +99,8 @@ def after_withdrawal(lock, me, processes, cut):
 
 
 class Machine:
-    """A process alone: its states, and of each the steps, by the value that it reads, by None, or by `fail` and `withdraw`, if that
-    is asked for; it does each of these once at most."""
+    """A process alone: its states, and of each the steps, by the value that it reads, by None, or by `fail` and `withdraw`, if
+    that is asked for; it does each of these once at most."""
 
     def __init__(self, lock, me, with_failures):
         self.lock, self.me, self.with_failures = lock, me, with_failures
@@ -170,9 +180,7 @@ class Machine:
                 break
             kinds = [numbers[look] for look in looks]
         of_kind = [kinds.index(kind) for kind in range(len(set(kinds)))]
-        self.steps = [
-            {value: step._replace(to=kinds[step.to]) for value, step in self.steps[at].items()} for at in of_kind
-        ]
+        self.steps = [{value: step._replace(to=kinds[step.to]) for value, step in self.steps[at].items()} for at in of_kind]
         self.states = [self.states[at] for at in of_kind]
 
 
@@ -295,9 +303,9 @@ def row(name, lock, with_failures=False):
     return f"| {name} | {lock.processes}, {lock.calls} | {' | '.join(found)} |"
 
 
-def record(lock, law, memory):
+def record(lock, law, memory, with_failures=False):
     """The shortest record of a lock that breaks a law, or what was looked at."""
-    entries, states = Search(lock, memory).run(law)
+    entries, states = Search(lock, memory, with_failures).run(law)
     if entries is None:
         return f"# none, {states} states\n"
     return "".join(f"{line}\n" for line in [*head_of(lock), *lines_of(entries)])
@@ -320,16 +328,15 @@ def main():
         parser.add_argument(f"--{what}", type=int, help=f"so many {what}, in place of those that a lock has in locks.py")
     said = parser.parse_args()
     known = locks(said.tickets) if said.tickets else locks()
-    if said.failures:
-        known = {name: lock for name, lock in known.items() if lock.clears}
     chosen = {name.rpartition(":")[2]: lock_of(name, known) for name in said.names or known}
     if None in chosen.values():
         parser.error(f"the locks are {', '.join(known)}")
     others = {what: number for what in ("processes", "calls") if (number := getattr(said, what))}
     for name, lock in chosen.items():
         lock = lock._replace(**others)
-        found = record(lock, said.record, said.memory) if said.record else f"{row(name, lock, said.failures)}\n"
-        print(found, end="", flush=True)
+        if lock.clears or not said.failures:
+            how = lock, said.record, said.memory, said.failures
+            print(record(*how) if said.record else f"{row(name, lock, said.failures)}\n", end="", flush=True)
 
 
 if __name__ == "__main__":
