@@ -216,4 +216,6 @@ if __name__ == "__main__":
     chosen = locks().get(sys.argv.pop(1)) if len(sys.argv) > 1 else None
     if chosen is None:
         sys.exit(f"usage: locks.py NAME [OPTIONS], where NAME is one of: {', '.join(locks())}")
+    # (options that are given stand behind these, and count)
+    sys.argv[1:1] = ["--processes", str(chosen.processes), "--calls", str(chosen.calls)]
     main(chosen.lock, chosen.tickets)

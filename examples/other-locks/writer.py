@@ -76,7 +76,7 @@ class Process:
         return taken
 
     def step(self, value):
-        """Makes its next entry, in which a read ends with this value: the bit and the move of its access, and its marks."""
+        """Makes its next entry, in which a read ends, or a cut write is settled, with this value: its bit, move and marks."""
         bit, move, is_call = "", "", self.begins("call")
         marks = [self.take()] if self.begins("") else []
         if marks in ([], ["leave"]) and not self.begins(""):
