@@ -13,7 +13,8 @@ from lib.places import TOP
 
 SCRIPTS = [
     *["api", "claims", "quotes", "layers", "links", "worked", "picture_parts", "pictures", "cut_file", "command_line", "terminal"],
-    *["record_files", "changed_records", "short_files", "run_script", "readme", "lessons", "races", "refused_threads"],
+    *["record_files", "changed_records", "short_files", "other_locks", "any_lock_second", "lock_search", "run_script", "readme"],
+    *["lessons", "races", "refused_threads"],
 ]
 RUNS = [
     *([sys.executable, f"tests/gate/{name}.py"] for name in SCRIPTS),

@@ -14,7 +14,7 @@ import time
 from concurrent.futures import ThreadPoolExecutor
 from typing import NamedTuple
 
-from gate import worked
+from gate import lessons, worked
 from lib.counting import Counter, shown_counts
 from lib.crates import crates
 from lib.places import TOP, WORKED
@@ -22,16 +22,15 @@ from lib.proved import is_proved
 from lib.running import Ran
 from lib.unproved import FILE, Case, NotRun, runs
 
-PAGES = ["links", "layers", "api", "claims", "quotes", "picture_parts"]
+PAGES = ["links", "layers", "api", "claims", "quotes", "picture_parts", "lock_search"]
 ALL_EXAMPLES = ["worked", "record_files", "lessons"]
 RECORDS = TOP / "examples" / "records"
 LESSONS = TOP / "lessons"
-# lessons that make a million events and more, which take minutes in a build with checks; and the one whose text threads decide
-LEFT_OUT = {"10-sixteen", "14-sweep", "15-race"}
+# lessons that make a million events and more, which take minutes in a build with checks; the one whose text threads decide; and the
+# one that runs no program
+LEFT_OUT = {"10-sixteen", "14-sweep", "15-race", "21-polite"}
 # the crate whose tests make hundreds of thousands of events, which take minutes in such a build too
 TOO_LONG = {"worked_runs"}
-# the command of a lesson's file by the end of its name
-COMMANDS_OF_LESSONS = {".bakery": "replay", ".bits": "bits", ".record": "judge"}
 SECONDS = 60
 # how many builds go side by side: each has two processes
 AT_ONCE = 2 if len(os.sched_getaffinity(0)) < 4 else 3
@@ -81,10 +80,12 @@ def record_examples():
 
 def lesson_examples():
     """The file of each lesson."""
-    for file in sorted(LESSONS.glob("[0-9]*.*")):
+    for name, words in lessons.taught().items():
+        file = LESSONS / name
         if file.stem not in LEFT_OUT:
-            word, text = COMMANDS_OF_LESSONS[file.suffix], (LESSONS / "expected" / f"{file.stem}.txt").read_bytes()
-            yield example(LESSONS, word, file, Ran(0, text, b""))._replace(name=f"{word} lessons/{file.name}")
+            text = (LESSONS / "expected" / f"{file.stem}.txt").read_text()
+            wanted = Ran(lessons.status_of(text), text.encode(), b"")
+            yield Example(f"{words} lessons/{name}", Case([*words.split(), FILE], file.read_bytes()), wanted)
 
 
 def first_of_each(examples, kind):

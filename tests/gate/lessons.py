@@ -1,13 +1,14 @@
 #!/usr/bin/env python3
 """Runs each lesson's file, and compares what it prints with lessons/expected/, byte for byte, and with what the lesson quotes.
 
-A lesson of lessons/README.md names its file behind `File: `, and the word that runs it, if that is not `replay` or `bits`. A
-block without a language quotes lines of the run, in their order. The lesson on races quotes texts beside one another in its
-block of `text`: they are those of all orders of the calls, and each race prints one of them. A lesson whose file is replayed
-shows its picture, which is the one that the program draws. The commands of the `console` blocks are followed by
-readme.py.
+A lesson of lessons/README.md names its file behind `File: `, and the words that run it, if these are not `replay` or `bits`;
+`python3` runs a lock, by the writer of examples/other-locks/. A block without a language quotes lines of the run, in their order.
+The lesson on races quotes texts beside one another in its block of `text`: they are those of all orders of the calls, and each race
+prints one of them. A lesson whose file is replayed shows its picture, which is the one that the program draws. The commands of the
+`console` blocks are followed by readme.py.
 """
 
+import os
 import pathlib
 import re
 import subprocess
@@ -16,13 +17,15 @@ import sys
 sys.path.insert(0, str(pathlib.Path(__file__).resolve().parents[1]))
 
 from lib.counting import Counter
-from lib.places import PROGRAM, TOP
+from lib.places import OTHER_LOCKS, PROGRAM, TOP
 from second.race_texts import texts_beside, texts_of_orders
 
 LESSONS = TOP / "lessons"
-FILE = re.compile(r"^File: `(?P<file>(?P<stem>[\w-]+)\.(?P<kind>\w+))`(?:, for `(?P<word>\w+)`)?\.", re.M)
+FILE = re.compile(r"^File: `(?P<file>(?P<stem>[\w-]+)\.(?P<kind>\w+))`(?:, for `(?P<words>[\w -]+)`)?\.", re.M)
 PARTS = ["**Expect.**", "**Run.**", "**See.**", "**Question.**", "<summary>Answer</summary>"]
 RACES = 50
+# the words that run a file, if a lesson names none
+WORDS = {"bits": "bits", "bakery": "replay"}
 
 
 def lessons():
@@ -42,10 +45,17 @@ def stand_in_order(lines, printed):
     return all(line in left for line in lines)
 
 
-def ran(word, file):
-    """What the program prints that runs a file; none, if it ends with a fault."""
-    told = subprocess.run([PROGRAM, word, LESSONS / file], capture_output=True, text=True, timeout=600)
-    return told.stdout if (told.returncode, told.stderr) == (0, "") else None
+def ran(words, file):
+    """What the program prints that runs a file by these words; none, if it ends with a fault."""
+    command = [sys.executable] if words == "python3" else [PROGRAM, *words.split()]
+    environment = dict(os.environ, PYTHONPATH=str(OTHER_LOCKS))
+    told = subprocess.run([*command, LESSONS / file], capture_output=True, text=True, timeout=600, env=environment)
+    return told.stdout if (told.returncode, told.stderr) == (status_of(told.stdout), "") else None
+
+
+def status_of(printed):
+    """The status with which a run ends well that prints this: that of a verdict, if it is one."""
+    return 3 if printed.startswith("bad ") else 0
 
 
 def fault_of_text(printed, stem, text):
@@ -84,21 +94,29 @@ def fault_of(text):
         return "names no file"
     if not all(part in text for part in PARTS):
         return "lacks a part"
-    file, stem, kind, word = found[0].group("file", "stem", "kind", "word")
-    if word == "race":
+    file, stem, words = found[0]["file"], found[0]["stem"], words_of(found[0])
+    if words == "race":
         return fault_of_race(file, text)
-    word = word or {"bits": "bits", "bakery": "replay"}[kind]
-    fault = fault_of_text(ran(word, file), stem, text)
-    return fault_of_picture(file, stem, text) if fault is None and word == "replay" else fault
+    fault = fault_of_text(ran(words, file), stem, text)
+    return fault_of_picture(file, stem, text) if fault is None and words == "replay" else fault
+
+
+def words_of(found):
+    """The words that run the file that a lesson names."""
+    return found["words"] or WORDS[found["kind"]]
+
+
+def taught():
+    """The files that lessons name, each with the words that run it."""
+    return {found["file"]: words_of(found) for found in FILE.finditer((LESSONS / "README.md").read_text())}
 
 
 def strays():
     """The files of the folder that no lesson names, and those that one names and are not there."""
-    taught = {found["file"] for found in FILE.finditer((LESSONS / "README.md").read_text())}
     there = {path.name for path in LESSONS.iterdir() if path.is_file() and path.suffix != ".md"}
-    stems = {file.rpartition(".")[0] for file in taught}
+    stems = {file.rpartition(".")[0] for file in taught()}
     made = {path.stem for folder in ("expected", "pictures") for path in (LESSONS / folder).iterdir()}
-    return taught ^ there | made - stems
+    return taught().keys() ^ there | made - stems
 
 
 def main():
@@ -110,4 +128,5 @@ def main():
     counter.end()
 
 
-main()
+if __name__ == "__main__":
+    main()

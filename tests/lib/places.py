@@ -7,3 +7,4 @@ TOP = TESTS.parent
 PROGRAM = TOP / "crates" / "bakerystore" / "out" / "bakerystore"
 WORKLOADS = TOP / "crates" / "workloads" / "out" / "workloads"
 WORKED = TOP / "examples" / "worked"
+OTHER_LOCKS = TOP / "examples" / "other-locks"

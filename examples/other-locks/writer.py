@@ -1,0 +1,150 @@
+#!/usr/bin/env python3
+"""Writes records of a lock on safe bits until `judge --any-lock` calls one bad, and shortens that one.
+
+A lock is a function of a process and of their number that says for ever what the process does: accesses, by `read` and `write`,
+and marks, which are texts. A mark stands with the access before it, `leave` with the one behind it, `call` and `taken` alone; and
+`taken` gets its place. Whose turn it is, and what a read gives that a write overlaps, is drawn from a seed. This file runs the
+one-bit lock; a lock of your own is run by a file from `from writer import main, read, write` to `main(your_lock)`.
+"""
+
+import argparse
+import pathlib
+import random
+import sys
+
+sys.path.append(str(pathlib.Path(__file__).resolve().parents[2] / "tests"))
+from second.any_lock import any_lock
+
+
+def one_bit(me, processes):
+    """The one-bit lock (Burns and Lynch; Lamport 1986): whoever has the higher number gives way."""
+    while True:
+        yield "call read a"
+        waits = is_through = False
+        while not is_through:
+            yield from write(me, "choosing", 1, processes)
+            if not waits:
+                yield "wait 0"
+            waits = is_through = True
+            for lower in range(me):
+                if (yield from read(lower, "choosing", me)):
+                    yield from write(me, "choosing", 0, processes)
+                    while (yield from read(lower, "choosing", me)):
+                        pass
+                    is_through = False
+                    break
+        for higher in range(me + 1, processes):
+            while (yield from read(higher, "choosing", me)):
+                pass
+        yield "enter"
+        yield "taken no-name"
+        yield "leave"
+        yield from write(me, "choosing", 0, processes)
+        yield "answer no-name"
+
+
+def write(me, field, value, processes, width=1):
+    """Writes an own register: of each bit the copy of each other process."""
+    for bit in range(width):
+        for reader in range(processes):
+            if reader != me:
+                yield f"{me}.{field}.{bit}.{reader}", f"write {value >> bit & 1}"
+                yield f"{me}.{field}.{bit}.{reader}", "end"
+
+
+def read(owner, field, me, width=1):
+    """Reads the own copies of another's register."""
+    value = 0
+    for bit in range(width):
+        yield f"{owner}.{field}.{bit}.{me}", "read"
+        value |= (yield f"{owner}.{field}.{bit}.{me}", "value") << bit
+    return value
+
+
+class Process:
+    """A process of a lock: `next` is the access or the mark that it makes next."""
+
+    def __init__(self, lock, me, processes):
+        self.lock = lock(me, processes)
+        self.next = next(self.lock)
+
+    def begins(self, *words):
+        return isinstance(self.next, str) and self.next.startswith(words)
+
+    def take(self, value=None):
+        taken, self.next = self.next, self.lock.send(value)
+        return taken
+
+    def step(self, value):
+        """Makes its next entry, in which a read ends, or a cut write is settled, with this value: its bit, move and marks."""
+        bit, move, is_call = "", "", self.begins("call")
+        marks = [self.take()] if self.begins("") else []
+        if marks in ([], ["leave"]) and not self.begins(""):
+            is_value = self.next[1] in ("value", "settle")
+            bit, move = self.take(value if is_value else None)
+            move += f" {value}" * is_value
+        while not is_call and self.begins("wait", "enter", "answer", "down"):
+            marks.append(self.take())
+        return bit, move, marks
+
+
+def run(lock, choices, processes, calls):
+    """The lines of a run in which these processes go on in turn, each with what a read gives that a write overlaps."""
+    those, left, lines, taken = [Process(lock, me, processes) for me in range(processes)], [calls] * processes, [], 0
+    values, writes, overlapped = {}, set(), {}
+    for me, flick in choices:
+        left[me] -= those[me].begins("call")
+        if left[me] < 0:
+            continue
+        bit = those[me].next[0]
+        bit, move, marks = those[me].step(flick if overlapped.get(bit) else values.get(bit, 0))
+        if move == "read":
+            overlapped[bit] = bit in writes
+        elif move == "end":
+            writes.remove(bit)
+        elif move.startswith("write"):
+            values[bit], overlapped[bit] = int(move[-1]), True
+            writes.add(bit)
+        if marks and marks[0].startswith("taken"):
+            marks[0], taken = f"taken {taken}{marks[0][5:]}", taken + 1
+        lines.append(" : ".join([f"{me} {bit} {move}".strip(), *marks]))
+    return lines
+
+
+def shortened(choices, is_wanted):
+    """The choices without some of one process that follow one another, as often as that leaves what is wanted."""
+    for many in [200, 50, 12, 8, 6, 4, 3, 2, 1] * 2:
+        at = 0
+        while at < len(choices):
+            own = [place for place in range(at, len(choices)) if choices[place][0] == choices[at][0]][:many]
+            fewer = [choice for place, choice in enumerate(choices) if place not in own]
+            choices, at = (fewer, at) if is_wanted(fewer) else (choices, at + 1)
+    return choices
+
+
+def main(lock, tickets=1):
+    parser = argparse.ArgumentParser(description=__doc__, formatter_class=argparse.RawDescriptionHelpFormatter)
+    for name, default in [("processes", 2), ("calls", 2), ("entries", 200), ("seed", 1), ("seeds", 1000)]:
+        parser.add_argument(f"--{name}", type=int, default=default)
+    parser.add_argument("--law", help="the law to be broken, as `together`; or `good`: none, and nothing is shortened")
+    said = parser.parse_args()
+    head = ["record 1", f"processes {said.processes}", f"tickets {tickets}", "stamps 1", "slots 1"]
+    record = lambda choices: "".join(f"{line}\n" for line in head + run(lock, choices, said.processes, said.calls))
+
+    def law(choices):
+        _, told, fault = any_lock(record(choices).encode())
+        if fault:
+            sys.exit(f"{record(choices)}{fault.decode()}")
+        return told.split()[-1].decode() if told.startswith(b"bad") else "good"
+
+    for seed in range(said.seed, said.seed + said.seeds):
+        draws = random.Random(seed)
+        choices = [(int(draws.random() * said.processes), int(draws.random() * 2)) for _ in range(said.entries)]
+        if (found := law(choices)) == said.law or said.law is None and found != "good":
+            few = choices if found == "good" else shortened(choices, lambda fewer: law(fewer) == found)
+            return print(record(few), end="")
+    sys.exit(f"no such record from {said.seeds} seeds")
+
+
+if __name__ == "__main__":
+    main(one_bit)
