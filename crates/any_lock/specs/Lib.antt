@@ -1,0 +1,7 @@
+pub use Rattle.watch.specs as watch
+pub mod Standings
+pub mod Refusals
+pub mod Laws
+pub mod Verdicts
+pub mod Keeping
+pub mod Shown
