@@ -5,3 +5,5 @@ pub mod Laws
 pub mod Verdicts
 pub mod Keeping
 pub mod Shown
+pub mod Judging
+pub mod Headline

@@ -1,13 +1,19 @@
 //! What a mark is refused for, by where its process stands.
-ghost use Rattle.std.specs.Prelude.{◌≡◌};
+ghost use Rattle.std.specs.Prelude.{◌≡◌, ◌||◌, ◌∷◌, [], ℕ, Bool};
+ghost use Rattle.plain_store.specs.declared.Command.{Command as Asked};
+ghost use Rattle.plain_store.specs.declared.Reply.{Reply as Replied};
+ghost use Rattle.record.specs.declared.marks.Mark.TheVariants.{Answered, Called, Down, Settled, Taken};
 ghost use Rattle.record.specs.Doorways.{is_waiting_stage};
-ghost use Rattle.any_lock.specs.Refusals.{first_that, has_other_reply, is_down, is_in_doorway, is_leaving, is_reply as answers_reply, is_withdrawn, mark_refusal, same_reply, stands_alone as is_alone};
+ghost use Rattle.any_lock.specs.Refusals.{first_that, has_other_reply, is_down, is_in_doorway, is_leaving, is_reply as answers_reply, is_settling, is_withdrawn, mark_refusal, same_reply, stands_alone as is_alone};
 
 use crate::access_rules::{is_running, settles};
 use crate::refusals::MarkRefusal;
 use crate::standings::Standing;
 use plain_store::{Answer, NestedTypes, Reply};
 use record::{Mark, Stage};
+
+/// The most calls of a process in version 2.
+const MOST_CALLS: u16 = 65_535;
 
 impl Standing {
     /// Why a mark of its process is refused, if it is.
@@ -16,84 +22,117 @@ impl Standing {
     {
         let _nested: NestedTypes = None;
         match mark {
-            Mark::Called(_) => self.refuses_call(),
-            Mark::Failed => first_that(&[(self.has_failed(), MarkRefusal::AlreadyFailed)]),
+            Mark::Called(_command) => self.refuses_call(),
+            Mark::Failed => refused_if(self.has_failed(), MarkRefusal::AlreadyFailed),
             Mark::Withdrew | Mark::Entered => {
-                first_that(&[(!waits(self.stage), MarkRefusal::NotWaiting)])
+                refused_if(!waits(self.stage), MarkRefusal::NotWaiting)
             }
-            Mark::Restarted => first_that(&[(!is_down(self.stage), MarkRefusal::NotDown)]),
+            Mark::Restarted => refused_if(!is_down(self.stage), MarkRefusal::NotDown),
             Mark::Waiting(_) => {
-                first_that(&[(!is_in_doorway(self.stage), MarkRefusal::NotInDoorway)])
+                refused_if(!is_in_doorway(self.stage), MarkRefusal::NotInDoorway)
             }
-            Mark::Left => first_that(&[(!self.inside, MarkRefusal::NotInside)]),
-            Mark::Taken(..) => first_that(&[
-                (!self.inside, MarkRefusal::NotInside),
-                (self.reply.is_some(), MarkRefusal::TakenBefore),
-            ]),
+            Mark::Left => refused_if(!self.inside, MarkRefusal::NotInside),
+            Mark::Taken(_place, _reply) => self.refuses_taking(),
             Mark::Answered(answer) => self.refuses_answer(answer),
-            Mark::Settled(_) => first_that(&[
-                (!settles(self.stage), MarkRefusal::NotSettling),
-                (self.torn.is_some(), MarkRefusal::Torn),
-            ]),
+            Mark::Settled(_value) => self.refuses_settled(),
             Mark::Down => self.refuses_down(),
         }
     }
 
     /// Why a call is refused, if it is.
-    fn refuses_call(&self) -> Option<MarkRefusal> {
-        first_that(&[
-            (is_running(self.stage), MarkRefusal::Busy),
-            (self.has_failed(), MarkRefusal::IsDown),
-            (self.number == u16::MAX, MarkRefusal::CallsFull),
-        ])
+    fn refuses_call(&self) -> Option<MarkRefusal>
+        ensures { (c : Asked) → result ≡ mark_refusal self.now (Called c) }
+    {
+        if is_running(self.stage) {
+            Some(MarkRefusal::Busy)
+        } else if self.has_failed() {
+            Some(MarkRefusal::IsDown)
+        } else if self.number >= MOST_CALLS {
+            Some(MarkRefusal::CallsFull)
+        } else {
+            None
+        }
+    }
+
+    /// Why taking a command is refused, if it is.
+    fn refuses_taking(&self) -> Option<MarkRefusal>
+        ensures { (place : ℕ) (reply : Replied) → result ≡ mark_refusal self.now (Taken place reply) }
+    {
+        if !self.inside {
+            Some(MarkRefusal::NotInside)
+        } else if self.reply.is_some() {
+            Some(MarkRefusal::TakenBefore)
+        } else {
+            None
+        }
     }
 
     /// Why an answer is refused, if it is.
-    fn refuses_answer(&self, answer: &Answer) -> Option<MarkRefusal> {
+    fn refuses_answer(&self, answer: &Answer) -> Option<MarkRefusal>
+        ensures { result ≡ mark_refusal self.now (Answered answer.now) }
+    {
         let _nested: NestedTypes = None;
         let withdrawn = is_withdrawn(answer);
-        first_that(&[
-            (
-                !(is_in_doorway(self.stage) || is_leaving(self.stage)),
-                MarkRefusal::NotLeaving,
-            ),
-            (self.withdrawn && !withdrawn, MarkRefusal::WasWithdrawn),
-            (has_other_reply(&self.reply, answer), MarkRefusal::OtherReply),
-            (
-                self.reply.is_none() && is_reply(answer),
-                MarkRefusal::NotTaken,
-            ),
-            (!self.withdrawn && withdrawn, MarkRefusal::NotWithdrawn),
-            (self.opened.is_some(), MarkRefusal::AccessOpen),
-        ])
+        if !(is_in_doorway(self.stage) || is_leaving(self.stage)) {
+            Some(MarkRefusal::NotLeaving)
+        } else if self.withdrawn && !withdrawn {
+            Some(MarkRefusal::WasWithdrawn)
+        } else if has_other_reply(&self.reply, answer) {
+            Some(MarkRefusal::OtherReply)
+        } else if self.reply.is_none() && is_reply(answer) {
+            Some(MarkRefusal::NotTaken)
+        } else if !self.withdrawn && withdrawn {
+            Some(MarkRefusal::NotWithdrawn)
+        } else if self.opened.is_some() {
+            Some(MarkRefusal::AccessOpen)
+        } else {
+            None
+        }
+    }
+
+    /// Why it is refused that its unit has settled a bit, if it is.
+    fn refuses_settled(&self) -> Option<MarkRefusal>
+        ensures { (value : Bool) → result ≡ mark_refusal self.now (Settled value) }
+    {
+        if !settles(self.stage) {
+            Some(MarkRefusal::NotSettling)
+        } else if self.torn.is_some() {
+            Some(MarkRefusal::Torn)
+        } else {
+            None
+        }
     }
 
     /// Why the end of its unit's work is refused, if it is.
-    fn refuses_down(&self) -> Option<MarkRefusal> {
-        first_that(&[
-            (!settles(self.stage), MarkRefusal::NotSettling),
-            (self.inside, MarkRefusal::StillInside),
-            (self.opened.is_some(), MarkRefusal::AccessOpen),
-            (self.torn.is_some(), MarkRefusal::Torn),
-        ])
+    fn refuses_down(&self) -> Option<MarkRefusal>
+        ensures { result ≡ mark_refusal self.now Down }
+    {
+        if !settles(self.stage) {
+            Some(MarkRefusal::NotSettling)
+        } else if self.inside {
+            Some(MarkRefusal::StillInside)
+        } else if self.opened.is_some() {
+            Some(MarkRefusal::AccessOpen)
+        } else if self.torn.is_some() {
+            Some(MarkRefusal::Torn)
+        } else {
+            None
+        }
     }
 
     /// Whether it has failed and was not restarted.
-    fn has_failed(&self) -> bool {
+    fn has_failed(&self) -> bool
+        ensures { result ≡ (is_settling self.now.stage || is_down self.now.stage) }
+    {
         settles(self.stage) || is_down(self.stage)
     }
 }
 
-/// The first refusal whose test holds.
-fn first_that(tests: &[(bool, MarkRefusal)]) -> Option<MarkRefusal>
-    ensures { result ≡ first_that tests.now }
+/// This refusal, if a test holds.
+fn refused_if(holds: bool, refusal: MarkRefusal) -> Option<MarkRefusal>
+    ensures { result ≡ first_that ((holds, refusal) ∷ []) }
 {
-    for (holds, refusal) in tests {
-        if *holds {
-            return Some(*refusal);
-        }
-    }
-    None
+    if holds { Some(refusal) } else { None }
 }
 
 /// Whether a mark stands alone: without an access and without another mark.

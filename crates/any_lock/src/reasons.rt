@@ -1,4 +1,6 @@
 //! The reasons of a verdict: what is looked up for the bad entry.
+ghost use Rattle.std.specs.Prelude.{◌<◌};
+
 use crate::kept::Kept;
 use crate::verdicts::Law;
 use crate::refusals::{AccessRefusal, MarkRefusal};
@@ -48,8 +50,23 @@ pub struct Reasons {
 }
 
 impl Kept {
+    /// The reasons of an entry that breaks this law first, if it breaks one.
+    pub(crate) fn reasons_of(
+        &self,
+        law: Option<Law>,
+        process: u8,
+        access: &Option<Access>,
+        marks: &[Mark],
+    ) -> Option<Reasons> {
+        let _nested: NestedTypes = None;
+        match law {
+            None => None,
+            Some(law) => Some(self.reasons(law, process, access, marks)),
+        }
+    }
+
     /// The reasons of an entry that breaks this law first.
-    pub(crate) fn reasons(
+    fn reasons(
         &self,
         law: Law,
         process: u8,
@@ -69,7 +86,7 @@ impl Kept {
             } else {
                 None
             },
-            waits: if law == Law::Overtaken {
+            waits: if law == Law::Overtaken && process < self.processes() {
                 self.waits(process)
             } else {
                 [None; MOST_PROCESSES]
@@ -87,7 +104,13 @@ impl Kept {
         if let Some(refusal) = self.refusal_of_access(process, access) {
             return Some(Refused::Access(refusal));
         }
-        self.refusal_of_marks(process, access, marks).map(Refused::Marks)
+        if process >= self.processes() {
+            return None;
+        }
+        match self.marked(process, access, marks) {
+            Ok(_) => None,
+            Err(refusal) => Some(Refused::Marks(refusal)),
+        }
     }
 
     /// How it would keep all laws.
@@ -101,7 +124,7 @@ impl Kept {
         let _nested: NestedTypes = None;
         match law {
             Law::Safe => self.other_value(process, access, marks),
-            Law::History => {
+            Law::History if process < self.processes() => {
                 let (place, reply) = self.right_taking(process);
                 Some(Change::Taking(place, reply))
             }
@@ -126,9 +149,9 @@ impl Kept {
             how: Move::EndRead(!value),
             ..*told
         };
-        match self.broken(process, &Some(turned), marks) {
-            None => Some(Change::Value(!value)),
-            Some(_) => None,
+        match self.after(process, &Some(turned), marks) {
+            Ok(_) => Some(Change::Value(!value)),
+            Err(_) => None,
         }
     }
 
@@ -140,13 +163,16 @@ impl Kept {
     }
 
     /// Of each process that is ahead of this one the entry of its `wait`.
-    fn waits(&self, process: u8) -> [Option<u64>; MOST_PROCESSES] {
+    fn waits(&self, process: u8) -> [Option<u64>; MOST_PROCESSES]
+        requires { process < self.now.setup.processes }
+    {
         let mut waits = [None; MOST_PROCESSES];
         for other in 0..self.processes() {
             if self.is_ahead(other, process)
                 && let Some(standing) = self.standing(other)
+                && let Some(wait) = waits.get_mut(usize::from(other))
             {
-                waits[usize::from(other)] = standing.waits;
+                *wait = standing.waits;
             }
         }
         waits

@@ -1,8 +1,13 @@
 //! Where a process stands, kept up access by access and mark by mark.
-ghost use Rattle.std.specs.Prelude.{◌≡◌, ◌<◌, Some};
-ghost use Rattle.any_lock.specs.Keeping.{accessed, at_rest, marked, next_number};
+ghost use Rattle.std.specs.Prelude.{◌≡◌, ◌<◌, ℕ, None, Some, IfErr, OnOk};
+ghost use Rattle.plain_store.specs.declared.Setup.{Setup as Given};
+ghost use Rattle.record.specs.declared.marks.Mark.TheVariants.{Called, Left};
+ghost use Rattle.record.specs.Doorways.{first_of};
+ghost use Rattle.any_lock.specs.Keeping.{accessed, at_rest, marked, marked_all, refusal_on};
+ghost use Rattle.any_lock.specs.Refusals.{mark_refusal};
 ghost use Rattle.any_lock.specs.Standings.{begins as begins_access, settles as settles_bit, write_of as write_in};
 
+use crate::refusals::MarkRefusal;
 use plain_store::{Command, NestedTypes, Reply, Setup};
 use record::{Access, Mark, Move, Stage};
 
@@ -75,9 +80,30 @@ impl Standing {
         self.doorway = first_of(self.doorway, entry);
     }
 
-    /// After a mark of this entry.
-    pub(crate) fn mark(&mut self, setup: &Setup, entry: u64, mark: &Mark)
-        requires { self.old.number < 65535 }
+    /// After the marks of this entry, or else why the first refused one is refused.
+    pub(crate) fn mark_all(
+        &mut self,
+        setup: &Setup,
+        entry: u64,
+        marks: &[Mark],
+    ) -> Result<(), MarkRefusal>
+        ensures marked { OnOk result (self.new ≡ marked_all setup.now entry self.old marks.now) }
+        ensures allowed { OnOk result (refusal_on setup.now entry self.old marks.now ≡ None) }
+        ensures refused { IfErr result (λ refusal. refusal_on setup.now entry self.old marks.now ≡ Some refusal) }
+    {
+        let _nested: NestedTypes = None;
+        for mark in marks {
+            if let Some(refusal) = self.refuses_mark(mark) {
+                return Err(refusal);
+            }
+            self.mark(setup, entry, mark);
+        }
+        Ok(())
+    }
+
+    /// After a mark of this entry, which is not refused.
+    fn mark(&mut self, setup: &Setup, entry: u64, mark: &Mark)
+        requires { mark_refusal self.old mark.now ≡ None }
         ensures { self.new ≡ marked setup.now entry self.old mark.now }
     {
         let _nested: NestedTypes = None;
@@ -111,7 +137,10 @@ impl Standing {
     }
 
     /// A call begins.
-    fn call(&mut self, setup: &Setup, command: &Command) {
+    fn call(&mut self, setup: &Setup, command: &Command)
+        requires { self.old.number < 65535 }
+        ensures { (entry : ℕ) → self.new ≡ marked setup.now entry self.old (Called command.now) }
+    {
         let _nested: NestedTypes = None;
         self.stage = Stage::Doorway;
         self.withdrawn = false;
@@ -124,7 +153,9 @@ impl Standing {
     }
 
     /// It leaves; while its memory unit settles, it stays settling.
-    fn leave(&mut self) {
+    fn leave(&mut self)
+        ensures { (s : Given) (entry : ℕ) → self.new ≡ marked s entry self.old Left }
+    {
         if self.stage != Stage::Settling {
             self.stage = Stage::Leaving;
         }
@@ -150,7 +181,9 @@ pub(crate) fn is_settling(how: Move) -> bool
 
 /// The first of two entries, of which there may be none before.
 #[inline]
-fn first_of(before: Option<u64>, entry: u64) -> Option<u64> {
+fn first_of(before: Option<u64>, entry: u64) -> Option<u64>
+    ensures { result ≡ first_of before (Some entry) }
+{
     match before {
         Some(before) => Some(before),
         None => Some(entry),
