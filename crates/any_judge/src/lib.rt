@@ -1,9 +1,5 @@
 //! Judging the record file of any lock: it is read line by line, and no record is held. Behind a bad verdict stand its
 //! reasons, if they are asked for.
-//!
-//! ```rust
-//! judge_any_lock(alloc, input, output, Reasoning::Given)
-//! ```
 #![tactic(auto)]
 
 mod changes;
@@ -13,4 +9,4 @@ mod stages;
 mod trial;
 
 pub use any_lock::{Judge, Judged, Law, Verdict};
-pub use judging::{Reasoning, judge_any_lock};
+pub use judging::judge_any_lock;

@@ -64,3 +64,22 @@ told_on j e is_safe w law k told s past both none =
       knows = told.knows past none both.knows;
       there = (access_there s past e (unrefused s past e (unbroken s past e first).1), both.there);
     }
+
+-- how many entries there are is nothing to a watch, and to what is kept
+pub with_entries : (j : JudgeState) (n : ℕ) (s : Setup) (past : Past) → BothHeard j s past → BothHeard (record j { entries = n }) s past
+with_entries j n s past both = record { watched = both.watched; watch = both.watch; kept = both.kept; knows = both.knows; there = both.there }
+
+-- a judge with a good verdict and one more entry
+pub hears_on : (old new : JudgeState) (e : Entry) (found : Verdict) (s : Setup) (entries : List Entry) → HasJudged old s entries → old.verdict ≡ Good → new.entries ≡ old.entries + 1 →
+    ((past : Past) → BothHeard old s past → found ≡ verdict_with old.entries (first_broken s past e)) →
+    ((past : Past) → BothHeard old s past → found ≡ Good → BothHeard new s (e ∷ past)) →
+    HasJudged (record new { verdict = found }) s (entries ++ e ∷ [])
+hears_on old new e found s entries judged good more heard on =
+    let both : BothHeard old s (reverse entries) = judged.goes_on good in
+    record {
+      good = judged.good;
+      count = more ∙ ap (λ n. n + 1) judged.count ∙ sym (length-append entries (e ∷ []));
+      verdict = heard (reverse entries) both ∙ ap (λ n. verdict_with n (first_broken s (reverse entries) e)) judged.count ∙ sym (verdict_good s entries e (sym judged.verdict ∙ good));
+      goes_on = λ is. subst (λ (l : Past). BothHeard (record new { verdict = found }) s l) (sym (newest_first entries e))
+          (let next = on (reverse entries) both is in record { watched = next.watched; watch = next.watch; kept = next.kept; knows = next.knows; there = next.there });
+    }

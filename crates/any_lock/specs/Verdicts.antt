@@ -1,5 +1,5 @@
 -- The verdict on a record.
-use Rattle.std.specs.Prelude.{ℕ, List, [], ◌∷◌, length, reverse, Option, None, Some}
+use Rattle.std.specs.Prelude.{◌≡◌, ℕ, List, [], ◌∷◌, length, reverse, Option, None, Some}
 use Rattle.plain_store.specs.declared.Setup.{Setup}
 use Rattle.record.specs.Entries.{Entry, Past}
 use Rattle.any_lock.specs.declared.verdicts.Law.{Law}
@@ -23,3 +23,7 @@ verdict_after s (e ∷ past) = elim (verdict_after s past) [
 -- the verdict on a record: the lowest entry that breaks a law, and the first law that it breaks
 abbrev pub verdict_of : Setup → List Entry → Verdict
 verdict_of s entries = verdict_after s (reverse entries)
+
+-- this is the verdict on a record
+abbrev pub IsVerdict : Setup → List Entry → Verdict → Type 0
+IsVerdict s entries verdict = verdict ≡ verdict_of s entries

@@ -1,9 +1,10 @@
-ghost use Rattle.std.specs.Prelude.{◌≡◌, ◌+◌, ◌-◌, ◌^◌, ◌<◌, ◌∷◌, ◌++◌, [], not, IfOk, List, Ok, length};
+ghost use Rattle.std.specs.Prelude.{◌≡◌, ◌+◌, ◌-◌, ◌^◌, ◌<◌, ◌∷◌, ◌++◌, [], not, IfOk, List, Ok, length, reverse};
 ghost use Rattle.plain_store.specs.declared.Setup.{Setup as Given};
 ghost use Rattle.plain_store.specs.Setups.{checked};
 ghost use Rattle.record.specs.Entries.{Entry as Noted, Past};
 ghost use Rattle.watch.specs.Watching.{AllAreOfThere, HasHeard as HasWatched};
 ghost use Rattle.any_lock.specs.declared.verdicts.Verdict.TheVariants.{Good};
+ghost use Rattle.any_lock.specs.Headline.{KeepsHeadlineThroughout};
 ghost use Rattle.any_lock.specs.Judging.{BothHeard, HasJudged};
 ghost use Rattle.any_lock.specs.Laws.{breaks_safe, first_broken};
 ghost use Rattle.any_lock.specs.Verdicts.{verdict_of, verdict_with};
@@ -103,6 +104,7 @@ impl Judge {
     pub fn judged(&self) -> Judged
         ensures verdict { (s : Given) (entries : List Noted) → HasJudged self.now s entries → result.verdict ≡ verdict_of s entries }
         ensures entries { (s : Given) (entries : List Noted) → HasJudged self.now s entries → result.entries ≡ length entries }
+        ensures headline { (s : Given) (entries : List Noted) → HasJudged self.now s entries → result.verdict ≡ Good → KeepsHeadlineThroughout s (reverse entries) }
     {
         Judged {
             verdict: self.verdict,

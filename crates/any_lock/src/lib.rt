@@ -5,6 +5,7 @@
 
 mod access_rules;
 mod judge;
+mod judging;
 mod kept;
 mod mark_rules;
 mod reasons;
@@ -14,6 +15,7 @@ mod standings;
 mod verdicts;
 
 pub use judge::Judge;
+pub use judging::{good_says_the_headline, judge_all};
 pub use reasons::{Change, Reasons, Refused};
 pub use refusals::{AccessRefusal, MarkRefusal};
 pub use standings::{Begun, Standing};
