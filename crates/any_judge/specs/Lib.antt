@@ -1,0 +1,4 @@
+pub use Rattle.any_lock.specs as any_lock
+pub use Rattle.record_file.specs as record_file
+pub mod Judgements
+pub mod Trials

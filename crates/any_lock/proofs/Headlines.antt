@@ -1,0 +1,25 @@
+-- A good verdict says the headline.
+use Rattle.std.proofs.Common.{◌≡◌, List, [], ◌∷◌, ◌++◌, reverse, subst}
+use Rattle.plain_store.specs.declared.Setup.{Setup}
+use Rattle.record.specs.Entries.{Entry, Past}
+use Rattle.any_lock.specs.Headline.{GoodSaysTheHeadline, KeepsHeadlineThroughout}
+use Rattle.any_lock.proofs.Alone.{AllKeep, all_alone, all_keep, overtakes_nobody, takes_its_place}
+use Rattle.any_lock.proofs.Cuts.{answers_no_cut_call}
+
+-- the entries before one of those that keep all laws
+before : (s : Setup) (later rest : Past) → AllKeep s (later ++ rest) → AllKeep s rest
+before s [] rest all = all
+before s (x ∷ later) rest all = before s later rest all.1
+
+pub throughout : (s : Setup) (past : Past) → AllKeep s past → KeepsHeadlineThroughout s past
+throughout s past all later earlier e split =
+    let kept : AllKeep s (e ∷ earlier) = before s later (e ∷ earlier) (subst (AllKeep s) split all) in
+    record {
+      alone = all_alone s (e ∷ earlier) kept;
+      overtakes = overtakes_nobody s earlier e kept.1 kept.0;
+      place = takes_its_place s earlier e kept.0;
+      cut = answers_no_cut_call s earlier e kept.1 kept.0;
+    }
+
+pub good_says : GoodSaysTheHeadline
+good_says s entries good = throughout s (reverse entries) (all_keep s (reverse entries) good)

@@ -1,0 +1,13 @@
+pub use Rattle.watch.proofs as watch
+pub mod Firsts
+pub mod Steps
+pub mod Markings
+pub mod Whole
+pub mod Lowest
+pub mod Breaks
+pub mod Loops
+pub mod Going
+pub mod Told
+pub mod Alone
+pub mod Cuts
+pub mod Headlines

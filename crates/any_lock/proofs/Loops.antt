@@ -1,0 +1,24 @@
+-- What is left of a list in a loop, and what is refused of marks.
+use Rattle.std.proofs.Common.{◌≡◌, ℕ, suc, ◌+◌, ◌<◌, ◌≤◌, List, [], ◌∷◌, Option, None, Some, length, get_or, drop, refl, sym, ap, ◌∙◌, add-one, drop-cons}
+use Rattle.std.proofs.lemmas.List.{drop_all}
+use Rattle.plain_store.specs.declared.Setup.{Setup}
+use Rattle.record.specs.declared.marks.Mark.{Mark}
+use Rattle.any_lock.specs.declared.refusals.MarkRefusal.{MarkRefusal}
+use Rattle.any_lock.specs.declared.standings.Standing.{Standing}
+use Rattle.any_lock.specs.Keeping.{marked, refusal_on}
+use Rattle.any_lock.specs.Refusals.{mark_refusal}
+
+-- one less is left
+pub dropped_more : {A : Type 0} (xs : List A) (i : ℕ) (x : A) → i < length xs → x ≡ get_or xs i x → drop i xs ≡ x ∷ drop (i + 1) xs
+dropped_more xs i x within is = drop-cons xs i x within ∙ ap (λ y. y ∷ drop (suc i) xs) (sym is) ∙ ap (λ k. x ∷ drop k xs) (sym (add-one i))
+
+-- none is left
+pub dropped_all : {A : Type 0} (xs : List A) (i : ℕ) → length xs ≤ i → drop i xs ≡ []
+dropped_all xs i past = drop_all i xs past
+
+-- the refusal of the first mark, or of a later one
+pub refused_here : (s : Setup) (entry : ℕ) (k : Standing) (m : Mark) (marks : List Mark) (r : MarkRefusal) → mark_refusal k m ≡ Some r → refusal_on s entry k (m ∷ marks) ≡ Some r
+refused_here s entry k m marks r h = ap (λ o. elim o as (λ _. Option MarkRefusal) [ Some q ↦ Some q | None ↦ refusal_on s entry (marked s entry k m) marks ]) h
+
+pub refused_later : (s : Setup) (entry : ℕ) (k : Standing) (m : Mark) (marks : List Mark) → mark_refusal k m ≡ None → refusal_on s entry k (m ∷ marks) ≡ refusal_on s entry (marked s entry k m) marks
+refused_later s entry k m marks h = ap (λ o. elim o as (λ _. Option MarkRefusal) [ Some q ↦ Some q | None ↦ refusal_on s entry (marked s entry k m) marks ]) h

@@ -1,0 +1,156 @@
+-- How the look-backs go on with an entry: with its access, and then mark by mark.
+use Rattle.std.proofs.Common.{◌≡◌, ℕ, suc, ◌+◌, ◌==◌, Bool, true, false, not, ◌&&◌, ◌||◌, cond, List, [], ◌∷◌, ◌++◌, Option, None, Some, fold, length, refl, sym, ap, ◌∙◌, subst, add-one, true≢false, eq-eqb}
+use Rattle.std.specs.List.{list_any}
+use Rattle.plain_store.specs.declared.Command.{Command}
+use Rattle.plain_store.specs.declared.Reply.{Reply}
+use Rattle.plain_store.specs.declared.Setup.{Setup}
+use Rattle.record.specs.declared.access.Access.{Access}
+use Rattle.record.specs.declared.marks.Mark.{Mark}
+use Rattle.record.specs.declared.marks.Mark.TheVariants as mark
+use Rattle.record.specs.declared.stages.Stage.{Stage}
+use Rattle.record.specs.declared.stages.Stage.TheVariants as stage
+use Rattle.record.specs.Calls.{call_number, called_in, calls_in, last_command}
+use Rattle.record.specs.Doorways.{doorway_end, first_of, number_in_call}
+use Rattle.record.specs.Entries.{Entry, Past, has, is_called, is_entered, is_failed, is_waiting, own, since}
+use Rattle.record.specs.Histories.{reply_taken}
+use Rattle.record.specs.Stages.{inside, inside_after, stage as stage_at, stage_after}
+use Rattle.any_lock.specs.declared.standings.Begun.{Begun}
+use Rattle.any_lock.specs.declared.standings.Standing.{Standing}
+use Rattle.any_lock.specs.Keeping.{accessed_by, at_rest, marked, next_number}
+use Rattle.any_lock.specs.Refusals.{stands_alone, up_to}
+use Rattle.any_lock.specs.Standings.{begun_by, has_access, is_withdrawal, its_call, left_open, opened, reply_in, standing, torn, torn_after, write_of}
+
+-- Standings by their fields.
+
+-- two standings with the same fields
+pub standing_by : (k : Standing) (m : Standing) → k.stage ≡ m.stage → k.inside ≡ m.inside → k.withdrawn ≡ m.withdrawn → k.number ≡ m.number → k.command ≡ m.command →
+    k.reply ≡ m.reply → k.opened ≡ m.opened → k.torn ≡ m.torn → k.doorway ≡ m.doorway → k.waits ≡ m.waits → k.enters ≡ m.enters → k ≡ m
+standing_by k m a b c d e f g h i j l = λ x. record {
+  stage = a x; inside = b x; withdrawn = c x; number = d x; command = e x; reply = f x; opened = g x; torn = h x; doorway = i x; waits = j x; enters = l x;
+}
+
+-- At rest.
+
+no_calls : (b : Bool) → ◌≡◌ {A = ℕ} (cond b 0 0) 0
+no_calls true = refl
+no_calls false = refl
+
+pub at_first : (s : Setup) (p : ℕ) → standing s p [] ≡ at_rest
+at_first s p = standing_by (standing s p []) at_rest refl refl refl (no_calls (s.version == 2)) refl refl refl refl refl refl refl
+
+-- Another process's entry.
+
+own_in : Bool → Entry → Past → Past
+own_in b e mine = cond b (e ∷ mine) mine
+
+pub standing-other : (s : Setup) (q : ℕ) (e : Entry) (past : Past) → (e.process == q) ≡ false → standing s q (e ∷ past) ≡ standing s q past
+standing-other s q e past h =
+    let mine : own q (e ∷ past) ≡ own q past = ap (λ b. cond b (e ∷ own q past) (own q past)) h in
+    standing_by (standing s q (e ∷ past)) (standing s q past)
+    (ap (λ b. cond b (fold stage_after (stage_at q past) e.marks) (stage_at q past)) h)
+    (ap (λ b. cond b (fold inside_after (inside q past) e.marks) (inside q past)) h)
+    (ap (λ l. list_any (has is_withdrawal) (since is_called l)) mine)
+    (ap (call_number s) mine)
+    (ap last_command mine)
+    (ap (λ l. reply_in (since is_called l)) mine)
+    (rw (h, opened) refl)
+    (rw (h, torn) refl)
+    (rw (h, number_in_call) refl)
+    (rw (h, number_in_call) refl)
+    (rw (h, number_in_call) refl)
+
+-- Its own entry.
+
+pub own-mine : (p : ℕ) (e : Entry) (past : Past) → e.process ≡ p → own p (e ∷ past) ≡ e ∷ own p past
+own-mine p e past h = ap (λ b. cond b (e ∷ own p past) (own p past)) (eq-eqb e.process p h)
+
+pub stage-mine : (p : ℕ) (e : Entry) (past : Past) → e.process ≡ p → stage_at p (e ∷ past) ≡ fold stage_after (stage_at p past) e.marks
+stage-mine p e past h = ap (λ b. cond b (fold stage_after (stage_at p past) e.marks) (stage_at p past)) (eq-eqb e.process p h)
+
+pub inside-mine : (p : ℕ) (e : Entry) (past : Past) → e.process ≡ p → inside p (e ∷ past) ≡ fold inside_after (inside p past) e.marks
+inside-mine p e past h = ap (λ b. cond b (fold inside_after (inside p past) e.marks) (inside p past)) (eq-eqb e.process p h)
+
+pub opened-mine : (p : ℕ) (e : Entry) (past : Past) → e.process ≡ p → opened p (e ∷ past) ≡ fold left_open (begun_by (length past) e.access (opened p past)) e.marks
+opened-mine p e past h = ap (λ b. cond b (fold left_open (begun_by (length past) e.access (opened p past)) e.marks) (opened p past)) (eq-eqb e.process p h)
+
+pub torn-mine : (p : ℕ) (e : Entry) (past : Past) → e.process ≡ p → (b : Bool) → has is_failed e ≡ b → torn p (e ∷ past) ≡ cond b (write_of (opened p past)) (torn_after e.access (torn p past))
+torn-mine p e past h true failed =
+    ap (λ b. cond b (elim (has is_failed e) as (λ _. Option Begun) [ true ↦ write_of (opened p past) | false ↦ torn_after e.access (torn p past) ]) (torn p past)) (eq-eqb e.process p h)
+    ∙ ap (λ b. elim b as (λ _. Option Begun) [ true ↦ write_of (opened p past) | false ↦ torn_after e.access (torn p past) ]) failed
+torn-mine p e past h false failed =
+    ap (λ b. cond b (elim (has is_failed e) as (λ _. Option Begun) [ true ↦ write_of (opened p past) | false ↦ torn_after e.access (torn p past) ]) (torn p past)) (eq-eqb e.process p h)
+    ∙ ap (λ b. elim b as (λ _. Option Begun) [ true ↦ write_of (opened p past) | false ↦ torn_after e.access (torn p past) ]) failed
+
+-- the number of an entry, where a test holds
+abbrev pub if_there : Bool → ℕ → Option ℕ
+if_there b n = elim b as (λ _. Option ℕ) [ true ↦ Some n | false ↦ None ]
+
+pub number-mine : (p : ℕ) (test : Entry → Bool) (e : Entry) (past : Past) → e.process ≡ p → has is_called e ≡ false → (b : Bool) → test e ≡ b →
+    number_in_call p test (e ∷ past) ≡ first_of (number_in_call p test past) (if_there b (length past))
+number-mine p test e past h called b is =
+    ap (λ t. elim t as (λ _. Option ℕ) [
+      | false ↦ number_in_call p test past
+      | true ↦ elim (has is_called e) as (λ _. Option ℕ) [
+        | true ↦ None
+        | false ↦ first_of (number_in_call p test past) (if_there (test e) (length past))
+      ]
+    ]) (eq-eqb e.process p h)
+    ∙ ap (λ t. elim t as (λ _. Option ℕ) [
+      | true ↦ None
+      | false ↦ first_of (number_in_call p test past) (if_there (test e) (length past))
+    ]) called
+    ∙ ap (λ t. first_of (number_in_call p test past) (if_there t (length past))) is
+
+pub number-called : (p : ℕ) (test : Entry → Bool) (e : Entry) (past : Past) → e.process ≡ p → has is_called e ≡ true → number_in_call p test (e ∷ past) ≡ None
+number-called p test e past h called =
+    ap (λ t. elim t as (λ _. Option ℕ) [
+      | false ↦ number_in_call p test past
+      | true ↦ elim (has is_called e) as (λ _. Option ℕ) [
+        | true ↦ None
+        | false ↦ first_of (number_in_call p test past) (if_there (test e) (length past))
+      ]
+    ]) (eq-eqb e.process p h)
+    ∙ ap (λ t. elim t as (λ _. Option ℕ) [
+      | true ↦ None
+      | false ↦ first_of (number_in_call p test past) (if_there (test e) (length past))
+    ]) called
+
+first_none : (o : Option ℕ) → first_of o None ≡ o
+first_none None = refl
+first_none (Some k) = refl
+
+-- With an access, before its marks.
+
+-- an entry without marks
+abbrev pub bare : ℕ → Option Access → Entry
+bare p o = record { process = p; access = o; marks = [] }
+
+pub standing-access : (s : Setup) (p : ℕ) (o : Option Access) (past : Past) → standing s p (bare p o ∷ past) ≡ accessed_by (length past) (standing s p past) o
+standing-access s p None past =
+    let mine = own-mine p (bare p None) past refl in
+    standing_by (standing s p (bare p None ∷ past)) (standing s p past)
+    (stage-mine p (bare p None) past refl)
+    (inside-mine p (bare p None) past refl)
+    (ap (λ l. list_any (has is_withdrawal) (since is_called l)) mine)
+    (ap (call_number s) mine)
+    (ap last_command mine)
+    (ap (λ l. reply_in (since is_called l)) mine)
+    (opened-mine p (bare p None) past refl)
+    (torn-mine p (bare p None) past refl false refl)
+    (number-mine p has_access (bare p None) past refl refl false refl ∙ first_none (number_in_call p has_access past))
+    (number-mine p (has is_waiting) (bare p None) past refl refl false refl ∙ first_none (number_in_call p (has is_waiting) past))
+    (number-mine p (has is_entered) (bare p None) past refl refl false refl ∙ first_none (number_in_call p (has is_entered) past))
+standing-access s p (Some a) past =
+    let mine = own-mine p (bare p (Some a)) past refl in
+    standing_by (standing s p (bare p (Some a) ∷ past)) (accessed_by (length past) (standing s p past) (Some a))
+    (stage-mine p (bare p (Some a)) past refl)
+    (inside-mine p (bare p (Some a)) past refl)
+    (ap (λ l. list_any (has is_withdrawal) (since is_called l)) mine)
+    (ap (call_number s) mine)
+    (ap last_command mine)
+    (ap (λ l. reply_in (since is_called l)) mine)
+    (opened-mine p (bare p (Some a)) past refl)
+    (torn-mine p (bare p (Some a)) past refl false refl)
+    (number-mine p has_access (bare p (Some a)) past refl refl true refl)
+    (number-mine p (has is_waiting) (bare p (Some a)) past refl refl false refl ∙ first_none (number_in_call p (has is_waiting) past))
+    (number-mine p (has is_entered) (bare p (Some a)) past refl refl false refl ∙ first_none (number_in_call p (has is_entered) past))

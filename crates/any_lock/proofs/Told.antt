@@ -1,0 +1,85 @@
+-- The verdict with one more entry.
+use Rattle.std.proofs.Common.{◌≡◌, ℕ, ◌+◌, ◌++◌, Bool, true, false, not, List, [], ◌∷◌, length, reverse, Option, Some, None, Ok, refl, ap, sym, subst, ◌∙◌, arith}
+use Rattle.std.proofs.lemmas.List.{length-append, length-reverse, reverse-append}
+use Rattle.plain_store.specs.declared.Setup.{Setup}
+use Rattle.record.specs.declared.access.Access.{Access}
+use Rattle.record.specs.Entries.{Entry, Past}
+use Rattle.watch.specs.Watching.{AllAreOfThere, IsOfThere, WatchState}
+use Rattle.watch.specs.Watching.{HasHeard as HasWatched}
+use Rattle.any_lock.specs.declared.verdicts.Law.{Law}
+use Rattle.any_lock.specs.declared.verdicts.Verdict.{Verdict}
+use Rattle.any_lock.specs.declared.verdicts.Verdict.TheVariants.{Good, Bad}
+use Rattle.any_lock.specs.Judging.{BothHeard, HasJudged, JudgeState}
+use Rattle.any_lock.specs.Keeping.{KeptState, Knows}
+use Rattle.any_lock.specs.Laws.{breaks_safe, first_broken}
+use Rattle.any_lock.specs.Verdicts.{verdict_after, verdict_of, verdict_with}
+use Rattle.any_lock.proofs.Breaks.{access_there, unbroken, unrefused}
+
+-- some entries and one more, the newest first
+pub newest_first : (entries : List Entry) (e : Entry) → reverse (entries ++ e ∷ []) ≡ e ∷ reverse entries
+newest_first entries e = reverse-append entries (e ∷ [])
+
+-- the verdict with one more entry, behind those that have a good one
+pub verdict_good : (s : Setup) (entries : List Entry) (e : Entry) → verdict_of s entries ≡ Good → verdict_of s (entries ++ e ∷ []) ≡ verdict_with (length entries) (first_broken s (reverse entries) e)
+verdict_good s entries e good =
+    ap (verdict_after s) (newest_first entries e)
+    ∙ ap (λ v. elim v as (λ _. Verdict) [ Good ↦ verdict_with (length (reverse entries)) (first_broken s (reverse entries) e) | Bad k l ↦ Bad k l ]) good
+    ∙ ap (λ n. verdict_with n (first_broken s (reverse entries) e)) (length-reverse entries)
+
+-- a bad one stays
+pub verdict_bad : (s : Setup) (entries : List Entry) (e : Entry) (k : ℕ) (l : Law) → verdict_of s entries ≡ Bad k l → verdict_of s (entries ++ e ∷ []) ≡ Bad k l
+verdict_bad s entries e k l bad =
+    ap (verdict_after s) (newest_first entries e)
+    ∙ ap (λ v. elim v as (λ _. Verdict) [ Good ↦ verdict_with (length (reverse entries)) (first_broken s (reverse entries) e) | Bad k l ↦ Bad k l ]) bad
+
+-- a verdict is good where no law is broken
+pub found_good : (k : ℕ) (law : Option Law) → verdict_with k law ≡ Good → law ≡ None
+found_good k (Some l) is = absurd (cc)
+found_good k None is = refl
+
+-- what a watch, and what is kept beside it, make of one more entry
+pub record AreTold (j : JudgeState) (e : Entry) (is_safe : Bool) (w : WatchState) (found : Option Law) (k : KeptState) : Type 0 where
+  pub watched : w.setup ≡ j.watch.setup
+  pub watch : (past : Past) → HasWatched j.watch past → HasWatched w (e ∷ past)
+  pub safe : (past : Past) → HasWatched j.watch past → AllAreOfThere j.watch.setup past → breaks_safe j.watch.setup past e ≡ not is_safe
+  pub kept : k.setup ≡ j.kept.setup
+  pub law : (past : Past) → breaks_safe j.kept.setup past e ≡ not is_safe → Knows j.kept past → found ≡ first_broken j.kept.setup past e
+  pub knows : (past : Past) → found ≡ None → Knows j.kept past → Knows k (e ∷ past)
+
+pub told_law : (j : JudgeState) (e : Entry) (is_safe : Bool) (w : WatchState) (law : Option Law) (k : KeptState) → AreTold j e is_safe w law k →
+    (s : Setup) (past : Past) → BothHeard j s past → law ≡ first_broken s past e
+told_law j e is_safe w law k told s past both =
+    let there : AllAreOfThere j.watch.setup past = subst (λ (t : Setup). AllAreOfThere t past) (sym both.watched) both.there in
+    let safe : breaks_safe j.kept.setup past e ≡ not is_safe = subst (λ (t : Setup). breaks_safe t past e ≡ not is_safe) (both.watched ∙ sym both.kept) (told.safe past both.watch there) in
+    told.law past safe both.knows ∙ ap (λ t. first_broken t past e) both.kept
+
+pub told_on : (j : JudgeState) (e : Entry) (is_safe : Bool) (w : WatchState) (law : Option Law) (k : KeptState) → AreTold j e is_safe w law k →
+    (s : Setup) (past : Past) → BothHeard j s past → law ≡ None → BothHeard (record { watch = w; kept = k; verdict = j.verdict; entries = j.entries }) s (e ∷ past)
+told_on j e is_safe w law k told s past both none =
+    let first : first_broken s past e ≡ None = sym (told_law j e is_safe w law k told s past both) ∙ none in
+    record {
+      watched = told.watched ∙ both.watched;
+      watch = told.watch past both.watch;
+      kept = told.kept ∙ both.kept;
+      knows = told.knows past none both.knows;
+      there = (access_there s past e (unrefused s past e (unbroken s past e first).1), both.there);
+    }
+
+-- how many entries there are is nothing to a watch, and to what is kept
+pub with_entries : (j : JudgeState) (n : ℕ) (s : Setup) (past : Past) → BothHeard j s past → BothHeard (record j { entries = n }) s past
+with_entries j n s past both = record { watched = both.watched; watch = both.watch; kept = both.kept; knows = both.knows; there = both.there }
+
+-- a judge with a good verdict and one more entry
+pub hears_on : (old new : JudgeState) (e : Entry) (found : Verdict) (s : Setup) (entries : List Entry) → HasJudged old s entries → old.verdict ≡ Good → new.entries ≡ old.entries + 1 →
+    ((past : Past) → BothHeard old s past → found ≡ verdict_with old.entries (first_broken s past e)) →
+    ((past : Past) → BothHeard old s past → found ≡ Good → BothHeard new s (e ∷ past)) →
+    HasJudged (record new { verdict = found }) s (entries ++ e ∷ [])
+hears_on old new e found s entries judged good more heard on =
+    let both : BothHeard old s (reverse entries) = judged.goes_on good in
+    record {
+      good = judged.good;
+      count = more ∙ ap (λ n. n + 1) judged.count ∙ sym (length-append entries (e ∷ []));
+      verdict = heard (reverse entries) both ∙ ap (λ n. verdict_with n (first_broken s (reverse entries) e)) judged.count ∙ sym (verdict_good s entries e (sym judged.verdict ∙ good));
+      goes_on = λ is. subst (λ (l : Past). BothHeard (record new { verdict = found }) s l) (sym (newest_first entries e))
+          (let next = on (reverse entries) both is in record { watched = next.watched; watch = next.watch; kept = next.kept; knows = next.knows; there = next.there });
+    }

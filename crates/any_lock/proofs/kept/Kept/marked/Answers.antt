@@ -1,0 +1,41 @@
+use Rattle.std.proofs.Common.{◌≡◌, ◌∷◌, Some, sym, ap, ◌∙◌}
+use Rattle.record.specs.Entries.{Entry}
+use Rattle.any_lock.specs.Keeping.{KeptState, accessed_by, marked_all, refusal_on}
+use Rattle.any_lock.specs.Refusals.{refusal_of_marks}
+use Rattle.any_lock.specs.Standings.{standing}
+use Rattle.any_lock.proofs.Markings.{with_marks}
+use Rattle.any_lock.proofs.Whole.{accepted, crowded_refused, nothing_refused, refused}
+use Rattle.any_lock.proofs.kept.Kept.marked.Goals as goal
+
+pub returns-then-has_nothing : goal.returns-then-has_nothing
+returns-then-has_nothing c = λ past e p a m knows.
+    let whole : e ≡ with_marks c.args.process c.args.access.now c.args.marks.now = λ i. record { process = p i; access = a i; marks = m i } in
+    ap (refusal_of_marks c.args.self.now.setup past) whole
+    ∙ nothing_refused c.args.self.now.setup c.args.process past c.args.access.now c.args.marks.now (sym (c.has_nothing.ensures c.args.process) ∙ c.if-has_nothing.true)
+
+pub returns-then-is_crowded : goal.returns-then-is_crowded
+returns-then-is_crowded c = λ past e p a m knows.
+    let whole : e ≡ with_marks c.args.process c.args.access.now c.args.marks.now = λ i. record { process = p i; access = a i; marks = m i } in
+    ap (refusal_of_marks c.args.self.now.setup past) whole
+    ∙ crowded_refused c.args.self.now.setup c.args.process past c.args.access.now c.args.marks.now (sym (c.has_nothing.ensures c.args.process) ∙ c.if-has_nothing.false) (sym (c.is_crowded.ensures c.args.process) ∙ c.if-is_crowded.true)
+
+pub returns-in-Ok : goal.returns-in-Ok
+returns-in-Ok c = λ past e p a m knows.
+    let whole : e ≡ with_marks c.args.process c.args.access.now c.args.marks.now = λ i. record { process = p i; access = a i; marks = m i } in
+    let s = ap (λ (k : KeptState). k.setup) c.self.view_is in
+    let n = ap (λ (k : KeptState). k.entries) c.self.view_is ∙ knows.entries in
+    let k = c.accessed-standing.ensures past knows ∙ ap (λ n. accessed_by n (standing c.args.self.now.setup c.args.process past) c.args.access.now) knows.entries in
+    let on = accepted c.args.self.now.setup c.args.process past c.args.access.now c.args.marks.now (sym (c.has_nothing.ensures c.args.process) ∙ c.if-has_nothing.false) (sym (c.is_crowded.ensures c.args.process) ∙ c.if-is_crowded.false)
+        ((λ i. refusal_on (sym s i) (sym n i) (sym k i) c.args.marks.now) ∙ c.in-Ok.ensures.allowed) in
+    (ap (refusal_of_marks c.args.self.now.setup past) whole ∙ on.0,
+    c.in-Ok.ensures.marked ∙ (λ i. marked_all (s i) (n i) (k i) c.args.marks.now) ∙ on.1 ∙ ap (λ (x : Entry). standing c.args.self.now.setup c.args.process (x ∷ past)) (sym whole))
+
+pub returns-in-Err : goal.returns-in-Err
+returns-in-Err c = λ past e p a m knows.
+    let whole : e ≡ with_marks c.args.process c.args.access.now c.args.marks.now = λ i. record { process = p i; access = a i; marks = m i } in
+    let s = ap (λ (k : KeptState). k.setup) c.self.view_is in
+    let n = ap (λ (k : KeptState). k.entries) c.self.view_is ∙ knows.entries in
+    let k = c.accessed-standing.ensures past knows ∙ ap (λ n. accessed_by n (standing c.args.self.now.setup c.args.process past) c.args.access.now) knows.entries in
+    ap (refusal_of_marks c.args.self.now.setup past) whole
+    ∙ refused c.args.self.now.setup c.args.process past c.args.access.now c.args.marks.now (sym (c.has_nothing.ensures c.args.process) ∙ c.if-has_nothing.false) (sym (c.is_crowded.ensures c.args.process) ∙ c.if-is_crowded.false)
+    ∙ (λ i. refusal_on (sym s i) (sym n i) (sym k i) c.args.marks.now) ∙ c.in-Err.ensures.refused

@@ -1,0 +1,11 @@
+use Rattle.std.proofs.Common.{◌≡◌, Option, None, ◌==◌, not, ◌&&◌}
+use Rattle.record.specs.Entries.{Past}
+use Rattle.any_lock.specs.Keeping.{Knows}
+use Rattle.any_lock.specs.Laws.{lowest_below, waits_before}
+use Rattle.any_lock.specs.Standings.{standing}
+use Rattle.any_lock.proofs.kept.Kept.other_ahead.Given as goal
+
+-- no lower process but this one is ahead
+abbrev pub invariant-loop-other : goal.invariant-loop-other
+invariant-loop-other l = (past : Past) → Knows l.self past →
+    lowest_below l.other (λ q. not (q == l.process) && waits_before (standing l.self.setup q past) (standing l.self.setup l.process past)) ≡ None

@@ -1,0 +1,9 @@
+use Rattle.std.proofs.Common.{◌≡◌, ap, sym, ◌∙◌}
+use Rattle.any_lock.specs.Keeping.{marked}
+use Rattle.any_lock.proofs.standings.Standing.mark.Goals as goal
+
+pub returns-in-Called : goal.returns-in-Called
+returns-in-Called c = c.call.ensures c.args.entry ∙ ap (marked c.args.setup.now c.args.entry c.args.self.now) (sym c.in-Called.is)
+
+pub returns-in-Left : goal.returns-in-Left
+returns-in-Left c = c.leave.ensures c.args.setup.now c.args.entry ∙ ap (marked c.args.setup.now c.args.entry c.args.self.now) (sym c.in-Left.is)

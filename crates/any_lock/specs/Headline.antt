@@ -1,0 +1,28 @@
+-- What a good verdict says, whoever made the record.
+use Rattle.std.specs.Prelude.{◌≡◌, ℕ, List, ◌∷◌, ◌++◌, reverse, IsTrue, IsFalse}
+use Rattle.plain_store.specs.declared.Setup.{Setup}
+use Rattle.record.specs.Entries.{Entry, Past, has, is_entered}
+use Rattle.record.specs.Headline.{AnswersNoCutCall, IsAlone, TakesItsPlace}
+use Rattle.any_lock.specs.declared.verdicts.Verdict.TheVariants.{Good}
+use Rattle.any_lock.specs.Laws.{waits_before}
+use Rattle.any_lock.specs.Standings.{standing}
+use Rattle.any_lock.specs.Verdicts.{verdict_of}
+
+-- Who gets inside does so while no other is ahead: nobody overtakes.
+abbrev pub OvertakesNobody : Setup → Past → Entry → Type 0
+OvertakesNobody s past e = IsTrue (has is_entered e) → (j : ℕ) → (j ≡ e.process → ⊥) → IsFalse (waits_before (standing s j past) (standing s e.process past))
+
+-- The headline, of one entry and the entries before it.
+pub record KeepsHeadline (s : Setup) (past : Past) (e : Entry) : Type 0 where
+  pub alone : IsAlone (e ∷ past)  -- no two are inside together
+  pub overtakes : OvertakesNobody s past e  -- nobody enters while another is ahead
+  pub place : TakesItsPlace s past e  -- what is taken has its place, and the one-thread store's reply there
+  pub cut : AnswersNoCutCall past e  -- a call that was cut is never answered
+
+-- Each entry of these keeps it.
+abbrev pub KeepsHeadlineThroughout : Setup → Past → Type 0
+KeepsHeadlineThroughout s past = (later earlier : Past) (e : Entry) → past ≡ later ++ e ∷ earlier → KeepsHeadline s earlier e
+
+-- A good verdict says the headline.
+abbrev pub GoodSaysTheHeadline : Type 0
+GoodSaysTheHeadline = (s : Setup) (entries : List Entry) → verdict_of s entries ≡ Good → KeepsHeadlineThroughout s (reverse entries)

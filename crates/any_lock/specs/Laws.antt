@@ -1,0 +1,89 @@
+-- The laws that an entry of the record of any lock keeps, by looking back over the entries before it.
+use Rattle.std.specs.Prelude.{ℕ, zero, suc, ◌==◌, Bool, true, false, not, ◌&&◌, List, [], ◌∷◌, length, cond, Option, None, Some, is_some, if◌then◌else◌}
+use Rattle.std.specs.List.{list_all}
+use Rattle.record.specs.safe_bit.declared.Move.{Move}
+use Rattle.record.specs.safe_bit.declared.Move.TheVariants.{BeginWrite, EndWrite, BeginRead, EndRead, Settle}
+use Rattle.record.specs.safe_bit.SafeRule.{before_read, is_overlapped, last_written}
+use Rattle.plain_store.specs.declared.Reply.{Reply}
+use Rattle.plain_store.specs.declared.Setup.{Setup}
+use Rattle.plain_store.specs.Store.{reply_to}
+use Rattle.record.specs.Doorways.{first_of, is_before, is_waiting_stage}
+use Rattle.record.specs.Entries.{Entry, Past, has, is_entered}
+use Rattle.record.specs.Histories.{history, store_after}
+use Rattle.record.specs.Moves.{begins_read, moves_of}
+use Rattle.record.specs.Registers.{opening_bit}
+use Rattle.record.specs.Spans.{takings}
+use Rattle.any_lock.specs.declared.verdicts.Law.{Law}
+use Rattle.any_lock.specs.declared.verdicts.Law.TheVariants as law
+use Rattle.any_lock.specs.declared.standings.Standing.{Standing}
+use Rattle.any_lock.specs.Refusals.{first_that, refusal_of_access, refusal_of_marks, same_reply, same_truth}
+use Rattle.any_lock.specs.Standings.{standing}
+
+-- after these moves of a bit a read ends with a value that it may not give: no write overlapped the read, and another was written last before it began
+abbrev pub ends_wrongly : Bool → List Move → Move → Bool
+ends_wrongly opening moves (EndRead v) = begins_read moves && not (is_overlapped moves) && not (same_truth v (last_written opening (before_read moves)))
+ends_wrongly opening moves _ = false
+
+-- Safe: a read that no write overlapped ends with what was last written before it began, or else with what the bit opens at.
+abbrev pub breaks_safe : Setup → Past → Entry → Bool
+breaks_safe s past e = elim e.access [ None ↦ false | Some a ↦ ends_wrongly (opening_bit s a) (moves_of a past) a.how ]
+
+-- Access: there is no refusal of it.
+abbrev pub breaks_access : Setup → Past → Entry → Bool
+breaks_access s past e = is_some (refusal_of_access s past e)
+
+-- Marks: there is no refusal of them.
+abbrev pub breaks_marks : Setup → Past → Entry → Bool
+breaks_marks s past e = is_some (refusal_of_marks s past e)
+
+-- the lowest number below n for which a test holds
+abbrev pub lowest_below : ℕ → (ℕ → Bool) → Option ℕ
+lowest_below zero test = None
+lowest_below (suc n) test = first_of (lowest_below n test) (cond (test n) (Some n) None)
+
+-- the lowest process but p for which a test holds
+abbrev pub lowest_other : Setup → ℕ → (ℕ → Bool) → Option ℕ
+lowest_other s p test = lowest_below s.processes (λ q. not (q == p) && test q)
+
+-- Together: who gets inside does so while no other is inside.
+abbrev pub breaks_together : Setup → Past → Entry → Bool
+breaks_together s past e = has is_entered e && is_some (lowest_other s e.process (λ q. (standing s q past).inside))
+
+-- one that stands so waits, and its `wait` stands before the doorway of another began, or that has not begun
+abbrev pub waits_before : Standing → Standing → Bool
+waits_before k other = is_waiting_stage k.stage && is_before k.waits other.doorway
+
+-- Overtaken: nobody is ahead of who gets inside.
+abbrev pub breaks_overtaken : Setup → Past → Entry → Bool
+breaks_overtaken s past e = has is_entered e && is_some (lowest_other s e.process (λ q. waits_before (standing s q past) (standing s e.process past)))
+
+-- the one-thread store's reply to p's command, after the history
+abbrev pub right_reply : Setup → Past → ℕ → Reply
+right_reply s past p = let k = standing s p past in reply_to (store_after s (history s past)) k.command (record { process = p; number = k.number })
+
+-- a place and a reply are these
+abbrev pub is_that : ℕ → Reply → ℕ × Reply → Bool
+is_that place reply t = (t.0 == place) && same_reply t.1 reply
+
+-- History: what is taken has the history's length as its place, and the one-thread store's reply after the history.
+abbrev pub breaks_history : Setup → Past → Entry → Bool
+breaks_history s past e = not (list_all (is_that (length (history s past)) (right_reply s past e.process)) (takings e.marks))
+
+-- the first law that an entry breaks whose access and marks are not refused
+abbrev pub broken_inside : Setup → Past → Entry → Option Law
+broken_inside s past e = first_that (
+    (breaks_together s past e, law.Together)
+    ∷ (breaks_overtaken s past e, law.Overtaken)
+    ∷ (breaks_history s past e, law.History)
+    ∷ [])
+
+-- the first law after `Safe` that an entry breaks
+abbrev pub broken_later : Setup → Past → Entry → Option Law
+broken_later s past e =
+    if breaks_access s past e then Some law.Access else
+    if breaks_marks s past e then Some law.Marks else
+    broken_inside s past e
+
+-- the first law that it breaks
+abbrev pub first_broken : Setup → Past → Entry → Option Law
+first_broken s past e = if breaks_safe s past e then Some law.Safe else broken_later s past e

@@ -1,0 +1,9 @@
+pub use Rattle.watch.specs as watch
+pub mod Standings
+pub mod Refusals
+pub mod Laws
+pub mod Verdicts
+pub mod Keeping
+pub mod Shown
+pub mod Judging
+pub mod Headline

@@ -1,0 +1,236 @@
+-- What an access, or marks, are refused for: one table each, in which the first that applies is the refusal.
+use Rattle.std.specs.Prelude.{ℕ, ◌==◌, nat_lt, nat_le, Bool, true, false, not, ◌&&◌, ◌||◌, List, [], ◌∷◌, ◌++◌, length, Option, None, Some, is_none, is_some, if◌then◌else◌}
+use Rattle.std.specs.List.{list_any}
+use Rattle.std.specs.Ordering.{int_eq}
+use Rattle.record.specs.safe_bit.declared.Move.{Move}
+use Rattle.record.specs.safe_bit.declared.Move.TheVariants.{BeginWrite, EndWrite, BeginRead, EndRead, Settle}
+use Rattle.plain_store.specs.Values.{same_value}
+use Rattle.plain_store.specs.declared.Answer.{Answer}
+use Rattle.plain_store.specs.declared.Answer.TheVariants as answer
+use Rattle.plain_store.specs.declared.Reply.{Reply}
+use Rattle.plain_store.specs.declared.Reply.TheVariants as reply
+use Rattle.plain_store.specs.declared.Setup.{Setup}
+use Rattle.record.specs.declared.access.Access.{Access}
+use Rattle.record.specs.declared.marks.Mark.{Mark}
+use Rattle.record.specs.declared.marks.Mark.TheVariants.{Called, Waiting, Entered, Taken, Left, Answered, Failed, Settled, Down, Withdrew, Restarted}
+use Rattle.record.specs.declared.stages.Stage.{Stage}
+use Rattle.record.specs.declared.stages.Stage.TheVariants as stage
+use Rattle.record.specs.Doorways.{is_waiting_stage}
+use Rattle.record.specs.Entries.{Entry, Past}
+use Rattle.record.specs.Moves.{same_bit}
+use Rattle.record.specs.Registers.{width}
+use Rattle.any_lock.specs.declared.refusals.AccessRefusal.{AccessRefusal}
+use Rattle.any_lock.specs.declared.refusals.AccessRefusal.TheVariants as access
+use Rattle.any_lock.specs.declared.refusals.MarkRefusal.{MarkRefusal}
+use Rattle.any_lock.specs.declared.refusals.MarkRefusal.TheVariants as mark
+use Rattle.any_lock.specs.declared.standings.Begun.{Begun}
+use Rattle.any_lock.specs.declared.standings.Standing.{Standing}
+use Rattle.any_lock.specs.Standings.{begins, settles, standing}
+
+-- the first whose test holds
+abbrev pub first_that : {R : Type 0} → List (Bool × R) → Option R
+first_that [] = None
+first_that (test ∷ tests) = if test.0 then Some test.1 else first_that tests
+
+-- Stages.
+
+-- a process runs from its call to its answer, unless it fails
+abbrev pub is_running : Stage → Bool
+is_running stage.Doorway = true
+is_running stage.Waiting = true
+is_running stage.Inside = true
+is_running stage.Leaving = true
+is_running _ = false
+
+-- its memory unit settles and clears
+abbrev pub is_settling : Stage → Bool
+is_settling stage.Settling = true
+is_settling _ = false
+
+-- its memory unit is done
+abbrev pub is_down : Stage → Bool
+is_down stage.Down = true
+is_down _ = false
+
+-- it is in its doorway
+abbrev pub is_in_doorway : Stage → Bool
+is_in_doorway stage.Doorway = true
+is_in_doorway _ = false
+
+-- it leaves
+abbrev pub is_leaving : Stage → Bool
+is_leaving stage.Leaving = true
+is_leaving _ = false
+
+-- Moves.
+
+-- both hold, or neither
+abbrev pub same_truth : Bool → Bool → Bool
+same_truth true b = b
+same_truth false b = not b
+
+-- a move of a read
+abbrev pub reads : Move → Bool
+reads BeginRead = true
+reads (EndRead v) = true
+reads _ = false
+
+-- an end, of a write or of a read
+abbrev pub ends : Move → Bool
+ends EndWrite = true
+ends (EndRead v) = true
+ends _ = false
+
+-- a write begins
+abbrev pub begins_write : Move → Bool
+begins_write (BeginWrite v) = true
+begins_write _ = false
+
+-- the bit of an access is there
+abbrev pub is_there : Setup → Access → Bool
+is_there s a = nat_lt a.owner s.processes && nat_lt a.reader s.processes && nat_lt a.bit (width s a.field)
+
+-- a process at a stage may make a move, but for settlings: one that runs any, one that settles those of a write
+abbrev pub may_move : Stage → Move → Bool
+may_move at how = settles how || is_running at || (is_settling at && not (reads how))
+
+-- this is of the bit of an access
+abbrev pub is_of_bit : Option Begun → Access → Bool
+is_of_bit None a = false
+is_of_bit (Some b) a = same_bit b.access a
+
+-- and is the begin of which the access is the end
+abbrev pub is_end_of : Option Begun → Access → Bool
+is_end_of None a = false
+is_end_of (Some b) a = same_bit b.access a && same_truth (reads a.how) (reads b.access.how)
+
+-- The table of refusals of an access that p makes where it stands so.
+abbrev pub access_refusal : Setup → ℕ → Standing → Access → Option AccessRefusal
+access_refusal s p k a = first_that (
+    (not (nat_lt p s.processes), access.NoProcess)
+    ∷ (not (is_there s a), access.NoBit)
+    ∷ (not (reads a.how) && not (a.owner == p), access.NotOwner)
+    ∷ (reads a.how && not (a.reader == p), access.NotReader)
+    ∷ (settles a.how && not (is_settling k.stage), access.NotSettling)
+    ∷ (not (may_move k.stage a.how), access.NotRunning)
+    ∷ (ends a.how && not (is_end_of k.opened a), access.NotOpen)
+    ∷ (not (ends a.how) && is_some k.opened, access.AccessOpen)
+    ∷ (settles a.how && not (is_of_bit k.torn a), access.NotTorn)
+    ∷ (begins_write a.how && is_of_bit k.torn a, access.Torn)
+    ∷ [])
+
+-- Answers.
+
+-- the same reply
+abbrev pub same_reply : Reply → Reply → Bool
+same_reply (reply.Value x) (reply.Value y) = same_value x y
+same_reply reply.Done reply.Done = true
+same_reply (reply.Sum m) (reply.Sum n) = int_eq m n
+same_reply reply.Swapped reply.Swapped = true
+same_reply (reply.Kept x) (reply.Kept y) = same_value x y
+same_reply reply.NoName reply.NoName = true
+same_reply reply.NotCounter reply.NotCounter = true
+same_reply reply.Overflow reply.Overflow = true
+same_reply reply.StoreFull reply.StoreFull = true
+same_reply (reply.Last m) (reply.Last n) = m == n
+same_reply _ _ = false
+
+-- the answer is a reply
+abbrev pub is_reply : Answer → Bool
+is_reply (answer.Reply r) = true
+is_reply _ = false
+
+-- the answer is that of a withdrawal
+abbrev pub is_withdrawn : Answer → Bool
+is_withdrawn answer.Withdrawn = true
+is_withdrawn _ = false
+
+-- the answer is this reply
+abbrev pub is_the_reply : Answer → Reply → Bool
+is_the_reply (answer.Reply q) r = same_reply q r
+is_the_reply _ r = false
+
+-- a command was taken with another reply than this answer
+abbrev pub has_other_reply : Option Reply → Answer → Bool
+has_other_reply None a = false
+has_other_reply (Some r) a = not (is_the_reply a r)
+
+-- Of each mark the table of its refusals, where its process stands so.
+abbrev pub mark_refusal : Standing → Mark → Option MarkRefusal
+mark_refusal k (Called c) = first_that (
+    (is_running k.stage, mark.Busy)
+    ∷ (is_settling k.stage || is_down k.stage, mark.IsDown)
+    ∷ (nat_le 65535 k.number, mark.CallsFull)
+    ∷ [])
+mark_refusal k Failed = first_that ((is_settling k.stage || is_down k.stage, mark.AlreadyFailed) ∷ [])
+mark_refusal k Withdrew = first_that ((not (is_waiting_stage k.stage), mark.NotWaiting) ∷ [])
+mark_refusal k Entered = first_that ((not (is_waiting_stage k.stage), mark.NotWaiting) ∷ [])
+mark_refusal k Restarted = first_that ((not (is_down k.stage), mark.NotDown) ∷ [])
+mark_refusal k (Waiting t) = first_that ((not (is_in_doorway k.stage), mark.NotInDoorway) ∷ [])
+mark_refusal k Left = first_that ((not k.inside, mark.NotInside) ∷ [])
+mark_refusal k (Taken n r) = first_that (
+    (not k.inside, mark.NotInside)
+    ∷ (is_some k.reply, mark.TakenBefore)
+    ∷ [])
+mark_refusal k (Answered a) = first_that (
+    (not (is_in_doorway k.stage || is_leaving k.stage), mark.NotLeaving)
+    ∷ (k.withdrawn && not (is_withdrawn a), mark.WasWithdrawn)
+    ∷ (has_other_reply k.reply a, mark.OtherReply)
+    ∷ (is_none k.reply && is_reply a, mark.NotTaken)
+    ∷ (not k.withdrawn && is_withdrawn a, mark.NotWithdrawn)
+    ∷ (is_some k.opened, mark.AccessOpen)
+    ∷ [])
+mark_refusal k (Settled v) = first_that (
+    (not (is_settling k.stage), mark.NotSettling)
+    ∷ (is_some k.torn, mark.Torn)
+    ∷ [])
+mark_refusal k Down = first_that (
+    (not (is_settling k.stage), mark.NotSettling)
+    ∷ (k.inside, mark.StillInside)
+    ∷ (is_some k.opened, mark.AccessOpen)
+    ∷ (is_some k.torn, mark.Torn)
+    ∷ [])
+
+-- these marks stand alone, without an access and without another mark
+abbrev pub stands_alone : Mark → Bool
+stands_alone (Called c) = true
+stands_alone Failed = true
+stands_alone Withdrew = true
+stands_alone Restarted = true
+stands_alone _ = false
+
+-- an entry has neither an access nor a mark
+abbrev pub has_nothing : Entry → Bool
+has_nothing e = is_none e.access && (length e.marks == 0)
+
+-- it has one mark and no access
+abbrev pub has_one_mark : Entry → Bool
+has_one_mark e = is_none e.access && (length e.marks == 1)
+
+-- What an entry is refused for, after a past.
+
+-- its access
+abbrev pub refusal_of_access : Setup → Past → Entry → Option AccessRefusal
+refusal_of_access s past e = elim e.access [
+  | None ↦ first_that ((not (nat_lt e.process s.processes), access.NoProcess) ∷ [])
+  | Some a ↦ access_refusal s e.process (standing s e.process past) a
+]
+
+-- an entry, as far as these marks of it
+abbrev pub up_to : Entry → List Mark → Entry
+up_to e marks = record { process = e.process; access = e.access; marks = marks }
+
+-- the first of its marks that is refused, behind the earlier ones
+abbrev pub refusal_behind : Setup → Past → Entry → List Mark → List Mark → Option MarkRefusal
+refusal_behind s past e earlier [] = None
+refusal_behind s past e earlier (m ∷ later) = elim (mark_refusal (standing s e.process (up_to e earlier ∷ past)) m) [
+  | Some r ↦ Some r
+  | None ↦ refusal_behind s past e (earlier ++ m ∷ []) later
+]
+
+-- its marks, one after the other behind its access
+abbrev pub refusal_of_marks : Setup → Past → Entry → Option MarkRefusal
+refusal_of_marks s past e =
+    if has_nothing e then Some mark.Nothing else
+    if list_any stands_alone e.marks && not (has_one_mark e) then Some mark.NotAlone else
+    refusal_behind s past e [] e.marks

@@ -1,0 +1,163 @@
+//! What an access is refused for, by where its process stands.
+ghost use Rattle.std.specs.Prelude.{◌≡◌, Ok};
+ghost use Rattle.plain_store.specs.Setups.{checked};
+ghost use Rattle.record.specs.Moves.{same_bit as same};
+ghost use Rattle.record.specs.Registers.{width as width_of};
+ghost use Rattle.any_lock.specs.Refusals.{access_refusal, begins_write, ends, is_end_of, is_of_bit, is_running as runs, is_settling as stage_settles, is_there as bit_is_there, may_move, reads};
+
+use crate::refusals::AccessRefusal;
+use crate::standings::{Begun, Standing, is_settling};
+use plain_store::Setup;
+use record::{Access, Field, Move, Stage};
+
+impl Standing {
+    /// Why an access of its process, with this number, is refused, if it is.
+    #[inline]
+    pub(crate) fn refuses_access(
+        &self,
+        setup: &Setup,
+        process: u8,
+        access: &Access,
+    ) -> Option<AccessRefusal>
+        requires { checked setup.now ≡ Ok tt }
+        ensures { result ≡ access_refusal setup.now process self.now access.now }
+    {
+        let how = access.how;
+        if process >= setup.processes {
+            Some(AccessRefusal::NoProcess)
+        } else if !is_there(setup, access) {
+            Some(AccessRefusal::NoBit)
+        } else if !reads(how) && access.owner != process {
+            Some(AccessRefusal::NotOwner)
+        } else if reads(how) && access.reader != process {
+            Some(AccessRefusal::NotReader)
+        } else if is_settling(how) && !settles(self.stage) {
+            Some(AccessRefusal::NotSettling)
+        } else if !may_move(self.stage, how) {
+            Some(AccessRefusal::NotRunning)
+        } else if ends(how) && !is_end_of(&self.opened, access) {
+            Some(AccessRefusal::NotOpen)
+        } else if !ends(how) && self.opened.is_some() {
+            Some(AccessRefusal::AccessOpen)
+        } else if is_settling(how) && !is_of_bit(&self.torn, access) {
+            Some(AccessRefusal::NotTorn)
+        } else if begins_write(how) && is_of_bit(&self.torn, access) {
+            Some(AccessRefusal::Torn)
+        } else {
+            None
+        }
+    }
+}
+
+/// Whether a process runs at a stage: from its call to its answer, unless it fails.
+#[inline]
+pub(crate) fn is_running(stage: Stage) -> bool
+    ensures { result ≡ runs stage }
+{
+    matches!(
+        stage,
+        Stage::Doorway | Stage::Waiting | Stage::Inside | Stage::Leaving
+    )
+}
+
+/// Whether its memory unit settles and clears.
+#[inline]
+pub(crate) fn settles(stage: Stage) -> bool
+    ensures { result ≡ stage_settles stage }
+{
+    matches!(stage, Stage::Settling)
+}
+
+/// Whether a process at a stage may make a move, but for settlings.
+#[inline]
+fn may_move(stage: Stage, how: Move) -> bool
+    ensures { result ≡ may_move stage how }
+{
+    is_settling(how) || is_running(stage) || (settles(stage) && !reads(how))
+}
+
+/// Whether a move is one of a read.
+#[inline]
+fn reads(how: Move) -> bool
+    ensures { result ≡ reads how }
+{
+    matches!(how, Move::BeginRead | Move::EndRead(_))
+}
+
+/// Whether a move is an end, of a write or of a read.
+#[inline]
+fn ends(how: Move) -> bool
+    ensures { result ≡ ends how }
+{
+    matches!(how, Move::EndWrite | Move::EndRead(_))
+}
+
+/// Whether a move begins a write.
+#[inline]
+fn begins_write(how: Move) -> bool
+    ensures { result ≡ begins_write how }
+{
+    matches!(how, Move::BeginWrite(_))
+}
+
+/// Whether the bit of an access is there.
+#[inline]
+fn is_there(setup: &Setup, access: &Access) -> bool
+    requires { checked setup.now ≡ Ok tt }
+    ensures { result ≡ bit_is_there setup.now access.now }
+{
+    access.owner < setup.processes
+        && access.reader < setup.processes
+        && u32::from(access.bit) < width(setup, access.field)
+}
+
+/// The bits of a register.
+#[inline]
+fn width(setup: &Setup, field: Field) -> u32
+    requires { checked setup.now ≡ Ok tt }
+    ensures { result ≡ width_of setup.now field }
+{
+    match field {
+        Field::Choosing | Field::Commit => 1,
+        Field::Ticket => u32::from(setup.ticket_bits),
+        Field::Stamp0 | Field::Stamp1 => u32::from(setup.stamp_bits),
+        Field::Image0 | Field::Image1 => {
+            8 * (23 * u32::from(setup.slots) + 2 * u32::from(setup.callers()))
+        }
+    }
+}
+
+/// Whether both are accesses of one bit.
+#[inline]
+fn same_bit(access: &Access, other: &Access) -> bool
+    ensures { result ≡ same access.now other.now }
+{
+    access.bit == other.bit
+        && access.reader == other.reader
+        && access.owner == other.owner
+        && access.field == other.field
+}
+
+/// Whether this is of the bit of an access.
+#[inline]
+fn is_of_bit(begun: &Option<Begun>, access: &Access) -> bool
+    ensures { result ≡ is_of_bit begun.now access.now }
+{
+    match begun {
+        None => false,
+        Some(begun) => same_bit(&begun.access, access),
+    }
+}
+
+/// Whether this is the begin of which an access is the end.
+#[inline]
+fn is_end_of(begun: &Option<Begun>, access: &Access) -> bool
+    ensures { result ≡ is_end_of begun.now access.now }
+{
+    match begun {
+        None => false,
+        Some(begun) => {
+            same_bit(&begun.access, access) && reads(access.how) == reads(begun.access.how)
+        }
+    }
+}

@@ -1,0 +1,141 @@
+ghost use Rattle.std.specs.Prelude.{◌≡◌, ◌+◌, ◌-◌, ◌^◌, ◌<◌, ◌∷◌, ◌++◌, [], not, IfOk, List, Ok, length, reverse};
+ghost use Rattle.plain_store.specs.declared.Setup.{Setup as Given};
+ghost use Rattle.plain_store.specs.Setups.{checked};
+ghost use Rattle.record.specs.Entries.{Entry as Noted, Past};
+ghost use Rattle.watch.specs.Watching.{AllAreOfThere, HasHeard as HasWatched};
+ghost use Rattle.any_lock.specs.declared.verdicts.Verdict.TheVariants.{Good};
+ghost use Rattle.any_lock.specs.Headline.{KeepsHeadlineThroughout};
+ghost use Rattle.any_lock.specs.Judging.{BothHeard, HasJudged};
+ghost use Rattle.any_lock.specs.Laws.{breaks_safe, first_broken};
+ghost use Rattle.any_lock.specs.Verdicts.{verdict_of, verdict_with};
+
+use crate::kept::Kept;
+use crate::reasons::Reasons;
+use crate::verdicts::{Judged, Law, Verdict};
+use plain_store::{NestedTypes, Setup};
+use record::{Access, Entry, Mark};
+use std::alloc::{AllocError, Global};
+use std::marker::Model;
+use watch::Watch;
+
+/// A judge of the record of any lock, whose entries it takes one at a time. It keeps of each bit what the safe rule looks
+/// back at, where each process stands, one store, two counts, the verdict and its reasons: so it needs the same memory
+/// however long the record is.
+#[derive(Drop)]
+pub struct Judge {
+    watch: Watch,
+    kept: Kept,
+    verdict: Verdict,
+    entries: u64,
+    reasons: Option<Reasons>,
+}
+
+impl Model for Judge {
+    ghost use Rattle.std.specs.Prelude.{◌≤◌};
+    ghost use Rattle.any_lock.specs.Judging.{JudgeState};
+
+    ghost Value = { JudgeState };
+
+    ghost view = { λ j. record { watch = j.watch; kept = j.kept; verdict = j.verdict; entries = j.entries } };
+
+    ghost invariant = { λ j. j.kept.entries ≤ j.entries };
+}
+
+impl Judge {
+    /// Before the first entry. The one fault is want of memory; no later call takes any.
+    pub fn new(alloc: Global, setup: &Setup) -> Result<Judge, AllocError>
+        requires { checked setup.now ≡ Ok tt }
+        ensures { IfOk result (λ judge. HasJudged judge setup.now []) }
+    {
+        Ok(Judge {
+            watch: Watch::new(alloc, setup)?,
+            kept: Kept::new(alloc, setup)?,
+            verdict: Verdict::Good,
+            entries: 0,
+            reasons: None,
+        })
+    }
+
+    /// One more entry, whatever it is. It takes no memory.
+    pub fn hear(&mut self, entry: &Entry)
+        requires { self.old.entries < 2 ^ 64 - 1 }
+        ensures heard { (s : Given) (entries : List Noted) → HasJudged self.old s entries → HasJudged self.new s (entries ++ entry.now ∷ []) }
+        ensures count { self.new.entries ≡ self.old.entries + 1 }
+    {
+        self.hear_parts(entry.process, &entry.act.access, &entry.act.marks);
+    }
+
+    /// The same of an entry that is given by its parts: so it need not stand anywhere.
+    pub fn hear_parts(&mut self, process: u8, access: &Option<Access>, marks: &[Mark])
+        requires { self.old.entries < 2 ^ 64 - 1 }
+        ensures heard { (s : Given) (entries : List Noted) → HasJudged self.old s entries → HasJudged self.new s (entries ++ record { process = process; access = access.now; marks = marks.now } ∷ []) }
+        ensures count { self.new.entries ≡ self.old.entries + 1 }
+    {
+        let number = self.entries;
+        self.entries += 1;
+        if self.verdict == Verdict::Good {
+            self.verdict = self.verdict_with(number, process, access, marks);
+        }
+    }
+
+    /// The verdict with an entry of this number, where that on the entries before it is good.
+    fn verdict_with(
+        &mut self,
+        number: u64,
+        process: u8,
+        access: &Option<Access>,
+        marks: &[Mark],
+    ) -> Verdict
+        requires few { self.old.kept.entries < self.old.entries }
+        ensures verdict { self.new.verdict ≡ self.old.verdict }
+        ensures entries { self.new.entries ≡ self.old.entries }
+        ensures heard { (s : Given) (past : Past) → BothHeard self.old s past → result ≡ verdict_with number (first_broken s past (record { process = process; access = access.now; marks = marks.now })) }
+        ensures goes_on { (s : Given) (past : Past) → BothHeard self.old s past → result ≡ Good → BothHeard self.new s (record { process = process; access = access.now; marks = marks.now } ∷ past) }
+    {
+        let _nested: NestedTypes = None;
+        let is_safe = keeps_safe(&mut self.watch, access);
+        let law = self.kept.hear(is_safe, process, access, marks);
+        self.reasons = self.kept.reasons_of(law, process, access, marks);
+        found(number, law)
+    }
+
+    /// The verdict on the entries so far, and how many there are: the lowest entry that breaks a law, and the first law
+    /// that it breaks.
+    pub fn judged(&self) -> Judged
+        ensures verdict { (s : Given) (entries : List Noted) → HasJudged self.now s entries → result.verdict ≡ verdict_of s entries }
+        ensures entries { (s : Given) (entries : List Noted) → HasJudged self.now s entries → result.entries ≡ length entries }
+        ensures headline { (s : Given) (entries : List Noted) → HasJudged self.now s entries → result.verdict ≡ Good → KeepsHeadlineThroughout s (reverse entries) }
+    {
+        Judged {
+            verdict: self.verdict,
+            entries: self.entries,
+        }
+    }
+
+    /// The reasons of a bad verdict.
+    pub fn reasons(&self) -> Option<Reasons> {
+        self.reasons
+    }
+}
+
+/// Whether an entry with this access keeps the law `Safe`, which a watch hears.
+fn keeps_safe(watch: &mut Watch, access: &Option<Access>) -> bool
+    ensures setup { watch.new.setup ≡ watch.old.setup }
+    ensures heard { (past : Past) (e : Noted) → e.access ≡ access.now → HasWatched watch.old past → HasWatched watch.new (e ∷ past) }
+    ensures safe { (past : Past) (e : Noted) → e.access ≡ access.now → HasWatched watch.old past → AllAreOfThere watch.old.setup past → breaks_safe watch.old.setup past e ≡ not result }
+{
+    match access {
+        None => true,
+        Some(access) => watch.hear_access(*access),
+    }
+}
+
+/// The verdict with an entry, by the first law that it breaks.
+fn found(number: u64, law: Option<Law>) -> Verdict
+    ensures { result ≡ verdict_with number law }
+{
+    match law {
+        None => Verdict::Good,
+        Some(law) => Verdict::Bad(number, law),
+    }
+}

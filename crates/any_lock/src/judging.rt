@@ -1,0 +1,32 @@
+ghost use Rattle.std.specs.Prelude.{◌≡◌, IfOk, Ok, length, reverse};
+ghost use Rattle.plain_store.specs.Setups.{checked};
+ghost use Rattle.any_lock.specs.declared.verdicts.Verdict.TheVariants.{Good};
+ghost use Rattle.any_lock.specs.Headline.{GoodSaysTheHeadline, KeepsHeadlineThroughout};
+ghost use Rattle.any_lock.specs.Verdicts.{verdict_of};
+
+use crate::judge::Judge;
+use crate::verdicts::Judged;
+use plain_store::Setup;
+use record::Entry;
+use std::alloc::{AllocError, Global};
+
+/// The verdict on a record, and how many entries it has: the lowest entry that breaks a law, and the first law that it
+/// breaks. The one fault is want of memory.
+pub fn judge_all(alloc: Global, setup: &Setup, entries: &[Entry]) -> Result<Judged, AllocError>
+    requires good { checked setup.now ≡ Ok tt }
+    ensures verdict { IfOk result (λ judged. judged.verdict ≡ verdict_of setup.now entries.now) }
+    ensures entries { IfOk result (λ judged. judged.entries ≡ length entries.now) }
+    ensures headline { IfOk result (λ judged. judged.verdict ≡ Good → KeepsHeadlineThroughout setup.now (reverse entries.now)) }
+{
+    let mut judge = Judge::new(alloc, setup)?;
+    for entry in entries {
+        judge.hear(entry);
+    }
+    Ok(judge.judged())
+}
+
+/// What a good verdict says, whoever made the record: never two are inside, nobody gets inside while another is ahead,
+/// what is taken has its place and the one-thread store's reply there, and no call that was cut is answered.
+pub fn good_says_the_headline()
+    ensures { GoodSaysTheHeadline }
+{}

@@ -1,0 +1,426 @@
+//! What a judge keeps of the entries that it has heard, but for bits: where each process stands, the one-thread store,
+//! and how many commands and entries there were.
+ghost use Rattle.std.specs.Prelude.{◌≡◌, ℕ, ◌+◌, ◌-◌, ◌^◌, ◌<◌, ◌≤◌, ◌==◌, ◌&&◌, not, cond, [], ◌∷◌, IfOk, MatchOption, length, MatchResult, None, Ok, Some, slice_get, slice_set};
+ghost use Rattle.std.specs.List.{list_all, list_any};
+ghost use Rattle.plain_store.specs.Setups.{checked};
+ghost use Rattle.record.specs.Doorways.{is_before as before};
+ghost use Rattle.record.specs.Entries.{Entry as Noted, Past, is_entered};
+ghost use Rattle.record.specs.Histories.{history};
+ghost use Rattle.record.specs.Spans.{takings};
+ghost use Rattle.plain_store.specs.Store.{after};
+ghost use Rattle.any_lock.specs.declared.standings.Standing.{Standing as Stood};
+ghost use Rattle.any_lock.specs.Keeping.{Knows, accessed_by, is_taken, is_taken_as};
+ghost use Rattle.any_lock.specs.Laws.{breaks_overtaken, breaks_safe, breaks_together, broken_inside, broken_later, first_broken, is_that, lowest_other, right_reply, waits_before};
+ghost use Rattle.any_lock.specs.Refusals.{has_nothing, has_one_mark, refusal_of_access, refusal_of_marks, stands_alone as is_alone};
+ghost use Rattle.any_lock.specs.Standings.{standing as standing_of};
+
+use crate::mark_rules::{same_reply, stands_alone, waits};
+use crate::refusals::{AccessRefusal, MarkRefusal};
+use crate::standings::Standing;
+use crate::verdicts::Law;
+use plain_store::{Caller, NestedTypes, Reply, Setup, Store, opened};
+use record::{Access, Mark};
+use std::alloc::{AllocError, Global};
+use std::marker::Model;
+use store_image::Image;
+
+#[derive(Drop)]
+pub(crate) struct Kept {
+    setup: Setup,
+    standings: Vec<Standing>,
+    store: Image,
+    taken: u64,
+    entries: u64,
+}
+
+impl Model for Kept {
+    ghost use Rattle.any_lock.specs.Keeping.{IsKept, KeptState};
+
+    ghost Value = { KeptState };
+
+    ghost view = { λ k. record { setup = k.setup; standings = k.standings.items; store = k.store; taken = k.taken; entries = k.entries } };
+
+    ghost invariant = { λ k. IsKept (record { setup = k.setup; standings = k.standings.items; store = k.store; taken = k.taken; entries = k.entries }) };
+}
+
+impl Kept {
+    /// Of no entries. The one fault is want of memory.
+    pub fn new(alloc: Global, setup: &Setup) -> Result<Kept, AllocError>
+        requires { checked setup.now ≡ Ok tt }
+        ensures setup { IfOk result (λ k. k.setup ≡ setup.now) }
+        ensures knows { IfOk result (λ k. Knows k []) }
+    {
+        let _nested: NestedTypes = None;
+        let mut standings = Vec::new(alloc);
+        for _process in 0..setup.processes {
+            standings.push(Standing::at_rest())?;
+        }
+        Ok(Kept {
+            setup: *setup,
+            standings,
+            store: opened(Image::empty(setup.slots, setup.callers()), setup)?,
+            taken: 0,
+            entries: 0,
+        })
+    }
+
+    /// How many processes there are.
+    pub fn processes(&self) -> u8
+        ensures { result ≡ self.now.setup.processes }
+    {
+        self.setup.processes
+    }
+
+    /// How many entries there were.
+    pub fn entries(&self) -> u64
+        ensures { result ≡ self.now.entries }
+    {
+        self.entries
+    }
+
+    /// Where a process stands, if it is there.
+    pub fn standing(&self, process: u8) -> Option<&Standing>
+        ensures { MatchOption result (slice_get self.now.standings process ≡ None) (λ k. slice_get self.now.standings process ≡ Some k.now) }
+    {
+        self.standings.get(usize::from(process))
+    }
+
+    /// Why the access of an entry is refused, if it is.
+    pub fn refusal_of_access(&self, process: u8, access: &Option<Access>) -> Option<AccessRefusal>
+        ensures { (past : Past) (e : Noted) → e.process ≡ process → e.access ≡ access.now → Knows self.now past → result ≡ refusal_of_access self.now.setup past e }
+    {
+        if process >= self.setup.processes {
+            return Some(AccessRefusal::NoProcess);
+        }
+        let Some(access) = access else {
+            return None;
+        };
+        let Some(standing) = self.standing(process) else {
+            return Some(AccessRefusal::NoProcess);
+        };
+        standing.refuses_access(&self.setup, process, access)
+    }
+
+    /// Where the process of an entry stands after it, or why the entry's marks are refused.
+    pub fn marked(
+        &self,
+        process: u8,
+        access: &Option<Access>,
+        marks: &[Mark],
+    ) -> Result<Standing, MarkRefusal>
+        requires { process < self.now.setup.processes }
+        ensures { (past : Past) (e : Noted) → e.process ≡ process → e.access ≡ access.now → e.marks ≡ marks.now → Knows self.now past → MatchResult result (λ k. (refusal_of_marks self.now.setup past e ≡ None) × (k ≡ standing_of self.now.setup process (e ∷ past))) (λ refusal. refusal_of_marks self.now.setup past e ≡ Some refusal) }
+    {
+        let _nested: NestedTypes = None;
+        if has_nothing(access, marks) {
+            return Err(MarkRefusal::Nothing);
+        }
+        if is_crowded(access, marks) {
+            return Err(MarkRefusal::NotAlone);
+        }
+        let mut standing = self.accessed(process, access);
+        match standing.mark_all(&self.setup, self.entries, marks) {
+            Ok(()) => Ok(standing),
+            Err(refusal) => Err(refusal),
+        }
+    }
+
+    /// Where the process of an entry stands after its access.
+    fn accessed(&self, process: u8, access: &Option<Access>) -> Standing
+        requires { process < self.now.setup.processes }
+        ensures { (past : Past) → Knows self.now past → result ≡ accessed_by self.now.entries (standing_of self.now.setup process past) access.now }
+    {
+        let mut standing = self.standings[usize::from(process)];
+        if let Some(access) = access {
+            standing.make(self.entries, *access);
+        }
+        standing
+    }
+
+    /// The lowest process but this one that is inside.
+    pub fn other_inside(&self, process: u8) -> Option<u8>
+        ensures { (past : Past) → Knows self.now past → result ≡ lowest_other self.now.setup process (λ q. (standing_of self.now.setup q past).inside) }
+    {
+        for other in 0..self.processes() {
+            if self.is_inside_beside(other, process) {
+                return Some(other);
+            }
+        }
+        None
+    }
+
+    /// Whether one process is inside, and is another than this one.
+    fn is_inside_beside(&self, other: u8, process: u8) -> bool
+        requires { other < self.now.setup.processes }
+        ensures { (past : Past) → Knows self.now past → result ≡ (not (other == process) && (standing_of self.now.setup other past).inside) }
+    {
+        other != process && self.standings[usize::from(other)].inside
+    }
+
+    /// The lowest process that is ahead of this one.
+    fn other_ahead(&self, process: u8) -> Option<u8>
+        requires { process < self.now.setup.processes }
+        ensures { (past : Past) → Knows self.now past → result ≡ lowest_other self.now.setup process (λ q. waits_before (standing_of self.now.setup q past) (standing_of self.now.setup process past)) }
+    {
+        for other in 0..self.processes() {
+            if self.is_ahead(other, process) {
+                return Some(other);
+            }
+        }
+        None
+    }
+
+    /// Whether one process is ahead of another: it waits, since before the doorway of that one began.
+    pub fn is_ahead(&self, other: u8, process: u8) -> bool
+        requires other { other < self.now.setup.processes }
+        requires process { process < self.now.setup.processes }
+        ensures { (past : Past) → Knows self.now past → result ≡ (not (other == process) && waits_before (standing_of self.now.setup other past) (standing_of self.now.setup process past)) }
+    {
+        other != process && self.waits_before(other, process)
+    }
+
+    /// Whether one process waits, since before the doorway of a process began.
+    fn waits_before(&self, other: u8, process: u8) -> bool
+        requires other { other < self.now.setup.processes }
+        requires process { process < self.now.setup.processes }
+        ensures { (past : Past) → Knows self.now past → result ≡ waits_before (standing_of self.now.setup other past) (standing_of self.now.setup process past) }
+    {
+        let standing = &self.standings[usize::from(other)];
+        let doorway = self.standings[usize::from(process)].doorway;
+        waits(standing.stage) && is_before(standing.waits, doorway)
+    }
+
+    /// The place and the reply of a command of a process that is taken now.
+    pub fn right_taking(&self, process: u8) -> (u64, Reply)
+        requires { process < self.now.setup.processes }
+        ensures place { result.0 ≡ self.now.taken }
+        ensures reply { (past : Past) → Knows self.now past → result.1 ≡ right_reply self.now.setup past process }
+    {
+        let _nested: NestedTypes = None;
+        let standing = &self.standings[usize::from(process)];
+        let mut store = self.store;
+        let caller = Caller {
+            process,
+            number: standing.number,
+        };
+        let reply = store.apply(&standing.command, caller).unwrap();
+        (self.taken, reply)
+    }
+
+    /// Where the process of an entry stands after it, if it keeps all laws after `Safe`; else the first of these that it
+    /// breaks.
+    pub fn after(
+        &self,
+        process: u8,
+        access: &Option<Access>,
+        marks: &[Mark],
+    ) -> Result<Standing, Law>
+        ensures there { IfOk result (λ _. process < self.now.setup.processes) }
+        ensures laws { (past : Past) (e : Noted) → e.process ≡ process → e.access ≡ access.now → e.marks ≡ marks.now → Knows self.now past → MatchResult result (λ k. (broken_later self.now.setup past e ≡ None) × (k ≡ standing_of self.now.setup process (e ∷ past))) (λ law. broken_later self.now.setup past e ≡ Some law) }
+    {
+        let _nested: NestedTypes = None;
+        if let Some(_refusal) = self.refusal_of_access(process, access) {
+            return Err(Law::Access);
+        }
+        if process >= self.processes() {
+            return Err(Law::Access);
+        }
+        let Ok(standing) = self.marked(process, access, marks) else {
+            return Err(Law::Marks);
+        };
+        match self.broken_by(process, marks) {
+            None => Ok(standing),
+            Some(law) => Err(law),
+        }
+    }
+
+    /// The first law that an entry breaks whose access and marks are not refused.
+    fn broken_by(&self, process: u8, marks: &[Mark]) -> Option<Law>
+        requires { process < self.now.setup.processes }
+        ensures { (past : Past) (e : Noted) → e.process ≡ process → e.marks ≡ marks.now → Knows self.now past → result ≡ broken_inside self.now.setup past e }
+    {
+        if self.joins_another(process, marks) {
+            Some(Law::Together)
+        } else if self.overtakes(process, marks) {
+            Some(Law::Overtaken)
+        } else if !self.takes_rightly(process, marks) {
+            Some(Law::History)
+        } else {
+            None
+        }
+    }
+
+    /// Whether a process gets inside with these marks while another is inside.
+    fn joins_another(&self, process: u8, marks: &[Mark]) -> bool
+        ensures { (past : Past) (e : Noted) → e.process ≡ process → e.marks ≡ marks.now → Knows self.now past → result ≡ breaks_together self.now.setup past e }
+    {
+        enters(marks) && self.other_inside(process).is_some()
+    }
+
+    /// Whether a process gets inside with these marks while another is ahead of it.
+    fn overtakes(&self, process: u8, marks: &[Mark]) -> bool
+        requires { process < self.now.setup.processes }
+        ensures { (past : Past) (e : Noted) → e.process ≡ process → e.marks ≡ marks.now → Knows self.now past → result ≡ breaks_overtaken self.now.setup past e }
+    {
+        enters(marks) && self.other_ahead(process).is_some()
+    }
+
+    /// Whether each command that marks take has its place and its reply.
+    fn takes_rightly(&self, process: u8, marks: &[Mark]) -> bool
+        requires { process < self.now.setup.processes }
+        ensures { (past : Past) → Knows self.now past → result ≡ list_all (is_that (length (history self.now.setup past)) (right_reply self.now.setup past process)) (takings marks.now) }
+    {
+        let _nested: NestedTypes = None;
+        if !takes(marks) {
+            return true;
+        }
+        let (place, reply) = self.right_taking(process);
+        are_those(marks, place, &reply)
+    }
+
+    /// One more entry, by whether it keeps the law `Safe`: none, if it keeps all laws; else the first that it breaks,
+    /// and nothing is changed.
+    pub fn hear(
+        &mut self,
+        is_safe: bool,
+        process: u8,
+        access: &Option<Access>,
+        marks: &[Mark],
+    ) -> Option<Law>
+        requires { self.old.entries < 2 ^ 64 - 1 }
+        ensures setup { self.new.setup ≡ self.old.setup }
+        ensures entries { self.new.entries ≤ self.old.entries + 1 }
+        ensures law { (past : Past) (e : Noted) → e.process ≡ process → e.access ≡ access.now → e.marks ≡ marks.now → breaks_safe self.old.setup past e ≡ not is_safe → Knows self.old past → result ≡ first_broken self.old.setup past e }
+        ensures knows { (past : Past) (e : Noted) → e.process ≡ process → e.access ≡ access.now → e.marks ≡ marks.now → result ≡ None → Knows self.old past → Knows self.new (e ∷ past) }
+    {
+        let _nested: NestedTypes = None;
+        if !is_safe {
+            return Some(Law::Safe);
+        }
+        match self.after(process, access, marks) {
+            Ok(standing) => {
+                self.go_on(process, &standing, marks);
+                None
+            }
+            Err(law) => Some(law),
+        }
+    }
+
+    /// One more entry, with these marks, which breaks no law and after which its process stands so.
+    fn go_on(&mut self, process: u8, standing: &Standing, marks: &[Mark])
+        requires process { process < self.old.setup.processes }
+        requires few { self.old.entries < 2 ^ 64 - 1 }
+        ensures setup { self.new.setup ≡ self.old.setup }
+        ensures entries { self.new.entries ≡ self.old.entries + 1 }
+        ensures knows { (past : Past) (e : Noted) → e.process ≡ process → e.marks ≡ marks.now → standing.now ≡ standing_of self.old.setup process (e ∷ past) → Knows self.old past → Knows self.new (e ∷ past) }
+    {
+        self.count();
+        self.take(process, takes(marks));
+        self.stand(process, standing);
+    }
+
+    /// There is one entry more.
+    fn count(&mut self)
+        requires { self.old.entries < 2 ^ 64 - 1 }
+        ensures same { self.new ≡ record self.old { entries = self.old.entries + 1 } }
+        ensures few { self.new.taken < self.new.entries }
+    {
+        self.entries += 1;
+    }
+
+    /// A command of a process is taken, if one is.
+    fn take(&mut self, process: u8, takes: bool)
+        requires process { process < self.old.setup.processes }
+        requires few { self.old.taken < self.old.entries }
+        ensures setup { self.new.setup ≡ self.old.setup }
+        ensures standings { self.new.standings ≡ self.old.standings }
+        ensures entries { self.new.entries ≡ self.old.entries }
+        ensures taken { self.new.taken ≡ cond takes (self.old.taken + 1) self.old.taken }
+        ensures store { (k : Stood) → slice_get self.old.standings process ≡ Some k → self.new.store ≡ cond takes (after self.old.store k.command (record { process = process; number = k.number })) self.old.store }
+    {
+        let _nested: NestedTypes = None;
+        if !takes {
+            return;
+        }
+        let standing = &self.standings[usize::from(process)];
+        let caller = Caller {
+            process,
+            number: standing.number,
+        };
+        let _reply = self.store.apply(&standing.command, caller);
+        self.taken += 1;
+    }
+
+    /// A process stands so.
+    fn stand(&mut self, process: u8, standing: &Standing)
+        requires { process < self.old.setup.processes }
+        ensures { self.new ≡ record self.old { standings = slice_set self.old.standings process standing.now } }
+    {
+        self.standings[usize::from(process)] = *standing;
+    }
+}
+
+/// Whether an entry has neither an access nor a mark.
+fn has_nothing(access: &Option<Access>, marks: &[Mark]) -> bool
+    ensures { (p : ℕ) → result ≡ has_nothing (record { process = p; access = access.now; marks = marks.now }) }
+{
+    access.is_none() && marks.len() == 0
+}
+
+/// Whether one of the marks of an entry stands alone, and is not alone.
+fn is_crowded(access: &Option<Access>, marks: &[Mark]) -> bool
+    ensures { (p : ℕ) → result ≡ (list_any is_alone marks.now && not (has_one_mark (record { process = p; access = access.now; marks = marks.now }))) }
+{
+    any_stands_alone(marks) && !(access.is_none() && marks.len() == 1)
+}
+
+/// Whether one of the marks stands alone.
+fn any_stands_alone(marks: &[Mark]) -> bool
+    ensures { result ≡ list_any is_alone marks.now }
+{
+    marks.iter().any(stands_alone)
+}
+
+/// Whether a process gets inside with these marks.
+pub(crate) fn enters(marks: &[Mark]) -> bool
+    ensures { result ≡ list_any is_entered marks.now }
+{
+    marks.iter().any(|mark| matches!(mark, Mark::Entered))
+}
+
+/// Whether a command is taken with these marks.
+fn takes(marks: &[Mark]) -> bool
+    ensures { result ≡ list_any is_taken marks.now }
+{
+    marks.iter().any(|mark| matches!(mark, Mark::Taken(..)))
+}
+
+/// Whether each command that marks take has this place and this reply.
+fn are_those(marks: &[Mark], place: u64, reply: &Reply) -> bool
+    ensures { result ≡ list_all (is_taken_as place reply.now) marks.now }
+{
+    let _nested: NestedTypes = None;
+    marks.iter().all(|mark| is_taken_as(mark, place, reply))
+}
+
+/// Whether a mark takes no command, or one that has this place and this reply.
+fn is_taken_as(mark: &Mark, place: u64, reply: &Reply) -> bool
+    ensures { result ≡ is_taken_as place reply.now mark.now }
+{
+    let _nested: NestedTypes = None;
+    match mark {
+        Mark::Taken(at, told) => *at == place && same_reply(told, reply),
+        _ => true,
+    }
+}
+
+/// Whether a `wait` stands before a doorway begins, if it has begun.
+fn is_before(wait: Option<u64>, doorway: Option<u64>) -> bool
+    ensures { result ≡ before wait doorway }
+{
+    match (wait, doorway) {
+        (None, _) => false,
+        (Some(_), None) => true,
+        (Some(wait), Some(doorway)) => wait < doorway,
+    }
+}

@@ -1,0 +1,22 @@
+//! The judge of records of any lock on safe bits. It names no algorithm: it judges a record by its bits, its calls and
+//! its critical section. The laws are look-backs over the entries before an entry; the judge hears the entries one by
+//! one, in memory of a fixed size, and gives its reasons.
+#![tactic(auto)]
+
+mod access_rules;
+mod judge;
+mod judging;
+mod kept;
+mod mark_rules;
+mod reasons;
+mod refusals;
+mod shown;
+mod standings;
+mod verdicts;
+
+pub use judge::Judge;
+pub use judging::{good_says_the_headline, judge_all};
+pub use reasons::{Change, Reasons, Refused};
+pub use refusals::{AccessRefusal, MarkRefusal};
+pub use standings::{Begun, Standing};
+pub use verdicts::{Judged, Law, Verdict};

@@ -1,0 +1,210 @@
+//! What a mark is refused for, by where its process stands.
+ghost use Rattle.std.specs.Prelude.{◌≡◌, ◌||◌, ◌∷◌, [], ℕ, Bool};
+ghost use Rattle.plain_store.specs.declared.Command.{Command as Asked};
+ghost use Rattle.plain_store.specs.declared.Reply.{Reply as Replied};
+ghost use Rattle.record.specs.declared.marks.Mark.TheVariants.{Answered, Called, Down, Settled, Taken};
+ghost use Rattle.record.specs.Doorways.{is_waiting_stage};
+ghost use Rattle.any_lock.specs.Refusals.{first_that, has_other_reply, is_down, is_in_doorway, is_leaving, is_reply as answers_reply, is_settling, is_withdrawn, mark_refusal, same_reply, stands_alone as is_alone};
+
+use crate::access_rules::{is_running, settles};
+use crate::refusals::MarkRefusal;
+use crate::standings::Standing;
+use plain_store::{Answer, NestedTypes, Reply};
+use record::{Mark, Stage};
+
+/// The most calls of a process in version 2.
+const MOST_CALLS: u16 = 65_535;
+
+impl Standing {
+    /// Why a mark of its process is refused, if it is.
+    pub(crate) fn refuses_mark(&self, mark: &Mark) -> Option<MarkRefusal>
+        ensures { result ≡ mark_refusal self.now mark.now }
+    {
+        let _nested: NestedTypes = None;
+        match mark {
+            Mark::Called(_command) => self.refuses_call(),
+            Mark::Failed => refused_if(self.has_failed(), MarkRefusal::AlreadyFailed),
+            Mark::Withdrew | Mark::Entered => {
+                refused_if(!waits(self.stage), MarkRefusal::NotWaiting)
+            }
+            Mark::Restarted => refused_if(!is_down(self.stage), MarkRefusal::NotDown),
+            Mark::Waiting(_) => {
+                refused_if(!is_in_doorway(self.stage), MarkRefusal::NotInDoorway)
+            }
+            Mark::Left => refused_if(!self.inside, MarkRefusal::NotInside),
+            Mark::Taken(_place, _reply) => self.refuses_taking(),
+            Mark::Answered(answer) => self.refuses_answer(answer),
+            Mark::Settled(_value) => self.refuses_settled(),
+            Mark::Down => self.refuses_down(),
+        }
+    }
+
+    /// Why a call is refused, if it is.
+    fn refuses_call(&self) -> Option<MarkRefusal>
+        ensures { (c : Asked) → result ≡ mark_refusal self.now (Called c) }
+    {
+        if is_running(self.stage) {
+            Some(MarkRefusal::Busy)
+        } else if self.has_failed() {
+            Some(MarkRefusal::IsDown)
+        } else if self.number >= MOST_CALLS {
+            Some(MarkRefusal::CallsFull)
+        } else {
+            None
+        }
+    }
+
+    /// Why taking a command is refused, if it is.
+    fn refuses_taking(&self) -> Option<MarkRefusal>
+        ensures { (place : ℕ) (reply : Replied) → result ≡ mark_refusal self.now (Taken place reply) }
+    {
+        if !self.inside {
+            Some(MarkRefusal::NotInside)
+        } else if self.reply.is_some() {
+            Some(MarkRefusal::TakenBefore)
+        } else {
+            None
+        }
+    }
+
+    /// Why an answer is refused, if it is.
+    fn refuses_answer(&self, answer: &Answer) -> Option<MarkRefusal>
+        ensures { result ≡ mark_refusal self.now (Answered answer.now) }
+    {
+        let _nested: NestedTypes = None;
+        let withdrawn = is_withdrawn(answer);
+        if !(is_in_doorway(self.stage) || is_leaving(self.stage)) {
+            Some(MarkRefusal::NotLeaving)
+        } else if self.withdrawn && !withdrawn {
+            Some(MarkRefusal::WasWithdrawn)
+        } else if has_other_reply(&self.reply, answer) {
+            Some(MarkRefusal::OtherReply)
+        } else if self.reply.is_none() && is_reply(answer) {
+            Some(MarkRefusal::NotTaken)
+        } else if !self.withdrawn && withdrawn {
+            Some(MarkRefusal::NotWithdrawn)
+        } else if self.opened.is_some() {
+            Some(MarkRefusal::AccessOpen)
+        } else {
+            None
+        }
+    }
+
+    /// Why it is refused that its unit has settled a bit, if it is.
+    fn refuses_settled(&self) -> Option<MarkRefusal>
+        ensures { (value : Bool) → result ≡ mark_refusal self.now (Settled value) }
+    {
+        if !settles(self.stage) {
+            Some(MarkRefusal::NotSettling)
+        } else if self.torn.is_some() {
+            Some(MarkRefusal::Torn)
+        } else {
+            None
+        }
+    }
+
+    /// Why the end of its unit's work is refused, if it is.
+    fn refuses_down(&self) -> Option<MarkRefusal>
+        ensures { result ≡ mark_refusal self.now Down }
+    {
+        if !settles(self.stage) {
+            Some(MarkRefusal::NotSettling)
+        } else if self.inside {
+            Some(MarkRefusal::StillInside)
+        } else if self.opened.is_some() {
+            Some(MarkRefusal::AccessOpen)
+        } else if self.torn.is_some() {
+            Some(MarkRefusal::Torn)
+        } else {
+            None
+        }
+    }
+
+    /// Whether it has failed and was not restarted.
+    fn has_failed(&self) -> bool
+        ensures { result ≡ (is_settling self.now.stage || is_down self.now.stage) }
+    {
+        settles(self.stage) || is_down(self.stage)
+    }
+}
+
+/// This refusal, if a test holds.
+fn refused_if(holds: bool, refusal: MarkRefusal) -> Option<MarkRefusal>
+    ensures { result ≡ first_that ((holds, refusal) ∷ []) }
+{
+    if holds { Some(refusal) } else { None }
+}
+
+/// Whether a mark stands alone: without an access and without another mark.
+pub(crate) fn stands_alone(mark: &Mark) -> bool
+    ensures { result ≡ is_alone mark.now }
+{
+    matches!(
+        mark,
+        Mark::Called(_) | Mark::Failed | Mark::Withdrew | Mark::Restarted
+    )
+}
+
+/// Whether a process waits.
+pub(crate) fn waits(stage: Stage) -> bool
+    ensures { result ≡ is_waiting_stage stage }
+{
+    matches!(stage, Stage::Waiting)
+}
+
+/// Whether a process is down.
+fn is_down(stage: Stage) -> bool
+    ensures { result ≡ is_down stage }
+{
+    matches!(stage, Stage::Down)
+}
+
+/// Whether a process is in its doorway.
+fn is_in_doorway(stage: Stage) -> bool
+    ensures { result ≡ is_in_doorway stage }
+{
+    matches!(stage, Stage::Doorway)
+}
+
+/// Whether a process leaves.
+fn is_leaving(stage: Stage) -> bool
+    ensures { result ≡ is_leaving stage }
+{
+    matches!(stage, Stage::Leaving)
+}
+
+/// Whether an answer is that of a withdrawal.
+fn is_withdrawn(answer: &Answer) -> bool
+    ensures { result ≡ is_withdrawn answer.now }
+{
+    let _nested: NestedTypes = None;
+    matches!(answer, Answer::Withdrawn)
+}
+
+/// Whether an answer is a reply.
+fn is_reply(answer: &Answer) -> bool
+    ensures { result ≡ answers_reply answer.now }
+{
+    let _nested: NestedTypes = None;
+    matches!(answer, Answer::Reply(_))
+}
+
+/// Whether a command was taken with another reply than this answer.
+fn has_other_reply(taken: &Option<Reply>, answer: &Answer) -> bool
+    ensures { result ≡ has_other_reply taken.now answer.now }
+{
+    let _nested: NestedTypes = None;
+    match (taken, answer) {
+        (None, _) => false,
+        (Some(taken), Answer::Reply(reply)) => !same_reply(reply, taken),
+        (Some(_), _) => true,
+    }
+}
+
+/// Whether two replies are the same.
+pub(crate) fn same_reply(reply: &Reply, other: &Reply) -> bool
+    ensures { result ≡ same_reply reply.now other.now }
+{
+    let _nested: NestedTypes = None;
+    reply == other
+}

@@ -1,0 +1,201 @@
+//! Where a process stands, kept up access by access and mark by mark.
+ghost use Rattle.std.specs.Prelude.{◌≡◌, ◌<◌, ℕ, None, Some, IfErr, OnOk};
+ghost use Rattle.plain_store.specs.declared.Setup.{Setup as Given};
+ghost use Rattle.record.specs.declared.marks.Mark.TheVariants.{Called, Left};
+ghost use Rattle.record.specs.Doorways.{first_of};
+ghost use Rattle.any_lock.specs.Keeping.{accessed, at_rest, marked, marked_all, refusal_on};
+ghost use Rattle.any_lock.specs.Refusals.{mark_refusal};
+ghost use Rattle.any_lock.specs.Standings.{begins as begins_access, settles as settles_bit, write_of as write_in};
+
+use crate::refusals::MarkRefusal;
+use plain_store::{Command, NestedTypes, Reply, Setup};
+use record::{Access, Mark, Move, Stage};
+
+/// An access that begins, and the number of its entry.
+#[derive(Clone, Copy, Debug, PartialEq, Eq)]
+pub struct Begun {
+    pub entry: u64,
+    pub access: Access,
+}
+
+/// Where a process stands after the entries so far. Entries are told by their numbers, from 0.
+#[derive(Clone, Copy, Debug)]
+pub struct Standing {
+    pub stage: Stage,
+    /// Whether it has entered and not left since.
+    pub inside: bool,
+    /// Whether its call was withdrawn.
+    pub withdrawn: bool,
+    /// The number of its last call: in version 2 how many it has made, in version 1 always 0.
+    pub number: u16,
+    /// The command of its last call.
+    pub command: Command,
+    /// The reply with which its call has taken its command.
+    pub reply: Option<Reply>,
+    /// The access that it has open.
+    pub opened: Option<Begun>,
+    /// The write that was open as it last failed, until it is settled.
+    pub torn: Option<Begun>,
+    /// The first entry of its call with an access: there its doorway began.
+    pub doorway: Option<u64>,
+    /// The entry of its call with which it waits.
+    pub waits: Option<u64>,
+    /// The entry of its call with which it got inside.
+    pub enters: Option<u64>,
+}
+
+impl Standing {
+    /// Without an entry.
+    pub(crate) fn at_rest() -> Standing
+        ensures { result ≡ at_rest }
+    {
+        Standing {
+            stage: Stage::Idle,
+            inside: false,
+            withdrawn: false,
+            number: 0,
+            command: Command::Ask,
+            reply: None,
+            opened: None,
+            torn: None,
+            doorway: None,
+            waits: None,
+            enters: None,
+        }
+    }
+
+    /// After the access of this entry.
+    #[inline]
+    pub(crate) fn make(&mut self, entry: u64, access: Access)
+        ensures { self.new ≡ accessed entry self.old access }
+    {
+        if is_begin(access.how) {
+            self.opened = Some(Begun { entry, access });
+        } else {
+            self.opened = None;
+        }
+        if is_settling(access.how) {
+            self.torn = None;
+        }
+        self.doorway = first_of(self.doorway, entry);
+    }
+
+    /// After the marks of this entry, or else why the first refused one is refused.
+    pub(crate) fn mark_all(
+        &mut self,
+        setup: &Setup,
+        entry: u64,
+        marks: &[Mark],
+    ) -> Result<(), MarkRefusal>
+        ensures marked { OnOk result (self.new ≡ marked_all setup.now entry self.old marks.now) }
+        ensures allowed { OnOk result (refusal_on setup.now entry self.old marks.now ≡ None) }
+        ensures refused { IfErr result (λ refusal. refusal_on setup.now entry self.old marks.now ≡ Some refusal) }
+    {
+        let _nested: NestedTypes = None;
+        for mark in marks {
+            if let Some(refusal) = self.refuses_mark(mark) {
+                return Err(refusal);
+            }
+            self.mark(setup, entry, mark);
+        }
+        Ok(())
+    }
+
+    /// After a mark of this entry, which is not refused.
+    fn mark(&mut self, setup: &Setup, entry: u64, mark: &Mark)
+        requires { mark_refusal self.old mark.now ≡ None }
+        ensures { self.new ≡ marked setup.now entry self.old mark.now }
+    {
+        let _nested: NestedTypes = None;
+        match mark {
+            Mark::Called(command) => self.call(setup, command),
+            Mark::Waiting(_) => {
+                self.stage = Stage::Waiting;
+                self.waits = first_of(self.waits, entry);
+            }
+            Mark::Entered => {
+                self.stage = Stage::Inside;
+                self.inside = true;
+                self.enters = first_of(self.enters, entry);
+            }
+            Mark::Taken(_, reply) => self.reply = Some(*reply),
+            Mark::Left => self.leave(),
+            Mark::Answered(_) | Mark::Restarted => self.stage = Stage::Idle,
+            Mark::Failed => {
+                self.stage = Stage::Settling;
+                self.torn = write_of(self.opened);
+                self.opened = None;
+            }
+            Mark::Settled(_) => {}
+            Mark::Down => self.stage = Stage::Down,
+            Mark::Withdrew => {
+                self.stage = Stage::Leaving;
+                self.withdrawn = true;
+                self.opened = write_of(self.opened);
+            }
+        }
+    }
+
+    /// A call begins.
+    fn call(&mut self, setup: &Setup, command: &Command)
+        requires { self.old.number < 65535 }
+        ensures { (entry : ℕ) → self.new ≡ marked setup.now entry self.old (Called command.now) }
+    {
+        let _nested: NestedTypes = None;
+        self.stage = Stage::Doorway;
+        self.withdrawn = false;
+        self.number = if setup.version == 2 { self.number + 1 } else { 0 };
+        self.command = *command;
+        self.reply = None;
+        self.doorway = None;
+        self.waits = None;
+        self.enters = None;
+    }
+
+    /// It leaves; while its memory unit settles, it stays settling.
+    fn leave(&mut self)
+        ensures { (s : Given) (entry : ℕ) → self.new ≡ marked s entry self.old Left }
+    {
+        if self.stage != Stage::Settling {
+            self.stage = Stage::Leaving;
+        }
+        self.inside = false;
+    }
+}
+
+/// Whether a move begins an access.
+#[inline]
+fn is_begin(how: Move) -> bool
+    ensures { result ≡ begins_access how }
+{
+    matches!(how, Move::BeginWrite(_) | Move::BeginRead)
+}
+
+/// Whether a move settles.
+#[inline]
+pub(crate) fn is_settling(how: Move) -> bool
+    ensures { result ≡ settles_bit how }
+{
+    matches!(how, Move::Settle(_))
+}
+
+/// The first of two entries, of which there may be none before.
+#[inline]
+fn first_of(before: Option<u64>, entry: u64) -> Option<u64>
+    ensures { result ≡ first_of before (Some entry) }
+{
+    match before {
+        Some(before) => Some(before),
+        None => Some(entry),
+    }
+}
+
+/// What is open, if it is a write.
+fn write_of(opened: Option<Begun>) -> Option<Begun>
+    ensures { result ≡ write_in opened }
+{
+    match opened {
+        Some(begun) if matches!(begun.access.how, Move::BeginWrite(_)) => Some(begun),
+        _ => None,
+    }
+}

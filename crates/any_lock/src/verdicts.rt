@@ -1,0 +1,32 @@
+/// A law that each entry of the record of any lock keeps, by the entries before it. They are looked at in this order.
+#[derive(Clone, Copy, Debug, PartialEq, Eq)]
+pub enum Law {
+    /// A read that no write overlapped ends with the value last written or settled (Lamport 1986: the safe register).
+    Safe,
+    /// There is no refusal of the access.
+    Access,
+    /// There is no refusal of the marks.
+    Marks,
+    /// Nobody gets inside while another is inside.
+    Together,
+    /// Nobody gets inside while another is ahead: one that waits since before its doorway began.
+    Overtaken,
+    /// What is taken has its place, and the one-thread store's reply there.
+    History,
+}
+
+/// What a judge finds.
+#[derive(Clone, Copy, Debug, PartialEq, Eq)]
+pub enum Verdict {
+    /// Each entry keeps each law.
+    Good,
+    /// The lowest entry that breaks a law, counted from 0, and the first law that it breaks.
+    Bad(u64, Law),
+}
+
+/// A verdict on a record of so many entries. It is printed as `good <entries>` or `bad <entry> <law>`.
+#[derive(Clone, Copy, Debug, PartialEq, Eq)]
+pub struct Judged {
+    pub verdict: Verdict,
+    pub entries: u64,
+}
