@@ -3,6 +3,7 @@
 
 ghost use Rattle.std.specs.Prelude.{◌-◌, ◌<◌, ◌^◌};
 
+use any_judge::judge_any_lock;
 use command_line::{
     Asked, Engine, Intake, Output, Request, Terminals, WatchedInput, Watcher, all_words, read_words,
 };
@@ -109,6 +110,7 @@ fn run_engine<T: AllocGlobal + Threads + Wait + Sync, R: Source, W: Sink, L: Onl
         Engine::Audit => run_audit(alloc, input, output, onlooker),
         Engine::Sweep => run_sweep(alloc, input, output, onlooker),
         Engine::Record => ended(run_record(alloc, input, output, onlooker)),
+        Engine::Judge if request.any_lock => judge_any_lock(alloc, input, output, request.why),
         Engine::Judge => run_judge(alloc, input, output),
         Engine::Race => return run_race(rt, alloc, input, output),
         Engine::Draw => ended(draw(alloc, reads_of(request), input, output, onlooker)),

@@ -73,11 +73,11 @@ record_runs_empty : (own : Text) → RunsFile own [] (command (codes "record") R
 unfolding clap_on_literals command_named
 record_runs_empty own = (refl, refl, refl, refl, refl)
 
-judge_runs : (own : Text) (x : ℕ) (rest : List ℕ) → (x == 45) ≡ false → RunsFile own (x ∷ rest) (command (codes "judge") Judge [])
+judge_runs : (own : Text) (x : ℕ) (rest : List ℕ) → (x == 45) ≡ false → RunsFile own (x ∷ rest) (command (codes "judge") Judge (codes "any-lock" ∷ codes "why" ∷ []))
 unfolding clap_on_literals command_named
 judge_runs own x rest e = (rw (e, no_flags x rest e) refl, rw (e, no_flags x rest e) refl, rw (e, no_flags x rest e) refl, rw (e, no_flags x rest e) refl, rw (e, no_flags x rest e) refl)
 
-judge_runs_empty : (own : Text) → RunsFile own [] (command (codes "judge") Judge [])
+judge_runs_empty : (own : Text) → RunsFile own [] (command (codes "judge") Judge (codes "any-lock" ∷ codes "why" ∷ []))
 unfolding clap_on_literals command_named
 judge_runs_empty own = (refl, refl, refl, refl, refl)
 

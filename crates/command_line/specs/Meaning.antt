@@ -92,6 +92,8 @@ pub record Running : Type 0 where
   pub engine : Engine
   pub file : Text
   pub reads : Bool
+  pub any_lock : Bool
+  pub why : Bool
   pub quiet : Bool
 
 -- that a file is run; or that a page is printed: of all words, of the faults, or of a command
@@ -111,6 +113,8 @@ asked_by (Run r) = runs (record {
   engine = r.command.engine;
   file = r.file.now;
   reads = r.reads;
+  any_lock = r.any_lock;
+  why = r.why;
   quiet = r.quiet;
 })
 asked_by (Tell page) = told_by page
@@ -138,6 +142,8 @@ asked_of_file quiet command own file = runs (record {
   engine = command.engine;
   file = file;
   reads = has_flag (codes "reads") own;
+  any_lock = has_flag (codes "any-lock") own;
+  why = has_flag (codes "why") own;
   quiet = quiet || has_flag (codes "quiet") own;
 })
 
@@ -175,8 +181,14 @@ is_plain_word (x ∷ rest) = not (x == 45)
 
 -- that a command runs a file
 abbrev pub runs_file : Listed → Text → Bool → Option Meant
-runs_file c file quiet =
-    Some (runs (record { engine = c.engine; file = file; reads = false; quiet = quiet }))
+runs_file c file quiet = Some (runs (record {
+  engine = c.engine;
+  file = file;
+  reads = false;
+  any_lock = false;
+  why = false;
+  quiet = quiet;
+}))
 
 -- its name and a file mean that; with `--quiet` in front of the name, behind it or behind the file
 -- they mean the same, quietly

@@ -140,7 +140,7 @@ pub const COMMANDS: [(&str, Engine, Intake, &[&str], &str, &str, &str); 10] = [
         "judge",
         Engine::Judge,
         Intake::Streamed,
-        &[],
+        &["any-lock", "why"],
         "a record, whoever made it: good, or the first law that is broken",
         "examples/failed-read.record",
         JUDGE,

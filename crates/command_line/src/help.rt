@@ -23,6 +23,7 @@ pub const MORE_WORDS: &str = r"
 Options:
 
   --reads   of draw and draw-svg: shows the reads too that writes overlapped
+  --any-lock, --why   of judge: takes the record of any lock; gives reasons
   --quiet   shows no progress. Else, where standard error is a terminal and standard
             output is none, a run of more than two seconds shows there how far it is
             (but plain and bits, which are soon done, and race, of which all threads
@@ -163,6 +164,29 @@ the law, and then ends with status 3. The lines of a record: docs/RECORDS.md
 
   $ printf 'record 1\n0 : call read a\n0 0.choosing.0.0 write 1\n' | bakerystore judge -
   good 2
+
+With --any-lock it takes the record of any lock on safe bits, and judges its bits,
+calls and critical section; no algorithm is asked for. The laws, in order: `safe`,
+`access`, `marks`, `together`, `overtaken`, `history`.
+
+With --why reasons follow a `bad`, each where there is something to say:
+
+  line N          its line in the file, with skipped lines
+  is ENTRY        the entry
+  may ENTRY       what may stand in its place: at most two such lines
+  refused NAME    why the access or the mark is refused
+  stage WORD      the stage of its process before it
+  open K, torn K  with --any-lock: since entry K an access is open, or a write is torn
+  inside Q K      of `together`: process Q is inside since entry K
+  waits Q K       of `overtaken`: Q is ahead, and waits since entry K
+  doorway K       of `overtaken`: since entry K the process is in its doorway
+
+  $ printf 'record 1\n0 : call read a\n0 : enter\n' | bakerystore judge --any-lock --why -
+  bad 1 marks
+  line 3
+  is 0 : enter
+  refused not-waiting
+  stage doorway
 ";
 
 /// The page of `draw`.

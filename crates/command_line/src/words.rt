@@ -22,6 +22,10 @@ pub struct Request<'a> {
     pub file: &'a str,
     /// Whether the picture shows the reads that writes overlapped.
     pub reads: bool,
+    /// Whether a record of any lock is judged, by its bits, calls and critical section.
+    pub any_lock: bool,
+    /// Whether a bad verdict has reasons.
+    pub why: bool,
     /// Whether nothing is to be shown of how far the run is.
     pub quiet: bool,
 }
@@ -115,6 +119,8 @@ fn asked_of_none<'a>(quiet: bool) -> Option<Asked<'a>>
         command: command_named("plain")?,
         file: "-",
         reads: false,
+        any_lock: false,
+        why: false,
         quiet,
     }))
 }
@@ -152,6 +158,8 @@ fn request_of<'a>(quiet: bool, command: Entry, own: &ArgMatches<'a>, file: &'a s
         command,
         file,
         reads: is_set(own, "reads"),
+        any_lock: is_set(own, "any-lock"),
+        why: is_set(own, "why"),
         quiet: quiet | is_set(own, "quiet"),
     }
 }
