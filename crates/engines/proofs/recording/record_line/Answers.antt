@@ -4,7 +4,8 @@ use Rattle.course.specs.Courses.{CourseState, Follows}
 use Rattle.engines.specs.Recordings.{CutsCopy}
 use Rattle.course.specs.Steppers.{IsReady}
 use Rattle.course.specs.declared.told.Told.{Told}
-use Rattle.engines.proofs.Recordings.{Draws, StepsNext, TellsNext, copying_cut, copying_ended, copying_start, copying_step, copying_torn, copying_turn, step_torn}
+use Rattle.engines.proofs.Recordings.{copying_cut, copying_ended, copying_start, copying_step, copying_torn, copying_turn, step_torn}
+use Rattle.course.proofs.Steppings.{Draws, StepsNext, TellsNext}
 use Rattle.course.proofs.Written.{on_err}
 use Rattle.engines.proofs.recording.record_line.Goals as goal
 
