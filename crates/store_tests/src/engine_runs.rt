@@ -105,7 +105,8 @@ fn tells_a_writer_that_fails(rt: HostRuntime) -> Result<(), Fail> {
                     Ok(())
                 };
                 assert!(rt; ran == wanted, "{ran:?}");
-                assert!(rt; output.written.as_slice() == &prints.as_bytes()[..fails_after]);
+                assert!(rt; output.written.len() == fails_after);
+                assert!(rt; prints.as_bytes().starts_with(output.written.as_slice()));
             }
         }
     }
