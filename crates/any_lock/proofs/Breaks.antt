@@ -82,9 +82,9 @@ kept_by s past e unbroken a v acc how begins calm =
     let moves = moves_of a past in
     let opens = opening_bit s a in
     let h : ends_wrongly (opening_bit s a) (moves_of a past) (move.EndRead v) ≡ false = subst (λ m. ends_wrongly (opening_bit s a) (moves_of a past) m ≡ false) how
-        (subst (λ (o : Option Access). breaks_safe s past (record { process = e.process; access = o; marks = e.marks }) ≡ false) acc unbroken) in
+    (subst (λ (o : Option Access). breaks_safe s past (record { process = e.process; access = o; marks = e.marks }) ≡ false) acc unbroken) in
     same v (last_written (opening_bit s a) (before_read (moves_of a past)))
-        (go (begins_read (moves_of a past)) (is_overlapped (moves_of a past)) (same_truth v (last_written (opening_bit s a) (before_read (moves_of a past)))) begins calm h)
+    (go (begins_read (moves_of a past)) (is_overlapped (moves_of a past)) (same_truth v (last_written (opening_bit s a) (before_read (moves_of a past)))) begins calm h)
   where
     go : (b o t : Bool) → b ≡ true → o ≡ false → (b && not o && not t) ≡ false → t ≡ true
     go true false true b o h = refl

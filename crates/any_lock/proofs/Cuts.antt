@@ -220,7 +220,7 @@ all_sound s (e ∷ past) all p = go (cases_eq e.process p) (all_sound s past all
         subst (λ k. IsSound k (is_cut e.process (e ∷ past))) (stands_whole s e.process past e.access e.marks fine.apart none)
         (subst (λ b. IsSound (marked_all s (length past) (accessed_by (length past) (standing s e.process past) e.access) e.marks) b) (sym (cut_on e.process past e.access e.marks fine))
         (sound_all s (length past) e.marks (accessed_by (length past) (standing s e.process past) e.access) (is_cut e.process past) none
-            (sound_accessed (length past) (standing s e.process past) e.access (is_cut e.process past) before)))
+        (sound_accessed (length past) (standing s e.process past) e.access (is_cut e.process past) before)))
 
     go : (e.process ≡ p) ⊎ (e.process ≢ p) → IsSound (standing s p past) (is_cut p past) → IsSound (standing s p (e ∷ past)) (is_cut p (e ∷ past))
     go (inl same) before = subst (λ q. IsSound (standing s q (e ∷ past)) (is_cut q (e ∷ past))) same (mine (subst (λ q. IsSound (standing s q past) (is_cut q past)) (sym same) before))

@@ -207,10 +207,10 @@ module _ (s : Setup) (p : ℕ) (o : Option Access) (ms : List Mark) (m : Mark) (
       (command-plain p o (ms ++ m ∷ []) past (plain-more ms m plain is) ∙ sym (command-plain p o ms past plain))
       reply
       (opened-mine p (with_marks p o (ms ++ m ∷ [])) past refl
-          ∙ fold-append left_open (begun_by (length past) o (opened p past)) ms (m ∷ [])
-          ∙ ap (λ x. left_open x m) (sym (opened-mine p (with_marks p o ms) past refl)))
+      ∙ fold-append left_open (begun_by (length past) o (opened p past)) ms (m ∷ [])
+      ∙ ap (λ x. left_open x m) (sym (opened-mine p (with_marks p o ms) past refl)))
       (torn-mine p (with_marks p o (ms ++ m ∷ [])) past refl false (none_of is_failed no_failure (ms ++ m ∷ []) (plain-more ms m plain is))
-          ∙ sym (torn-mine p (with_marks p o ms) past refl false (none_of is_failed no_failure ms plain)))
+      ∙ sym (torn-mine p (with_marks p o ms) past refl false (none_of is_failed no_failure ms plain)))
       (numbered-plain p has_access o (ms ++ m ∷ []) past (plain-more ms m plain is) ∙ sym (numbered-plain p has_access o ms past plain))
       (numbered-more p is_waiting o ms m past plain is)
       (numbered-more p is_entered o ms m past plain is)

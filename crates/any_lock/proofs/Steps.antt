@@ -26,7 +26,17 @@ use Rattle.any_lock.specs.Standings.{begun_by, has_access, is_withdrawal, its_ca
 pub standing_by : (k : Standing) (m : Standing) → k.stage ≡ m.stage → k.inside ≡ m.inside → k.withdrawn ≡ m.withdrawn → k.number ≡ m.number → k.command ≡ m.command →
     k.reply ≡ m.reply → k.opened ≡ m.opened → k.torn ≡ m.torn → k.doorway ≡ m.doorway → k.waits ≡ m.waits → k.enters ≡ m.enters → k ≡ m
 standing_by k m a b c d e f g h i j l = λ x. record {
-  stage = a x; inside = b x; withdrawn = c x; number = d x; command = e x; reply = f x; opened = g x; torn = h x; doorway = i x; waits = j x; enters = l x;
+  stage = a x;
+  inside = b x;
+  withdrawn = c x;
+  number = d x;
+  command = e x;
+  reply = f x;
+  opened = g x;
+  torn = h x;
+  doorway = i x;
+  waits = j x;
+  enters = l x;
 }
 
 -- At rest.

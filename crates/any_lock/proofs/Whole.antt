@@ -58,7 +58,7 @@ marked_on s p o earlier (m ∷ later) past plain rest none = go (mark_refusal k 
 
     go : (r : Option MarkRefusal) → mark_refusal k m ≡ r → refusal_or (mark_refusal k m) (refusal_on s (length past) (marked s (length past) k m) later) ≡ None →
         (refusal_on s (length past) (standing s p (with_marks p o (earlier ++ m ∷ []) ∷ past)) later ≡ None →
-            marked_all s (length past) (standing s p (with_marks p o (earlier ++ m ∷ []) ∷ past)) later ≡ standing s p (with_marks p o ((earlier ++ m ∷ []) ++ later) ∷ past)) →
+        marked_all s (length past) (standing s p (with_marks p o (earlier ++ m ∷ []) ∷ past)) later ≡ standing s p (with_marks p o ((earlier ++ m ∷ []) ++ later) ∷ past)) →
         marked_all s (length past) (marked s (length past) k m) later ≡ standing s p (with_marks p o (earlier ++ m ∷ later) ∷ past)
     go (Some r) h none_left more = let both : Some r ≡ None = ap (λ x. refusal_or x (refusal_on s (length past) (marked s (length past) k m) later)) (sym h) ∙ none_left in cc
     go None h none_left more =

@@ -2,9 +2,9 @@
 ghost use Rattle.std.specs.Prelude.{◌<◌};
 
 use crate::kept::Kept;
-use crate::verdicts::Law;
 use crate::refusals::{AccessRefusal, MarkRefusal};
 use crate::standings::Begun;
+use crate::verdicts::Law;
 use plain_store::{NestedTypes, Reply};
 use record::{Access, Mark, Move, Stage};
 
@@ -66,13 +66,7 @@ impl Kept {
     }
 
     /// The reasons of an entry that breaks this law first.
-    fn reasons(
-        &self,
-        law: Law,
-        process: u8,
-        access: &Option<Access>,
-        marks: &[Mark],
-    ) -> Reasons {
+    fn reasons(&self, law: Law, process: u8, access: &Option<Access>, marks: &[Mark]) -> Reasons {
         let _nested: NestedTypes = None;
         let standing = self.standing(process);
         Reasons {
@@ -133,12 +127,7 @@ impl Kept {
     }
 
     /// The other value of a read's end, if the entry would keep all laws with it.
-    fn other_value(
-        &self,
-        process: u8,
-        access: &Option<Access>,
-        marks: &[Mark],
-    ) -> Option<Change> {
+    fn other_value(&self, process: u8, access: &Option<Access>, marks: &[Mark]) -> Option<Change> {
         let Some(told) = access else {
             return None;
         };
