@@ -1,5 +1,5 @@
 -- What is read of a whole file, line by line.
-use Rattle.std.proofs.Common.{◌≡◌, ℕ, ◌+◌, ◌≤◌, Bool, true, false, List, [], ◌∷◌, ◌++◌, length, Option, Some, None, Ok, Err, IfSome, IsSome, refl, ap, sym, subst, ◌∙◌, arith}
+use Rattle.std.proofs.Common.{◌≡◌, ℕ, ◌+◌, ◌≤◌, Bool, true, false, List, [], ◌∷◌, ◌++◌, length, Option, Some, None, Result, Ok, Err, IfErr, IfSome, IsErrAnd, IsSome, refl, ap, sym, subst, ◌∙◌, arith}
 use Rattle.std.proofs.lemmas.List.{length-append}
 use Rattle.std.specs.Io.KnownBytes.{IsAtEnd, prepend_known}
 use Rattle.any_lock.specs.Verdicts.{IsVerdict}
@@ -14,8 +14,11 @@ use Rattle.files.specs.declared.faults.FaultKind.TheVariants.{NotFirst, TooLong}
 use Rattle.record.specs.Entries.{Entry}
 use Rattle.record_file.specs.RecordFiles.{Progress, cleared, entry_in, line_read, lines_read, record_of, rest_read, said_by}
 use Rattle.files.specs.Lines.{IsTooLong, TakesLine}
-use Rattle.files.specs.SourceLines.{EndHolds, Given, LineState, TakesNext, Told, coming, unless_ended}
-use Rattle.any_judge.specs.Judgements.{IsJudged}
+use Rattle.files.specs.declared.faults.Fault.{Fault}
+use Rattle.files.specs.declared.faults.Fault.TheVariants as fault
+use Rattle.files.specs.declared.faults.LineFault.{LineFault}
+use Rattle.files.specs.SourceLines.{EndHolds, Given, GoesToNext, LineState, TakesNext, Told, coming, unless_ended}
+use Rattle.any_judge.specs.Judgements.{IsInputFault, IsJudged}
 use Rattle.any_lock.specs.Judging.{JudgeState}
 use Rattle.any_judge.specs.Trials.{GoesOn, Hears, HearsAt, Stands, TrialState, count_of}
 use Rattle.any_judge.proofs.Trials.{few_in, long_read, unless_then}
@@ -149,3 +152,15 @@ onwards_judged to_come mid taken t u p judged some end count verdict =
 pub read_some : (o : Option Progress) → IsSome o → (p : Progress) × (o ≡ Some p)
 read_some None some = absurd (cc)
 read_some (Some p) some = (p, refl)
+
+-- no line more, for a fault
+pub next_fault : (to_come mid rest : Option (List ℕ)) (l l' : LineState) (t : TrialState) (f : Fault) (u : Onwards to_come mid l.taken t) → GoesToNext (Err f) l l' mid rest → IsInputFault f to_come
+next_fault to_come mid rest l l' t (fault.Line f) u goes = subst (λ (f : LineFault). IsInputFault (fault.Line f) to_come) (sym goes.0) (onwards_long to_come mid l.taken t u goes.1)
+next_fault to_come mid rest l l' t fault.Read u goes = tt
+next_fault to_come mid rest l l' t fault.Memory u goes = tt
+next_fault to_come mid rest l l' t fault.Write u goes = absurd goes
+
+-- a fact of the fault that is answered
+pub if_err : {A : Type 0} (r : Result A Fault) (f : Fault) (P : Fault → Type 0) → IsErrAnd r (λ e. e ≡ f) → P f → IfErr r P
+if_err (Ok x) f P is holds = tt
+if_err (Err e) f P is holds = subst P (sym is) holds

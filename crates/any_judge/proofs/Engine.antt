@@ -42,8 +42,8 @@ cut_by f = Err f
 -- a front of it was, before a call failed
 pub judge_cut : (asked : Bool) (r : Result ℕ Fault) (f : Fault) (judged : Judged) (reasons : List ℕ) (old new : Streams) → IsErrAnd r (λ e. e ≡ f) → cut_by f ≡ cut_by fault.Write → IfSome old.to_come (λ text. IsJudged text judged) → new.write_failures ≡ old.write_failures + 1 →
     WritesFront old.taken new.taken (judgement_text asked judged reasons) → JudgeEnds asked r old new
-judge_cut asked (Ok status) f judged reasons old new is write judged failed front = absurd is
-judge_cut asked (Err e) f judged reasons old new is write judged failed front =
+judge_cut asked (Ok status) f judged reasons old new is write says failed front = absurd is
+judge_cut asked (Err e) f judged reasons old new is write whole failed front =
     let same : f ≡ fault.Write = cc in
     subst (λ e. JudgeEnds asked (Err e) old new) (sym (is ∙ same))
-    (omega (arith, failed), if_some old.to_come (λ text. IsJudged text judged) (λ text. TellsPart asked text old.taken new.taken) (λ text says. record { judged = judged; is = says; reasons = reasons; front = front }) judged)
+    (omega (arith, failed), if_some old.to_come (λ text. IsJudged text judged) (λ text. TellsPart asked text old.taken new.taken) (λ text says. record { judged = judged; is = says; reasons = reasons; front = front }) whole)

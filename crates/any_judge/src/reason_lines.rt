@@ -32,19 +32,17 @@ pub(crate) fn reason_lines(
     push_entry(alloc, "open", reasons.opened, text)?;
     push_entry(alloc, "torn", reasons.torn, text)?;
     if let Some((process, since)) = reasons.inside {
-        push_pair(alloc, "inside", process, since, text)?;
+        push_pair(alloc, "inside", usize::from(process), since, text)?;
     }
     push_waits(alloc, &reasons.waits, text)?;
     push_entry(alloc, "doorway", reasons.doorway, text)
 }
 
 fn push_waits(alloc: Global, waits: &[Option<u64>], text: &mut Vec<u8>) -> Result<(), AllocError> {
-    let mut process = 0;
-    for wait in waits {
+    for (process, wait) in waits.iter().enumerate() {
         if let Some(entry) = *wait {
             push_pair(alloc, "waits", process, entry, text)?;
         }
-        process += 1;
     }
     Ok(())
 }
@@ -92,7 +90,7 @@ fn push_word(alloc: Global, name: &str, word: &str, text: &mut Vec<u8>) -> Resul
 fn push_pair(
     alloc: Global,
     word: &str,
-    process: u8,
+    process: usize,
     entry: u64,
     text: &mut Vec<u8>,
 ) -> Result<(), AllocError> {

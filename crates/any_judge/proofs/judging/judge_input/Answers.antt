@@ -5,7 +5,7 @@ use Rattle.record_file.specs.RecordFiles.{line_read}
 use Rattle.files.specs.SourceLines.{GoesToNext, coming}
 use Rattle.any_judge.specs.Judgements.{IsInputFault}
 use Rattle.any_judge.specs.Trials.{GoesOn}
-use Rattle.any_judge.proofs.Ends.{onwards_fault, onwards_judged, onwards_on, read_some}
+use Rattle.any_judge.proofs.Ends.{if_err, next_fault, onwards_fault, onwards_judged, onwards_on, read_some}
 use Rattle.any_judge.proofs.judging.judge_input.Goals as goal
 
 pub lines-preserved : goal.lines-preserved
@@ -41,3 +41,11 @@ returns-clause-judged g c =
     let ends = subst (λ (b : Bool). GoesToNext (Ok b) c.lines.lines c.next.new.self mid rest) c.if-branch.false c.in_ok-next.ensures.next in
     let read = read_some c.lines.trial.reader c.in-Some.ensures.some in
     onwards_judged all mid c.lines.lines.taken c.lines.trial u read.0 c.in-Some.judged read.1 ends.before c.in-Some.ensures.entries c.in-Some.ensures.verdict
+
+pub returns-in_err-next-clause-fault : goal.returns-in_err-next-clause-fault
+returns-in_err-next-clause-fault g c =
+    let all = g.R.Source.to_come c.args.input.now in
+    let mid = coming c.lines.lines.ahead (g.R.Source.to_come c.lines.input) in
+    let rest = coming c.next.new.self.ahead (g.R.Source.to_come c.next.new.input) in
+    if_err c.from_residual.result c.in_err-next.field-0.0 (λ (f : Fault). IsInputFault f all) c.from_residual.ensures.1
+    (next_fault all mid rest c.lines.lines c.next.new.self c.lines.trial c.in_err-next.field-0.0 c.lines.invariant.onwards c.in_err-next.ensures.next)
