@@ -41,6 +41,7 @@ CASES = [
     (["judge", "-"], RECORD[1], (0, "good 1\n", "")),
     (["judge", "-"], RECORD[1] + "0 : fail\n0 : fail\n", (3, "bad 2 program\n", "")),
     *((words, "record 1\n0 : call read a\n0 : enter\n", (3, WHY, "")) for words in [["judge", "--why", "-", "--any-lock"], ["judge", "-", "--any-lock", "--why"]]),
+    (["judge", "--why", "-"], "record 1\n", (2, "", "error: '--why' gives reasons of '--any-lock' alone, which is not given\n")),
     (["judge", "--any-lock", "-"], "record 1\n0 : call read a\n0 : enter\n", (3, "bad 1 marks\n", "")),
     (["judge", "a file"], "", (1, "", "line 1: not-first\n")),
     (["bits", "-"], "bits 1\nend\n", (0, "refused\n", "")),

@@ -5,7 +5,8 @@ ghost use Rattle.std.specs.Prelude.{◌-◌, ◌<◌, ◌^◌};
 
 use any_judge::judge_any_lock;
 use command_line::{
-    Asked, Engine, Intake, Output, Request, Terminals, WatchedInput, Watcher, all_words, read_words,
+    Asked, Engine, Intake, Output, Request, Terminals, USAGE_STATUS, WatchedInput, Watcher,
+    all_words, read_words,
 };
 use drawer::progress::Onlooker;
 use drawer::{Reads, draw, draw_svg};
@@ -20,6 +21,9 @@ use std::process::ExitCode;
 use std::sync::Wait;
 use std::thread::Threads;
 use std::time::Clock;
+
+/// What is told where reasons are asked for that there are none of.
+const WHY_ALONE: &str = "error: '--why' gives reasons of '--any-lock' alone, which is not given";
 
 fn main(rt: HostRuntime) -> ExitCode {
     let terminals = Terminals {
@@ -39,6 +43,10 @@ fn do_asked<T: Env + Files + Input + Print + Eprint + Clock + AllocGlobal + Thre
         Err(notice) => return Ok(notice.tell(rt)?),
     };
     match read_words(rt.alloc(), words.as_slice()) {
+        Ok(Asked::Run(request)) if request.why && !request.any_lock => {
+            let _ = eprintln!(rt; "{WHY_ALONE}");
+            Ok(USAGE_STATUS)
+        }
         Ok(Asked::Run(request)) => run(rt, &request, terminals),
         Ok(Asked::Tell(page)) => Ok(page.tell(rt)?),
         Err(notice) => Ok(notice.tell(rt)?),

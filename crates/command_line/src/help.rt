@@ -23,7 +23,7 @@ pub const MORE_WORDS: &str = r"
 Options:
 
   --reads   of draw and draw-svg: shows the reads too that writes overlapped
-  --any-lock, --why   of judge: takes the record of any lock; gives reasons
+  --any-lock, --why   of judge: takes the record of any lock; gives its reasons
   --quiet   shows no progress. Else, where standard error is a terminal and standard
             output is none, a run of more than two seconds shows there how far it is
             (but plain and bits, which are soon done, and race, of which all threads
@@ -169,7 +169,7 @@ With --any-lock it takes the record of any lock on safe bits, and judges its bit
 calls and critical section; no algorithm is asked for. The laws, in order: `safe`,
 `access`, `marks`, `together`, `overtaken`, `history`.
 
-With --why reasons follow a `bad`, each where there is something to say:
+With --why beside it reasons follow a `bad`, each where there is something to say:
 
   line N          its line in the file, with skipped lines
   is ENTRY        the entry

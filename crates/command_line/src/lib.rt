@@ -11,7 +11,7 @@ mod terminal;
 mod words;
 
 pub use commands::{Engine, Entry, Intake};
-pub use notices::Notice;
+pub use notices::{Notice, USAGE_STATUS};
 pub use pages::Page;
 pub use progress::{WatchedInput, Watcher};
 pub use terminal::{Output, Terminals};

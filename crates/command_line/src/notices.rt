@@ -10,7 +10,7 @@ use files::Fault;
 use std::alloc::{AllocError, Global};
 
 /// The exit status where the words ask for nothing that there is.
-const USAGE_STATUS: u8 = 2;
+pub const USAGE_STATUS: u8 = 2;
 
 /// What is told where a word is not UTF-8.
 const NOT_TEXT: &str =

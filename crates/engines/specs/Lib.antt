@@ -1,3 +1,4 @@
+pub use Rattle.course.specs as course
 pub mod Audits
 pub mod BitCells
 pub mod Bits

@@ -18,7 +18,7 @@ mod writing;
 
 pub use auditing::run_audit;
 pub use bits::run_bits;
-pub use course::Summary;
+pub use course::{Entry, Record, Summary};
 pub use judge::{
     Audited, Auditor, Judge, Law, Verdict, Watch, audit, good_records_are_of_events,
     records_have_one_verdict, records_of_events_are_good, run_judge, status_of,

@@ -13,9 +13,9 @@ use Rattle.scenario.specs.files.Checks.{◌>>=◌}
 use Rattle.scenario.specs.files.declared.faults.Fault.{Fault}
 use Rattle.world.specs.Events.{Adds, GoesOn, KeepsTheHeadline, entry_with}
 use Rattle.world.specs.Shows.{Shows, WorldState}
-use Rattle.course.specs.Replays.{InputKeepsHeadline, RunKeepsHeadline, ended}
-use Rattle.course.specs.Texts.{replay_text, replayed}
-use Rattle.course.specs.declared.summaries.Summary.{Summary}
+use Rattle.engines.specs.course.Replays.{InputKeepsHeadline, RunKeepsHeadline, ended}
+use Rattle.engines.specs.course.Texts.{replay_text, replayed}
+use Rattle.engines.specs.course.declared.summaries.Summary.{Summary}
 use Rattle.worked_runs.specs.Uses.{AreAlone, InputPrintsTrueReplies, PrintsTrueReplies}
 
 pub two_alone : (w mid : WorldState) (first : Event) (p : ℕ) (one : Act) (q : ℕ) (two : Act) → (events : List Event) × Shows w events →

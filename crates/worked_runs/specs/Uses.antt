@@ -6,9 +6,9 @@ use Rattle.record.specs.Entries.{Entry, Past}
 use Rattle.record.specs.Headline.{IsAlone, StandsInHistory}
 use Rattle.scenario.specs.Reading.{Script, scenario_of}
 use Rattle.world.specs.Events.{entry_with}
-use Rattle.course.specs.Happenings.{past_after}
-use Rattle.course.specs.Runs.{happenings}
-use Rattle.course.specs.Texts.{replayed}
+use Rattle.engines.specs.course.Happenings.{past_after}
+use Rattle.engines.specs.course.Runs.{happenings}
+use Rattle.engines.specs.course.Texts.{replayed}
 
 -- after some past these are the acts of two processes, one after the other, and with each of them no two processes are inside together
 pub record AreAlone (p : ℕ) (first : Act) (q : ℕ) (second : Act) : Type 0 where
