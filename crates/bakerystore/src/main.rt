@@ -87,7 +87,13 @@ fn run_on<T: Print + Eprint + Clock + AllocGlobal + Threads + Wait + Sync, R: Re
     let mut input = WatchedInput::new(FromRead::new(reader), rt, shows && from_input);
     let mut output = IntoWrite::new(&mut writer);
     let mut watcher = Watcher::new(rt, rt.alloc(), shows && !from_input);
-    let ran = run_engine(rt, request, &mut input, &mut output, &mut watcher);
+    let ran = run_engine(
+        rt,
+        wanted_by(request),
+        &mut input,
+        &mut output,
+        &mut watcher,
+    );
     input.end();
     watcher.end();
     // After a fault too: what the engine has written is a front of its text.
@@ -99,10 +105,33 @@ fn run_on<T: Print + Eprint + Clock + AllocGlobal + Threads + Wait + Sync, R: Re
     }
 }
 
+/// What an engine is asked for, beside its file.
+#[derive(Clone, Copy)]
+struct Wanted {
+    engine: Engine,
+    reads: Reads,
+    any_lock: bool,
+    why: bool,
+}
+
+/// What a request asks of its engine.
+fn wanted_by(request: &Request<'_>) -> Wanted {
+    Wanted {
+        engine: request.command.engine,
+        reads: if request.reads {
+            Reads::Shown
+        } else {
+            Reads::Hidden
+        },
+        any_lock: request.any_lock,
+        why: request.why,
+    }
+}
+
 /// Runs the engine from a source to a sink; answers the exit status that its end stands for.
 fn run_engine<T: AllocGlobal + Threads + Wait + Sync, R: Source, W: Sink, L: Onlooker>(
     rt: &T,
-    request: &Request<'_>,
+    wanted: Wanted,
     input: &mut R,
     output: &mut W,
     onlooker: &mut L,
@@ -111,29 +140,21 @@ fn run_engine<T: AllocGlobal + Threads + Wait + Sync, R: Source, W: Sink, L: Onl
     requires writes { W.failures output.old < 2 ^ 64 - 1 }
 {
     let alloc = rt.alloc();
-    let ran = match request.command.engine {
+    let reads = wanted.reads;
+    let ran = match wanted.engine {
         Engine::Plain => ended(run_plain(alloc, input, output)),
         Engine::Bits => ended(run_bits(alloc, input, output)),
         Engine::Replay => ended(replay(alloc, input, output, onlooker)),
         Engine::Audit => run_audit(alloc, input, output, onlooker),
         Engine::Sweep => run_sweep(alloc, input, output, onlooker),
         Engine::Record => ended(run_record(alloc, input, output, onlooker)),
-        Engine::Judge if request.any_lock => judge_any_lock(alloc, input, output, request.why),
+        Engine::Judge if wanted.any_lock => judge_any_lock(alloc, input, output, wanted.why),
         Engine::Judge => run_judge(alloc, input, output),
         Engine::Race => return run_race(rt, alloc, input, output),
-        Engine::Draw => ended(draw(alloc, reads_of(request), input, output, onlooker)),
-        Engine::DrawSvg => ended(draw_svg(alloc, reads_of(request), input, output, onlooker)),
+        Engine::Draw => ended(draw(alloc, reads, input, output, onlooker)),
+        Engine::DrawSvg => ended(draw_svg(alloc, reads, input, output, onlooker)),
     };
     Ok(ran?)
-}
-
-/// Whether the picture that is asked for shows the reads that writes overlapped.
-fn reads_of(request: &Request<'_>) -> Reads {
-    if request.reads {
-        Reads::Shown
-    } else {
-        Reads::Hidden
-    }
 }
 
 /// Tells a fault on standard error, and answers the exit status.
