@@ -1,5 +1,5 @@
 -- Ports in the order of their processes.
-use Rattle.std.proofs.Common.{◌≡◌, ◌≢◌, ◌+◌, ◌<◌, ℕ, zero, suc, List, [], ◌∷◌, length, get_or, map, Option, None, Some, Bool, true, false, refl, sym, ap, subst, ◌∙◌, arith}
+use Rattle.std.proofs.Common.{◌≡◌, ◌+◌, ◌<◌, ℕ, zero, suc, List, [], ◌∷◌, length, get_or, Option, None, Some, true, false, refl, sym, ap, subst, ◌∙◌, arith}
 use Rattle.std.specs.Prelude.{slice_get, IfSome, IsPermutation}
 use Rattle.std.specs.Option.{IsSome, is_some}
 use Rattle.std.specs.List.{SwappedAt}
@@ -11,8 +11,8 @@ use native.Mathlib.Decide.{ℕ_discrete}
 use Rattle.record.specs.declared.calls.Placed.{Placed}
 use Rattle.plain_store.specs.declared.Setup.{Setup}
 use Rattle.plain_store.specs.Store.{Contents}
-use Rattle.board.specs.Boards.{ArePortsOf, BoardState, IsOf}
-use Rattle.board.specs.Closings.{AreFirstPortsOf, AreInOrder, AreListsOf, AreMadeWith, AreOfAll, AreQuiet, FirstLeaves, IsPlaceOf, IsStill, Leaves, done_calls}
+use Rattle.board.specs.Boards.{ArePortsOf, BoardState}
+use Rattle.board.specs.Closings.{AreFirstPortsOf, AreInOrder, AreListsOf, AreMadeWith, AreOfAll, AreQuiet, FirstLeaves, IsPlaceOf, Leaves, done_calls}
 use Rattle.board.specs.Ports.{PortState}
 use Rattle.board.proofs.PortLists.{item_at}
 

@@ -1,5 +1,5 @@
 -- The memory unit of a run has made its steps when its process is restarted.
-use Rattle.std.proofs.Common.{◌≡◌, ◌⊎◌, ℕ, zero, suc, ◌+◌, ◌≤◌, ◌&&◌, nat_lt, Bool, true, false, cond, List, [], ◌∷◌, length, Option, None, Some, Ok, refl, ap, sym, ◌∙◌, arith, inl, inr, eq-eqb}
+use Rattle.std.proofs.Common.{◌≡◌, ℕ, zero, suc, ◌+◌, ◌≤◌, ◌&&◌, nat_lt, Bool, true, false, cond, List, [], ◌∷◌, length, Option, None, Some, Ok, refl, ap, sym, ◌∙◌, arith, inl, inr, eq-eqb}
 use Rattle.std.specs.Prelude.{is_none}
 use Rattle.plain_store.specs.declared.Setup.{Setup}
 use Rattle.plain_store.specs.Setups.{checked}

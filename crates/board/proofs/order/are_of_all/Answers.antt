@@ -1,4 +1,4 @@
-use Rattle.std.proofs.Common.{◌≡◌, ap, not, sym, ◌∙◌, true≢false}
+use Rattle.std.proofs.Common.{ap, not, sym, ◌∙◌, true≢false}
 use Rattle.board.proofs.Orders.{found_at, found_more, not_found}
 use Rattle.board.proofs.order.are_of_all.Goals as goal
 

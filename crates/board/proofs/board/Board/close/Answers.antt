@@ -1,4 +1,4 @@
-use Rattle.std.proofs.Common.{◌≡◌, ◌<◌, ◌≤◌, ℕ, length, refl, rules, sym, ap, subst, ◌∙◌, arith}
+use Rattle.std.proofs.Common.{◌≡◌, ◌≤◌, ℕ, length, refl, rules, ap, subst, ◌∙◌, arith}
 use Rattle.process.proofs.critical.Widths.{ranges}
 use Rattle.board.specs.Boards.{BoardState}
 use Rattle.board.specs.Closings.{AreOfAll, AreQuiet}

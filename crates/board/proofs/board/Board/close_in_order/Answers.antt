@@ -1,7 +1,6 @@
-use Rattle.std.proofs.Common.{◌≡◌, ◌+◌, ◌<◌, ℕ, suc, List, Some, length, refl, rules, sym, ap, ◌∙◌, subst, arith}
+use Rattle.std.proofs.Common.{◌≡◌, ◌+◌, ℕ, suc, List, Some, sym, ◌∙◌, subst, arith}
 use Rattle.std.specs.Prelude.{slice_get}
-use Rattle.process.proofs.critical.Widths.{ranges}
-use Rattle.board.specs.Boards.{BoardState, IsOf}
+use Rattle.board.specs.Boards.{IsOf}
 use Rattle.plain_store.specs.declared.Setup.{Setup}
 use Rattle.board.specs.Closings.{AreQuiet, IsStill, StandsInRecord}
 use Rattle.board.specs.Ports.{PortState}
