@@ -3,8 +3,8 @@
 //! together the text of `replay`. Where it is asked, a picture shows the reads that writes overlapped too.
 //!
 //! ```rust
-//! Engine::Draw => ended(draw(alloc, reads_of(request), input, output, onlooker)),
-//! Engine::DrawSvg => ended(draw_svg(alloc, reads_of(request), input, output, onlooker)),
+//! Engine::Draw => ended(draw(alloc, reads, input, output, onlooker)),
+//! Engine::DrawSvg => ended(draw_svg(alloc, reads, input, output, onlooker)),
 //! ```
 #![tactic(auto)]
 
