@@ -168,7 +168,7 @@ at_index p [] i x all within is = absurd (omega arith)
 at_index p (y ∷ xs) zero x all within is = subst (λ z. p z ≡ true) is (and_parts (p y) (list_all p xs) all).0
 at_index p (y ∷ xs) (suc i) x all within is = at_index p xs i x (and_parts (p y) (list_all p xs) all).1 (omega arith) is
 
-same_is : (q r : Reply) → same_reply q r ≡ true → q ≡ r
+pub same_is : (q r : Reply) → same_reply q r ≡ true → q ≡ r
 same_is (reply.Value x) (reply.Value y) h = ap reply.Value ((same_value-Decides x y).0 h)
 same_is reply.Done reply.Done h = refl
 same_is (reply.Sum m) (reply.Sum n) h = ap reply.Sum ((Decides-int_eq m n).0 h)

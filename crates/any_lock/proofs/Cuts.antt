@@ -206,7 +206,7 @@ cut_on p past o ms fine = go (list_any stands_alone ms) refl
     go true any = let one = one_alone o ms p any fine.apart in
         subst (λ x. CutGoesOn p past x ms) (sym one.1) (subst (λ x. CutGoesOn p past None x) (sym one.2) (cut_alone p one.0 past one.3))
 
-own-other : (q : ℕ) (e : Entry) (past : Past) → e.process ≢ q → own q (e ∷ past) ≡ own q past
+pub own-other : (q : ℕ) (e : Entry) (past : Past) → e.process ≢ q → own q (e ∷ past) ≡ own q past
 own-other q e past h = ap (λ b. cond b (e ∷ own q past) (own q past)) (ne_eqb e.process q h)
 
 pub all_sound : (s : Setup) (past : Past) → AllKeep s past → (p : ℕ) → IsSound (standing s p past) (is_cut p past)
@@ -249,7 +249,7 @@ answered_at s n (m ∷ ms) k cut (suc i) a none sound plain within is =
     sym same ∙ answered_at s n ms (marked s n k m) (cut_after cut m) i a (rest_unrefused s n k m ms none) (sound_marked s n k m cut (first_unrefused s n k m ms none) sound) later (omega arith) is
 
 -- answers do not stand alone
-answered_plain : (o : Option Access) (p : ℕ) (ms : List Mark) (i : ℕ) (a : Answer) → Orderly o p ms → i < length ms → get_or ms i (mark.Answered a) ≡ mark.Answered a → list_any stands_alone ms ≡ false
+pub answered_plain : (o : Option Access) (p : ℕ) (ms : List Mark) (i : ℕ) (a : Answer) → Orderly o p ms → i < length ms → get_or ms i (mark.Answered a) ≡ mark.Answered a → list_any stands_alone ms ≡ false
 answered_plain o p ms i a fine within is = go (list_any stands_alone ms) refl
   where
     only : (m : Mark) (i : ℕ) → stands_alone m ≡ true → i < length (m ∷ []) → get_or (m ∷ []) i (mark.Answered a) ≡ mark.Answered a → ⊥

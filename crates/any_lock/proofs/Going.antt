@@ -87,7 +87,7 @@ none_taken n r (mark.Restarted ∷ ms) h = none_taken n r ms h
 abbrev pub taken_now : Setup → ℕ → Past → Reply → Taken
 taken_now s p past r = let c = last_call s p (own p past) in record { process = p; command = c.command; reply = r; number = c.number }
 
-history_with : (s : Setup) (past : Past) (e : Entry) → (o : Option Reply) → reply_taken e.marks ≡ o →
+pub history_with : (s : Setup) (past : Past) (e : Entry) → (o : Option Reply) → reply_taken e.marks ≡ o →
     history s (e ∷ past) ≡ elim o as (λ _. List Taken) [ None ↦ history s past | Some r ↦ history s past ++ taken_now s e.process past r ∷ [] ]
 history_with s past e o h = ap (λ x. elim x as (λ _. List Taken) [ None ↦ history s past | Some r ↦ history s past ++ taken_now s e.process past r ∷ [] ]) h
 

@@ -5,6 +5,7 @@ use Rattle.record.specs.Entries.{Entry, Past}
 use Rattle.any_lock.specs.Headline.{GoodSaysTheHeadline, KeepsHeadlineThroughout}
 use Rattle.any_lock.proofs.Alone.{AllKeep, all_alone, all_keep, overtakes_nobody, takes_its_place}
 use Rattle.any_lock.proofs.Cuts.{answers_no_cut_call}
+use Rattle.any_lock.proofs.Stands.{stands_in_history}
 
 -- the entries before one of those that keep all laws
 before : (s : Setup) (later rest : Past) → AllKeep s (later ++ rest) → AllKeep s rest
@@ -18,6 +19,7 @@ throughout s past all later earlier e split =
       alone = all_alone s (e ∷ earlier) kept;
       overtakes = overtakes_nobody s earlier e kept.1 kept.0;
       place = takes_its_place s earlier e kept.0;
+      stands = stands_in_history s earlier e kept.1 kept.0;
       cut = answers_no_cut_call s earlier e kept.1 kept.0;
     }
 

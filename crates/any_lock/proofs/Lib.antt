@@ -11,3 +11,4 @@ pub mod Told
 pub mod Alone
 pub mod Cuts
 pub mod Headlines
+pub mod Stands

@@ -216,7 +216,7 @@ module _ (s : Setup) (p : ℕ) (o : Option Access) (ms : List Mark) (m : Mark) (
       (numbered-more p is_entered o ms m past plain is)
 
 -- A mark that is not refused.
-untaken : (k : Standing) (n : ℕ) (r : Reply) → mark_refusal k (mark.Taken n r) ≡ None → k.reply ≡ None
+pub untaken : (k : Standing) (n : ℕ) (r : Reply) → mark_refusal k (mark.Taken n r) ≡ None → k.reply ≡ None
 untaken k n r h = by k.inside k.reply h
   where
     by : (i : Bool) (o : Option Reply) → first_that ((not i, refusal.NotInside) ∷ (is_some o, refusal.TakenBefore) ∷ []) ≡ None → o ≡ None

@@ -2,7 +2,7 @@
 use Rattle.std.specs.Prelude.{◌≡◌, ℕ, List, ◌∷◌, ◌++◌, reverse, IsTrue, IsFalse}
 use Rattle.plain_store.specs.declared.Setup.{Setup}
 use Rattle.record.specs.Entries.{Entry, Past, has, is_entered}
-use Rattle.record.specs.Headline.{AnswersNoCutCall, IsAlone, TakesItsPlace}
+use Rattle.record.specs.Headline.{AnswersNoCutCall, IsAlone, StandsInHistory, TakesItsPlace}
 use Rattle.any_lock.specs.declared.verdicts.Verdict.TheVariants.{Good}
 use Rattle.any_lock.specs.Laws.{waits_before}
 use Rattle.any_lock.specs.Standings.{standing}
@@ -17,6 +17,7 @@ pub record KeepsHeadline (s : Setup) (past : Past) (e : Entry) : Type 0 where
   pub alone : IsAlone (e ∷ past)  -- no two are inside together
   pub overtakes : OvertakesNobody s past e  -- nobody enters while another is ahead
   pub place : TakesItsPlace s past e  -- what is taken has its place, and the one-thread store's reply there
+  pub stands : StandsInHistory s past e  -- a store answer stands in the history
   pub cut : AnswersNoCutCall past e  -- a call that was cut is never answered
 
 -- Each entry of these keeps it.

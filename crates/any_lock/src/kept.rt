@@ -9,6 +9,7 @@ ghost use Rattle.record.specs.Histories.{history};
 ghost use Rattle.record.specs.Spans.{takings};
 ghost use Rattle.plain_store.specs.Store.{after};
 ghost use Rattle.any_lock.specs.declared.standings.Standing.{Standing as Stood};
+ghost use Rattle.any_lock.specs.declared.verdicts.Law.{Law as Named};
 ghost use Rattle.any_lock.specs.Keeping.{Knows, accessed_by, is_taken, is_taken_as};
 ghost use Rattle.any_lock.specs.Laws.{breaks_overtaken, breaks_safe, breaks_together, broken_inside, broken_later, first_broken, is_that, lowest_other, right_reply, waits_before};
 ghost use Rattle.any_lock.specs.Refusals.{has_nothing, has_one_mark, refusal_of_access, refusal_of_marks, stands_alone as is_alone};
@@ -83,6 +84,14 @@ impl Kept {
         ensures { MatchOption result (slice_get self.now.standings process ≡ None) (λ k. slice_get self.now.standings process ≡ Some k.now) }
     {
         self.standings.get(usize::from(process))
+    }
+
+    /// Where a process stands that is there.
+    pub fn stands(&self, process: u8) -> Standing
+        requires { process < self.now.setup.processes }
+        ensures { (past : Past) → Knows self.now past → result ≡ standing_of self.now.setup process past }
+    {
+        self.standings[usize::from(process)]
     }
 
     /// Why the access of an entry is refused, if it is.
@@ -290,6 +299,7 @@ impl Kept {
         requires { self.old.entries < 2 ^ 64 - 1 }
         ensures setup { self.new.setup ≡ self.old.setup }
         ensures entries { self.new.entries ≤ self.old.entries + 1 }
+        ensures same { (l : Named) → result ≡ Some l → self.new ≡ self.old }
         ensures law { (past : Past) (e : Noted) → e.process ≡ process → e.access ≡ access.now → e.marks ≡ marks.now → breaks_safe self.old.setup past e ≡ not is_safe → Knows self.old past → result ≡ first_broken self.old.setup past e }
         ensures knows { (past : Past) (e : Noted) → e.process ≡ process → e.access ≡ access.now → e.marks ≡ marks.now → result ≡ None → Knows self.old past → Knows self.new (e ∷ past) }
     {
