@@ -96,7 +96,7 @@ is_downs stage.Down h = refl
 is_downs _ h = absurd (true≢false (sym h))
 
 -- neither of two stages of which an answer may come, nor an idle one
-answers_not : (x : Stage) → not (is_in_doorway x || is_leaving x) ≡ false → (holds x ≡ false) × (rests x ≡ false)
+pub answers_not : (x : Stage) → not (is_in_doorway x || is_leaving x) ≡ false → (holds x ≡ false) × (rests x ≡ false)
 answers_not stage.Doorway h = (refl, refl)
 answers_not stage.Leaving h = (refl, refl)
 answers_not _ h = absurd (true≢false h)
@@ -153,7 +153,7 @@ sound_marked s n k mark.Restarted cut none sound =
     let is : k.stage ≡ stage.Down = is_downs k.stage (not_not (is_down k.stage) (none_if (not (is_down k.stage)) refusal.NotDown _ none)) in
     record { inside = λ i. absurd (clash (holds k.stage) (sound.inside i) (ap holds is)); cut = λ h. refl }
 
-sound_accessed : (n : ℕ) (k : Standing) (o : Option Access) (cut : Bool) → IsSound k cut → IsSound (accessed_by n k o) cut
+pub sound_accessed : (n : ℕ) (k : Standing) (o : Option Access) (cut : Bool) → IsSound k cut → IsSound (accessed_by n k o) cut
 sound_accessed n k None cut sound = sound
 sound_accessed n k (Some a) cut sound = record { inside = sound.inside; cut = sound.cut }
 

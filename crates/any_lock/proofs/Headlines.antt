@@ -6,6 +6,8 @@ use Rattle.any_lock.specs.Headline.{GoodSaysTheHeadline, KeepsHeadlineThroughout
 use Rattle.any_lock.proofs.Alone.{AllKeep, all_alone, all_keep, overtakes_nobody, takes_its_place}
 use Rattle.any_lock.proofs.Cuts.{answers_no_cut_call}
 use Rattle.any_lock.proofs.Stands.{stands_in_history}
+use Rattle.any_lock.proofs.Once.{calls_take_once}
+use Rattle.any_lock.proofs.Took.{answers_what_it_took}
 
 -- the entries before one of those that keep all laws
 before : (s : Setup) (later rest : Past) → AllKeep s (later ++ rest) → AllKeep s rest
@@ -20,6 +22,8 @@ throughout s past all later earlier e split =
       overtakes = overtakes_nobody s earlier e kept.1 kept.0;
       place = takes_its_place s earlier e kept.0;
       stands = stands_in_history s earlier e kept.1 kept.0;
+      answers = answers_what_it_took s earlier e kept.1 kept.0;
+      once = calls_take_once s (e ∷ earlier) kept;
       cut = answers_no_cut_call s earlier e kept.1 kept.0;
     }
 

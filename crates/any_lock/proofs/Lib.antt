@@ -12,3 +12,5 @@ pub mod Alone
 pub mod Cuts
 pub mod Headlines
 pub mod Stands
+pub mod Took
+pub mod Once

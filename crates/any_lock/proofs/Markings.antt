@@ -150,7 +150,7 @@ abbrev pub reply_by : Option Reply → Mark → Option Reply
 reply_by before (mark.Taken n r) = Some r
 reply_by before _ = before
 
-reply_nil : (o : Option Reply) → reply_or o None ≡ o
+pub reply_nil : (o : Option Reply) → reply_or o None ≡ o
 reply_nil None = refl
 reply_nil (Some r) = refl
 

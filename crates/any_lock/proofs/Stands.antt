@@ -196,7 +196,7 @@ reply_stays s n (m ∷ ms) k r none plain is =
     one mark.Withdrew first apart = absurd (true≢false apart)
     one mark.Restarted first apart = absurd (true≢false apart)
 
-answered_in : (s : Setup) (n : ℕ) (ms : List Mark) (k : Standing) (i : ℕ) (r : Reply) → refusal_on s n k ms ≡ None → list_any stands_alone ms ≡ false →
+pub answered_in : (s : Setup) (n : ℕ) (ms : List Mark) (k : Standing) (i : ℕ) (r : Reply) → refusal_on s n k ms ≡ None → list_any stands_alone ms ≡ false →
     i < length ms → get_or ms i (mark.Answered (answer.Reply r)) ≡ mark.Answered (answer.Reply r) → (marked_all s n k ms).reply ≡ Some r
 answered_in s n [] k i r none plain within is = absurd (omega arith)
 answered_in s n (m ∷ ms) k zero r none plain within is =
