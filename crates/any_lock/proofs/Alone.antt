@@ -1,6 +1,5 @@
 -- Entries that keep all laws: nobody is inside beside another, nobody overtakes, and what is taken has its place and reply.
-use Rattle.std.proofs.Common.{◌≡◌, ◌≢◌, ℕ, zero, suc, ◌+◌, ◌<◌, ◌≤◌, ◌==◌, Bool, true, false, not, ◌&&◌, ◌||◌, cond, List, [], ◌∷◌, ◌++◌, Option, None, Some, is_some, fold, length, get_or, refl, sym, ap, ◌∙◌, subst, arith, true≢false, ◌⊎◌, inl, inr, ne_eqb, eq-eqb, eqb-true}
-use Rattle.std.specs.Prelude.{Contains}
+use Rattle.std.proofs.Common.{◌≡◌, ◌≢◌, ℕ, zero, suc, ◌<◌, ◌≤◌, ◌==◌, Bool, true, false, not, ◌&&◌, cond, List, [], ◌∷◌, Option, None, Some, fold, length, get_or, refl, sym, ap, ◌∙◌, subst, arith, true≢false, ◌⊎◌, inl, inr, ne_eqb, eq-eqb, eqb-true}
 use Rattle.std.specs.List.{list_all, list_any}
 use Rattle.std.proofs.lemmas.Bool.{and_parts, cases_eq, cases_lt}
 use Rattle.std.proofs.lemmas.Bool.Decides.{Decides-int_eq}
@@ -10,7 +9,6 @@ use Rattle.plain_store.specs.declared.Setup.{Setup}
 use Rattle.plain_store.proofs.Changes.{same_value-Decides}
 use Rattle.record.specs.declared.marks.Mark.{Mark}
 use Rattle.record.specs.declared.marks.Mark.TheVariants as mark
-use Rattle.record.specs.declared.stages.Stage.{Stage}
 use Rattle.record.specs.declared.stages.Stage.TheVariants as stage
 use Rattle.record.specs.Doorways.{first_of, is_before, is_waiting_stage}
 use Rattle.record.specs.Entries.{Entry, Past, has, is_entered}
@@ -61,8 +59,11 @@ all_keep s [] good = tt
 all_keep s (e ∷ past) good = go (verdict_after s past) refl (all_keep s past)
   where
     go : (v : Verdict) → verdict_after s past ≡ v → (verdict_after s past ≡ Good → AllKeep s past) → AllKeep s (e ∷ past)
-    go Good is before = (keeps s past e (found_good (length past) (first_broken s past e)
-        (ap (λ v. elim v as (λ _. Verdict) [ Good ↦ verdict_with (length past) (first_broken s past e) | Bad k l ↦ Bad k l ]) (sym is) ∙ good)), before is)
+    go Good is before = (
+      keeps s past e (found_good (length past) (first_broken s past e)
+          (ap (λ v. elim v as (λ _. Verdict) [ Good ↦ verdict_with (length past) (first_broken s past e) | Bad k l ↦ Bad k l ]) (sym is) ∙ good)),
+      before is,
+    )
     go (Bad k l) is before = let both : Bad k l ≡ Good = ap (λ v. elim v as (λ _. Verdict) [ Good ↦ verdict_with (length past) (first_broken s past e) | Bad k l ↦ Bad k l ]) (sym is) ∙ good in absurd (cc)
 
 -- A process that is not there does nothing.
@@ -72,9 +73,10 @@ stray s [] all j out = (refl, refl)
 stray s (e ∷ past) all j out =
     let below : e.process < s.processes = process_there s past e all.0.access in
     let apart : e.process ≢ j = λ same. absurd (omega (arith, below, out, same)) in
-    let before = stray s past all.1 j out in
-    (ap (λ b. cond b (fold stage_after (stage_at j past) e.marks) (stage_at j past)) (ne_eqb e.process j apart) ∙ before.0,
-    ap (λ b. cond b (fold inside_after (inside j past) e.marks) (inside j past)) (ne_eqb e.process j apart) ∙ before.1)
+    let before = stray s past all.1 j out in (
+      ap (λ b. cond b (fold stage_after (stage_at j past) e.marks) (stage_at j past)) (ne_eqb e.process j apart) ∙ before.0,
+      ap (λ b. cond b (fold inside_after (inside j past) e.marks) (inside j past)) (ne_eqb e.process j apart) ∙ before.1,
+    )
 
 -- The lowest number for which a test holds: there is none.
 
@@ -106,7 +108,7 @@ pub enters_alone : (s : Setup) (past : Past) (e : Entry) → AllKeep s past → 
 enters_alone s past e all kept enters j apart = elim (cases_lt j s.processes) [
   | inl below ↦ and_false (not (j == e.process)) (inside j past)
       (none_below s.processes (λ q. not (q == e.process) && (standing s q past).inside)
-          (unsome _ (and_false (has is_entered e) _ kept.together enters)) j below)
+      (unsome _ (and_false (has is_entered e) _ kept.together enters)) j below)
       (ap not (ne_eqb j e.process apart))
   | inr out ↦ (stray s past all j out).1
 ]
@@ -115,7 +117,7 @@ pub overtakes_nobody : (s : Setup) (past : Past) (e : Entry) → AllKeep s past 
 overtakes_nobody s past e all kept enters j apart = elim (cases_lt j s.processes) [
   | inl below ↦ and_false (not (j == e.process)) (waits_before (standing s j past) (standing s e.process past))
       (none_below s.processes (λ q. not (q == e.process) && waits_before (standing s q past) (standing s e.process past))
-          (unsome _ (and_false (has is_entered e) _ kept.overtaken enters)) j below)
+      (unsome _ (and_false (has is_entered e) _ kept.overtaken enters)) j below)
       (ap not (ne_eqb j e.process apart))
   | inr out ↦ ap (λ x. is_waiting_stage x && is_before (standing s j past).waits (standing s e.process past).doorway) (stray s past all j out).0
 ]
@@ -188,6 +190,6 @@ not_not false h = sym h
 pub takes_its_place : (s : Setup) (past : Past) (e : Entry) → Keeps s past e → TakesItsPlace s past e
 takes_its_place s past e kept k r among =
     let right : is_that (length (history s past)) (right_reply s past e.process) (k, r) ≡ true =
-        at_index (is_that (length (history s past)) (right_reply s past e.process)) (takings e.marks) among.0 (k, r) (not_not _ kept.history) among.1 among.2 in
+    at_index (is_that (length (history s past)) (right_reply s past e.process)) (takings e.marks) among.0 (k, r) (not_not _ kept.history) among.1 among.2 in
     let parts = and_parts (k == length (history s past)) (same_reply r (right_reply s past e.process)) right in
     (eqb-true k (length (history s past)) parts.0, same_is r (right_reply s past e.process) parts.1)

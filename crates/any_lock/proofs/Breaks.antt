@@ -1,16 +1,15 @@
 -- What the tests of the laws say.
-use Rattle.std.proofs.Common.{◌≡◌, ℕ, suc, ◌+◌, ◌<◌, ◌==◌, Bool, true, false, not, ◌&&◌, List, [], ◌∷◌, Option, None, Some, is_some, cond, length, refl, sym, ap, ◌∙◌, subst, arith, true≢false}
+use Rattle.std.proofs.Common.{◌≡◌, ℕ, ◌<◌, Bool, true, false, not, ◌&&◌, List, [], ◌∷◌, Option, None, Some, is_some, refl, sym, ap, ◌∙◌, subst, true≢false}
 use Rattle.std.specs.Prelude.{nat_lt, if◌then◌else◌}
 use Rattle.std.proofs.lemmas.Bool.{and_parts, ltb-true}
 use Rattle.record.specs.safe_bit.declared.Move.{Move}
 use Rattle.record.specs.safe_bit.declared.Move.TheVariants as move
-use Rattle.record.specs.safe_bit.SafeRule.{MayEndWith, before_read, is_overlapped, last_written}
+use Rattle.record.specs.safe_bit.SafeRule.{before_read, is_overlapped, last_written}
 use Rattle.plain_store.specs.declared.Setup.{Setup}
 use Rattle.record.specs.declared.access.Access.{Access}
 use Rattle.record.specs.Entries.{Entry, Past}
 use Rattle.record.specs.Moves.{begins_read, moves_of}
 use Rattle.record.specs.Registers.{opening_bit, width}
-use Rattle.watch.specs.laws.Held.{IsThere}
 use Rattle.watch.specs.Safe.{KeepsSafe, MatchBool}
 use Rattle.watch.specs.Watching.{IsOfThere}
 use Rattle.any_lock.specs.declared.refusals.AccessRefusal.{AccessRefusal}
@@ -82,9 +81,9 @@ kept_by s past e unbroken a v acc how begins calm =
     let moves = moves_of a past in
     let opens = opening_bit s a in
     let h : ends_wrongly (opening_bit s a) (moves_of a past) (move.EndRead v) ≡ false = subst (λ m. ends_wrongly (opening_bit s a) (moves_of a past) m ≡ false) how
-        (subst (λ (o : Option Access). breaks_safe s past (record { process = e.process; access = o; marks = e.marks }) ≡ false) acc unbroken) in
+    (subst (λ (o : Option Access). breaks_safe s past (record { process = e.process; access = o; marks = e.marks }) ≡ false) acc unbroken) in
     same v (last_written (opening_bit s a) (before_read (moves_of a past)))
-        (go (begins_read (moves_of a past)) (is_overlapped (moves_of a past)) (same_truth v (last_written (opening_bit s a) (before_read (moves_of a past)))) begins calm h)
+    (go (begins_read (moves_of a past)) (is_overlapped (moves_of a past)) (same_truth v (last_written (opening_bit s a) (before_read (moves_of a past)))) begins calm h)
   where
     go : (b o t : Bool) → b ≡ true → o ≡ false → (b && not o && not t) ≡ false → t ≡ true
     go true false true b o h = refl

@@ -1,6 +1,5 @@
 -- Entries that keep all laws: a call that was cut by a failure is not answered.
-use Rattle.std.proofs.Common.{◌≡◌, ◌≢◌, ℕ, zero, suc, ◌+◌, ◌<◌, ◌≤◌, ◌==◌, Bool, true, false, not, ◌&&◌, ◌||◌, cond, List, [], ◌∷◌, ◌++◌, Option, None, Some, is_some, fold, length, get_or, refl, sym, ap, ◌∙◌, subst, arith, true≢false, ◌⊎◌, inl, inr, ne_eqb, eq-eqb}
-use Rattle.std.specs.Prelude.{Contains}
+use Rattle.std.proofs.Common.{◌≡◌, ◌≢◌, ℕ, zero, suc, ◌<◌, Bool, true, false, not, ◌&&◌, ◌||◌, cond, List, [], ◌∷◌, Option, None, Some, fold, length, get_or, refl, sym, ap, ◌∙◌, subst, arith, true≢false, ◌⊎◌, inl, inr, ne_eqb}
 use Rattle.std.specs.List.{list_any}
 use Rattle.std.proofs.lemmas.Bool.{cases_eq}
 use Rattle.plain_store.specs.declared.Answer.{Answer}
@@ -17,13 +16,13 @@ use Rattle.record.specs.Stages.{stage_after}
 use Rattle.any_lock.specs.declared.refusals.MarkRefusal.{MarkRefusal}
 use Rattle.any_lock.specs.declared.refusals.MarkRefusal.TheVariants as refusal
 use Rattle.any_lock.specs.declared.standings.Standing.{Standing}
-use Rattle.any_lock.specs.Keeping.{accessed_by, at_rest, marked, marked_all, refusal_on}
+use Rattle.any_lock.specs.Keeping.{accessed_by, marked, marked_all, refusal_on}
 use Rattle.any_lock.specs.Refusals.{has_nothing, has_one_mark, is_down, is_in_doorway, is_leaving, is_running, is_settling, mark_refusal, refusal_of_marks, stands_alone}
 use Rattle.any_lock.specs.Standings.{its_call, standing}
 use Rattle.any_lock.proofs.Alone.{AllKeep, Keeps, not_not}
 use Rattle.any_lock.proofs.Breaks.{none_else, none_if}
 use Rattle.any_lock.proofs.Markings.{no_failure, none_of, or_false, or_left, or_right, since-mine, with_marks}
-use Rattle.any_lock.proofs.Steps.{at_first, own-mine, standing-other}
+use Rattle.any_lock.proofs.Steps.{own-mine, standing-other}
 use Rattle.any_lock.proofs.Whole.{one_alone, refusal_or, refused, stands_whole}
 
 -- Entries whose marks are not refused.
@@ -220,7 +219,7 @@ all_sound s (e ∷ past) all p = go (cases_eq e.process p) (all_sound s past all
         subst (λ k. IsSound k (is_cut e.process (e ∷ past))) (stands_whole s e.process past e.access e.marks fine.apart none)
         (subst (λ b. IsSound (marked_all s (length past) (accessed_by (length past) (standing s e.process past) e.access) e.marks) b) (sym (cut_on e.process past e.access e.marks fine))
         (sound_all s (length past) e.marks (accessed_by (length past) (standing s e.process past) e.access) (is_cut e.process past) none
-            (sound_accessed (length past) (standing s e.process past) e.access (is_cut e.process past) before)))
+        (sound_accessed (length past) (standing s e.process past) e.access (is_cut e.process past) before)))
 
     go : (e.process ≡ p) ⊎ (e.process ≢ p) → IsSound (standing s p past) (is_cut p past) → IsSound (standing s p (e ∷ past)) (is_cut p (e ∷ past))
     go (inl same) before = subst (λ q. IsSound (standing s q (e ∷ past)) (is_cut q (e ∷ past))) same (mine (subst (λ q. IsSound (standing s q past) (is_cut q past)) (sym same) before))

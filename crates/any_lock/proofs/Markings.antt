@@ -1,5 +1,5 @@
 -- How the look-backs go on with one mark more.
-use Rattle.std.proofs.Common.{◌≡◌, ℕ, suc, ◌+◌, ◌==◌, Bool, true, false, not, ◌&&◌, ◌||◌, cond, List, [], ◌∷◌, ◌++◌, Option, None, Some, is_some, fold, length, refl, sym, ap, ◌∙◌, subst, add-one, true≢false}
+use Rattle.std.proofs.Common.{◌≡◌, ℕ, suc, ◌+◌, ◌==◌, Bool, true, false, not, ◌||◌, cond, List, [], ◌∷◌, ◌++◌, Option, None, Some, is_some, length, refl, sym, ap, ◌∙◌, add-one, true≢false}
 use Rattle.std.specs.List.{list_any}
 use Rattle.std.proofs.lemmas.List.Folds.{list_any-append}
 use Rattle.std.proofs.lemmas.List.Sums.{fold-append}
@@ -18,8 +18,8 @@ use Rattle.any_lock.specs.declared.standings.Standing.{Standing}
 use Rattle.any_lock.specs.Keeping.{marked}
 use Rattle.any_lock.specs.declared.refusals.MarkRefusal.TheVariants as refusal
 use Rattle.any_lock.specs.Refusals.{first_that, mark_refusal, stands_alone}
-use Rattle.any_lock.specs.Standings.{begun_by, has_access, is_withdrawal, left_open, opened, reply_in, standing, torn}
-use Rattle.any_lock.proofs.Steps.{bare, if_there, inside-mine, number-called, number-mine, opened-mine, own-mine, stage-mine, standing_by, torn-mine}
+use Rattle.any_lock.specs.Standings.{begun_by, has_access, is_withdrawal, left_open, opened, reply_in, standing}
+use Rattle.any_lock.proofs.Steps.{if_there, inside-mine, number-called, number-mine, opened-mine, own-mine, stage-mine, standing_by, torn-mine}
 
 -- Marks that need not stand alone.
 
@@ -207,10 +207,10 @@ module _ (s : Setup) (p : ℕ) (o : Option Access) (ms : List Mark) (m : Mark) (
       (command-plain p o (ms ++ m ∷ []) past (plain-more ms m plain is) ∙ sym (command-plain p o ms past plain))
       reply
       (opened-mine p (with_marks p o (ms ++ m ∷ [])) past refl
-          ∙ fold-append left_open (begun_by (length past) o (opened p past)) ms (m ∷ [])
-          ∙ ap (λ x. left_open x m) (sym (opened-mine p (with_marks p o ms) past refl)))
+      ∙ fold-append left_open (begun_by (length past) o (opened p past)) ms (m ∷ [])
+      ∙ ap (λ x. left_open x m) (sym (opened-mine p (with_marks p o ms) past refl)))
       (torn-mine p (with_marks p o (ms ++ m ∷ [])) past refl false (none_of is_failed no_failure (ms ++ m ∷ []) (plain-more ms m plain is))
-          ∙ sym (torn-mine p (with_marks p o ms) past refl false (none_of is_failed no_failure ms plain)))
+      ∙ sym (torn-mine p (with_marks p o ms) past refl false (none_of is_failed no_failure ms plain)))
       (numbered-plain p has_access o (ms ++ m ∷ []) past (plain-more ms m plain is) ∙ sym (numbered-plain p has_access o ms past plain))
       (numbered-more p is_waiting o ms m past plain is)
       (numbered-more p is_entered o ms m past plain is)

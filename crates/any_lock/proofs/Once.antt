@@ -1,10 +1,9 @@
 -- Entries that keep all laws: each call takes one command at most.
-use Rattle.std.proofs.Common.{◌≡◌, ◌≢◌, ℕ, ◌<◌, ◌==◌, Bool, true, false, ◌||◌, cond, List, [], ◌∷◌, ◌++◌, Option, None, Some, length, refl, sym, ap, ◌∙◌, subst, arith, true≢false, ◌⊎◌, inl, inr}
+use Rattle.std.proofs.Common.{◌≡◌, ◌≢◌, ℕ, ◌<◌, ◌==◌, Bool, true, false, cond, List, [], ◌∷◌, ◌++◌, Option, None, Some, length, refl, sym, ap, ◌∙◌, subst, arith, ◌⊎◌, inl, inr}
 use Rattle.std.specs.List.{list_any}
 use Rattle.std.proofs.lemmas.Bool.{cases_eq}
 use Rattle.plain_store.specs.declared.Reply.{Reply}
 use Rattle.plain_store.specs.declared.Setup.{Setup}
-use Rattle.record.specs.declared.marks.Mark.{Mark}
 use Rattle.record.specs.Entries.{Entry, Past, has, is_called, own, since}
 use Rattle.record.specs.Headline.{CallsTakeOnce}
 use Rattle.record.specs.Spans.{all_takings, entries_of_call, until}
@@ -53,7 +52,7 @@ few_in_call s (e ∷ later) earlier x all called = go (cases_eq e.process x.proc
     whole before false none mine =
         let mine_too : own p (e ∷ later) ≡ e ∷ own p later = own-mine p e later mine in
         let call : its_call p ((e ∷ later) ++ x ∷ earlier) ≡ e ∷ own p later =
-            its-call p (e ∷ later) earlier x refl (ap (list_any (has is_called)) mine_too ∙ none) called ∙ mine_too in
+        its-call p (e ∷ later) earlier x refl (ap (list_any (has is_called)) mine_too ∙ none) called ∙ mine_too in
         subst (λ (l : Past). length (all_takings l) < 2) call
         (takes_few (reply_in (its_call p ((e ∷ later) ++ x ∷ earlier))) (all_takings (its_call p ((e ∷ later) ++ x ∷ earlier))) (all_take s ((e ∷ later) ++ x ∷ earlier) all p))
 

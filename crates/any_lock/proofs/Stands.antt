@@ -1,14 +1,12 @@
 -- Entries that keep all laws: a store answer is the reply of a command that stands in the history.
-use Rattle.std.proofs.Common.{◌≡◌, ◌≢◌, ℕ, zero, suc, ◌+◌, ◌<◌, ◌≤◌, ◌==◌, Bool, true, false, not, ◌&&◌, ◌||◌, cond, List, [], ◌∷◌, ◌++◌, Option, None, Some, is_none, is_some, length, get_or, slice_get, take, refl, sym, ap, ◌∙◌, subst, arith, true≢false, ◌⊎◌, inl, inr, length-append}
+use Rattle.std.proofs.Common.{◌≡◌, ◌≢◌, ℕ, zero, suc, ◌<◌, ◌≤◌, Bool, true, false, not, ◌&&◌, ◌||◌, List, [], ◌∷◌, ◌++◌, Option, None, Some, is_none, length, get_or, slice_get, refl, sym, ap, ◌∙◌, subst, arith, true≢false, ◌⊎◌, inl, inr}
 use Rattle.std.specs.Prelude.{Contains}
 use Rattle.std.specs.List.{list_any}
 use Rattle.std.proofs.lemmas.Bool.{cases_eq}
-use Rattle.std.proofs.lemmas.Option.{slice_get-get_or, slice_get_within}
+use Rattle.std.proofs.lemmas.Option.{slice_get_within}
 use Rattle.std.proofs.lemmas.List.{take-append-le}
 use Rattle.std.proofs.Math.Seq.{take-append_seam}
-use Rattle.plain_store.specs.declared.Answer.{Answer}
 use Rattle.plain_store.specs.declared.Answer.TheVariants as answer
-use Rattle.plain_store.specs.declared.Command.{Command}
 use Rattle.plain_store.specs.declared.Reply.{Reply}
 use Rattle.plain_store.specs.declared.Setup.{Setup}
 use Rattle.plain_store.specs.Store.{reply_to}
@@ -16,9 +14,9 @@ use Rattle.record.specs.declared.access.Access.{Access}
 use Rattle.record.specs.declared.history.Taken.{Taken}
 use Rattle.record.specs.declared.marks.Mark.{Mark}
 use Rattle.record.specs.declared.marks.Mark.TheVariants as mark
-use Rattle.record.specs.Calls.{call_number, last_call, last_command}
-use Rattle.record.specs.Entries.{Entry, Past, has, is_called, own, since}
-use Rattle.record.specs.Headline.{StandsAt, StandsInHistory, TakesItsPlace}
+use Rattle.record.specs.Calls.{last_call}
+use Rattle.record.specs.Entries.{Entry, Past, is_called, own, since}
+use Rattle.record.specs.Headline.{StandsAt, StandsInHistory}
 use Rattle.record.specs.Histories.{history, reply_taken, store_after}
 use Rattle.record.specs.Scripts.{Call, caller}
 use Rattle.record.specs.Spans.{takings}
@@ -108,9 +106,11 @@ mine_plain s past p o ms kept plain before r is = by (reply_taken ms) refl (sym 
         (at.0, subst (λ c. StandsAt s (history s (with_marks p o ms ∷ past)) c r at.0) (sym (call-plain s p o ms past plain)) (goes_on s past (with_marks p o ms) (last_call s p (own p past)) r at.0 at.1))
     by (Some q) h is =
         let both : Some q ≡ Some r = ap (λ x. reply_or x (reply_in (its_call p past))) (sym h) ∙ is in
-        let same : q ≡ r = cc in
-        (length (history s past), subst (λ c. StandsAt s (history s (with_marks p o ms ∷ past)) c r (length (history s past))) (sym (call-plain s p o ms past plain))
-            (stands_now s past (with_marks p o ms) r kept (h ∙ ap Some same)))
+        let same : q ≡ r = cc in (
+          length (history s past),
+          subst (λ c. StandsAt s (history s (with_marks p o ms ∷ past)) c r (length (history s past))) (sym (call-plain s p o ms past plain))
+              (stands_now s past (with_marks p o ms) r kept (h ∙ ap Some same)),
+        )
 
 -- one with a mark that stands alone
 mine_alone : (s : Setup) (past : Past) (p : ℕ) (m : Mark) → stands_alone m ≡ true → TakenStands s past p → TakenStands s (with_marks p None (m ∷ []) ∷ past) p
@@ -120,9 +120,11 @@ mine_alone s past p m alone before r is = by m alone is
         reply_in (its_call p past) ≡ Some r → last_call s p (with_marks p None (m ∷ []) ∷ own p past) ≡ last_call s p (own p past) →
         (k : ℕ) × StandsAt s (history s (with_marks p None (m ∷ []) ∷ past)) (last_call s p (own p (with_marks p None (m ∷ []) ∷ past))) r k
     kept m mine is same =
-        let at = before r is in
-        (at.0, subst (λ c. StandsAt s (history s (with_marks p None (m ∷ []) ∷ past)) c r at.0) (sym (ap (last_call s p) mine ∙ same))
-            (goes_on s past (with_marks p None (m ∷ [])) (last_call s p (own p past)) r at.0 at.1))
+        let at = before r is in (
+          at.0,
+          subst (λ c. StandsAt s (history s (with_marks p None (m ∷ []) ∷ past)) c r at.0) (sym (ap (last_call s p) mine ∙ same))
+              (goes_on s past (with_marks p None (m ∷ [])) (last_call s p (own p past)) r at.0 at.1),
+        )
 
     by : (m : Mark) → stands_alone m ≡ true → reply_in (its_call p (with_marks p None (m ∷ []) ∷ past)) ≡ Some r →
         (k : ℕ) × StandsAt s (history s (with_marks p None (m ∷ []) ∷ past)) (last_call s p (own p (with_marks p None (m ∷ []) ∷ past))) r k
@@ -212,6 +214,6 @@ stands_in_history s past e all kept r among =
     let plain = answered_plain e.access e.process e.marks among.0 (answer.Reply r) fine among.1 among.2 in
     let k : Standing = accessed_by (length past) (standing s e.process past) e.access in
     let reply : reply_in (its_call e.process (e ∷ past)) ≡ Some r =
-        ap (λ (x : Standing). x.reply) (sym (stands_whole s e.process past e.access e.marks fine.apart none)) ∙ answered_in s (length past) e.marks k among.0 r none plain among.1 among.2 in
+    ap (λ (x : Standing). x.reply) (sym (stands_whole s e.process past e.access e.marks fine.apart none)) ∙ answered_in s (length past) e.marks k among.0 r none plain among.1 among.2 in
     let at = all_stand s (e ∷ past) (kept, all) e.process r reply in
     (at.0, subst (λ c. StandsAt s (history s (e ∷ past)) c r at.0) (call-plain s e.process e.access e.marks past plain) at.1)

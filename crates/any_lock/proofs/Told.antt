@@ -1,10 +1,9 @@
 -- The verdict with one more entry.
-use Rattle.std.proofs.Common.{◌≡◌, ℕ, ◌+◌, ◌++◌, Bool, true, false, not, List, [], ◌∷◌, length, reverse, Option, Some, None, Ok, refl, ap, sym, subst, ◌∙◌, arith}
+use Rattle.std.proofs.Common.{◌≡◌, ℕ, ◌+◌, ◌++◌, Bool, not, List, [], ◌∷◌, length, reverse, Option, Some, None, refl, ap, sym, subst, ◌∙◌}
 use Rattle.std.proofs.lemmas.List.{length-append, length-reverse, reverse-append}
 use Rattle.plain_store.specs.declared.Setup.{Setup}
-use Rattle.record.specs.declared.access.Access.{Access}
 use Rattle.record.specs.Entries.{Entry, Past}
-use Rattle.watch.specs.Watching.{AllAreOfThere, IsOfThere, WatchState}
+use Rattle.watch.specs.Watching.{AllAreOfThere, WatchState}
 use Rattle.watch.specs.Watching.{HasHeard as HasWatched}
 use Rattle.any_lock.specs.declared.verdicts.Law.{Law}
 use Rattle.any_lock.specs.declared.verdicts.Verdict.{Verdict}

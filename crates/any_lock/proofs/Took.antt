@@ -1,5 +1,5 @@
 -- Entries that keep all laws: an answer is what its call has taken.
-use Rattle.std.proofs.Common.{◌≡◌, ◌≢◌, ℕ, zero, suc, ◌+◌, ◌<◌, Bool, true, false, not, ◌&&◌, ◌||◌, List, [], ◌∷◌, ◌++◌, Option, None, Some, is_none, length, get_or, refl, sym, ap, ◌∙◌, subst, arith, true≢false, ◌⊎◌, inl, inr}
+use Rattle.std.proofs.Common.{◌≡◌, ◌≢◌, ℕ, zero, suc, ◌<◌, Bool, true, false, not, ◌&&◌, ◌||◌, List, [], ◌∷◌, ◌++◌, Option, None, Some, length, get_or, refl, sym, ap, ◌∙◌, subst, arith, true≢false, ◌⊎◌, inl, inr}
 use Rattle.std.specs.Prelude.{Contains}
 use Rattle.std.specs.List.{list_any}
 use Rattle.std.proofs.lemmas.Bool.{cases_eq}
@@ -11,14 +11,12 @@ use Rattle.plain_store.specs.declared.Setup.{Setup}
 use Rattle.record.specs.declared.access.Access.{Access}
 use Rattle.record.specs.declared.marks.Mark.{Mark}
 use Rattle.record.specs.declared.marks.Mark.TheVariants as mark
-use Rattle.record.specs.declared.stages.Stage.{Stage}
 use Rattle.record.specs.declared.stages.Stage.TheVariants as stage
 use Rattle.record.specs.Doorways.{is_waiting_stage}
-use Rattle.record.specs.Entries.{Entry, Past, is_called, own, since}
+use Rattle.record.specs.Entries.{Entry, Past, is_called, since}
 use Rattle.record.specs.Headline.{IsAnswerTo}
 use Rattle.record.specs.Histories.{reply_taken}
 use Rattle.record.specs.Spans.{all_takings, takings}
-use Rattle.any_lock.specs.declared.refusals.MarkRefusal.{MarkRefusal}
 use Rattle.any_lock.specs.declared.refusals.MarkRefusal.TheVariants as refusal
 use Rattle.any_lock.specs.declared.standings.Standing.{Standing}
 use Rattle.any_lock.specs.Headline.{AnswersWhatItTook}
@@ -28,7 +26,7 @@ use Rattle.any_lock.specs.Standings.{its_call, reply_in, standing}
 use Rattle.any_lock.proofs.Alone.{AllKeep, Keeps}
 use Rattle.any_lock.proofs.Breaks.{none_else, none_if}
 use Rattle.any_lock.proofs.Cuts.{IsSound, Orderly, all_sound, answered_plain, answers_not, cut_after, first_unrefused, holds, is_cut, orderly, own-other, rest_unrefused, sound_accessed, sound_marked, unrefused_on}
-use Rattle.any_lock.proofs.Markings.{ArePlain, or_left, or_right, reply-plain, reply_or, reply_nil, since-mine, untaken, with_marks}
+use Rattle.any_lock.proofs.Markings.{ArePlain, or_left, or_right, reply_or, reply_nil, since-mine, untaken, with_marks}
 use Rattle.any_lock.proofs.Stands.{answered_in}
 use Rattle.any_lock.proofs.Steps.{own-mine}
 use Rattle.any_lock.proofs.Whole.{one_alone, stands_whole}

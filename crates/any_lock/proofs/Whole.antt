@@ -1,11 +1,11 @@
 -- An entry whole: its marks one after the other, and where its process stands then.
-use Rattle.std.proofs.Common.{◌≡◌, ℕ, suc, ◌+◌, ◌==◌, Bool, true, false, not, ◌&&◌, List, [], ◌∷◌, ◌++◌, Option, None, Some, is_none, length, refl, sym, ap, ◌∙◌, subst, arith, true≢false, append_assoc, eqb-true}
+use Rattle.std.proofs.Common.{◌≡◌, ℕ, suc, ◌==◌, Bool, true, false, not, ◌&&◌, List, [], ◌∷◌, ◌++◌, Option, None, Some, length, refl, sym, ap, ◌∙◌, subst, arith, true≢false, append_assoc, eqb-true}
 use Rattle.std.proofs.lemmas.List.{append-nil}
 use Rattle.std.specs.List.{list_any}
 use Rattle.plain_store.specs.declared.Setup.{Setup}
 use Rattle.record.specs.declared.access.Access.{Access}
 use Rattle.record.specs.declared.marks.Mark.{Mark}
-use Rattle.record.specs.Entries.{Entry, Past}
+use Rattle.record.specs.Entries.{Past}
 use Rattle.any_lock.specs.declared.refusals.MarkRefusal.{MarkRefusal}
 use Rattle.any_lock.specs.declared.refusals.MarkRefusal.TheVariants as refusal
 use Rattle.any_lock.specs.declared.standings.Standing.{Standing}
@@ -58,7 +58,7 @@ marked_on s p o earlier (m ∷ later) past plain rest none = go (mark_refusal k 
 
     go : (r : Option MarkRefusal) → mark_refusal k m ≡ r → refusal_or (mark_refusal k m) (refusal_on s (length past) (marked s (length past) k m) later) ≡ None →
         (refusal_on s (length past) (standing s p (with_marks p o (earlier ++ m ∷ []) ∷ past)) later ≡ None →
-            marked_all s (length past) (standing s p (with_marks p o (earlier ++ m ∷ []) ∷ past)) later ≡ standing s p (with_marks p o ((earlier ++ m ∷ []) ++ later) ∷ past)) →
+        marked_all s (length past) (standing s p (with_marks p o (earlier ++ m ∷ []) ∷ past)) later ≡ standing s p (with_marks p o ((earlier ++ m ∷ []) ++ later) ∷ past)) →
         marked_all s (length past) (marked s (length past) k m) later ≡ standing s p (with_marks p o (earlier ++ m ∷ later) ∷ past)
     go (Some r) h none_left more = let both : Some r ≡ None = ap (λ x. refusal_or x (refusal_on s (length past) (marked s (length past) k m) later)) (sym h) ∙ none_left in cc
     go None h none_left more =

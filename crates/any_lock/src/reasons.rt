@@ -74,13 +74,7 @@ impl Kept {
     }
 
     /// The reasons of an entry that breaks this law first.
-    fn reasons(
-        &self,
-        law: Law,
-        process: u8,
-        access: &Option<Access>,
-        marks: &[Mark],
-    ) -> Reasons
+    fn reasons(&self, law: Law, process: u8, access: &Option<Access>, marks: &[Mark]) -> Reasons
         ensures { (past : Past) (e : Noted) → e.process ≡ process → e.access ≡ access.now → e.marks ≡ marks.now → Knows self.now past → AreReasons self.now.setup past e law result }
     {
         let _nested: NestedTypes = None;
@@ -183,12 +177,7 @@ impl Kept {
     }
 
     /// The other value of a read's end, if the entry would keep all later laws with it.
-    fn other_value(
-        &self,
-        process: u8,
-        access: &Option<Access>,
-        marks: &[Mark],
-    ) -> Option<Change>
+    fn other_value(&self, process: u8, access: &Option<Access>, marks: &[Mark]) -> Option<Change>
         ensures { (past : Past) (e : Noted) → e.process ≡ process → e.access ≡ access.now → e.marks ≡ marks.now → Knows self.now past → result ≡ other_value self.now.setup past e }
     {
         let Some(told) = access else {

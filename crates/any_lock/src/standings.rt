@@ -144,7 +144,11 @@ impl Standing {
         let _nested: NestedTypes = None;
         self.stage = Stage::Doorway;
         self.withdrawn = false;
-        self.number = if setup.version == 2 { self.number + 1 } else { 0 };
+        self.number = if setup.version == 2 {
+            self.number + 1
+        } else {
+            0
+        };
         self.command = *command;
         self.reply = None;
         self.doorway = None;

@@ -1,4 +1,4 @@
-use Rattle.std.proofs.Common.{◌≡◌, ◌+◌, List, [], ◌∷◌, ◌++◌, take, sym, ap, subst, ◌∙◌}
+use Rattle.std.proofs.Common.{◌+◌, List, [], ◌∷◌, ◌++◌, take, sym, ap, subst, ◌∙◌}
 use Rattle.std.proofs.lemmas.List.{take_all, take_more}
 use Rattle.record.specs.Entries.{Entry}
 use Rattle.any_lock.specs.Judging.{HasJudged}
@@ -18,7 +18,7 @@ loop-entry-preserved c =
 pub returns : goal.returns
 returns c =
     let all : HasJudged c.loop-entry.judge c.args.setup.now c.args.entries.now =
-        subst (λ (l : List Entry). HasJudged c.loop-entry.judge c.args.setup.now l) (take_all c.loop-entry.entry-index c.args.entries.now c.loop-entry-test.false) c.loop-entry.invariant.judged in
+    subst (λ (l : List Entry). HasJudged c.loop-entry.judge c.args.setup.now l) (take_all c.loop-entry.entry-index c.args.entries.now c.loop-entry-test.false) c.loop-entry.invariant.judged in
     record {
       verdict = c.judged.ensures.verdict c.args.setup.now c.args.entries.now all;
       entries = c.judged.ensures.entries c.args.setup.now c.args.entries.now all;

@@ -1,4 +1,4 @@
-use Rattle.std.proofs.Common.{◌≡◌, Some, sym, ap, ◌∙◌}
+use Rattle.std.proofs.Common.{sym, ap, ◌∙◌}
 use Rattle.any_lock.specs.Reasons.{doorway_with, of_standing}
 use Rattle.any_lock.proofs.kept.Kept.doorway_with.Goals as goal
 

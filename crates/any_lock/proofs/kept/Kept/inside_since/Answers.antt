@@ -1,4 +1,4 @@
-use Rattle.std.proofs.Common.{◌≡◌, ℕ, Option, None, Some, sym, ap, ◌∙◌}
+use Rattle.std.proofs.Common.{ℕ, Option, None, Some, sym, ap, ◌∙◌}
 use Rattle.any_lock.specs.Reasons.{entered}
 use Rattle.any_lock.specs.Standings.{standing}
 use Rattle.any_lock.proofs.Lowest.{lowest_within}

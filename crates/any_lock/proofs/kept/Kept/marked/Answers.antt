@@ -1,4 +1,4 @@
-use Rattle.std.proofs.Common.{◌≡◌, ◌∷◌, Some, sym, ap, ◌∙◌}
+use Rattle.std.proofs.Common.{◌≡◌, ◌∷◌, sym, ap, ◌∙◌}
 use Rattle.record.specs.Entries.{Entry}
 use Rattle.any_lock.specs.Keeping.{KeptState, accessed_by, marked_all, refusal_on}
 use Rattle.any_lock.specs.Refusals.{refusal_of_marks}
@@ -26,9 +26,10 @@ returns-in-Ok c = λ past e p a m knows.
     let n = ap (λ (k : KeptState). k.entries) c.self.view_is ∙ knows.entries in
     let k = c.accessed-standing.ensures past knows ∙ ap (λ n. accessed_by n (standing c.args.self.now.setup c.args.process past) c.args.access.now) knows.entries in
     let on = accepted c.args.self.now.setup c.args.process past c.args.access.now c.args.marks.now (sym (c.has_nothing.ensures c.args.process) ∙ c.if-has_nothing.false) (sym (c.is_crowded.ensures c.args.process) ∙ c.if-is_crowded.false)
-        ((λ i. refusal_on (sym s i) (sym n i) (sym k i) c.args.marks.now) ∙ c.in-Ok.ensures.allowed) in
-    (ap (refusal_of_marks c.args.self.now.setup past) whole ∙ on.0,
-    c.in-Ok.ensures.marked ∙ (λ i. marked_all (s i) (n i) (k i) c.args.marks.now) ∙ on.1 ∙ ap (λ (x : Entry). standing c.args.self.now.setup c.args.process (x ∷ past)) (sym whole))
+    ((λ i. refusal_on (sym s i) (sym n i) (sym k i) c.args.marks.now) ∙ c.in-Ok.ensures.allowed) in (
+      ap (refusal_of_marks c.args.self.now.setup past) whole ∙ on.0,
+      c.in-Ok.ensures.marked ∙ (λ i. marked_all (s i) (n i) (k i) c.args.marks.now) ∙ on.1 ∙ ap (λ (x : Entry). standing c.args.self.now.setup c.args.process (x ∷ past)) (sym whole),
+    )
 
 pub returns-in-Err : goal.returns-in-Err
 returns-in-Err c = λ past e p a m knows.

@@ -1,4 +1,4 @@
-use Rattle.std.proofs.Common.{◌≡◌, None, Some, cond, sym, ap, ◌∙◌}
+use Rattle.std.proofs.Common.{None, Some, cond, sym, ap, ◌∙◌}
 use Rattle.any_lock.specs.declared.standings.Standing.{Standing}
 use Rattle.any_lock.specs.Reasons.{doorway_with, entry_of, inside_since, is_overtaken, is_together, of_standing, stands, wait_ahead}
 use Rattle.any_lock.proofs.kept.Kept.reasons.Goals as goal

@@ -1,4 +1,4 @@
-use Rattle.std.proofs.Common.{◌≡◌, Option, Some, refl, subst, sym}
+use Rattle.std.proofs.Common.{Option, Some, refl, subst, sym}
 use Rattle.any_lock.specs.declared.verdicts.Law.{Law}
 use Rattle.any_lock.specs.Judging.{AreReasonsIf}
 use Rattle.any_lock.proofs.kept.Kept.reasons_of.Goals as goal
