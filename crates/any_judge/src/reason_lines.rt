@@ -72,7 +72,12 @@ fn push_entry(
     }
 }
 
-fn push_number(alloc: Global, word: &str, number: u64, text: &mut Vec<u8>) -> Result<(), AllocError> {
+fn push_number(
+    alloc: Global,
+    word: &str,
+    number: u64,
+    text: &mut Vec<u8>,
+) -> Result<(), AllocError> {
     let line = format!(in alloc; "{word} {number}\n")?;
     text.extend_from_slice(line.as_bytes())
 }
