@@ -1,6 +1,5 @@
 -- Entries that keep all laws: nobody is inside beside another, nobody overtakes, and what is taken has its place and reply.
-use Rattle.std.proofs.Common.{◌≡◌, ◌≢◌, ℕ, zero, suc, ◌+◌, ◌<◌, ◌≤◌, ◌==◌, Bool, true, false, not, ◌&&◌, ◌||◌, cond, List, [], ◌∷◌, ◌++◌, Option, None, Some, is_some, fold, length, get_or, refl, sym, ap, ◌∙◌, subst, arith, true≢false, ◌⊎◌, inl, inr, ne_eqb, eq-eqb, eqb-true}
-use Rattle.std.specs.Prelude.{Contains}
+use Rattle.std.proofs.Common.{◌≡◌, ◌≢◌, ℕ, zero, suc, ◌<◌, ◌≤◌, ◌==◌, Bool, true, false, not, ◌&&◌, cond, List, [], ◌∷◌, Option, None, Some, fold, length, get_or, refl, sym, ap, ◌∙◌, subst, arith, true≢false, ◌⊎◌, inl, inr, ne_eqb, eq-eqb, eqb-true}
 use Rattle.std.specs.List.{list_all, list_any}
 use Rattle.std.proofs.lemmas.Bool.{and_parts, cases_eq, cases_lt}
 use Rattle.std.proofs.lemmas.Bool.Decides.{Decides-int_eq}
@@ -10,7 +9,6 @@ use Rattle.plain_store.specs.declared.Setup.{Setup}
 use Rattle.plain_store.proofs.Changes.{same_value-Decides}
 use Rattle.record.specs.declared.marks.Mark.{Mark}
 use Rattle.record.specs.declared.marks.Mark.TheVariants as mark
-use Rattle.record.specs.declared.stages.Stage.{Stage}
 use Rattle.record.specs.declared.stages.Stage.TheVariants as stage
 use Rattle.record.specs.Doorways.{first_of, is_before, is_waiting_stage}
 use Rattle.record.specs.Entries.{Entry, Past, has, is_entered}
@@ -172,7 +170,7 @@ at_index p [] i x all within is = absurd (omega arith)
 at_index p (y ∷ xs) zero x all within is = subst (λ z. p z ≡ true) is (and_parts (p y) (list_all p xs) all).0
 at_index p (y ∷ xs) (suc i) x all within is = at_index p xs i x (and_parts (p y) (list_all p xs) all).1 (omega arith) is
 
-same_is : (q r : Reply) → same_reply q r ≡ true → q ≡ r
+pub same_is : (q r : Reply) → same_reply q r ≡ true → q ≡ r
 same_is (reply.Value x) (reply.Value y) h = ap reply.Value ((same_value-Decides x y).0 h)
 same_is reply.Done reply.Done h = refl
 same_is (reply.Sum m) (reply.Sum n) h = ap reply.Sum ((Decides-int_eq m n).0 h)

@@ -1,16 +1,15 @@
 -- What the tests of the laws say.
-use Rattle.std.proofs.Common.{◌≡◌, ℕ, suc, ◌+◌, ◌<◌, ◌==◌, Bool, true, false, not, ◌&&◌, List, [], ◌∷◌, Option, None, Some, is_some, cond, length, refl, sym, ap, ◌∙◌, subst, arith, true≢false}
+use Rattle.std.proofs.Common.{◌≡◌, ℕ, ◌<◌, Bool, true, false, not, ◌&&◌, List, [], ◌∷◌, Option, None, Some, is_some, refl, sym, ap, ◌∙◌, subst, true≢false}
 use Rattle.std.specs.Prelude.{nat_lt, if◌then◌else◌}
 use Rattle.std.proofs.lemmas.Bool.{and_parts, ltb-true}
 use Rattle.record.specs.safe_bit.declared.Move.{Move}
 use Rattle.record.specs.safe_bit.declared.Move.TheVariants as move
-use Rattle.record.specs.safe_bit.SafeRule.{MayEndWith, before_read, is_overlapped, last_written}
+use Rattle.record.specs.safe_bit.SafeRule.{before_read, is_overlapped, last_written}
 use Rattle.plain_store.specs.declared.Setup.{Setup}
 use Rattle.record.specs.declared.access.Access.{Access}
 use Rattle.record.specs.Entries.{Entry, Past}
 use Rattle.record.specs.Moves.{begins_read, moves_of}
 use Rattle.record.specs.Registers.{opening_bit, width}
-use Rattle.watch.specs.laws.Held.{IsThere}
 use Rattle.watch.specs.Safe.{KeepsSafe, MatchBool}
 use Rattle.watch.specs.Watching.{IsOfThere}
 use Rattle.any_lock.specs.declared.refusals.AccessRefusal.{AccessRefusal}

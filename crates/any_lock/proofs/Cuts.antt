@@ -1,6 +1,5 @@
 -- Entries that keep all laws: a call that was cut by a failure is not answered.
-use Rattle.std.proofs.Common.{◌≡◌, ◌≢◌, ℕ, zero, suc, ◌+◌, ◌<◌, ◌≤◌, ◌==◌, Bool, true, false, not, ◌&&◌, ◌||◌, cond, List, [], ◌∷◌, ◌++◌, Option, None, Some, is_some, fold, length, get_or, refl, sym, ap, ◌∙◌, subst, arith, true≢false, ◌⊎◌, inl, inr, ne_eqb, eq-eqb}
-use Rattle.std.specs.Prelude.{Contains}
+use Rattle.std.proofs.Common.{◌≡◌, ◌≢◌, ℕ, zero, suc, ◌<◌, Bool, true, false, not, ◌&&◌, ◌||◌, cond, List, [], ◌∷◌, Option, None, Some, fold, length, get_or, refl, sym, ap, ◌∙◌, subst, arith, true≢false, ◌⊎◌, inl, inr, ne_eqb}
 use Rattle.std.specs.List.{list_any}
 use Rattle.std.proofs.lemmas.Bool.{cases_eq}
 use Rattle.plain_store.specs.declared.Answer.{Answer}
@@ -17,13 +16,13 @@ use Rattle.record.specs.Stages.{stage_after}
 use Rattle.any_lock.specs.declared.refusals.MarkRefusal.{MarkRefusal}
 use Rattle.any_lock.specs.declared.refusals.MarkRefusal.TheVariants as refusal
 use Rattle.any_lock.specs.declared.standings.Standing.{Standing}
-use Rattle.any_lock.specs.Keeping.{accessed_by, at_rest, marked, marked_all, refusal_on}
+use Rattle.any_lock.specs.Keeping.{accessed_by, marked, marked_all, refusal_on}
 use Rattle.any_lock.specs.Refusals.{has_nothing, has_one_mark, is_down, is_in_doorway, is_leaving, is_running, is_settling, mark_refusal, refusal_of_marks, stands_alone}
 use Rattle.any_lock.specs.Standings.{its_call, standing}
 use Rattle.any_lock.proofs.Alone.{AllKeep, Keeps, not_not}
 use Rattle.any_lock.proofs.Breaks.{none_else, none_if}
 use Rattle.any_lock.proofs.Markings.{no_failure, none_of, or_false, or_left, or_right, since-mine, with_marks}
-use Rattle.any_lock.proofs.Steps.{at_first, own-mine, standing-other}
+use Rattle.any_lock.proofs.Steps.{own-mine, standing-other}
 use Rattle.any_lock.proofs.Whole.{one_alone, refusal_or, refused, stands_whole}
 
 -- Entries whose marks are not refused.
@@ -96,7 +95,7 @@ is_downs stage.Down h = refl
 is_downs _ h = absurd (true≢false (sym h))
 
 -- neither of two stages of which an answer may come, nor an idle one
-answers_not : (x : Stage) → not (is_in_doorway x || is_leaving x) ≡ false → (holds x ≡ false) × (rests x ≡ false)
+pub answers_not : (x : Stage) → not (is_in_doorway x || is_leaving x) ≡ false → (holds x ≡ false) × (rests x ≡ false)
 answers_not stage.Doorway h = (refl, refl)
 answers_not stage.Leaving h = (refl, refl)
 answers_not _ h = absurd (true≢false h)
@@ -153,7 +152,7 @@ sound_marked s n k mark.Restarted cut none sound =
     let is : k.stage ≡ stage.Down = is_downs k.stage (not_not (is_down k.stage) (none_if (not (is_down k.stage)) refusal.NotDown _ none)) in
     record { inside = λ i. absurd (clash (holds k.stage) (sound.inside i) (ap holds is)); cut = λ h. refl }
 
-sound_accessed : (n : ℕ) (k : Standing) (o : Option Access) (cut : Bool) → IsSound k cut → IsSound (accessed_by n k o) cut
+pub sound_accessed : (n : ℕ) (k : Standing) (o : Option Access) (cut : Bool) → IsSound k cut → IsSound (accessed_by n k o) cut
 sound_accessed n k None cut sound = sound
 sound_accessed n k (Some a) cut sound = record { inside = sound.inside; cut = sound.cut }
 
@@ -206,7 +205,7 @@ cut_on p past o ms fine = go (list_any stands_alone ms) refl
     go true any = let one = one_alone o ms p any fine.apart in
         subst (λ x. CutGoesOn p past x ms) (sym one.1) (subst (λ x. CutGoesOn p past None x) (sym one.2) (cut_alone p one.0 past one.3))
 
-own-other : (q : ℕ) (e : Entry) (past : Past) → e.process ≢ q → own q (e ∷ past) ≡ own q past
+pub own-other : (q : ℕ) (e : Entry) (past : Past) → e.process ≢ q → own q (e ∷ past) ≡ own q past
 own-other q e past h = ap (λ b. cond b (e ∷ own q past) (own q past)) (ne_eqb e.process q h)
 
 pub all_sound : (s : Setup) (past : Past) → AllKeep s past → (p : ℕ) → IsSound (standing s p past) (is_cut p past)
@@ -249,7 +248,7 @@ answered_at s n (m ∷ ms) k cut (suc i) a none sound plain within is =
     sym same ∙ answered_at s n ms (marked s n k m) (cut_after cut m) i a (rest_unrefused s n k m ms none) (sound_marked s n k m cut (first_unrefused s n k m ms none) sound) later (omega arith) is
 
 -- answers do not stand alone
-answered_plain : (o : Option Access) (p : ℕ) (ms : List Mark) (i : ℕ) (a : Answer) → Orderly o p ms → i < length ms → get_or ms i (mark.Answered a) ≡ mark.Answered a → list_any stands_alone ms ≡ false
+pub answered_plain : (o : Option Access) (p : ℕ) (ms : List Mark) (i : ℕ) (a : Answer) → Orderly o p ms → i < length ms → get_or ms i (mark.Answered a) ≡ mark.Answered a → list_any stands_alone ms ≡ false
 answered_plain o p ms i a fine within is = go (list_any stands_alone ms) refl
   where
     only : (m : Mark) (i : ℕ) → stands_alone m ≡ true → i < length (m ∷ []) → get_or (m ∷ []) i (mark.Answered a) ≡ mark.Answered a → ⊥

@@ -1,5 +1,5 @@
 -- The first of several tests that holds.
-use Rattle.std.proofs.Common.{◌≡◌, Bool, true, false, List, [], ◌∷◌, Option, None, Some, refl, sym, ap, ◌∙◌}
+use Rattle.std.proofs.Common.{◌≡◌, Bool, true, false, List, ◌∷◌, Some, refl}
 use Rattle.any_lock.specs.Refusals.{first_that}
 
 pub first_here : {R : Type 0} (b : Bool) (r : R) (tests : List (Bool × R)) → b ≡ true → first_that ((b, r) ∷ tests) ≡ Some r

@@ -1,5 +1,5 @@
 -- What is kept goes on with an entry.
-use Rattle.std.proofs.Common.{◌≡◌, ◌≢◌, ℕ, suc, ◌+◌, ◌<◌, ◌≤◌, ◌==◌, Bool, true, false, not, ◌&&◌, ◌||◌, List, [], ◌∷◌, ◌++◌, Option, None, Some, is_some, cond, fold, length, replicate, slice_get, slice_set, refl, sym, ap, ◌∙◌, subst, arith, add-one, true≢false, inl, inr, ne_eqb, length-append, length-set}
+use Rattle.std.proofs.Common.{◌≡◌, ◌≢◌, ℕ, ◌+◌, ◌<◌, ◌≤◌, Bool, true, false, ◌&&◌, List, [], ◌∷◌, ◌++◌, Option, None, Some, is_some, cond, length, replicate, slice_get, slice_set, refl, sym, ap, ◌∙◌, subst, add-one, true≢false, inl, inr, ne_eqb, length-append, length-set}
 use Rattle.std.specs.List.{list_all, list_any}
 use Rattle.std.proofs.lemmas.Bool.{cases_eq, cases_lt}
 use Rattle.std.proofs.lemmas.Option.{slice_get-get_or, slice_get_past, slice_get_within}
@@ -8,7 +8,7 @@ use Rattle.std.proofs.lemmas.List.Sums.{fold-append}
 use Rattle.plain_store.specs.declared.Reply.{Reply}
 use Rattle.plain_store.specs.declared.Setup.{Setup}
 use Rattle.plain_store.specs.Setups.{opening_store}
-use Rattle.plain_store.specs.Store.{Contents, after}
+use Rattle.plain_store.specs.Store.{after}
 use Rattle.record.specs.declared.history.Taken.{Taken}
 use Rattle.record.specs.declared.marks.Mark.{Mark}
 use Rattle.record.specs.declared.marks.Mark.TheVariants as mark
@@ -87,7 +87,7 @@ none_taken n r (mark.Restarted ∷ ms) h = none_taken n r ms h
 abbrev pub taken_now : Setup → ℕ → Past → Reply → Taken
 taken_now s p past r = let c = last_call s p (own p past) in record { process = p; command = c.command; reply = r; number = c.number }
 
-history_with : (s : Setup) (past : Past) (e : Entry) → (o : Option Reply) → reply_taken e.marks ≡ o →
+pub history_with : (s : Setup) (past : Past) (e : Entry) → (o : Option Reply) → reply_taken e.marks ≡ o →
     history s (e ∷ past) ≡ elim o as (λ _. List Taken) [ None ↦ history s past | Some r ↦ history s past ++ taken_now s e.process past r ∷ [] ]
 history_with s past e o h = ap (λ x. elim x as (λ _. List Taken) [ None ↦ history s past | Some r ↦ history s past ++ taken_now s e.process past r ∷ [] ]) h
 

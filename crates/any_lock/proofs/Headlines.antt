@@ -1,10 +1,13 @@
 -- A good verdict says the headline.
-use Rattle.std.proofs.Common.{◌≡◌, List, [], ◌∷◌, ◌++◌, reverse, subst}
+use Rattle.std.proofs.Common.{[], ◌∷◌, ◌++◌, reverse, subst}
 use Rattle.plain_store.specs.declared.Setup.{Setup}
-use Rattle.record.specs.Entries.{Entry, Past}
+use Rattle.record.specs.Entries.{Past}
 use Rattle.any_lock.specs.Headline.{GoodSaysTheHeadline, KeepsHeadlineThroughout}
 use Rattle.any_lock.proofs.Alone.{AllKeep, all_alone, all_keep, overtakes_nobody, takes_its_place}
 use Rattle.any_lock.proofs.Cuts.{answers_no_cut_call}
+use Rattle.any_lock.proofs.Stands.{stands_in_history}
+use Rattle.any_lock.proofs.Once.{calls_take_once}
+use Rattle.any_lock.proofs.Took.{answers_what_it_took}
 
 -- the entries before one of those that keep all laws
 before : (s : Setup) (later rest : Past) → AllKeep s (later ++ rest) → AllKeep s rest
@@ -18,6 +21,9 @@ throughout s past all later earlier e split =
       alone = all_alone s (e ∷ earlier) kept;
       overtakes = overtakes_nobody s earlier e kept.1 kept.0;
       place = takes_its_place s earlier e kept.0;
+      stands = stands_in_history s earlier e kept.1 kept.0;
+      answers = answers_what_it_took s earlier e kept.1 kept.0;
+      once = calls_take_once s (e ∷ earlier) kept;
       cut = answers_no_cut_call s earlier e kept.1 kept.0;
     }
 

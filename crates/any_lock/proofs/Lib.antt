@@ -11,3 +11,6 @@ pub mod Told
 pub mod Alone
 pub mod Cuts
 pub mod Headlines
+pub mod Stands
+pub mod Took
+pub mod Once

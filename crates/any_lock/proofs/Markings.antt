@@ -1,5 +1,5 @@
 -- How the look-backs go on with one mark more.
-use Rattle.std.proofs.Common.{◌≡◌, ℕ, suc, ◌+◌, ◌==◌, Bool, true, false, not, ◌&&◌, ◌||◌, cond, List, [], ◌∷◌, ◌++◌, Option, None, Some, is_some, fold, length, refl, sym, ap, ◌∙◌, subst, add-one, true≢false}
+use Rattle.std.proofs.Common.{◌≡◌, ℕ, suc, ◌+◌, ◌==◌, Bool, true, false, not, ◌||◌, cond, List, [], ◌∷◌, ◌++◌, Option, None, Some, is_some, length, refl, sym, ap, ◌∙◌, add-one, true≢false}
 use Rattle.std.specs.List.{list_any}
 use Rattle.std.proofs.lemmas.List.Folds.{list_any-append}
 use Rattle.std.proofs.lemmas.List.Sums.{fold-append}
@@ -18,8 +18,8 @@ use Rattle.any_lock.specs.declared.standings.Standing.{Standing}
 use Rattle.any_lock.specs.Keeping.{marked}
 use Rattle.any_lock.specs.declared.refusals.MarkRefusal.TheVariants as refusal
 use Rattle.any_lock.specs.Refusals.{first_that, mark_refusal, stands_alone}
-use Rattle.any_lock.specs.Standings.{begun_by, has_access, is_withdrawal, left_open, opened, reply_in, standing, torn}
-use Rattle.any_lock.proofs.Steps.{bare, if_there, inside-mine, number-called, number-mine, opened-mine, own-mine, stage-mine, standing_by, torn-mine}
+use Rattle.any_lock.specs.Standings.{begun_by, has_access, is_withdrawal, left_open, opened, reply_in, standing}
+use Rattle.any_lock.proofs.Steps.{if_there, inside-mine, number-called, number-mine, opened-mine, own-mine, stage-mine, standing_by, torn-mine}
 
 -- Marks that need not stand alone.
 
@@ -150,7 +150,7 @@ abbrev pub reply_by : Option Reply → Mark → Option Reply
 reply_by before (mark.Taken n r) = Some r
 reply_by before _ = before
 
-reply_nil : (o : Option Reply) → reply_or o None ≡ o
+pub reply_nil : (o : Option Reply) → reply_or o None ≡ o
 reply_nil None = refl
 reply_nil (Some r) = refl
 
@@ -216,7 +216,7 @@ module _ (s : Setup) (p : ℕ) (o : Option Access) (ms : List Mark) (m : Mark) (
       (numbered-more p is_entered o ms m past plain is)
 
 -- A mark that is not refused.
-untaken : (k : Standing) (n : ℕ) (r : Reply) → mark_refusal k (mark.Taken n r) ≡ None → k.reply ≡ None
+pub untaken : (k : Standing) (n : ℕ) (r : Reply) → mark_refusal k (mark.Taken n r) ≡ None → k.reply ≡ None
 untaken k n r h = by k.inside k.reply h
   where
     by : (i : Bool) (o : Option Reply) → first_that ((not i, refusal.NotInside) ∷ (is_some o, refusal.TakenBefore) ∷ []) ≡ None → o ≡ None

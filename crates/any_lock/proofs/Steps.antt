@@ -1,24 +1,16 @@
 -- How the look-backs go on with an entry: with its access, and then mark by mark.
-use Rattle.std.proofs.Common.{◌≡◌, ℕ, suc, ◌+◌, ◌==◌, Bool, true, false, not, ◌&&◌, ◌||◌, cond, List, [], ◌∷◌, ◌++◌, Option, None, Some, fold, length, refl, sym, ap, ◌∙◌, subst, add-one, true≢false, eq-eqb}
+use Rattle.std.proofs.Common.{◌≡◌, ℕ, ◌==◌, Bool, true, false, cond, [], ◌∷◌, Option, None, Some, fold, length, refl, ap, ◌∙◌, eq-eqb}
 use Rattle.std.specs.List.{list_any}
-use Rattle.plain_store.specs.declared.Command.{Command}
-use Rattle.plain_store.specs.declared.Reply.{Reply}
 use Rattle.plain_store.specs.declared.Setup.{Setup}
 use Rattle.record.specs.declared.access.Access.{Access}
-use Rattle.record.specs.declared.marks.Mark.{Mark}
-use Rattle.record.specs.declared.marks.Mark.TheVariants as mark
-use Rattle.record.specs.declared.stages.Stage.{Stage}
-use Rattle.record.specs.declared.stages.Stage.TheVariants as stage
-use Rattle.record.specs.Calls.{call_number, called_in, calls_in, last_command}
-use Rattle.record.specs.Doorways.{doorway_end, first_of, number_in_call}
+use Rattle.record.specs.Calls.{call_number, last_command}
+use Rattle.record.specs.Doorways.{first_of, number_in_call}
 use Rattle.record.specs.Entries.{Entry, Past, has, is_called, is_entered, is_failed, is_waiting, own, since}
-use Rattle.record.specs.Histories.{reply_taken}
 use Rattle.record.specs.Stages.{inside, inside_after, stage as stage_at, stage_after}
 use Rattle.any_lock.specs.declared.standings.Begun.{Begun}
 use Rattle.any_lock.specs.declared.standings.Standing.{Standing}
-use Rattle.any_lock.specs.Keeping.{accessed_by, at_rest, marked, next_number}
-use Rattle.any_lock.specs.Refusals.{stands_alone, up_to}
-use Rattle.any_lock.specs.Standings.{begun_by, has_access, is_withdrawal, its_call, left_open, opened, reply_in, standing, torn, torn_after, write_of}
+use Rattle.any_lock.specs.Keeping.{accessed_by, at_rest}
+use Rattle.any_lock.specs.Standings.{begun_by, has_access, is_withdrawal, left_open, opened, reply_in, standing, torn, torn_after, write_of}
 
 -- Standings by their fields.
 

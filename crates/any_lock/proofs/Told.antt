@@ -1,15 +1,15 @@
 -- The verdict with one more entry.
-use Rattle.std.proofs.Common.{◌≡◌, ℕ, ◌+◌, ◌++◌, Bool, true, false, not, List, [], ◌∷◌, length, reverse, Option, Some, None, Ok, refl, ap, sym, subst, ◌∙◌, arith}
+use Rattle.std.proofs.Common.{◌≡◌, ℕ, ◌+◌, ◌++◌, Bool, not, List, [], ◌∷◌, length, reverse, Option, Some, None, refl, ap, sym, subst, ◌∙◌}
 use Rattle.std.proofs.lemmas.List.{length-append, length-reverse, reverse-append}
 use Rattle.plain_store.specs.declared.Setup.{Setup}
-use Rattle.record.specs.declared.access.Access.{Access}
 use Rattle.record.specs.Entries.{Entry, Past}
-use Rattle.watch.specs.Watching.{AllAreOfThere, IsOfThere, WatchState}
+use Rattle.watch.specs.Watching.{AllAreOfThere, WatchState}
 use Rattle.watch.specs.Watching.{HasHeard as HasWatched}
 use Rattle.any_lock.specs.declared.verdicts.Law.{Law}
 use Rattle.any_lock.specs.declared.verdicts.Verdict.{Verdict}
 use Rattle.any_lock.specs.declared.verdicts.Verdict.TheVariants.{Good, Bad}
-use Rattle.any_lock.specs.Judging.{BothHeard, HasJudged, JudgeState}
+use Rattle.any_lock.specs.declared.reasons.Reasons.{Reasons}
+use Rattle.any_lock.specs.Judging.{AreReasonsAt, AreReasonsIf, AreReasonsOf, BothHeard, HasJudged, JudgeState}
 use Rattle.any_lock.specs.Keeping.{KeptState, Knows}
 use Rattle.any_lock.specs.Laws.{breaks_safe, first_broken}
 use Rattle.any_lock.specs.Verdicts.{verdict_after, verdict_of, verdict_with}
@@ -53,9 +53,9 @@ told_law j e is_safe w law k told s past both =
     let safe : breaks_safe j.kept.setup past e ≡ not is_safe = subst (λ (t : Setup). breaks_safe t past e ≡ not is_safe) (both.watched ∙ sym both.kept) (told.safe past both.watch there) in
     told.law past safe both.knows ∙ ap (λ t. first_broken t past e) both.kept
 
-pub told_on : (j : JudgeState) (e : Entry) (is_safe : Bool) (w : WatchState) (law : Option Law) (k : KeptState) → AreTold j e is_safe w law k →
-    (s : Setup) (past : Past) → BothHeard j s past → law ≡ None → BothHeard (record { watch = w; kept = k; verdict = j.verdict; entries = j.entries }) s (e ∷ past)
-told_on j e is_safe w law k told s past both none =
+pub told_on : (j : JudgeState) (e : Entry) (is_safe : Bool) (w : WatchState) (law : Option Law) (k : KeptState) (r : Option Reasons) → AreTold j e is_safe w law k →
+    (s : Setup) (past : Past) → BothHeard j s past → law ≡ None → BothHeard (record { watch = w; kept = k; verdict = j.verdict; entries = j.entries; reasons = r }) s (e ∷ past)
+told_on j e is_safe w law k r told s past both none =
     let first : first_broken s past e ≡ None = sym (told_law j e is_safe w law k told s past both) ∙ none in
     record {
       watched = told.watched ∙ both.watched;
@@ -69,17 +69,50 @@ told_on j e is_safe w law k told s past both none =
 pub with_entries : (j : JudgeState) (n : ℕ) (s : Setup) (past : Past) → BothHeard j s past → BothHeard (record j { entries = n }) s past
 with_entries j n s past both = record { watched = both.watched; watch = both.watch; kept = both.kept; knows = both.knows; there = both.there }
 
+-- the reasons of an entry that is the first that breaks a law
+reasons_at : (s : Setup) (entries : List Entry) (e : Entry) (law : Option Law) (r : Option Reasons) → AreReasonsIf s (reverse entries) e law r → AreReasonsOf s (entries ++ e ∷ []) (verdict_with (length entries) law) r
+reasons_at s entries e None r are = are
+reasons_at s entries e (Some l) r are = record { entry = e; past = reverse entries; later = []; splits = newest_first entries e; number = length-reverse entries; told = are.0; is = are.1; are = are.2 }
+
 -- a judge with a good verdict and one more entry
 pub hears_on : (old new : JudgeState) (e : Entry) (found : Verdict) (s : Setup) (entries : List Entry) → HasJudged old s entries → old.verdict ≡ Good → new.entries ≡ old.entries + 1 →
     ((past : Past) → BothHeard old s past → found ≡ verdict_with old.entries (first_broken s past e)) →
+    ((past : Past) → BothHeard old s past → AreReasonsIf s past e (first_broken s past e) new.reasons) →
     ((past : Past) → BothHeard old s past → found ≡ Good → BothHeard new s (e ∷ past)) →
     HasJudged (record new { verdict = found }) s (entries ++ e ∷ [])
-hears_on old new e found s entries judged good more heard on =
+hears_on old new e found s entries judged good more heard reasons on =
     let both : BothHeard old s (reverse entries) = judged.goes_on good in
+    let is : found ≡ verdict_with (length entries) (first_broken s (reverse entries) e) = heard (reverse entries) both ∙ ap (λ n. verdict_with n (first_broken s (reverse entries) e)) judged.count in
     record {
       good = judged.good;
       count = more ∙ ap (λ n. n + 1) judged.count ∙ sym (length-append entries (e ∷ []));
-      verdict = heard (reverse entries) both ∙ ap (λ n. verdict_with n (first_broken s (reverse entries) e)) judged.count ∙ sym (verdict_good s entries e (sym judged.verdict ∙ good));
+      verdict = is ∙ sym (verdict_good s entries e (sym judged.verdict ∙ good));
+      reasons = subst (λ v. AreReasonsOf s (entries ++ e ∷ []) v new.reasons) (sym is) (reasons_at s entries e (first_broken s (reverse entries) e) new.reasons (reasons (reverse entries) both));
       goes_on = λ is. subst (λ (l : Past). BothHeard (record new { verdict = found }) s l) (sym (newest_first entries e))
           (let next = on (reverse entries) both is in record { watched = next.watched; watch = next.watch; kept = next.kept; knows = next.knows; there = next.there });
     }
+
+-- a judge with a bad one
+pub hears_bad : (old : JudgeState) (e : Entry) (s : Setup) (entries : List Entry) → HasJudged old s entries → (old.verdict ≡ Good → ⊥) → HasJudged (record old { entries = old.entries + 1 }) s (entries ++ e ∷ [])
+hears_bad old e s entries judged bad = by old.verdict refl judged.reasons
+  where
+    by : (v : Verdict) → old.verdict ≡ v → AreReasonsOf s entries old.verdict old.reasons → HasJudged (record old { entries = old.entries + 1 }) s (entries ++ e ∷ [])
+    by Good is reasons = absurd (bad is)
+    by (Bad k l) is reasons =
+        let at : AreReasonsAt s entries k l old.reasons = subst (λ v. AreReasonsOf s entries v old.reasons) is reasons in
+        record {
+          good = judged.good;
+          count = ap (λ n. n + 1) judged.count ∙ sym (length-append entries (e ∷ []));
+          verdict = is ∙ sym (verdict_bad s entries e k l (sym judged.verdict ∙ is));
+          reasons = subst (λ v. AreReasonsOf s (entries ++ e ∷ []) v old.reasons) (sym is)
+              (record { entry = at.entry; past = at.past; later = e ∷ at.later; splits = newest_first entries e ∙ ap (λ (l : Past). e ∷ l) at.splits; number = at.number; told = at.told; is = at.is; are = at.are });
+          goes_on = λ good. absurd (bad good);
+        }
+
+-- the reasons that are given by what is kept after an entry: where it breaks a law nothing was changed
+pub reasons_given : (k then : KeptState) (s : Setup) (past : Past) (e : Entry) (law : Option Law) (r : Option Reasons) → k.setup ≡ s → Knows k past →
+    ((l : Law) → law ≡ Some l → then ≡ k) → (law ≡ None → r ≡ None) → (Knows then past → AreReasonsIf then.setup past e law r) → AreReasonsIf s past e law r
+reasons_given k then s past e None r setup knows same none some = none refl
+reasons_given k then s past e (Some l) r setup knows same none some =
+    let is : then ≡ k = same l refl in
+    subst (λ (t : Setup). AreReasonsIf t past e (Some l) r) (ap (λ (x : KeptState). x.setup) is ∙ setup) (some (subst (λ (x : KeptState). Knows x past) (sym is) knows))

@@ -1,22 +1,32 @@
 -- What a good verdict says, whoever made the record.
-use Rattle.std.specs.Prelude.{◌≡◌, ℕ, List, ◌∷◌, ◌++◌, reverse, IsTrue, IsFalse}
+use Rattle.std.specs.Prelude.{◌≡◌, ℕ, List, ◌∷◌, ◌++◌, reverse, IsTrue, IsFalse, Contains}
 use Rattle.plain_store.specs.declared.Setup.{Setup}
 use Rattle.record.specs.Entries.{Entry, Past, has, is_entered}
-use Rattle.record.specs.Headline.{AnswersNoCutCall, IsAlone, TakesItsPlace}
+use Rattle.record.specs.Headline.{AnswersNoCutCall, CallsTakeOnce, IsAlone, IsAnswerTo, StandsInHistory, TakesItsPlace}
+use Rattle.record.specs.Spans.{all_takings}
+use Rattle.record.specs.declared.marks.Mark.TheVariants.{Answered}
+use Rattle.plain_store.specs.declared.Answer.{Answer}
 use Rattle.any_lock.specs.declared.verdicts.Verdict.TheVariants.{Good}
 use Rattle.any_lock.specs.Laws.{waits_before}
-use Rattle.any_lock.specs.Standings.{standing}
+use Rattle.any_lock.specs.Standings.{its_call, standing}
 use Rattle.any_lock.specs.Verdicts.{verdict_of}
 
 -- Who gets inside does so while no other is ahead: nobody overtakes.
 abbrev pub OvertakesNobody : Setup → Past → Entry → Type 0
 OvertakesNobody s past e = IsTrue (has is_entered e) → (j : ℕ) → (j ≡ e.process → ⊥) → IsFalse (waits_before (standing s j past) (standing s e.process past))
 
+-- An answer is the reply with which its call has taken its one command; with any other answer it has taken none.
+abbrev pub AnswersWhatItTook : Past → Entry → Type 0
+AnswersWhatItTook past e = (a : Answer) → Contains e.marks (Answered a) → IsAnswerTo a (all_takings (its_call e.process (e ∷ past)))
+
 -- The headline, of one entry and the entries before it.
 pub record KeepsHeadline (s : Setup) (past : Past) (e : Entry) : Type 0 where
   pub alone : IsAlone (e ∷ past)  -- no two are inside together
   pub overtakes : OvertakesNobody s past e  -- nobody enters while another is ahead
   pub place : TakesItsPlace s past e  -- what is taken has its place, and the one-thread store's reply there
+  pub stands : StandsInHistory s past e  -- a store answer stands in the history
+  pub answers : AnswersWhatItTook past e  -- it is the reply of the one command of its call, and another answer says that none was taken
+  pub once : CallsTakeOnce (e ∷ past)  -- each call, cut or not, is taken at most once
   pub cut : AnswersNoCutCall past e  -- a call that was cut is never answered
 
 -- Each entry of these keeps it.

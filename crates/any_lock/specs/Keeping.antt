@@ -10,13 +10,13 @@ use Rattle.record.specs.declared.marks.Mark.{Mark}
 use Rattle.record.specs.declared.marks.Mark.TheVariants as mark
 use Rattle.record.specs.declared.stages.Stage.TheVariants as stage
 use Rattle.record.specs.Doorways.{first_of}
-use Rattle.record.specs.Entries.{Entry, Past}
+use Rattle.record.specs.Entries.{Past}
 use Rattle.record.specs.Histories.{history, store_after}
-use Rattle.record.specs.Stages.{inside_after, stage_after}
+use Rattle.record.specs.Stages.{stage_after}
 use Rattle.any_lock.specs.declared.refusals.MarkRefusal.{MarkRefusal}
 use Rattle.any_lock.specs.declared.standings.Standing.{Standing}
 use Rattle.any_lock.specs.Refusals.{mark_refusal, same_reply}
-use Rattle.any_lock.specs.Standings.{begun_by, left_open, standing, torn_after, write_of}
+use Rattle.any_lock.specs.Standings.{begun_by, standing, torn_after, write_of}
 
 -- where a process stands that has no entries
 abbrev pub at_rest : Standing

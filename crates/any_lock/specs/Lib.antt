@@ -7,3 +7,4 @@ pub mod Keeping
 pub mod Shown
 pub mod Judging
 pub mod Headline
+pub mod Reasons

@@ -5,7 +5,7 @@ ghost use Rattle.record.specs.Entries.{Entry as Noted, Past};
 ghost use Rattle.watch.specs.Watching.{AllAreOfThere, HasHeard as HasWatched};
 ghost use Rattle.any_lock.specs.declared.verdicts.Verdict.TheVariants.{Good};
 ghost use Rattle.any_lock.specs.Headline.{KeepsHeadlineThroughout};
-ghost use Rattle.any_lock.specs.Judging.{BothHeard, HasJudged};
+ghost use Rattle.any_lock.specs.Judging.{AreReasonsIf, AreReasonsOf, BothHeard, HasJudged};
 ghost use Rattle.any_lock.specs.Laws.{breaks_safe, first_broken};
 ghost use Rattle.any_lock.specs.Verdicts.{verdict_of, verdict_with};
 
@@ -36,7 +36,7 @@ impl Model for Judge {
 
     ghost Value = { JudgeState };
 
-    ghost view = { λ j. record { watch = j.watch; kept = j.kept; verdict = j.verdict; entries = j.entries } };
+    ghost view = { λ j. record { watch = j.watch; kept = j.kept; verdict = j.verdict; entries = j.entries; reasons = j.reasons } };
 
     ghost invariant = { λ j. j.kept.entries ≤ j.entries };
 }
@@ -90,6 +90,7 @@ impl Judge {
         ensures verdict { self.new.verdict ≡ self.old.verdict }
         ensures entries { self.new.entries ≡ self.old.entries }
         ensures heard { (s : Given) (past : Past) → BothHeard self.old s past → result ≡ verdict_with number (first_broken s past (record { process = process; access = access.now; marks = marks.now })) }
+        ensures reasons { (s : Given) (past : Past) → BothHeard self.old s past → AreReasonsIf s past (record { process = process; access = access.now; marks = marks.now }) (first_broken s past (record { process = process; access = access.now; marks = marks.now })) self.new.reasons }
         ensures goes_on { (s : Given) (past : Past) → BothHeard self.old s past → result ≡ Good → BothHeard self.new s (record { process = process; access = access.now; marks = marks.now } ∷ past) }
     {
         let _nested: NestedTypes = None;
@@ -112,8 +113,10 @@ impl Judge {
         }
     }
 
-    /// The reasons of a bad verdict.
-    pub fn reasons(&self) -> Option<Reasons> {
+    /// The reasons of the verdict on the entries so far: what is looked up for the bad entry, and none of a good verdict.
+    pub fn reasons(&self) -> Option<Reasons>
+        ensures { (s : Given) (entries : List Noted) → HasJudged self.now s entries → AreReasonsOf s entries (verdict_of s entries) result }
+    {
         self.reasons
     }
 }

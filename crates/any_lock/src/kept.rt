@@ -1,23 +1,20 @@
 //! What a judge keeps of the entries that it has heard, but for bits: where each process stands, the one-thread store,
 //! and how many commands and entries there were.
-ghost use Rattle.std.specs.Prelude.{◌≡◌, ℕ, ◌+◌, ◌-◌, ◌^◌, ◌<◌, ◌≤◌, ◌==◌, ◌&&◌, not, cond, [], ◌∷◌, IfOk, MatchOption, length, MatchResult, None, Ok, Some, slice_get, slice_set};
-ghost use Rattle.std.specs.List.{list_all, list_any};
+ghost use Rattle.std.specs.Prelude.{◌≡◌, ℕ, ◌+◌, ◌-◌, ◌^◌, ◌<◌, ◌==◌, ◌&&◌, not, cond, [], ◌∷◌, IfOk, MatchOption, MatchResult, None, Ok, Some, slice_get, slice_set};
+ghost use Rattle.std.specs.List.{list_any};
 ghost use Rattle.plain_store.specs.Setups.{checked};
 ghost use Rattle.record.specs.Doorways.{is_before as before};
-ghost use Rattle.record.specs.Entries.{Entry as Noted, Past, is_entered};
-ghost use Rattle.record.specs.Histories.{history};
-ghost use Rattle.record.specs.Spans.{takings};
+ghost use Rattle.record.specs.Entries.{Entry as Noted, Past};
 ghost use Rattle.plain_store.specs.Store.{after};
 ghost use Rattle.any_lock.specs.declared.standings.Standing.{Standing as Stood};
-ghost use Rattle.any_lock.specs.Keeping.{Knows, accessed_by, is_taken, is_taken_as};
-ghost use Rattle.any_lock.specs.Laws.{breaks_overtaken, breaks_safe, breaks_together, broken_inside, broken_later, first_broken, is_that, lowest_other, right_reply, waits_before};
+ghost use Rattle.any_lock.specs.Keeping.{Knows, accessed_by, is_taken};
+ghost use Rattle.any_lock.specs.Laws.{lowest_other, right_reply, waits_before};
 ghost use Rattle.any_lock.specs.Refusals.{has_nothing, has_one_mark, refusal_of_access, refusal_of_marks, stands_alone as is_alone};
 ghost use Rattle.any_lock.specs.Standings.{standing as standing_of};
 
-use crate::mark_rules::{same_reply, stands_alone, waits};
+use crate::mark_rules::{stands_alone, waits};
 use crate::refusals::{AccessRefusal, MarkRefusal};
 use crate::standings::Standing;
-use crate::verdicts::Law;
 use plain_store::{Caller, NestedTypes, Reply, Setup, Store, opened};
 use record::{Access, Mark};
 use std::alloc::{AllocError, Global};
@@ -83,6 +80,14 @@ impl Kept {
         ensures { MatchOption result (slice_get self.now.standings process ≡ None) (λ k. slice_get self.now.standings process ≡ Some k.now) }
     {
         self.standings.get(usize::from(process))
+    }
+
+    /// Where a process stands that is there.
+    pub fn stands(&self, process: u8) -> Standing
+        requires { process < self.now.setup.processes }
+        ensures { (past : Past) → Knows self.now past → result ≡ standing_of self.now.setup process past }
+    {
+        self.standings[usize::from(process)]
     }
 
     /// Why the access of an entry is refused, if it is.
@@ -158,7 +163,7 @@ impl Kept {
     }
 
     /// The lowest process that is ahead of this one.
-    fn other_ahead(&self, process: u8) -> Option<u8>
+    pub fn other_ahead(&self, process: u8) -> Option<u8>
         requires { process < self.now.setup.processes }
         ensures { (past : Past) → Knows self.now past → result ≡ lowest_other self.now.setup process (λ q. waits_before (standing_of self.now.setup q past) (standing_of self.now.setup process past)) }
     {
@@ -207,107 +212,8 @@ impl Kept {
         (self.taken, reply)
     }
 
-    /// Where the process of an entry stands after it, if it keeps all laws after `Safe`; else the first of these that it
-    /// breaks.
-    pub fn after(
-        &self,
-        process: u8,
-        access: &Option<Access>,
-        marks: &[Mark],
-    ) -> Result<Standing, Law>
-        ensures there { IfOk result (λ _. process < self.now.setup.processes) }
-        ensures laws { (past : Past) (e : Noted) → e.process ≡ process → e.access ≡ access.now → e.marks ≡ marks.now → Knows self.now past → MatchResult result (λ k. (broken_later self.now.setup past e ≡ None) × (k ≡ standing_of self.now.setup process (e ∷ past))) (λ law. broken_later self.now.setup past e ≡ Some law) }
-    {
-        let _nested: NestedTypes = None;
-        if let Some(_refusal) = self.refusal_of_access(process, access) {
-            return Err(Law::Access);
-        }
-        if process >= self.processes() {
-            return Err(Law::Access);
-        }
-        let Ok(standing) = self.marked(process, access, marks) else {
-            return Err(Law::Marks);
-        };
-        match self.broken_by(process, marks) {
-            None => Ok(standing),
-            Some(law) => Err(law),
-        }
-    }
-
-    /// The first law that an entry breaks whose access and marks are not refused.
-    fn broken_by(&self, process: u8, marks: &[Mark]) -> Option<Law>
-        requires { process < self.now.setup.processes }
-        ensures { (past : Past) (e : Noted) → e.process ≡ process → e.marks ≡ marks.now → Knows self.now past → result ≡ broken_inside self.now.setup past e }
-    {
-        if self.joins_another(process, marks) {
-            Some(Law::Together)
-        } else if self.overtakes(process, marks) {
-            Some(Law::Overtaken)
-        } else if !self.takes_rightly(process, marks) {
-            Some(Law::History)
-        } else {
-            None
-        }
-    }
-
-    /// Whether a process gets inside with these marks while another is inside.
-    fn joins_another(&self, process: u8, marks: &[Mark]) -> bool
-        ensures { (past : Past) (e : Noted) → e.process ≡ process → e.marks ≡ marks.now → Knows self.now past → result ≡ breaks_together self.now.setup past e }
-    {
-        enters(marks) && self.other_inside(process).is_some()
-    }
-
-    /// Whether a process gets inside with these marks while another is ahead of it.
-    fn overtakes(&self, process: u8, marks: &[Mark]) -> bool
-        requires { process < self.now.setup.processes }
-        ensures { (past : Past) (e : Noted) → e.process ≡ process → e.marks ≡ marks.now → Knows self.now past → result ≡ breaks_overtaken self.now.setup past e }
-    {
-        enters(marks) && self.other_ahead(process).is_some()
-    }
-
-    /// Whether each command that marks take has its place and its reply.
-    fn takes_rightly(&self, process: u8, marks: &[Mark]) -> bool
-        requires { process < self.now.setup.processes }
-        ensures { (past : Past) → Knows self.now past → result ≡ list_all (is_that (length (history self.now.setup past)) (right_reply self.now.setup past process)) (takings marks.now) }
-    {
-        let _nested: NestedTypes = None;
-        if !takes(marks) {
-            return true;
-        }
-        let (place, reply) = self.right_taking(process);
-        are_those(marks, place, &reply)
-    }
-
-    /// One more entry, by whether it keeps the law `Safe`: none, if it keeps all laws; else the first that it breaks,
-    /// and nothing is changed.
-    pub fn hear(
-        &mut self,
-        is_safe: bool,
-        process: u8,
-        access: &Option<Access>,
-        marks: &[Mark],
-    ) -> Option<Law>
-        requires { self.old.entries < 2 ^ 64 - 1 }
-        ensures setup { self.new.setup ≡ self.old.setup }
-        ensures entries { self.new.entries ≤ self.old.entries + 1 }
-        ensures law { (past : Past) (e : Noted) → e.process ≡ process → e.access ≡ access.now → e.marks ≡ marks.now → breaks_safe self.old.setup past e ≡ not is_safe → Knows self.old past → result ≡ first_broken self.old.setup past e }
-        ensures knows { (past : Past) (e : Noted) → e.process ≡ process → e.access ≡ access.now → e.marks ≡ marks.now → result ≡ None → Knows self.old past → Knows self.new (e ∷ past) }
-    {
-        let _nested: NestedTypes = None;
-        if !is_safe {
-            return Some(Law::Safe);
-        }
-        match self.after(process, access, marks) {
-            Ok(standing) => {
-                self.go_on(process, &standing, marks);
-                None
-            }
-            Err(law) => Some(law),
-        }
-    }
-
     /// One more entry, with these marks, which breaks no law and after which its process stands so.
-    fn go_on(&mut self, process: u8, standing: &Standing, marks: &[Mark])
+    pub fn go_on(&mut self, process: u8, standing: &Standing, marks: &[Mark])
         requires process { process < self.old.setup.processes }
         requires few { self.old.entries < 2 ^ 64 - 1 }
         ensures setup { self.new.setup ≡ self.old.setup }
@@ -381,37 +287,11 @@ fn any_stands_alone(marks: &[Mark]) -> bool
     marks.iter().any(stands_alone)
 }
 
-/// Whether a process gets inside with these marks.
-pub(crate) fn enters(marks: &[Mark]) -> bool
-    ensures { result ≡ list_any is_entered marks.now }
-{
-    marks.iter().any(|mark| matches!(mark, Mark::Entered))
-}
-
 /// Whether a command is taken with these marks.
-fn takes(marks: &[Mark]) -> bool
+pub(crate) fn takes(marks: &[Mark]) -> bool
     ensures { result ≡ list_any is_taken marks.now }
 {
     marks.iter().any(|mark| matches!(mark, Mark::Taken(..)))
-}
-
-/// Whether each command that marks take has this place and this reply.
-fn are_those(marks: &[Mark], place: u64, reply: &Reply) -> bool
-    ensures { result ≡ list_all (is_taken_as place reply.now) marks.now }
-{
-    let _nested: NestedTypes = None;
-    marks.iter().all(|mark| is_taken_as(mark, place, reply))
-}
-
-/// Whether a mark takes no command, or one that has this place and this reply.
-fn is_taken_as(mark: &Mark, place: u64, reply: &Reply) -> bool
-    ensures { result ≡ is_taken_as place reply.now mark.now }
-{
-    let _nested: NestedTypes = None;
-    match mark {
-        Mark::Taken(at, told) => *at == place && same_reply(told, reply),
-        _ => true,
-    }
 }
 
 /// Whether a `wait` stands before a doorway begins, if it has begun.

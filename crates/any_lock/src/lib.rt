@@ -4,6 +4,7 @@
 #![tactic(auto)]
 
 mod access_rules;
+mod hearing;
 mod judge;
 mod judging;
 mod kept;

@@ -1,9 +1,15 @@
 //! The reasons of a verdict: what is looked up for the bad entry.
-ghost use Rattle.std.specs.Prelude.{◌<◌};
+ghost use Rattle.std.specs.Prelude.{◌≡◌, ◌<◌, ℕ, None, Some, cond, slice_index_or};
+ghost use Rattle.record.specs.Entries.{Entry as Noted, Past};
+ghost use Rattle.any_lock.specs.declared.verdicts.Law.TheVariants as broken;
+ghost use Rattle.any_lock.specs.Judging.{AreReasonsIf};
+ghost use Rattle.any_lock.specs.Keeping.{Knows};
+ghost use Rattle.any_lock.specs.Standings.{standing as standing_of};
+ghost use Rattle.any_lock.specs.Reasons.{AreReasons, change_of, doorway_with, entered, entry_of as began_at, inside_since, is_overtaken, is_together, of_standing, other_value, refused, since, stands, wait_ahead};
 
 use crate::kept::Kept;
 use crate::refusals::{AccessRefusal, MarkRefusal};
-use crate::standings::Begun;
+use crate::standings::{Begun, Standing};
 use crate::verdicts::Law;
 use plain_store::{NestedTypes, Reply};
 use record::{Access, Mark, Move, Stage};
@@ -57,8 +63,10 @@ impl Kept {
         process: u8,
         access: &Option<Access>,
         marks: &[Mark],
-    ) -> Option<Reasons> {
-        let _nested: NestedTypes = None;
+    ) -> Option<Reasons>
+        ensures none { law ≡ None → result ≡ None }
+        ensures some { (past : Past) (e : Noted) → e.process ≡ process → e.access ≡ access.now → e.marks ≡ marks.now → Knows self.now past → AreReasonsIf self.now.setup past e law result }
+    {
         match law {
             None => None,
             Some(law) => Some(self.reasons(law, process, access, marks)),
@@ -66,35 +74,67 @@ impl Kept {
     }
 
     /// The reasons of an entry that breaks this law first.
-    fn reasons(&self, law: Law, process: u8, access: &Option<Access>, marks: &[Mark]) -> Reasons {
+    fn reasons(&self, law: Law, process: u8, access: &Option<Access>, marks: &[Mark]) -> Reasons
+        ensures { (past : Past) (e : Noted) → e.process ≡ process → e.access ≡ access.now → e.marks ≡ marks.now → Knows self.now past → AreReasons self.now.setup past e law result }
+    {
         let _nested: NestedTypes = None;
-        let standing = self.standing(process);
         Reasons {
             may: self.change(law, process, access, marks),
             refused: self.refusal(process, access, marks),
-            stage: standing.map(|standing| standing.stage),
-            opened: standing.and_then(|standing| entry_of(&standing.opened)),
-            torn: standing.and_then(|standing| entry_of(&standing.torn)),
-            inside: if law == Law::Together {
-                self.inside(process)
-            } else {
-                None
-            },
-            waits: if law == Law::Overtaken && process < self.processes() {
-                self.waits(process)
-            } else {
-                [None; MOST_PROCESSES]
-            },
-            doorway: if law == Law::Overtaken {
-                self.doorway(process, access)
-            } else {
-                None
-            },
+            stage: self.stage(process),
+            opened: self.opened(process),
+            torn: self.torn(process),
+            inside: self.inside(law, process),
+            waits: self.waits(law, process),
+            doorway: self.doorway(law, process, access),
+        }
+    }
+
+    /// Where a process stands, if it is there.
+    fn looked_up(&self, process: u8) -> Option<Standing>
+        ensures { (past : Past) → Knows self.now past → result ≡ stands self.now.setup past process }
+    {
+        if process < self.processes() {
+            Some(self.stands(process))
+        } else {
+            None
+        }
+    }
+
+    /// The stage of a process, if it is there.
+    fn stage(&self, process: u8) -> Option<Stage>
+        ensures { (past : Past) → Knows self.now past → result ≡ of_standing (λ k. Some k.stage) (stands self.now.setup past process) }
+    {
+        match self.looked_up(process) {
+            None => None,
+            Some(standing) => Some(standing.stage),
+        }
+    }
+
+    /// Where the access began that a process has open.
+    fn opened(&self, process: u8) -> Option<u64>
+        ensures { (past : Past) → Knows self.now past → result ≡ of_standing (λ k. began_at k.opened) (stands self.now.setup past process) }
+    {
+        match self.looked_up(process) {
+            None => None,
+            Some(standing) => entry_of(&standing.opened),
+        }
+    }
+
+    /// Where the write of its torn bit began.
+    fn torn(&self, process: u8) -> Option<u64>
+        ensures { (past : Past) → Knows self.now past → result ≡ of_standing (λ k. began_at k.torn) (stands self.now.setup past process) }
+    {
+        match self.looked_up(process) {
+            None => None,
+            Some(standing) => entry_of(&standing.torn),
         }
     }
 
     /// Why an entry is refused, if it is.
-    fn refusal(&self, process: u8, access: &Option<Access>, marks: &[Mark]) -> Option<Refused> {
+    fn refusal(&self, process: u8, access: &Option<Access>, marks: &[Mark]) -> Option<Refused>
+        ensures { (past : Past) (e : Noted) → e.process ≡ process → e.access ≡ access.now → e.marks ≡ marks.now → Knows self.now past → result ≡ refused self.now.setup past e }
+    {
         if let Some(refusal) = self.refusal_of_access(process, access) {
             return Some(Refused::Access(refusal));
         }
@@ -114,20 +154,32 @@ impl Kept {
         process: u8,
         access: &Option<Access>,
         marks: &[Mark],
-    ) -> Option<Change> {
-        let _nested: NestedTypes = None;
+    ) -> Option<Change>
+        ensures { (past : Past) (e : Noted) → e.process ≡ process → e.access ≡ access.now → e.marks ≡ marks.now → Knows self.now past → result ≡ change_of self.now.setup past e law }
+    {
         match law {
             Law::Safe => self.other_value(process, access, marks),
-            Law::History if process < self.processes() => {
-                let (place, reply) = self.right_taking(process);
-                Some(Change::Taking(place, reply))
-            }
-            _ => None,
+            Law::History => self.right_change(process),
+            Law::Access | Law::Marks | Law::Together | Law::Overtaken => None,
         }
     }
 
-    /// The other value of a read's end, if the entry would keep all laws with it.
-    fn other_value(&self, process: u8, access: &Option<Access>, marks: &[Mark]) -> Option<Change> {
+    /// The right place and reply of a command that is taken, if its process is there.
+    fn right_change(&self, process: u8) -> Option<Change>
+        ensures { (past : Past) (e : Noted) → e.process ≡ process → Knows self.now past → result ≡ change_of self.now.setup past e broken.History }
+    {
+        let _nested: NestedTypes = None;
+        if process >= self.processes() {
+            return None;
+        }
+        let (place, reply) = self.right_taking(process);
+        Some(Change::Taking(place, reply))
+    }
+
+    /// The other value of a read's end, if the entry would keep all later laws with it.
+    fn other_value(&self, process: u8, access: &Option<Access>, marks: &[Mark]) -> Option<Change>
+        ensures { (past : Past) (e : Noted) → e.process ≡ process → e.access ≡ access.now → e.marks ≡ marks.now → Knows self.now past → result ≡ other_value self.now.setup past e }
+    {
         let Some(told) = access else {
             return None;
         };
@@ -144,32 +196,95 @@ impl Kept {
         }
     }
 
+    /// `Together`: who but a process is inside, and since which entry.
+    fn inside(&self, law: Law, process: u8) -> Option<(u8, u64)>
+        ensures { (past : Past) → Knows self.now past → result ≡ cond (is_together law) (inside_since self.now.setup past process) None }
+    {
+        if !matches!(law, Law::Together) {
+            return None;
+        }
+        self.inside_since(process)
+    }
+
     /// Who but a process is inside, and since which entry.
-    fn inside(&self, process: u8) -> Option<(u8, u64)> {
-        let other = self.other_inside(process)?;
-        let since = self.standing(other)?.enters?;
-        Some((other, since))
+    fn inside_since(&self, process: u8) -> Option<(u8, u64)>
+        ensures { (past : Past) → Knows self.now past → result ≡ inside_since self.now.setup past process }
+    {
+        match self.other_inside(process) {
+            None => None,
+            Some(other) => self.entered(other),
+        }
+    }
+
+    /// A process, and the entry of its call with which it got inside.
+    fn entered(&self, process: u8) -> Option<(u8, u64)>
+        ensures { (past : Past) → process < self.now.setup.processes → Knows self.now past → result ≡ entered process (standing_of self.now.setup process past) }
+    {
+        match self.looked_up(process) {
+            None => None,
+            Some(standing) => since(process, standing.enters),
+        }
+    }
+
+    /// `Overtaken`: of each process that is ahead of this one the entry of its `wait`.
+    fn waits(&self, law: Law, process: u8) -> [Option<u64>; MOST_PROCESSES]
+        ensures { (past : Past) → Knows self.now past → (q : ℕ) → q < 16 → slice_index_or result q None ≡ cond (is_overtaken law) (wait_ahead self.now.setup past process q) None }
+    {
+        if !matches!(law, Law::Overtaken) {
+            return [None; MOST_PROCESSES];
+        }
+        self.waits_ahead(process)
     }
 
     /// Of each process that is ahead of this one the entry of its `wait`.
-    fn waits(&self, process: u8) -> [Option<u64>; MOST_PROCESSES]
-        requires { process < self.now.setup.processes }
+    fn waits_ahead(&self, process: u8) -> [Option<u64>; MOST_PROCESSES]
+        ensures { (past : Past) → Knows self.now past → (q : ℕ) → q < 16 → slice_index_or result q None ≡ wait_ahead self.now.setup past process q }
     {
         let mut waits = [None; MOST_PROCESSES];
-        for other in 0..self.processes() {
-            if self.is_ahead(other, process)
-                && let Some(standing) = self.standing(other)
-                && let Some(wait) = waits.get_mut(usize::from(other))
-            {
-                *wait = standing.waits;
-            }
+        for other in 0..MOST_PROCESSES {
+            waits[other] = self.wait_ahead(other as u8, process);
         }
         waits
     }
 
+    /// The entry of the `wait` of a process, if that is there and is ahead of another that is there.
+    fn wait_ahead(&self, other: u8, process: u8) -> Option<u64>
+        ensures { (past : Past) → Knows self.now past → result ≡ wait_ahead self.now.setup past process other }
+    {
+        if other >= self.processes() || process >= self.processes() {
+            return None;
+        }
+        if !self.is_ahead(other, process) {
+            return None;
+        }
+        self.standing(other)?.waits
+    }
+
+    /// `Overtaken`: where the doorway of a process began, in the past or with this access.
+    fn doorway(&self, law: Law, process: u8, access: &Option<Access>) -> Option<u64>
+        ensures { (past : Past) (e : Noted) → e.process ≡ process → e.access ≡ access.now → Knows self.now past → result ≡ cond (is_overtaken law) (of_standing (doorway_with past e) (stands self.now.setup past process)) None }
+    {
+        if !matches!(law, Law::Overtaken) {
+            return None;
+        }
+        self.doorway_with(process, access)
+    }
+
     /// Where the doorway of a process began, in the past or with this access.
-    fn doorway(&self, process: u8, access: &Option<Access>) -> Option<u64> {
-        match self.standing(process)?.doorway {
+    fn doorway_with(&self, process: u8, access: &Option<Access>) -> Option<u64>
+        ensures { (past : Past) (e : Noted) → e.process ≡ process → e.access ≡ access.now → Knows self.now past → result ≡ of_standing (doorway_with past e) (stands self.now.setup past process) }
+    {
+        match self.looked_up(process) {
+            None => None,
+            Some(standing) => self.doorway_of(&standing, access),
+        }
+    }
+
+    /// Where the doorway of a process that stands so began, in the past or with this access.
+    fn doorway_of(&self, standing: &Standing, access: &Option<Access>) -> Option<u64>
+        ensures { (past : Past) (e : Noted) → e.access ≡ access.now → Knows self.now past → result ≡ doorway_with past e standing.now }
+    {
+        match standing.doorway {
             Some(entry) => Some(entry),
             None if access.is_some() => Some(self.entries()),
             None => None,
@@ -177,7 +292,22 @@ impl Kept {
     }
 }
 
+/// A process, and an entry, if there is one.
+fn since(process: u8, entry: Option<u64>) -> Option<(u8, u64)>
+    ensures { result ≡ since process entry }
+{
+    match entry {
+        None => None,
+        Some(entry) => Some((process, entry)),
+    }
+}
+
 /// The entry with which an access began.
-fn entry_of(begun: &Option<Begun>) -> Option<u64> {
-    begun.map(|begun| begun.entry)
+fn entry_of(begun: &Option<Begun>) -> Option<u64>
+    ensures { result ≡ began_at begun.now }
+{
+    match begun {
+        None => None,
+        Some(begun) => Some(begun.entry),
+    }
 }

@@ -1,4 +1,4 @@
-use Rattle.std.proofs.Common.{◌≡◌, ◌∙◌}
+use Rattle.std.proofs.Common.{◌∙◌}
 use Rattle.any_lock.proofs.Breaks.{told_by}
 use Rattle.any_lock.proofs.judge.keeps_safe.Goals as goal
 

@@ -1,4 +1,4 @@
-use Rattle.std.proofs.Common.{◌≡◌, sym, ap, subst, ◌∙◌}
+use Rattle.std.proofs.Common.{sym, ap, ◌∙◌}
 use Rattle.any_lock.specs.Judging.{JudgeState}
 use Rattle.any_lock.proofs.Headlines.{good_says}
 use Rattle.any_lock.proofs.judge.Judge.judged.Goals as goal

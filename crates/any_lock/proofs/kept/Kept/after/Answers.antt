@@ -1,4 +1,4 @@
-use Rattle.std.proofs.Common.{◌≡◌, sym, ◌∙◌}
+use Rattle.std.proofs.Common.{sym, ◌∙◌}
 use Rattle.any_lock.proofs.Breaks.{at_access}
 use Rattle.any_lock.proofs.kept.Kept.after.Goals as goal
 

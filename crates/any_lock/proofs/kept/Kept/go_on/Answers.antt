@@ -1,6 +1,6 @@
 use Rattle.std.proofs.Common.{◌≡◌, List, ◌∷◌, ◌<◌, ◌+◌, Some, cond, slice_get, slice_set, subst, sym, ap, ◌∙◌}
 use Rattle.std.specs.List.{list_any}
-use Rattle.plain_store.specs.Store.{Contents, after}
+use Rattle.plain_store.specs.Store.{after}
 use Rattle.any_lock.specs.declared.standings.Standing.{Standing}
 use Rattle.any_lock.specs.Keeping.{KeptState, Knows, is_taken}
 use Rattle.any_lock.specs.Standings.{standing}

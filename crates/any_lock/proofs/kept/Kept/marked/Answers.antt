@@ -1,4 +1,4 @@
-use Rattle.std.proofs.Common.{◌≡◌, ◌∷◌, Some, sym, ap, ◌∙◌}
+use Rattle.std.proofs.Common.{◌≡◌, ◌∷◌, sym, ap, ◌∙◌}
 use Rattle.record.specs.Entries.{Entry}
 use Rattle.any_lock.specs.Keeping.{KeptState, accessed_by, marked_all, refusal_on}
 use Rattle.any_lock.specs.Refusals.{refusal_of_marks}

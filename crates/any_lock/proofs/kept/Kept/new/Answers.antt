@@ -1,4 +1,4 @@
-use Rattle.std.proofs.Common.{◌≡◌, ℕ, ◌<◌, List, Some, length, slice_get, refl, sym, ap, ◌∙◌, arith}
+use Rattle.std.proofs.Common.{List, Some, slice_get, refl, sym, ap, ◌∙◌, arith}
 use Rattle.any_lock.specs.Keeping.{at_rest}
 use Rattle.any_lock.specs.declared.standings.Standing.{Standing}
 use Rattle.any_lock.proofs.Going.{slice_get-replicate}

@@ -1,4 +1,4 @@
-use Rattle.std.proofs.Common.{◌≡◌, Option, None, ◌==◌, not, ◌&&◌}
+use Rattle.std.proofs.Common.{◌≡◌, None, ◌==◌, not, ◌&&◌}
 use Rattle.record.specs.Entries.{Past}
 use Rattle.any_lock.specs.Keeping.{Knows}
 use Rattle.any_lock.specs.Laws.{lowest_below}

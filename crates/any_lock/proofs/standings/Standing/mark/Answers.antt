@@ -1,4 +1,4 @@
-use Rattle.std.proofs.Common.{◌≡◌, ap, sym, ◌∙◌}
+use Rattle.std.proofs.Common.{ap, sym, ◌∙◌}
 use Rattle.any_lock.specs.Keeping.{marked}
 use Rattle.any_lock.proofs.standings.Standing.mark.Goals as goal
 

@@ -1,4 +1,4 @@
-use Rattle.std.proofs.Common.{◌≡◌, ap, sym, ◌∙◌}
+use Rattle.std.proofs.Common.{ap, sym, ◌∙◌}
 use Rattle.any_lock.specs.Refusals.{mark_refusal}
 use Rattle.any_lock.proofs.standings.Standing.refuses_mark.Goals as goal
 

@@ -1,0 +1,109 @@
+-- The reasons of an entry that breaks a law, by looking back.
+use Rattle.std.specs.Prelude.{◌≡◌, ℕ, ◌<◌, ◌==◌, nat_lt, Bool, true, false, not, ◌&&◌, length, slice_index_or, cond, Option, None, Some, is_none}
+use Rattle.record.specs.safe_bit.declared.Move.TheVariants.{BeginWrite, EndWrite, BeginRead, EndRead, Settle}
+use Rattle.plain_store.specs.declared.Setup.{Setup}
+use Rattle.record.specs.declared.access.Access.{Access}
+use Rattle.record.specs.Doorways.{first_of}
+use Rattle.record.specs.Entries.{Entry, Past}
+use Rattle.record.specs.Histories.{history}
+use Rattle.any_lock.specs.declared.reasons.Change.{Change}
+use Rattle.any_lock.specs.declared.reasons.Change.TheVariants.{Value, Taking}
+use Rattle.any_lock.specs.declared.reasons.Reasons.{Reasons}
+use Rattle.any_lock.specs.declared.reasons.Refused.{Refused}
+use Rattle.any_lock.specs.declared.reasons.Refused.TheVariants as by
+use Rattle.any_lock.specs.declared.standings.Begun.{Begun}
+use Rattle.any_lock.specs.declared.standings.Standing.{Standing}
+use Rattle.any_lock.specs.declared.verdicts.Law.{Law}
+use Rattle.any_lock.specs.declared.verdicts.Law.TheVariants as law
+use Rattle.any_lock.specs.Laws.{broken_later, lowest_other, right_reply, waits_before}
+use Rattle.any_lock.specs.Refusals.{refusal_of_access, refusal_of_marks}
+use Rattle.any_lock.specs.Standings.{has_access, standing}
+
+-- its refusal by the table of accesses, or else by that of marks, whatever the law
+abbrev pub refused : Setup → Past → Entry → Option Refused
+refused s past e = elim (refusal_of_access s past e) [
+  | Some r ↦ Some (by.Access r)
+  | None ↦ elim (refusal_of_marks s past e) [ Some r ↦ Some (by.Marks r) | None ↦ None ]
+]
+
+-- where its process stands, if it is there
+abbrev pub stands : Setup → Past → ℕ → Option Standing
+stands s past p = cond (nat_lt p s.processes) (Some (standing s p past)) None
+
+-- of a standing, if there is one
+abbrev pub of_standing : {A : Type 0} → (Standing → Option A) → Option Standing → Option A
+of_standing f None = None
+of_standing f (Some k) = f k
+
+-- the entry with which an access began
+abbrev pub entry_of : Option Begun → Option ℕ
+entry_of None = None
+entry_of (Some b) = Some b.entry
+
+-- a process and an entry, if there is one
+abbrev pub since : ℕ → Option ℕ → Option (ℕ × ℕ)
+since q None = None
+since q (Some entry) = Some (q, entry)
+
+-- q, and the entry of its call with which it got inside
+abbrev pub entered : ℕ → Standing → Option (ℕ × ℕ)
+entered q k = since q k.enters
+
+-- who but p is inside, and since which entry
+abbrev pub inside_since : Setup → Past → ℕ → Option (ℕ × ℕ)
+inside_since s past p = elim (lowest_other s p (λ q. (standing s q past).inside)) [ None ↦ None | Some q ↦ entered q (standing s q past) ]
+
+-- the entry of q's `wait`, if q is ahead of p
+abbrev pub wait_ahead : Setup → Past → ℕ → ℕ → Option ℕ
+wait_ahead s past p q = cond (nat_lt q s.processes && nat_lt p s.processes && not (q == p) && waits_before (standing s q past) (standing s p past)) (standing s q past).waits None
+
+-- where its process's doorway began, in the past or with its access
+abbrev pub doorway_with : Past → Entry → Standing → Option ℕ
+doorway_with past e k = first_of k.doorway (cond (has_access e) (Some (length past)) None)
+
+-- the value with which its read ends
+abbrev pub value_in : Option Access → Option Bool
+value_in None = None
+value_in (Some a) = elim a.how [ EndRead v ↦ Some v | BeginWrite v ↦ None | EndWrite ↦ None | BeginRead ↦ None | Settle v ↦ None ]
+
+-- its access, where it ends a read with this value
+abbrev pub ends_with : Bool → Option Access → Option Access
+ends_with v None = None
+ends_with v (Some a) = Some (record a { how = EndRead v })
+
+-- the entry with that access
+abbrev pub with_value : Bool → Entry → Entry
+with_value v e = record { process = e.process; access = ends_with v e.access; marks = e.marks }
+
+-- the other value, if the entry keeps all later laws with it; the law `Safe` allows the one where it forbids the other
+abbrev pub other_value : Setup → Past → Entry → Option Change
+other_value s past e = elim (value_in e.access) [
+  | None ↦ None
+  | Some v ↦ cond (is_none (broken_later s past (with_value (not v) e))) (Some (Value (not v))) None
+]
+
+-- how the entry would keep all laws
+abbrev pub change_of : Setup → Past → Entry → Law → Option Change
+change_of s past e law.Safe = other_value s past e
+change_of s past e law.History = cond (nat_lt e.process s.processes) (Some (Taking (length (history s past)) (right_reply s past e.process))) None
+change_of s past e _ = None
+
+-- the law is this one
+abbrev pub is_together : Law → Bool
+is_together law.Together = true
+is_together _ = false
+
+abbrev pub is_overtaken : Law → Bool
+is_overtaken law.Overtaken = true
+is_overtaken _ = false
+
+-- these are the reasons of an entry that breaks this law first
+pub record AreReasons (s : Setup) (past : Past) (e : Entry) (l : Law) (r : Reasons) : Type 0 where
+  pub may : r.may ≡ change_of s past e l
+  pub refused : r.refused ≡ refused s past e
+  pub stage : r.stage ≡ of_standing (λ k. Some k.stage) (stands s past e.process)
+  pub opened : r.opened ≡ of_standing (λ k. entry_of k.opened) (stands s past e.process)
+  pub torn : r.torn ≡ of_standing (λ k. entry_of k.torn) (stands s past e.process)
+  pub inside : r.inside ≡ cond (is_together l) (inside_since s past e.process) None
+  pub waits : (q : ℕ) → q < 16 → slice_index_or r.waits q None ≡ cond (is_overtaken l) (wait_ahead s past e.process q) None
+  pub doorway : r.doorway ≡ cond (is_overtaken l) (of_standing (doorway_with past e) (stands s past e.process)) None

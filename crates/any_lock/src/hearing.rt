@@ -1,0 +1,145 @@
+//! What a judge makes of one entry: whether it keeps the laws after `Safe`, and what is kept then.
+ghost use Rattle.std.specs.Prelude.{◌≡◌, ◌+◌, ◌-◌, ◌^◌, ◌<◌, ◌≤◌, not, ◌∷◌, IfOk, length, MatchResult, None, Some};
+ghost use Rattle.std.specs.List.{list_all, list_any};
+ghost use Rattle.record.specs.Entries.{Entry as Noted, Past, is_entered};
+ghost use Rattle.record.specs.Histories.{history};
+ghost use Rattle.record.specs.Spans.{takings};
+ghost use Rattle.any_lock.specs.declared.verdicts.Law.{Law as Named};
+ghost use Rattle.any_lock.specs.Keeping.{Knows, is_taken_as};
+ghost use Rattle.any_lock.specs.Laws.{breaks_overtaken, breaks_safe, breaks_together, broken_inside, broken_later, first_broken, is_that, right_reply};
+ghost use Rattle.any_lock.specs.Standings.{standing as standing_of};
+
+use crate::kept::{Kept, takes};
+use crate::mark_rules::same_reply;
+use crate::standings::Standing;
+use crate::verdicts::Law;
+use plain_store::{NestedTypes, Reply};
+use record::{Access, Mark};
+
+impl Kept {
+    /// Where the process of an entry stands after it, if it keeps all laws after `Safe`; else the first of these that it
+    /// breaks.
+    pub fn after(
+        &self,
+        process: u8,
+        access: &Option<Access>,
+        marks: &[Mark],
+    ) -> Result<Standing, Law>
+        ensures there { IfOk result (λ _. process < self.now.setup.processes) }
+        ensures laws { (past : Past) (e : Noted) → e.process ≡ process → e.access ≡ access.now → e.marks ≡ marks.now → Knows self.now past → MatchResult result (λ k. (broken_later self.now.setup past e ≡ None) × (k ≡ standing_of self.now.setup process (e ∷ past))) (λ law. broken_later self.now.setup past e ≡ Some law) }
+    {
+        let _nested: NestedTypes = None;
+        if let Some(_refusal) = self.refusal_of_access(process, access) {
+            return Err(Law::Access);
+        }
+        if process >= self.processes() {
+            return Err(Law::Access);
+        }
+        let Ok(standing) = self.marked(process, access, marks) else {
+            return Err(Law::Marks);
+        };
+        match self.broken_by(process, marks) {
+            None => Ok(standing),
+            Some(law) => Err(law),
+        }
+    }
+
+    /// The first law that an entry breaks whose access and marks are not refused.
+    fn broken_by(&self, process: u8, marks: &[Mark]) -> Option<Law>
+        requires { process < self.now.setup.processes }
+        ensures { (past : Past) (e : Noted) → e.process ≡ process → e.marks ≡ marks.now → Knows self.now past → result ≡ broken_inside self.now.setup past e }
+    {
+        if self.joins_another(process, marks) {
+            Some(Law::Together)
+        } else if self.overtakes(process, marks) {
+            Some(Law::Overtaken)
+        } else if !self.takes_rightly(process, marks) {
+            Some(Law::History)
+        } else {
+            None
+        }
+    }
+
+    /// Whether a process gets inside with these marks while another is inside.
+    fn joins_another(&self, process: u8, marks: &[Mark]) -> bool
+        ensures { (past : Past) (e : Noted) → e.process ≡ process → e.marks ≡ marks.now → Knows self.now past → result ≡ breaks_together self.now.setup past e }
+    {
+        enters(marks) && self.other_inside(process).is_some()
+    }
+
+    /// Whether a process gets inside with these marks while another is ahead of it.
+    fn overtakes(&self, process: u8, marks: &[Mark]) -> bool
+        requires { process < self.now.setup.processes }
+        ensures { (past : Past) (e : Noted) → e.process ≡ process → e.marks ≡ marks.now → Knows self.now past → result ≡ breaks_overtaken self.now.setup past e }
+    {
+        enters(marks) && self.other_ahead(process).is_some()
+    }
+
+    /// Whether each command that marks take has its place and its reply.
+    fn takes_rightly(&self, process: u8, marks: &[Mark]) -> bool
+        requires { process < self.now.setup.processes }
+        ensures { (past : Past) → Knows self.now past → result ≡ list_all (is_that (length (history self.now.setup past)) (right_reply self.now.setup past process)) (takings marks.now) }
+    {
+        let _nested: NestedTypes = None;
+        if !takes(marks) {
+            return true;
+        }
+        let (place, reply) = self.right_taking(process);
+        are_those(marks, place, &reply)
+    }
+
+    /// One more entry, by whether it keeps the law `Safe`: none, if it keeps all laws; else the first that it breaks,
+    /// and nothing is changed.
+    pub fn hear(
+        &mut self,
+        is_safe: bool,
+        process: u8,
+        access: &Option<Access>,
+        marks: &[Mark],
+    ) -> Option<Law>
+        requires { self.old.entries < 2 ^ 64 - 1 }
+        ensures setup { self.new.setup ≡ self.old.setup }
+        ensures entries { self.new.entries ≤ self.old.entries + 1 }
+        ensures same { (l : Named) → result ≡ Some l → self.new ≡ self.old }
+        ensures law { (past : Past) (e : Noted) → e.process ≡ process → e.access ≡ access.now → e.marks ≡ marks.now → breaks_safe self.old.setup past e ≡ not is_safe → Knows self.old past → result ≡ first_broken self.old.setup past e }
+        ensures knows { (past : Past) (e : Noted) → e.process ≡ process → e.access ≡ access.now → e.marks ≡ marks.now → result ≡ None → Knows self.old past → Knows self.new (e ∷ past) }
+    {
+        let _nested: NestedTypes = None;
+        if !is_safe {
+            return Some(Law::Safe);
+        }
+        match self.after(process, access, marks) {
+            Ok(standing) => {
+                self.go_on(process, &standing, marks);
+                None
+            }
+            Err(law) => Some(law),
+        }
+    }
+}
+
+/// Whether a process gets inside with these marks.
+pub(crate) fn enters(marks: &[Mark]) -> bool
+    ensures { result ≡ list_any is_entered marks.now }
+{
+    marks.iter().any(|mark| matches!(mark, Mark::Entered))
+}
+
+/// Whether each command that marks take has this place and this reply.
+fn are_those(marks: &[Mark], place: u64, reply: &Reply) -> bool
+    ensures { result ≡ list_all (is_taken_as place reply.now) marks.now }
+{
+    let _nested: NestedTypes = None;
+    marks.iter().all(|mark| is_taken_as(mark, place, reply))
+}
+
+/// Whether a mark takes no command, or one that has this place and this reply.
+fn is_taken_as(mark: &Mark, place: u64, reply: &Reply) -> bool
+    ensures { result ≡ is_taken_as place reply.now mark.now }
+{
+    let _nested: NestedTypes = None;
+    match mark {
+        Mark::Taken(at, told) => *at == place && same_reply(told, reply),
+        _ => true,
+    }
+}
