@@ -1,5 +1,4 @@
 pub use Rattle.watch.proofs as watch
-pub mod Firsts
 pub mod Steps
 pub mod Markings
 pub mod Whole
