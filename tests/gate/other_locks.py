@@ -77,7 +77,8 @@ def try_refusals(counter):
 
 def main():
     counter = Counter()
-    for folder in sorted(path for path in OTHER_LOCKS.iterdir() if path.is_dir()):
+    # (the folder `spin` has models, and no record)
+    for folder in sorted(path for path in OTHER_LOCKS.iterdir() if path.is_dir() and path.name != "spin"):
         try_folder(counter, folder)
     try_refusals(counter)
     counter.end()
