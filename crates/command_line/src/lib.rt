@@ -7,6 +7,7 @@ mod notices;
 mod pages;
 mod program;
 mod progress;
+mod retries;
 mod terminal;
 mod words;
 
@@ -14,5 +15,6 @@ pub use commands::{Engine, Entry, Intake};
 pub use notices::{Notice, USAGE_STATUS};
 pub use pages::Page;
 pub use progress::{WatchedInput, Watcher};
+pub use retries::Uninterrupted;
 pub use terminal::{Output, Terminals};
 pub use words::{Asked, Request, all_words, each_file_runs, read_words};

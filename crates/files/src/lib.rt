@@ -6,7 +6,6 @@
 mod faults;
 pub mod progress;
 mod reading;
-mod retries;
 pub mod source_lines;
 mod statuses;
 mod streams;

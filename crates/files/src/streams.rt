@@ -1,13 +1,12 @@
 //! Bytes that come, one by one or in blocks, and bytes that go.
-ghost use Rattle.std.specs.Prelude.{◌≡◌, ℕ, ◌+◌, ◌-◌, ◌^◌, ◌<◌, List, Option, Result, Err, IfErr, IfOk, OnOk, OnErr};
+ghost use Rattle.std.specs.Prelude.{◌≡◌, ℕ, ◌+◌, ◌-◌, ◌^◌, ◌<◌, List, Option, Result, Ok, Err, IsErr, IfErr, IfOk, OnOk, OnErr};
 ghost use Rattle.std.specs.Io.{ReadsAtMost, WritesAtMost};
 ghost use Rattle.std.specs.Io.KnownBytes.{Appends, ReadConsumes, WriteAppends};
 ghost use Rattle.files.specs.Streams.{GivesByte, failed_read, failed_put, failed_reading, failed_writing, IsReadFault, ReadsInput, ReadsFront, WritesFront};
 
 use crate::faults::Fault;
-use crate::retries::{read_again, write_again};
 use std::alloc::Global;
-use std::io::{Read, Write};
+use std::io::{self, Read, Write};
 
 /// A call that failed, for whatever reason.
 #[derive(Clone, Copy, Debug, PartialEq, Eq)]
@@ -65,8 +64,25 @@ pub trait Sink {
         ensures failures { failures self.new ≡ failures self.old + failed_put result bytes.now };
 }
 
-/// A reader of std as a source: a read that a signal interrupts is made again, and any other error is a `Failed`.
-/// Each byte and each block is a call of `read`, so put a buffer before a file that is read byte by byte.
+/// What a call of std's comes to: an error of any kind is a failed call.
+fn counted(ended: io::Result<usize>, failures: &mut u64) -> Result<usize, Failed>
+    requires { failures.old < 2 ^ 64 - 1 }
+    ensures ok { IfOk ended (λ count. result ≡ Ok count) }
+    ensures error { OnErr ended (IsErr result) }
+    ensures failures { failures.new ≡ failures.old + failed_read result }
+{
+    match ended {
+        Ok(count) => Ok(count),
+        Err(_) => {
+            *failures += 1;
+            Err(Failed)
+        }
+    }
+}
+
+/// A reader of std as a source. An error of any kind is a failed call, so a reader that a signal may interrupt has to
+/// read again by itself. Each byte and each block is a call of `read`, so put a buffer before a file that is read byte
+/// by byte.
 #[derive(Drop)]
 pub struct FromRead<R: Read> {
     reader: R,
@@ -93,28 +109,19 @@ impl<R: Read> Source for FromRead<R> {
 
     fn next_byte(&mut self) -> Result<Option<u8>, Failed> {
         let mut buffer = [0];
-        match read_again(&mut self.reader, &mut buffer) {
-            Ok(0) => Ok(None),
-            Ok(_) => Ok(Some(buffer[0])),
-            Err(_) => {
-                self.failures += 1;
-                Err(Failed)
-            }
+        match counted(self.reader.read(&mut buffer), &mut self.failures)? {
+            0 => Ok(None),
+            _ => Ok(Some(buffer[0])),
         }
     }
 
     fn next_bytes(&mut self, buffer: &mut [u8]) -> Result<usize, Failed> {
-        match read_again(&mut self.reader, buffer) {
-            Ok(count) => Ok(count),
-            Err(_) => {
-                self.failures += 1;
-                Err(Failed)
-            }
-        }
+        counted(self.reader.read(buffer), &mut self.failures)
     }
 }
 
-/// A writer of std as a sink: a write that a signal interrupts is made again, and any other error is a `Failed`.
+/// A writer of std as a sink. An error of any kind is a failed call, so a writer that a signal may interrupt has to
+/// write again by itself.
 #[derive(Drop)]
 pub struct IntoWrite<W: Write> {
     writer: W,
@@ -140,18 +147,11 @@ impl<W: Write> Sink for IntoWrite<W> {
     ghost failures = { λ s. s.failures };
 
     fn put(&mut self, bytes: &[u8]) -> Result<usize, Failed> {
-        match write_again(&mut self.writer, bytes) {
-            Ok(n) => {
-                if n == 0 && !bytes.is_empty() {
-                    self.failures += 1;
-                }
-                Ok(n)
-            }
-            Err(_) => {
-                self.failures += 1;
-                Err(Failed)
-            }
+        let count = counted(self.writer.write(bytes), &mut self.failures)?;
+        if count == 0 && !bytes.is_empty() {
+            self.failures += 1;
         }
+        Ok(count)
     }
 }
 

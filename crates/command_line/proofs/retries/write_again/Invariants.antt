@@ -1,5 +1,5 @@
 use Rattle.std.specs.Io.KnownBytes.{Keeps}
-use Rattle.files.proofs.retries.write_again.Given as goal
+use Rattle.command_line.proofs.retries.write_again.Given as goal
 
 -- of a write that failed nothing was taken
 abbrev pub invariant-loop : goal.invariant-loop

@@ -1,5 +1,5 @@
-//! Reads and writes that a signal may interrupt.
-ghost use Rattle.std.specs.Prelude.{◌≢◌, IfErr};
+//! Reads and writes that a signal may interrupt: they are made again below all streams of the program.
+ghost use Rattle.std.specs.Prelude.{◌≡◌, ◌≢◌, IfErr};
 ghost use Rattle.std.specs.Io.{ReadsAtMost, WritesAtMost};
 ghost use Rattle.std.specs.Io.KnownBytes.{ReadConsumes, WriteAppends};
 ghost use Rattle.std.specs.IoError.{error_kind};
@@ -11,7 +11,7 @@ use std::io::{Error, ErrorKind, Read, Write};
 const MOST_TRIES: u64 = u64::MAX;
 
 /// One read, made again where a signal interrupted it.
-pub(crate) fn read_again<R: Read>(reader: &mut R, buffer: &mut [u8]) -> io::Result<usize>
+pub fn read_again<R: Read>(reader: &mut R, buffer: &mut [u8]) -> io::Result<usize>
     ensures bound { ReadsAtMost result buffer.new }
     ensures bytes { ReadConsumes (R.remaining reader.old) (R.remaining reader.new) result buffer.new }
     ensures again { IfErr result (λ error. error_kind error ≢ ErrorKind.Interrupted) }
@@ -26,7 +26,7 @@ pub(crate) fn read_again<R: Read>(reader: &mut R, buffer: &mut [u8]) -> io::Resu
 }
 
 /// One write, made again where a signal interrupted it.
-pub(crate) fn write_again<W: Write>(writer: &mut W, bytes: &[u8]) -> io::Result<usize>
+pub fn write_again<W: Write>(writer: &mut W, bytes: &[u8]) -> io::Result<usize>
     ensures bound { WritesAtMost result bytes.now }
     ensures bytes { WriteAppends (W.contents writer.old) (W.contents writer.new) result bytes.now }
     ensures again { IfErr result (λ error. error_kind error ≢ ErrorKind.Interrupted) }
@@ -38,4 +38,31 @@ pub(crate) fn write_again<W: Write>(writer: &mut W, bytes: &[u8]) -> io::Result<
         }
     }
     Err(Error::from(ErrorKind::TimedOut))
+}
+
+/// A reader whose reads are made again where a signal interrupts them.
+#[derive(Drop)]
+pub struct Uninterrupted<R: Read + Drop> {
+    reader: R,
+}
+
+impl<R: Read + Drop> Uninterrupted<R> {
+    /// In front of this reader: it has the same bytes.
+    pub fn new(reader: R) -> Uninterrupted<R>
+        ensures { ⟦<Uninterrupted<R> as Read>⟧.remaining result ≡ R.remaining reader }
+    {
+        Uninterrupted { reader }
+    }
+}
+
+impl<R: Read + Drop> Read for Uninterrupted<R> {
+    ghost remaining = { λ r. R.remaining r.reader };
+
+    fn read(&mut self, buffer: &mut [u8]) -> io::Result<usize>
+        ensures bound { ReadsAtMost result buffer.new }
+        ensures bytes { ReadConsumes (R.remaining self.old.reader) (R.remaining self.new.reader) result buffer.new }
+        ensures again { IfErr result (λ error. error_kind error ≢ ErrorKind.Interrupted) }
+    {
+        read_again(&mut self.reader, buffer)
+    }
 }

@@ -1,6 +1,6 @@
 use Rattle.std.proofs.Common.{◌≡◌, length}
 use Rattle.std.specs.Io.KnownBytes.{Keeps}
-use Rattle.files.proofs.retries.read_again.Given as goal
+use Rattle.command_line.proofs.retries.read_again.Given as goal
 
 -- a read that failed took nothing
 abbrev pub invariant-loop : goal.invariant-loop
