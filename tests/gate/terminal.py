@@ -28,6 +28,8 @@ from lib.preloading import built
 # in the order of the page
 COMMANDS = ["plain", "bits", "replay", "audit", "sweep", "race", "record", "judge", "draw", "draw-svg"]
 KINDS = ["too-long", "not-first", "unknown", "words", "number", "bad-name", "bad-value", "bad-setup", "memory"]
+MARKS = ["call", "wait", "enter", "taken", "leave", "answer", "fail", "settled", "down", "withdraw", "restart"]
+REFUSALS = ["no-process", "busy", "is-down", "not-running", "not-waiting", "already-failed", "not-down", "calls-full"]
 FAULT_LINES = ["read fault", "write fault", "out of memory", "no thread"]
 SCENARIO = "bakery 1\ncall 0 add a 1\n"
 PRINTED = "0 0 no-name\n"
@@ -48,6 +50,8 @@ REFUSED = [
     (["plain", "a file", "\x1b[31m"], "unexpected argument '\\u{1b}[31m' found", "", "plain [OPTIONS] <FILE>"),
     (["plain"], "the following required arguments were not provided:\n  <FILE>", "", "plain <FILE>"),
     (["plain", "-", "--quiet", "--quiet"], "the argument '--quiet' cannot be used multiple times", "", "plain [OPTIONS] <FILE>"),
+    (["plain", "--explain", "-", "--explain"], "the argument '--explain' cannot be used multiple times", "", "plain [OPTIONS] <FILE>"),
+    (["--explain"], "unexpected argument '--explain' found", "", ANY),
     (["draw", "--reads", "--reads", "-"], "the argument '--reads' cannot be used multiple times", "", "draw [OPTIONS] <FILE>"),
     (["judge", "--why", "-", "--why"], "the argument '--why' cannot be used multiple times", "", "judge [OPTIONS] <FILE>"),
     (["judge", "--any-lock", "--any-lock", "-"], "the argument '--any-lock' cannot be used multiple times", "", "judge [OPTIONS] <FILE>"),
@@ -80,6 +84,7 @@ TAKEN = [
     (["--quiet"], PRINTED),
     (["plain", "--quiet", "a file"], PRINTED),
     (["plain", "a file", "--quiet"], PRINTED),
+    (["plain", "--explain", "a file"], PRINTED),
     (["--quiet", "plain", "a file", "--quiet"], PRINTED),
 ]
 
@@ -152,6 +157,9 @@ def pages(counter):
     counter.compare("kinds of fault", re.findall(r"^([a-z]+(?:-[a-z]+)?)  +[A-Z]", faults, re.M), KINDS)
     counter.compare("other faults", re.findall(r"^([a-z]+(?: [a-z]+)+)  +[A-Z]", faults, re.M), FAULT_LINES)
     counter.compare("causes of too-long", len(re.findall(r"^ +line \d+: too-long$", faults, re.M)), 3)
+    words_of_run = texts["run"] = run(["help", "run"]).output
+    counter.compare("words of a run", re.findall(r"^  (?!refused)([a-z]+)\b(?! refused)", words_of_run, re.M), [*MARKS, "turns", "show", "end"])
+    counter.compare("refusals of a run", re.findall(r"^  refused ([a-z-]+)  ", words_of_run, re.M), REFUSALS)
     for name, text in texts.items():
         shown = SHOWN.findall(text)
         counter.compare(f"the page {name} shows commands", shown != [], True)

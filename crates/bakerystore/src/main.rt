@@ -5,14 +5,14 @@ ghost use Rattle.std.specs.Prelude.{◌-◌, ◌<◌, ◌^◌};
 
 use any_judge::judge_any_lock;
 use command_line::{
-    Asked, Engine, Intake, Output, Request, Terminals, USAGE_STATUS, WatchedInput, Watcher,
-    all_words, read_words,
+    Asked, Engine, Fault, FromRead, Intake, IntoWrite, LineFault, Output, Request, Sink, Source,
+    Terminals, USAGE_STATUS, Uninterrupted, WatchedInput, Watcher, all_words, ended, read_words,
 };
 use drawer::progress::Onlooker;
 use drawer::{Reads, draw, draw_svg};
 use engines::{replay, run_audit, run_bits, run_judge, run_plain, run_record, run_sweep};
+use fault_place::{FileKind, Kept, KeptInput, explanation};
 use race::{RunFault, run_fault_status, run_race};
-use scenario::{Fault, FromRead, IntoWrite, Sink, Source, ended};
 use std::env::Env;
 use std::fs::{File, Files};
 use std::io;
@@ -25,8 +25,13 @@ use std::time::Clock;
 /// What is told where reasons are asked for that there are none of.
 const WHY_ALONE: &str = "error: '--why' gives reasons of '--any-lock' alone, which is not given";
 
+/// What is told at a terminal where there are no words.
+const NO_WORDS: &str =
+    "reads a scenario from this terminal, up to its end (how to get help: bakerystore --help)";
+
 fn main(rt: HostRuntime) -> ExitCode {
     let terminals = Terminals {
+        input: rt.stdin().is_terminal(),
         output: rt.stdout().is_terminal(),
         error: rt.stderr().is_terminal(),
     };
@@ -42,6 +47,9 @@ fn do_asked<T: Env + Files + Input + Print + Eprint + Clock + AllocGlobal + Thre
         Ok(words) => words,
         Err(notice) => return Ok(notice.tell(rt)?),
     };
+    if words.len() <= 1 && terminals.input && terminals.error {
+        let _ = eprintln!(rt; "{NO_WORDS}");
+    }
     match read_words(rt.alloc(), words.as_slice()) {
         Ok(Asked::Run(request)) if request.why && !request.any_lock => {
             let _ = eprintln!(rt; "{WHY_ALONE}");
@@ -76,7 +84,7 @@ fn run_on<T: Print + Eprint + Clock + AllocGlobal + Threads + Wait + Sync, R: Re
     terminals: Terminals,
     reader: R,
 ) -> Result<u8, RunFault> {
-    let Ok(reader) = BufReader::new(rt.alloc(), reader) else {
+    let Ok(reader) = BufReader::new(rt.alloc(), Uninterrupted::new(reader)) else {
         return Err(Fault::Memory.into());
     };
     let Ok(mut writer) = Output::new(rt.alloc(), io::writer(rt), terminals.output) else {
@@ -84,7 +92,9 @@ fn run_on<T: Print + Eprint + Clock + AllocGlobal + Threads + Wait + Sync, R: Re
     };
     let shows = terminals.error && !terminals.output && !request.quiet;
     let from_input = request.command.intake == Intake::Streamed;
-    let mut input = WatchedInput::new(FromRead::new(reader), rt, shows && from_input);
+    let explains = terminals.error || request.explain;
+    let watched = WatchedInput::new(FromRead::new(reader), rt, shows && from_input);
+    let mut input = KeptInput::new(rt.alloc(), watched, explains);
     let mut output = IntoWrite::new(&mut writer);
     let mut watcher = Watcher::new(rt, rt.alloc(), shows && !from_input);
     let ran = run_engine(
@@ -94,14 +104,43 @@ fn run_on<T: Print + Eprint + Clock + AllocGlobal + Threads + Wait + Sync, R: Re
         &mut output,
         &mut watcher,
     );
-    input.end();
+    let (kept, mut watched) = input.into_parts();
+    watched.end();
     watcher.end();
     // After a fault too: what the engine has written is a front of its text.
     let flushed = writer.flush();
-    let status = ran?;
-    match flushed {
-        Ok(()) => Ok(status),
-        Err(_) => Err(Fault::Write.into()),
+    match ran {
+        Err(RunFault::File(Fault::Line(fault))) if explains => {
+            Ok(told_with_place(rt, request.command.engine, &kept, fault))
+        }
+        Err(fault) => Err(fault),
+        Ok(status) => match flushed {
+            Ok(()) => Ok(status),
+            Err(_) => Err(Fault::Write.into()),
+        },
+    }
+}
+
+/// Tells a fault of a line, as without `--explain`, and then its place; answers the exit status.
+fn told_with_place<T: Eprint + AllocGlobal>(
+    rt: &T,
+    engine: Engine,
+    kept: &Kept,
+    fault: LineFault,
+) -> u8 {
+    let status = told(rt, Err(Fault::Line(fault).into()));
+    if let Ok(text) = explanation(rt.alloc(), file_kind(engine), kept, &fault) {
+        let _ = rt.eprint(&text);
+    }
+    status
+}
+
+/// What kind of file an engine reads.
+fn file_kind(engine: Engine) -> FileKind {
+    match engine {
+        Engine::Bits => FileKind::Bits,
+        Engine::Judge => FileKind::Record,
+        _ => FileKind::Scenario,
     }
 }
 

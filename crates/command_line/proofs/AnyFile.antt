@@ -19,83 +19,83 @@ no_hyphen true e = sym e
 
 plain_runs : (own : Text) (x : ℕ) (rest : List ℕ) → (x == 45) ≡ false → RunsFile own (x ∷ rest) (command (codes "plain") Plain [])
 unfolding clap_on_literals command_named
-plain_runs own x rest e = (rw (e, no_flags x rest e) refl, rw (e, no_flags x rest e) refl, rw (e, no_flags x rest e) refl, rw (e, no_flags x rest e) refl, rw (e, no_flags x rest e) refl)
+plain_runs own x rest e = (rw (e, no_flags x rest e) refl, rw (e, no_flags x rest e) refl, rw (e, no_flags x rest e) refl, rw (e, no_flags x rest e) refl, rw (e, no_flags x rest e) refl, rw (e, no_flags x rest e) refl)
 
 plain_runs_empty : (own : Text) → RunsFile own [] (command (codes "plain") Plain [])
 unfolding clap_on_literals command_named
-plain_runs_empty own = (refl, refl, refl, refl, refl)
+plain_runs_empty own = (refl, refl, refl, refl, refl, refl)
 
 bits_runs : (own : Text) (x : ℕ) (rest : List ℕ) → (x == 45) ≡ false → RunsFile own (x ∷ rest) (command (codes "bits") Bits [])
 unfolding clap_on_literals command_named
-bits_runs own x rest e = (rw (e, no_flags x rest e) refl, rw (e, no_flags x rest e) refl, rw (e, no_flags x rest e) refl, rw (e, no_flags x rest e) refl, rw (e, no_flags x rest e) refl)
+bits_runs own x rest e = (rw (e, no_flags x rest e) refl, rw (e, no_flags x rest e) refl, rw (e, no_flags x rest e) refl, rw (e, no_flags x rest e) refl, rw (e, no_flags x rest e) refl, rw (e, no_flags x rest e) refl)
 
 bits_runs_empty : (own : Text) → RunsFile own [] (command (codes "bits") Bits [])
 unfolding clap_on_literals command_named
-bits_runs_empty own = (refl, refl, refl, refl, refl)
+bits_runs_empty own = (refl, refl, refl, refl, refl, refl)
 
 replay_runs : (own : Text) (x : ℕ) (rest : List ℕ) → (x == 45) ≡ false → RunsFile own (x ∷ rest) (command (codes "replay") Replay [])
 unfolding clap_on_literals command_named
-replay_runs own x rest e = (rw (e, no_flags x rest e) refl, rw (e, no_flags x rest e) refl, rw (e, no_flags x rest e) refl, rw (e, no_flags x rest e) refl, rw (e, no_flags x rest e) refl)
+replay_runs own x rest e = (rw (e, no_flags x rest e) refl, rw (e, no_flags x rest e) refl, rw (e, no_flags x rest e) refl, rw (e, no_flags x rest e) refl, rw (e, no_flags x rest e) refl, rw (e, no_flags x rest e) refl)
 
 replay_runs_empty : (own : Text) → RunsFile own [] (command (codes "replay") Replay [])
 unfolding clap_on_literals command_named
-replay_runs_empty own = (refl, refl, refl, refl, refl)
+replay_runs_empty own = (refl, refl, refl, refl, refl, refl)
 
 audit_runs : (own : Text) (x : ℕ) (rest : List ℕ) → (x == 45) ≡ false → RunsFile own (x ∷ rest) (command (codes "audit") Audit [])
 unfolding clap_on_literals command_named
-audit_runs own x rest e = (rw (e, no_flags x rest e) refl, rw (e, no_flags x rest e) refl, rw (e, no_flags x rest e) refl, rw (e, no_flags x rest e) refl, rw (e, no_flags x rest e) refl)
+audit_runs own x rest e = (rw (e, no_flags x rest e) refl, rw (e, no_flags x rest e) refl, rw (e, no_flags x rest e) refl, rw (e, no_flags x rest e) refl, rw (e, no_flags x rest e) refl, rw (e, no_flags x rest e) refl)
 
 audit_runs_empty : (own : Text) → RunsFile own [] (command (codes "audit") Audit [])
 unfolding clap_on_literals command_named
-audit_runs_empty own = (refl, refl, refl, refl, refl)
+audit_runs_empty own = (refl, refl, refl, refl, refl, refl)
 
 sweep_runs : (own : Text) (x : ℕ) (rest : List ℕ) → (x == 45) ≡ false → RunsFile own (x ∷ rest) (command (codes "sweep") Sweep [])
 unfolding clap_on_literals command_named
-sweep_runs own x rest e = (rw (e, no_flags x rest e) refl, rw (e, no_flags x rest e) refl, rw (e, no_flags x rest e) refl, rw (e, no_flags x rest e) refl, rw (e, no_flags x rest e) refl)
+sweep_runs own x rest e = (rw (e, no_flags x rest e) refl, rw (e, no_flags x rest e) refl, rw (e, no_flags x rest e) refl, rw (e, no_flags x rest e) refl, rw (e, no_flags x rest e) refl, rw (e, no_flags x rest e) refl)
 
 sweep_runs_empty : (own : Text) → RunsFile own [] (command (codes "sweep") Sweep [])
 unfolding clap_on_literals command_named
-sweep_runs_empty own = (refl, refl, refl, refl, refl)
+sweep_runs_empty own = (refl, refl, refl, refl, refl, refl)
 
 race_runs : (own : Text) (x : ℕ) (rest : List ℕ) → (x == 45) ≡ false → RunsFile own (x ∷ rest) (command (codes "race") Race [])
 unfolding clap_on_literals command_named
-race_runs own x rest e = (rw (e, no_flags x rest e) refl, rw (e, no_flags x rest e) refl, rw (e, no_flags x rest e) refl, rw (e, no_flags x rest e) refl, rw (e, no_flags x rest e) refl)
+race_runs own x rest e = (rw (e, no_flags x rest e) refl, rw (e, no_flags x rest e) refl, rw (e, no_flags x rest e) refl, rw (e, no_flags x rest e) refl, rw (e, no_flags x rest e) refl, rw (e, no_flags x rest e) refl)
 
 race_runs_empty : (own : Text) → RunsFile own [] (command (codes "race") Race [])
 unfolding clap_on_literals command_named
-race_runs_empty own = (refl, refl, refl, refl, refl)
+race_runs_empty own = (refl, refl, refl, refl, refl, refl)
 
 record_runs : (own : Text) (x : ℕ) (rest : List ℕ) → (x == 45) ≡ false → RunsFile own (x ∷ rest) (command (codes "record") Record [])
 unfolding clap_on_literals command_named
-record_runs own x rest e = (rw (e, no_flags x rest e) refl, rw (e, no_flags x rest e) refl, rw (e, no_flags x rest e) refl, rw (e, no_flags x rest e) refl, rw (e, no_flags x rest e) refl)
+record_runs own x rest e = (rw (e, no_flags x rest e) refl, rw (e, no_flags x rest e) refl, rw (e, no_flags x rest e) refl, rw (e, no_flags x rest e) refl, rw (e, no_flags x rest e) refl, rw (e, no_flags x rest e) refl)
 
 record_runs_empty : (own : Text) → RunsFile own [] (command (codes "record") Record [])
 unfolding clap_on_literals command_named
-record_runs_empty own = (refl, refl, refl, refl, refl)
+record_runs_empty own = (refl, refl, refl, refl, refl, refl)
 
 judge_runs : (own : Text) (x : ℕ) (rest : List ℕ) → (x == 45) ≡ false → RunsFile own (x ∷ rest) (command (codes "judge") Judge (codes "any-lock" ∷ codes "why" ∷ []))
 unfolding clap_on_literals command_named
-judge_runs own x rest e = (rw (e, no_flags x rest e) refl, rw (e, no_flags x rest e) refl, rw (e, no_flags x rest e) refl, rw (e, no_flags x rest e) refl, rw (e, no_flags x rest e) refl)
+judge_runs own x rest e = (rw (e, no_flags x rest e) refl, rw (e, no_flags x rest e) refl, rw (e, no_flags x rest e) refl, rw (e, no_flags x rest e) refl, rw (e, no_flags x rest e) refl, rw (e, no_flags x rest e) refl)
 
 judge_runs_empty : (own : Text) → RunsFile own [] (command (codes "judge") Judge (codes "any-lock" ∷ codes "why" ∷ []))
 unfolding clap_on_literals command_named
-judge_runs_empty own = (refl, refl, refl, refl, refl)
+judge_runs_empty own = (refl, refl, refl, refl, refl, refl)
 
 draw_runs : (own : Text) (x : ℕ) (rest : List ℕ) → (x == 45) ≡ false → RunsFile own (x ∷ rest) (command (codes "draw") Draw (codes "reads" ∷ []))
 unfolding clap_on_literals command_named
-draw_runs own x rest e = (rw (e, no_flags x rest e) refl, rw (e, no_flags x rest e) refl, rw (e, no_flags x rest e) refl, rw (e, no_flags x rest e) refl, rw (e, no_flags x rest e) refl)
+draw_runs own x rest e = (rw (e, no_flags x rest e) refl, rw (e, no_flags x rest e) refl, rw (e, no_flags x rest e) refl, rw (e, no_flags x rest e) refl, rw (e, no_flags x rest e) refl, rw (e, no_flags x rest e) refl)
 
 draw_runs_empty : (own : Text) → RunsFile own [] (command (codes "draw") Draw (codes "reads" ∷ []))
 unfolding clap_on_literals command_named
-draw_runs_empty own = (refl, refl, refl, refl, refl)
+draw_runs_empty own = (refl, refl, refl, refl, refl, refl)
 
 draw_svg_runs : (own : Text) (x : ℕ) (rest : List ℕ) → (x == 45) ≡ false → RunsFile own (x ∷ rest) (command (codes "draw-svg") DrawSvg (codes "reads" ∷ []))
 unfolding clap_on_literals command_named
-draw_svg_runs own x rest e = (rw (e, no_flags x rest e) refl, rw (e, no_flags x rest e) refl, rw (e, no_flags x rest e) refl, rw (e, no_flags x rest e) refl, rw (e, no_flags x rest e) refl)
+draw_svg_runs own x rest e = (rw (e, no_flags x rest e) refl, rw (e, no_flags x rest e) refl, rw (e, no_flags x rest e) refl, rw (e, no_flags x rest e) refl, rw (e, no_flags x rest e) refl, rw (e, no_flags x rest e) refl)
 
 draw_svg_runs_empty : (own : Text) → RunsFile own [] (command (codes "draw-svg") DrawSvg (codes "reads" ∷ []))
 unfolding clap_on_literals command_named
-draw_svg_runs_empty own = (refl, refl, refl, refl, refl)
+draw_svg_runs_empty own = (refl, refl, refl, refl, refl, refl)
 
 pub runs_each_file : RunsEachFile
 runs_each_file own [] e = (plain_runs_empty own, (bits_runs_empty own, (replay_runs_empty own, (audit_runs_empty own, (sweep_runs_empty own, (race_runs_empty own, (record_runs_empty own, (judge_runs_empty own, (draw_runs_empty own, (draw_svg_runs_empty own, tt))))))))))

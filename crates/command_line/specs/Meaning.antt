@@ -15,7 +15,7 @@ use Rattle.command_line.specs.declared.commands.TheConstants.{COMMANDS as table}
 use Rattle.command_line.specs.declared.words.Asked.{Asked}
 use Rattle.command_line.specs.declared.words.Asked.TheVariants.{Run, Tell}
 use Rattle.command_line.specs.declared.pages.Page.{Page}
-use Rattle.command_line.specs.declared.pages.Page.TheVariants.{Words, Faults, Command as OfCommand}
+use Rattle.command_line.specs.declared.pages.Page.TheVariants.{Words, Run as OfRun, Faults, Command as OfCommand}
 
 -- ---- the command line
 
@@ -67,7 +67,8 @@ commands = map (λ r. record {
 
 -- a command that runs a file, without options of its own
 abbrev pub plain_app : Text → App
-plain_app name = with_flag (with_rule (new_app name) file_rule) (codes "quiet")
+plain_app name = with_flag (with_flag (with_rule (new_app name) file_rule) (codes "quiet"))
+    (codes "explain")
 
 -- the command line of a command that runs a file
 abbrev pub command_app : Listed → App
@@ -94,17 +95,20 @@ pub record Running : Type 0 where
   pub reads : Bool
   pub any_lock : Bool
   pub why : Bool
+  pub explain : Bool
   pub quiet : Bool
 
--- that a file is run; or that a page is printed: of all words, of the faults, or of a command
+-- that a file is run; or that a page is printed: of all words, of the words of a run, of the faults, or of a command
 pub data Meant : Type 0 where
   runs : Running → Meant
   tells_words : Meant
+  tells_run : Meant
   tells_faults : Meant
   tells_command : Engine → Meant
 
 abbrev pub told_by : Page → Meant
 told_by Words = tells_words
+told_by OfRun = tells_run
 told_by Faults = tells_faults
 told_by (OfCommand e) = tells_command e.engine
 
@@ -115,6 +119,7 @@ asked_by (Run r) = runs (record {
   reads = r.reads;
   any_lock = r.any_lock;
   why = r.why;
+  explain = r.explain;
   quiet = r.quiet;
 })
 asked_by (Tell page) = told_by page
@@ -126,6 +131,7 @@ command_named name = find (λ c. bytes_eq c.name name) commands
 -- the page of this name
 abbrev pub page_named : Text → Option Meant
 page_named name = if bytes_eq name (codes "help") then Some tells_words
+    else if bytes_eq name (codes "run") then Some tells_run
     else if bytes_eq name (codes "faults") then Some tells_faults
     else option_map (λ e. tells_command e.engine) (command_named name)
 
@@ -144,6 +150,7 @@ asked_of_file quiet command own file = runs (record {
   reads = has_flag (codes "reads") own;
   any_lock = has_flag (codes "any-lock") own;
   why = has_flag (codes "why") own;
+  explain = has_flag (codes "explain") own;
   quiet = quiet || has_flag (codes "quiet") own;
 })
 
@@ -179,22 +186,32 @@ abbrev pub is_plain_word : Text → Bool
 is_plain_word [] = true
 is_plain_word (x ∷ rest) = not (x == 45)
 
--- that a command runs a file
-abbrev pub runs_file : Listed → Text → Bool → Option Meant
-runs_file c file quiet = Some (runs (record {
+-- that a command runs a file, and nothing else
+abbrev pub running : Listed → Text → Running
+running c file = record {
   engine = c.engine;
   file = file;
   reads = false;
   any_lock = false;
   why = false;
-  quiet = quiet;
-}))
+  explain = false;
+  quiet = false;
+}
 
--- its name and a file mean that; with `--quiet` in front of the name, behind it or behind the file
+-- the same, quietly
+abbrev pub runs_file : Listed → Text → Bool → Option Meant
+runs_file c file quiet = Some (runs (record (running c file) { quiet = quiet }))
+
+-- the same, with its faults explained
+abbrev pub explains_file : Listed → Text → Option Meant
+explains_file c file = Some (runs (record (running c file) { explain = true }))
+
+-- its name and a file mean that; with `--explain` in front of the file they mean the same, explained; with `--quiet` in front of the name, behind it or behind the file
 -- they mean the same, quietly
 abbrev pub RunsFile : Text → Text → Listed → Type 0
 RunsFile own file c = (takes bakery (own ∷ c.name ∷ file ∷ []) ≡ true)
     × (meaning (own ∷ c.name ∷ file ∷ []) ≡ runs_file c file false)
+    × (meaning (own ∷ c.name ∷ codes "--explain" ∷ file ∷ []) ≡ explains_file c file)
     × (meaning (own ∷ codes "--quiet" ∷ c.name ∷ file ∷ []) ≡ runs_file c file true)
     × (meaning (own ∷ c.name ∷ codes "--quiet" ∷ file ∷ []) ≡ runs_file c file true)
     × (meaning (own ∷ c.name ∷ file ∷ codes "--quiet" ∷ []) ≡ runs_file c file true)

@@ -49,7 +49,7 @@ pub struct Entry {
     pub engine: Engine,
     /// How it takes the file.
     pub intake: Intake,
-    /// Its options, beside `--quiet`, which all have.
+    /// Its options, beside `--quiet` and `--explain`, which all have.
     pub options: &'static [&'static str],
     /// What it is, in a line of the page of all words.
     pub about: &'static str,

@@ -16,6 +16,7 @@ Commands, each with an example:
 /// The rest of that page, below the commands.
 pub const MORE_WORDS: &str = r"
   help COMMAND, COMMAND --help   what a command reads and prints
+  help run                       the words that a run prints
   help faults                    the kinds of fault, with their causes
   help, --help, -h               this page
   --version, -V                  the version, and the logic it was proved in
@@ -24,6 +25,8 @@ Options:
 
   --reads   of draw and draw-svg: shows the reads too that writes overlapped
   --any-lock, --why   of judge: takes the record of any lock; gives its reasons
+  --explain   tells of a fault the line, the word, and what was expected there. So
+            does a run without it where standard error is a terminal
   --quiet   shows no progress. Else, where standard error is a terminal and standard
             output is none, a run of more than two seconds shows there how far it is
             (but plain and bits, which are soon done, and race, of which all threads
@@ -100,7 +103,49 @@ The first line of a scenario is `bakery 1` or `bakery 2`. The other lines:
   show empty
   end events 1 taken 0 refused 1
 
+What the words of these lines say: bakerystore help run
 README.md tells a longer run in words.
+";
+
+/// The words that a run prints.
+pub const RUN: &str =
+    r"A run is printed by `replay`, a line for each thing that happens: the number of the
+event, the process, and one of these. The entries of `record` have the same words.
+
+  call COMMAND   it calls
+  wait T         it has ticket T, and its doorway ends: it waits
+  enter          it comes inside the critical section
+  taken K REPLY  its command is taken, as number K of the history, from 0
+  leave          it goes outside
+  answer REPLY   its call is answered, or refused: `tickets-full P`, `stamps-full`,
+                 or `withdrawn`
+  fail           it halts, and its memory unit takes over
+  settled B      its unit settles the bit that it was writing at B, 0 or 1. Which bit:
+                 `state --at N`, N the number of this event, tells it behind `torn`
+  down           its unit has cleared its ticket and its choosing bit
+  withdraw       it gives up waiting
+  restart        it is back
+
+Where nothing happens, `-` stands for the number of the event:
+
+  turns                   of `go`: it has made 65,536 steps, and is not there
+  refused no-process      there is no such process
+  refused busy            a call: its call is not answered yet
+  refused is-down         a call: it has failed
+  refused not-running     a step: it is idle or down
+  refused not-waiting     `withdraw`: it does not wait
+  refused already-failed  `fail`: it has failed
+  refused not-down        `restart`: it is not down
+  refused calls-full      a call: it has made 65,535 (bakery 2)
+
+Behind `show`: the store, `empty`, or `busy` while somebody is inside. Behind `end`:
+how many events there were, commands taken, and lines `refused`.
+
+  $ printf 'bakery 1\nwithdraw 0\nstep 2 1\nshow\n' | bakerystore replay -
+  - 0 refused not-waiting
+  - 2 refused no-process
+  show empty
+  end events 0 taken 0 refused 2
 ";
 
 /// The page of `audit`.
@@ -221,7 +266,8 @@ The lines of a scenario: bakerystore help replay
 pub const FAULTS: &str =
     r"Of a file with faults one is told, on standard error: the first of the first faulty
 line, as `line <n>: <kind>`. Then nothing was run, no verdict is told, and the status
-is 1. Every line counts, from 1 on. The kinds, about in the order in which they are
+is 1. With `--explain`, and at a terminal, there follow the line, carets below the word
+that is at fault, and what was expected in its place. Every line counts, from 1 on. The kinds, about in the order in which they are
 looked for:
 
 too-long    The line has more than 128 bytes.

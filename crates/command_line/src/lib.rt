@@ -12,6 +12,7 @@ mod terminal;
 mod words;
 
 pub use commands::{Engine, Entry, Intake};
+pub use files::{Fault, FromRead, IntoWrite, LineFault, Sink, Source, ended};
 pub use notices::{Notice, USAGE_STATUS};
 pub use pages::Page;
 pub use progress::{WatchedInput, Watcher};

@@ -3,7 +3,7 @@ ghost use Rattle.std.specs.Prelude.{◌≡◌, option_map};
 ghost use Rattle.command_line.specs.Meaning.{page_named, told_by};
 
 use crate::commands::{COMMANDS, Entry, command_named};
-use crate::help::{FAULTS, MORE_WORDS, WORDS};
+use crate::help::{FAULTS, MORE_WORDS, RUN, WORDS};
 use crate::program::{file_command, program};
 use files::{DONE, Fault};
 use std::alloc::{AllocError, Global};
@@ -13,6 +13,8 @@ use std::alloc::{AllocError, Global};
 pub enum Page {
     /// All words, the statuses, and where to read on.
     Words,
+    /// The words that a run prints.
+    Run,
     /// One command.
     Command(Entry),
     /// The faults that are told, with their causes.
@@ -20,12 +22,13 @@ pub enum Page {
 }
 
 impl Page {
-    /// The page of this name: of a command, or `help` or `faults`.
+    /// The page of this name: of a command, or `help`, `run` or `faults`.
     pub fn named(name: &str) -> Option<Page>
         ensures { option_map told_by result ≡ page_named name.now }
     {
         match name {
             "help" => Some(Page::Words),
+            "run" => Some(Page::Run),
             "faults" => Some(Page::Faults),
             _ => Some(Page::Command(command_named(name)?)),
         }
@@ -43,6 +46,7 @@ impl Page {
     fn text(self, alloc: Global) -> Result<String, AllocError> {
         match self {
             Page::Words => page_of_words(alloc),
+            Page::Run => String::from_str(alloc, RUN),
             Page::Command(command) => page_of(alloc, command),
             Page::Faults => String::from_str(alloc, FAULTS),
         }

@@ -96,7 +96,8 @@ fn plain_command<'a>(alloc: Global, name: &'static str) -> Result<Command<'a>, A
     Command::new(alloc, name)
         .override_help(name)
         .arg(Arg::new(alloc, "FILE").required(true))?
-        .arg(flag(alloc, "quiet"))
+        .arg(flag(alloc, "quiet"))?
+        .arg(flag(alloc, "explain"))
 }
 
 /// A command with these options.

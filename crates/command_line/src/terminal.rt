@@ -7,9 +7,10 @@ use crate::retries::write_again;
 use std::alloc::Global;
 use std::io::{self, BufWriter, ErrorKind, LineWriter, Write};
 
-/// Which of the two streams that the program writes are terminals.
+/// Which of the program's streams are terminals.
 #[derive(Clone, Copy, Debug, PartialEq, Eq)]
 pub struct Terminals {
+    pub input: bool,
     pub output: bool,
     pub error: bool,
 }

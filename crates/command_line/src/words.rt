@@ -26,6 +26,8 @@ pub struct Request<'a> {
     pub any_lock: bool,
     /// Whether a bad verdict has reasons.
     pub why: bool,
+    /// Whether the place of a fault is told, and what was expected there.
+    pub explain: bool,
     /// Whether nothing is to be shown of how far the run is.
     pub quiet: bool,
 }
@@ -121,6 +123,7 @@ fn asked_of_none<'a>(quiet: bool) -> Option<Asked<'a>>
         reads: false,
         any_lock: false,
         why: false,
+        explain: false,
         quiet,
     }))
 }
@@ -160,6 +163,7 @@ fn request_of<'a>(quiet: bool, command: Entry, own: &ArgMatches<'a>, file: &'a s
         reads: is_set(own, "reads"),
         any_lock: is_set(own, "any-lock"),
         why: is_set(own, "why"),
+        explain: is_set(own, "explain"),
         quiet: quiet | is_set(own, "quiet"),
     }
 }

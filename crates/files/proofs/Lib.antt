@@ -13,3 +13,5 @@ pub mod LineEnds
 pub mod Blocks
 pub mod FirstLines
 pub mod Returns
+-- Tables of key words
+pub mod KeyWords

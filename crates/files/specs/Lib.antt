@@ -2,6 +2,7 @@ pub mod Checks
 pub mod Cuts
 pub mod Engines
 pub mod Files
+pub mod KeyWords
 pub mod Limits
 pub mod Lines
 pub mod Reads

@@ -1,7 +1,8 @@
-//! The words of the grammar that scenario files and bits files do not have.
+//! The key words that scenario files and bits files do not have, in tables that the grammar reads.
 ghost use Rattle.std.specs.Prelude.{◌≡◌};
 ghost use Rattle.record_file.specs.Keywords.{field_of, mark_word_of, reply_word_of, answer_word_of, own_answer_of};
 
+use files::meaning_of;
 use record::Field;
 
 /// The first word of a mark.
@@ -44,36 +45,59 @@ pub enum AnswerWord {
     Withdrawn,
 }
 
+/// The first words of marks, and what each means.
+pub const MARK_WORDS: [(&str, MarkWord); 11] = [
+    ("call", MarkWord::Call),
+    ("wait", MarkWord::Wait),
+    ("enter", MarkWord::Enter),
+    ("taken", MarkWord::Taken),
+    ("leave", MarkWord::Leave),
+    ("answer", MarkWord::Answer),
+    ("fail", MarkWord::Fail),
+    ("settled", MarkWord::Settled),
+    ("down", MarkWord::Down),
+    ("withdraw", MarkWord::Withdraw),
+    ("restart", MarkWord::Restart),
+];
+
+/// The first words of replies, and what each means.
+pub const REPLY_WORDS: [(&str, ReplyWord); 10] = [
+    ("value", ReplyWord::Value),
+    ("done", ReplyWord::Done),
+    ("sum", ReplyWord::Sum),
+    ("swapped", ReplyWord::Swapped),
+    ("kept", ReplyWord::Kept),
+    ("no-name", ReplyWord::NoName),
+    ("not-counter", ReplyWord::NotCounter),
+    ("overflow", ReplyWord::Overflow),
+    ("store-full", ReplyWord::StoreFull),
+    ("last", ReplyWord::Last),
+];
+
+/// The first words of the answers that are no replies, and what each means.
+pub const OWN_ANSWERS: [(&str, AnswerWord); 3] = [
+    ("tickets-full", AnswerWord::TicketsFull),
+    ("stamps-full", AnswerWord::StampsFull),
+    ("withdrawn", AnswerWord::Withdrawn),
+];
+
+/// The registers, by the second parts of bits.
+pub const FIELDS: [(&str, Field); 7] = [
+    ("choosing", Field::Choosing),
+    ("ticket", Field::Ticket),
+    ("commit", Field::Commit),
+    ("stamp0", Field::Stamp0),
+    ("stamp1", Field::Stamp1),
+    ("image0", Field::Image0),
+    ("image1", Field::Image1),
+];
+
 impl MarkWord {
     /// What the first word of a mark means.
     pub fn of(word: &[u8]) -> Option<MarkWord>
         ensures { result ≡ mark_word_of word.now }
     {
-        if word == b"call".as_slice() {
-            Some(MarkWord::Call)
-        } else if word == b"wait".as_slice() {
-            Some(MarkWord::Wait)
-        } else if word == b"enter".as_slice() {
-            Some(MarkWord::Enter)
-        } else if word == b"taken".as_slice() {
-            Some(MarkWord::Taken)
-        } else if word == b"leave".as_slice() {
-            Some(MarkWord::Leave)
-        } else if word == b"answer".as_slice() {
-            Some(MarkWord::Answer)
-        } else if word == b"fail".as_slice() {
-            Some(MarkWord::Fail)
-        } else if word == b"settled".as_slice() {
-            Some(MarkWord::Settled)
-        } else if word == b"down".as_slice() {
-            Some(MarkWord::Down)
-        } else if word == b"withdraw".as_slice() {
-            Some(MarkWord::Withdraw)
-        } else if word == b"restart".as_slice() {
-            Some(MarkWord::Restart)
-        } else {
-            None
-        }
+        meaning_of(&MARK_WORDS, word)
     }
 }
 
@@ -82,29 +106,7 @@ impl ReplyWord {
     pub fn of(word: &[u8]) -> Option<ReplyWord>
         ensures { result ≡ reply_word_of word.now }
     {
-        if word == b"value".as_slice() {
-            Some(ReplyWord::Value)
-        } else if word == b"done".as_slice() {
-            Some(ReplyWord::Done)
-        } else if word == b"sum".as_slice() {
-            Some(ReplyWord::Sum)
-        } else if word == b"swapped".as_slice() {
-            Some(ReplyWord::Swapped)
-        } else if word == b"kept".as_slice() {
-            Some(ReplyWord::Kept)
-        } else if word == b"no-name".as_slice() {
-            Some(ReplyWord::NoName)
-        } else if word == b"not-counter".as_slice() {
-            Some(ReplyWord::NotCounter)
-        } else if word == b"overflow".as_slice() {
-            Some(ReplyWord::Overflow)
-        } else if word == b"store-full".as_slice() {
-            Some(ReplyWord::StoreFull)
-        } else if word == b"last".as_slice() {
-            Some(ReplyWord::Last)
-        } else {
-            None
-        }
+        meaning_of(&REPLY_WORDS, word)
     }
 }
 
@@ -126,15 +128,7 @@ impl AnswerWord {
     fn own(word: &[u8]) -> Option<AnswerWord>
         ensures { result ≡ own_answer_of word.now }
     {
-        if word == b"tickets-full".as_slice() {
-            Some(AnswerWord::TicketsFull)
-        } else if word == b"stamps-full".as_slice() {
-            Some(AnswerWord::StampsFull)
-        } else if word == b"withdrawn".as_slice() {
-            Some(AnswerWord::Withdrawn)
-        } else {
-            None
-        }
+        meaning_of(&OWN_ANSWERS, word)
     }
 }
 
@@ -142,21 +136,5 @@ impl AnswerWord {
 pub fn field(word: &[u8]) -> Option<Field>
     ensures { result ≡ field_of word.now }
 {
-    if word == b"choosing".as_slice() {
-        Some(Field::Choosing)
-    } else if word == b"ticket".as_slice() {
-        Some(Field::Ticket)
-    } else if word == b"commit".as_slice() {
-        Some(Field::Commit)
-    } else if word == b"stamp0".as_slice() {
-        Some(Field::Stamp0)
-    } else if word == b"stamp1".as_slice() {
-        Some(Field::Stamp1)
-    } else if word == b"image0".as_slice() {
-        Some(Field::Image0)
-    } else if word == b"image1".as_slice() {
-        Some(Field::Image1)
-    } else {
-        None
-    }
+    meaning_of(&FIELDS, word)
 }

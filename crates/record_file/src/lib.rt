@@ -4,7 +4,7 @@
 mod accesses;
 mod entries;
 mod faults;
-mod keywords;
+pub mod keywords;
 mod laws;
 mod line_kinds;
 mod marks;

@@ -5,7 +5,7 @@ ghost use Rattle.files.specs.Files.{one_more};
 ghost use Rattle.files.specs.Reads.{Makes, Takes};
 ghost use Rattle.files.specs.Words.{texts};
 
-use files::{FaultKind, FromLines, LineFault, keep_line, read_file};
+use files::{FaultKind, FromLines, LineFault, keep_line, meaning_of, read_file};
 use std::alloc::Global;
 use std::marker::Model;
 
@@ -46,34 +46,29 @@ pub enum BitWord {
     Drop,
 }
 
+/// The first words of lines, and what each means.
+pub const BIT_WORDS: [(&str, BitWord); 7] = [
+    ("bits", BitWord::Bits),
+    ("write", BitWord::Write),
+    ("end", BitWord::End),
+    ("settle", BitWord::Settle),
+    ("read", BitWord::Read),
+    ("value", BitWord::Value),
+    ("drop", BitWord::Drop),
+];
+
 impl BitWord {
     /// What the first word of a line means.
     pub fn of(word: &[u8]) -> Option<BitWord>
         ensures { result ≡ bit_word_of word.now }
     {
-        if word == b"bits".as_slice() {
-            Some(BitWord::Bits)
-        } else if word == b"write".as_slice() {
-            Some(BitWord::Write)
-        } else if word == b"end".as_slice() {
-            Some(BitWord::End)
-        } else if word == b"settle".as_slice() {
-            Some(BitWord::Settle)
-        } else if word == b"read".as_slice() {
-            Some(BitWord::Read)
-        } else if word == b"value".as_slice() {
-            Some(BitWord::Value)
-        } else if word == b"drop".as_slice() {
-            Some(BitWord::Drop)
-        } else {
-            None
-        }
+        meaning_of(&BIT_WORDS, word)
     }
 }
 
 /// The lines behind the first that have been read so far.
 #[derive(Drop)]
-struct BitsReader {
+pub struct BitsReader {
     lines: Vec<BitLine>,
 }
 

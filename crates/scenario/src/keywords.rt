@@ -1,8 +1,9 @@
-//! The words of the grammar.
+//! The key words of scenario files, in tables that the grammar reads.
 ghost use Rattle.std.specs.Prelude.{◌≡◌};
 ghost use Rattle.scenario.specs.Keywords.{opener_of, verb_of, target_of};
 
 use crate::lines::Target;
+use files::meaning_of;
 
 /// What a heading gives the number of.
 #[derive(Clone, Copy)]
@@ -46,44 +47,48 @@ pub enum Verb {
     Ask,
 }
 
+/// The first words of lines, and what each means.
+pub const OPENERS: [(&str, Opener); 15] = [
+    ("bakery", Opener::Bakery),
+    ("processes", Opener::Heading(Heading::Processes)),
+    ("tickets", Opener::Heading(Heading::Tickets)),
+    ("stamps", Opener::Heading(Heading::Stamps)),
+    ("slots", Opener::Heading(Heading::Slots)),
+    ("open", Opener::Open),
+    ("call", Opener::Line(LineWord::Call)),
+    ("step", Opener::Line(LineWord::Step)),
+    ("go", Opener::Line(LineWord::Go)),
+    ("fail", Opener::Line(LineWord::Fail)),
+    ("withdraw", Opener::Line(LineWord::Withdraw)),
+    ("restart", Opener::Line(LineWord::Restart)),
+    ("flick", Opener::Line(LineWord::Flick)),
+    ("wander", Opener::Line(LineWord::Wander)),
+    ("show", Opener::Line(LineWord::Show)),
+];
+
+/// The third words of `call`, and what each means.
+pub const VERBS: [(&str, Verb); 5] = [
+    ("read", Verb::Read),
+    ("write", Verb::Write),
+    ("add", Verb::Add),
+    ("cas", Verb::Cas),
+    ("ask", Verb::Ask),
+];
+
+/// The third words of `go`, and what each means.
+pub const TARGETS: [(&str, Target); 4] = [
+    ("wait", Target::Wait),
+    ("inside", Target::Inside),
+    ("idle", Target::Idle),
+    ("down", Target::Down),
+];
+
 impl Opener {
     /// What the first word of a line means.
     pub fn of(word: &[u8]) -> Option<Opener>
         ensures { result ≡ opener_of word.now }
     {
-        if word == b"bakery".as_slice() {
-            Some(Opener::Bakery)
-        } else if word == b"processes".as_slice() {
-            Some(Opener::Heading(Heading::Processes))
-        } else if word == b"tickets".as_slice() {
-            Some(Opener::Heading(Heading::Tickets))
-        } else if word == b"stamps".as_slice() {
-            Some(Opener::Heading(Heading::Stamps))
-        } else if word == b"slots".as_slice() {
-            Some(Opener::Heading(Heading::Slots))
-        } else if word == b"open".as_slice() {
-            Some(Opener::Open)
-        } else if word == b"call".as_slice() {
-            Some(Opener::Line(LineWord::Call))
-        } else if word == b"step".as_slice() {
-            Some(Opener::Line(LineWord::Step))
-        } else if word == b"go".as_slice() {
-            Some(Opener::Line(LineWord::Go))
-        } else if word == b"fail".as_slice() {
-            Some(Opener::Line(LineWord::Fail))
-        } else if word == b"withdraw".as_slice() {
-            Some(Opener::Line(LineWord::Withdraw))
-        } else if word == b"restart".as_slice() {
-            Some(Opener::Line(LineWord::Restart))
-        } else if word == b"flick".as_slice() {
-            Some(Opener::Line(LineWord::Flick))
-        } else if word == b"wander".as_slice() {
-            Some(Opener::Line(LineWord::Wander))
-        } else if word == b"show".as_slice() {
-            Some(Opener::Line(LineWord::Show))
-        } else {
-            None
-        }
+        meaning_of(&OPENERS, word)
     }
 }
 
@@ -92,19 +97,7 @@ impl Verb {
     pub fn of(word: &[u8]) -> Option<Verb>
         ensures { result ≡ verb_of word.now }
     {
-        if word == b"read".as_slice() {
-            Some(Verb::Read)
-        } else if word == b"write".as_slice() {
-            Some(Verb::Write)
-        } else if word == b"add".as_slice() {
-            Some(Verb::Add)
-        } else if word == b"cas".as_slice() {
-            Some(Verb::Cas)
-        } else if word == b"ask".as_slice() {
-            Some(Verb::Ask)
-        } else {
-            None
-        }
+        meaning_of(&VERBS, word)
     }
 }
 
@@ -113,16 +106,6 @@ impl Target {
     pub fn of(word: &[u8]) -> Option<Target>
         ensures { result ≡ target_of word.now }
     {
-        if word == b"wait".as_slice() {
-            Some(Target::Wait)
-        } else if word == b"inside".as_slice() {
-            Some(Target::Inside)
-        } else if word == b"idle".as_slice() {
-            Some(Target::Idle)
-        } else if word == b"down".as_slice() {
-            Some(Target::Down)
-        } else {
-            None
-        }
+        meaning_of(&TARGETS, word)
     }
 }

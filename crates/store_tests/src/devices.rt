@@ -3,17 +3,18 @@ use scenario::{Fault, FromRead, IntoWrite, Sink, read_input, write_all};
 use std::io::{self, Read, Write};
 use std::test::Fail;
 
-/// Gives its bytes one by one, and fails at the call with this number.
+/// Gives its bytes one by one, and fails in this way at the call with this number.
 #[derive(Drop)]
 struct Failing {
     bytes: &'static [u8],
     calls: usize,
+    fails: io::ErrorKind,
 }
 
 impl Read for Failing {
     fn read(&mut self, buffer: &mut [u8]) -> io::Result<usize> {
         if self.calls == 0 {
-            return Err(io::ErrorKind::Other.into());
+            return Err(self.fails.into());
         }
         self.calls -= 1;
         if self.bytes.is_empty() || buffer.is_empty() {
@@ -25,12 +26,23 @@ impl Read for Failing {
     }
 }
 
-// All bytes are read, or a call fails.
+// All bytes are read, or a call fails, in whatever way.
 #[test]
 fn reads_inputs(rt: HostRuntime) -> Result<(), Fail> {
     let bytes: &[u8] = b"show";
-    for (calls, all) in [(0, false), (3, false), (4, false), (5, true)] {
-        let mut input = FromRead::new(Failing { bytes, calls });
+    let (fails, interrupted) = (io::ErrorKind::Other, io::ErrorKind::Interrupted);
+    for (calls, fails, all) in [
+        (0, fails, false),
+        (3, fails, false),
+        (3, interrupted, false),
+        (4, fails, false),
+        (5, fails, true),
+    ] {
+        let mut input = FromRead::new(Failing {
+            bytes,
+            calls,
+            fails,
+        });
         match read_input(rt.alloc(), &mut input) {
             Ok(read) => assert!(rt; all && read.as_slice() == bytes),
             Err(fault) => assert!(rt; !all && fault == Fault::Read, "{fault:?}"),

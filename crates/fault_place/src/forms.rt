@@ -1,0 +1,274 @@
+//! The forms of lines: the key words and operands that a line has, by the key words that it begins with.
+ghost use Rattle.std.specs.Prelude.{◌≡◌, [], IfSome, Some, slice_get, slice_index_or};
+ghost use Rattle.files.specs.Words.{texts};
+ghost use Rattle.fault_place.specs.Operands.{fault_at};
+
+use crate::operands::{COUNT, Operand, PROCESS};
+use crate::tables::{FLICKS, MOVES, Table};
+use files::FaultKind;
+use record_file::keywords::{MARK_WORDS, MarkWord, OWN_ANSWERS, REPLY_WORDS, ReplyWord};
+use scenario::bit_files::{BIT_WORDS, BitWord};
+use scenario::keywords::{Heading, LineWord, OPENERS, Opener, TARGETS, VERBS, Verb};
+use std::alloc::{AllocError, Global};
+
+/// What stands at a place of a form.
+#[derive(Clone, Copy, Debug, PartialEq, Eq)]
+pub(crate) enum Item {
+    /// This key word.
+    Key(&'static str),
+    /// A key word of this table, which the line has not.
+    Choice(Table),
+    /// An operand.
+    Operand(Operand),
+    /// The bit of an entry.
+    Bit,
+}
+
+/// A form: its last item is a choice where the line has no such key word, and nothing is known of what is behind it.
+pub(crate) type Form = Vec<Item>;
+
+/// The key word of a table that stands at a place of a line.
+fn key<M>(rows: &[(&'static str, M)], words: &[&[u8]], place: usize, table: Table) -> Item {
+    if let Some(word) = words.get(place) {
+        for row in rows {
+            if *word == row.0.as_bytes() {
+                return Item::Key(row.0);
+            }
+        }
+    }
+    Item::Choice(table)
+}
+
+/// The form of a line of a scenario of this version, behind the first.
+pub(crate) fn line_form(
+    alloc: Global,
+    version: u8,
+    words: &[&[u8]],
+) -> Result<Form, AllocError> {
+    let first = key(&OPENERS, words, 0, Table::Openers(version));
+    let mut form = Vec::new(alloc);
+    match words.first().and_then(|word| Opener::of(word)) {
+        Some(Opener::Line(word)) => {
+            add(&mut form, first)?;
+            add_statement(version, word, words, &mut form)?;
+        }
+        opener => add_head(version, first, opener, Table::Openers(version), &mut form)?,
+    }
+    Ok(form)
+}
+
+/// The form of a line of a record of this version that is no entry.
+pub(crate) fn head_form(
+    alloc: Global,
+    version: u8,
+    words: &[&[u8]],
+) -> Result<Form, AllocError> {
+    let first = key(&OPENERS, words, 0, Table::Heads(version));
+    let opener = words.first().and_then(|word| Opener::of(word));
+    let mut form = Vec::new(alloc);
+    add_head(version, first, opener, Table::Heads(version), &mut form)?;
+    Ok(form)
+}
+
+/// Adds the form of a heading or an opening pair.
+fn add_head(
+    version: u8,
+    first: Item,
+    opener: Option<Opener>,
+    table: Table,
+    form: &mut Form,
+) -> Result<(), AllocError> {
+    match opener {
+        Some(Opener::Heading(heading)) => {
+            add(form, first)?;
+            add(form, Item::Operand(Operand::Heading {
+                most: heading.most(version),
+            }))
+        }
+        Some(Opener::Open) if version == 2 => {
+            add(form, first)?;
+            add(form, Item::Operand(Operand::Name))?;
+            add(form, Item::Operand(Operand::Value))
+        }
+        _ => add(form, Item::Choice(table)),
+    }
+}
+
+/// Adds what is behind the first word of a line.
+fn add_statement(
+    version: u8,
+    word: LineWord,
+    words: &[&[u8]],
+    form: &mut Form,
+) -> Result<(), AllocError> {
+    match word {
+        LineWord::Call => {
+            add(form, Item::Operand(PROCESS))?;
+            add_command(version, words, 2, form)
+        }
+        LineWord::Step => {
+            add(form, Item::Operand(PROCESS))?;
+            add(form, Item::Operand(COUNT))
+        }
+        LineWord::Go => {
+            add(form, Item::Operand(PROCESS))?;
+            add(form, key(&TARGETS, words, 2, Table::Targets))
+        }
+        LineWord::Fail | LineWord::Withdraw | LineWord::Restart => {
+            add(form, Item::Operand(PROCESS))
+        }
+        LineWord::Flick => {
+            let mode = key(&FLICKS, words, 1, Table::Flicks);
+            add(form, mode)?;
+            if mode == Item::Key("pcg") {
+                add(form, number("n", u64::MAX))?;
+            }
+            Ok(())
+        }
+        LineWord::Wander => add(form, Item::Operand(COUNT)),
+        LineWord::Show => Ok(()),
+    }
+}
+
+/// Adds a command, whose key word has this place.
+fn add_command(
+    version: u8,
+    words: &[&[u8]],
+    place: usize,
+    form: &mut Form,
+) -> Result<(), AllocError> {
+    let verb = words.get(place).and_then(|word| Verb::of(word));
+    let operands: &[Operand] = match verb {
+        Some(Verb::Ask) if version != 2 => {
+            return add(form, Item::Choice(Table::Verbs(version)));
+        }
+        Some(Verb::Read) => &[Operand::Name],
+        Some(Verb::Write) => &[Operand::Name, Operand::Value],
+        Some(Verb::Add) => &[Operand::Name, Operand::Integer],
+        Some(Verb::Cas) => &[Operand::Name, Operand::Value, Operand::Value],
+        Some(Verb::Ask) | None => &[],
+    };
+    add(form, key(&VERBS, words, place, Table::Verbs(version)))?;
+    for operand in operands {
+        add(form, Item::Operand(*operand))?;
+    }
+    Ok(())
+}
+
+/// The form of a line of a bits file, behind the first.
+pub(crate) fn bits_form(alloc: Global, words: &[&[u8]]) -> Result<Form, AllocError> {
+    let mut form = Vec::new(alloc);
+    add(&mut form, key(&BIT_WORDS, words, 0, Table::BitWords))?;
+    if has_value(words.first().and_then(|word| BitWord::of(word))) {
+        add(&mut form, Item::Operand(Operand::Bit))?;
+    }
+    Ok(form)
+}
+
+/// Whether a value of a bit stands behind the word.
+fn has_value(word: Option<BitWord>) -> bool {
+    match word {
+        Some(BitWord::Write | BitWord::Settle | BitWord::Value) => true,
+        _ => false,
+    }
+}
+
+/// The form of the words of an entry before its marks.
+pub(crate) fn access_form(alloc: Global, words: &[&[u8]]) -> Result<Form, AllocError> {
+    let mut form = Vec::new(alloc);
+    add(
+        &mut form,
+        Item::Operand(Operand::Number {
+            letter: "process",
+            most: 255,
+        }),
+    )?;
+    if words.len() < 2 {
+        return Ok(form);
+    }
+    add(&mut form, Item::Bit)?;
+    add(&mut form, key(&MOVES, words, 2, Table::Moves))?;
+    if has_value(words.get(2).and_then(|word| BitWord::of(word))) {
+        add(&mut form, Item::Operand(Operand::Bit))?;
+    }
+    Ok(form)
+}
+
+/// The form of a mark, by the words behind its sign.
+pub(crate) fn mark_form(alloc: Global, words: &[&[u8]]) -> Result<Form, AllocError> {
+    let mut form = Vec::new(alloc);
+    add(&mut form, key(&MARK_WORDS, words, 0, Table::Marks))?;
+    match words.first().and_then(|word| MarkWord::of(word)) {
+        Some(MarkWord::Call) => add_command(2, words, 1, &mut form)?,
+        Some(MarkWord::Wait) => add(&mut form, number("n", 4_294_967_295))?,
+        Some(MarkWord::Taken) => {
+            add(&mut form, number("k", u64::MAX))?;
+            add(&mut form, key(&REPLY_WORDS, words, 2, Table::Replies))?;
+            add_reply(words.get(2).and_then(|word| ReplyWord::of(word)), &mut form)?;
+        }
+        Some(MarkWord::Answer) => add_answer(words, &mut form)?,
+        Some(MarkWord::Settled) => add(&mut form, Item::Operand(Operand::Bit))?,
+        _ => {}
+    }
+    Ok(form)
+}
+
+/// Adds an answer.
+fn add_answer(words: &[&[u8]], form: &mut Form) -> Result<(), AllocError> {
+    match key(&OWN_ANSWERS, words, 1, Table::Answers) {
+        Item::Key(own) => {
+            add(form, Item::Key(own))?;
+            if own == "tickets-full" {
+                add(form, Item::Operand(PROCESS))?;
+            }
+            Ok(())
+        }
+        _ => {
+            add(form, key(&REPLY_WORDS, words, 1, Table::Answers))?;
+            add_reply(words.get(1).and_then(|word| ReplyWord::of(word)), form)
+        }
+    }
+}
+
+/// Adds what stands behind the first word of a reply.
+fn add_reply(name: Option<ReplyWord>, form: &mut Form) -> Result<(), AllocError> {
+    match name {
+        Some(ReplyWord::Value | ReplyWord::Kept) => add(form, Item::Operand(Operand::Value)),
+        Some(ReplyWord::Sum) => add(form, Item::Operand(Operand::Integer)),
+        Some(ReplyWord::Last) => add(form, number("n", 65_535)),
+        _ => Ok(()),
+    }
+}
+
+/// The first operand of a form that refuses the word at its place with this fault.
+pub(crate) fn refused_operand(
+    form: &[Item],
+    words: &[&[u8]],
+    fault: FaultKind,
+) -> Option<(usize, Operand)>
+    ensures item { IfSome result (λ r. slice_get form.now r.0 ≡ Some (Item.Operand r.1)) }
+    ensures word { IfSome result (λ r. fault_at r.1 (slice_index_or (texts words.now) r.0 []) ≡ Some fault) }
+{
+    for (place, item) in form.iter().enumerate() {
+        if place >= words.len() {
+            return None;
+        }
+        if let Item::Operand(operand) = item {
+            if operand.fault(words[place]) == Some(fault) {
+                return Some((place, *operand));
+            }
+        }
+    }
+    None
+}
+
+/// Adds an item.
+fn add(form: &mut Form, item: Item) -> Result<(), AllocError> {
+    form.push(item)?;
+    Ok(())
+}
+
+/// A number up to `most`.
+fn number(letter: &'static str, most: u64) -> Item {
+    Item::Operand(Operand::Number { letter, most })
+}

@@ -1,0 +1,137 @@
+//! What is kept of a file while it is read, to show the line of a fault: its front, which is all of a file that may have no
+//! fault but a record, and its last blocks.
+ghost use Rattle.std.specs.Prelude.{◌≡◌};
+
+use bstr::ByteSlice;
+use files::{Failed, INPUT_LIMIT, Source};
+use std::alloc::{AllocError, Global};
+
+/// The front of a file, and its last blocks.
+#[derive(Drop)]
+pub struct Kept {
+    front: Vec<u8>,
+    /// The block before the last one, and the last one.
+    last: Vec<u8>,
+    /// Where the last block begins among them.
+    block: usize,
+    /// How many lines end before them.
+    ended: u64,
+    /// Whether nothing was lost for want of memory.
+    whole: bool,
+}
+
+impl Kept {
+    /// Nothing yet.
+    fn new(alloc: Global) -> Kept {
+        Kept {
+            front: Vec::new(alloc),
+            last: Vec::new(alloc),
+            block: 0,
+            ended: 0,
+            whole: true,
+        }
+    }
+
+    /// Whether nothing was lost for want of memory.
+    pub fn is_whole(&self) -> bool {
+        self.whole
+    }
+
+    /// The bytes from the front: `INPUT_LIMIT` at most.
+    pub fn front(&self) -> &[u8] {
+        self.front.as_slice()
+    }
+
+    /// The line of this number, counted from 1, if it is among the front or in the last blocks.
+    pub fn line(&self, number: u64) -> Option<&[u8]> {
+        let place = number.saturating_sub(1);
+        if self.front.len() < INPUT_LIMIT || place < ends_among(self.front.as_slice()) {
+            self.front.as_slice().lines().nth(place as usize)
+        } else {
+            self.last.as_slice().lines().nth(place.saturating_sub(self.ended) as usize)
+        }
+    }
+
+    /// Keeps bytes that come next.
+    fn add(&mut self, bytes: &[u8]) {
+        if self.try_add(bytes).is_err() {
+            self.whole = false;
+        }
+    }
+
+    fn try_add(&mut self, bytes: &[u8]) -> Result<(), AllocError> {
+        let room = INPUT_LIMIT.saturating_sub(self.front.len()).min(bytes.len());
+        self.front.extend_from_slice(bytes.get(..room).unwrap_or(&[]))?;
+        if bytes.len() < 2 {
+            return Ok(());
+        }
+        let block = self.block.min(self.last.len());
+        let ends = ends_among(self.last.get(..block).unwrap_or(&[]));
+        self.ended = self.ended.saturating_add(ends);
+        self.last.drain(..block);
+        self.block = self.last.len();
+        self.last.extend_from_slice(bytes)
+    }
+}
+
+/// How many lines end among bytes.
+fn ends_among(bytes: &[u8]) -> u64 {
+    let mut ends: u64 = 0;
+    for byte in bytes {
+        ends = ends.saturating_add(u64::from(*byte == b'\n'));
+    }
+    ends
+}
+
+/// A source in front of another one, which keeps what is read.
+#[derive(Drop)]
+pub struct KeptInput<S: Source + Drop> {
+    source: S,
+    keeps: bool,
+    kept: Kept,
+}
+
+impl<S: Source + Drop> KeptInput<S> {
+    /// In front of this source; nothing is kept unless `keeps`.
+    pub fn new(alloc: Global, source: S, keeps: bool) -> KeptInput<S>
+        ensures to_come { ⟦<KeptInput<S> as Source>⟧.to_come result ≡ S.to_come source }
+        ensures failures { ⟦<KeptInput<S> as Source>⟧.failures result ≡ S.failures source }
+    {
+        KeptInput {
+            source,
+            keeps,
+            kept: Kept::new(alloc),
+        }
+    }
+
+    /// What was kept, and the source behind it.
+    pub fn into_parts(self) -> (Kept, S)
+        ensures { result.1 ≡ self.source }
+    {
+        (self.kept, self.source)
+    }
+}
+
+impl<S: Source + Drop> Source for KeptInput<S> {
+    ghost to_come = { λ kept. S.to_come kept.source };
+
+    ghost failures = { λ kept. S.failures kept.source };
+
+    fn next_byte(&mut self) -> Result<Option<u8>, Failed> {
+        let byte = self.source.next_byte()?;
+        if let Some(byte) = byte {
+            if self.keeps {
+                self.kept.add(&[byte]);
+            }
+        }
+        Ok(byte)
+    }
+
+    fn next_bytes(&mut self, buffer: &mut [u8]) -> Result<usize, Failed> {
+        let count = self.source.next_bytes(buffer)?;
+        if self.keeps {
+            self.kept.add(&buffer[..count]);
+        }
+        Ok(count)
+    }
+}

@@ -1,0 +1,21 @@
+//! Where in a file a fault is, and what was expected there: the line, carets under the word that the grammar refused, and
+//! the words, numbers or forms that may stand in its place.
+//!
+//! ```rust
+//! let text = explanation(alloc, FileKind::Scenario, input.kept(), &fault)?;
+//! ```
+#![tactic(auto)]
+
+mod expected;
+mod explaining;
+mod forms;
+mod kept;
+mod lines;
+mod near;
+mod operands;
+mod places;
+mod tables;
+
+pub use explaining::explanation;
+pub use kept::{Kept, KeptInput};
+pub use tables::FileKind;

@@ -1,0 +1,49 @@
+//! The key words that a word may have been meant for.
+use std::alloc::{AllocError, Global};
+use strsim::osa_distance;
+
+/// Adds the nearest key words within two typing errors, if there are some; within one of those of two or three letters.
+pub(crate) fn add_near(
+    alloc: Global,
+    word: &[u8],
+    keys: &[&'static str],
+    text: &mut String,
+) -> Result<(), AllocError> {
+    let small = small_letters(alloc, word)?;
+    let mut least = usize::MAX;
+    for key in keys {
+        least = least.min(errors(alloc, small.as_str(), key)?);
+    }
+    if least == usize::MAX {
+        return Ok(());
+    }
+    let mut between = "; did you mean ";
+    for key in keys {
+        if errors(alloc, small.as_str(), key)? == least {
+            text.push_str(between)?;
+            text.push_str(key)?;
+            between = " or ";
+        }
+    }
+    text.push_str("?")
+}
+
+/// How many typing errors lie between a word and a key word; the greatest number where they are too many.
+fn errors(alloc: Global, word: &str, key: &str) -> Result<usize, AllocError> {
+    let most = match key.len() {
+        0 | 1 => return Ok(usize::MAX),
+        2 | 3 => 1,
+        _ => 2,
+    };
+    let errors = osa_distance(alloc, word, key)?;
+    Ok(if errors <= most { errors } else { usize::MAX })
+}
+
+/// The word with small letters. A byte that is no letter of ASCII is a letter that no key word has.
+fn small_letters(alloc: Global, word: &[u8]) -> Result<String, AllocError> {
+    let mut small = String::new(alloc);
+    for byte in word {
+        small.push(char::from(byte.to_ascii_lowercase()))?;
+    }
+    Ok(small)
+}

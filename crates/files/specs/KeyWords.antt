@@ -1,0 +1,11 @@
+-- Tables of key words.
+use Rattle.std.specs.Prelude.{ℕ, List, map}
+use Rattle.std.specs.Borrow.{Bor}
+
+-- a key word and what it means
+abbrev pub KeyWord : Type 0 → Type 0
+KeyWord M = Bor (List ℕ) × M
+
+-- the rows of a table, without where its words lie
+abbrev pub rows_of : {M : Type 0} → List (KeyWord M) → List (List ℕ × M)
+rows_of table = map (λ row. (row.0.now, row.1)) table
