@@ -38,6 +38,7 @@ impl<W: Write + Drop> UpToFailure<W> {
 impl<W: Write + Drop> Write for UpToFailure<W> {
     ghost contents = { held_by W.contents };
 
+    #[tactic(auto, using(files::proofs::EngineEnds::kept))]
     fn write(&mut self, bytes: &[u8]) -> io::Result<usize> {
         if self.has_failed {
             return Err(ErrorKind::BrokenPipe.into());

@@ -5,7 +5,7 @@ use crate::places::Faulty;
 use crate::tables::FileKind;
 use bstr::ByteSlice;
 use files::{FaultKind, FromLines, LineFault, read_any_line};
-use plain_store::Setup;
+use plain_store::{NestedTypes, Setup};
 use record_file::RecordReader;
 use scenario::Reader;
 use scenario::bit_files::BitsReader;
@@ -52,6 +52,7 @@ fn setup_before(
     front: &[u8],
     number: u64,
 ) -> Result<Option<Setup>, AllocError> {
+    let _nested: NestedTypes = None;
     Ok(match kind {
         FileKind::Scenario => match read_before::<Reader>(alloc, front, number)? {
             Some(read) => Some(*read.setup()),

@@ -60,7 +60,7 @@ left_more threads items thread rest left is = (suc left.0, sym (drop_more thread
 -- a fault that a thread has found, or that was told before
 pub told_more : {T : Type 0} (threads : List T) (number : T → ℕ) (items : List T) (thread : T) (rest : List T) (found result : RaceFault) (other : Option RaceFault) → ((at : ℕ) × (items ≡ drop at threads)) → items ≡ thread ∷ rest → IsFaultOf (number thread) found →
     IfSome other (λ fault. (k : ℕ) × (t : T) × (slice_get threads k ≡ Some t) × IsFaultOf (number t) fault) → (result ≡ found) ⊎ (other ≡ Some result) → (k : ℕ) × (t : T) × (slice_get threads k ≡ Some t) × IsFaultOf (number t) result
-told_more threads number items thread rest found result other left is its told (inl same) = (left.0, (thread, (at_drop threads left.0 thread rest (sym left.1 ∙ is), subst (λ (f : RaceFault). IsFaultOf (number thread) f) (sym same) its)))
+told_more threads number items thread rest found result other left is its told (inl same) = (left.0, thread, at_drop threads left.0 thread rest (sym left.1 ∙ is), subst (λ (f : RaceFault). IsFaultOf (number thread) f) (sym same) its)
 told_more threads number items thread rest found result None left is its told (inr same) = let no : ⊥ = cc in absurd no
 told_more {T} threads number items thread rest found result (Some fault) left is its told (inr same) =
     let equal : fault ≡ result = cc in
@@ -73,10 +73,10 @@ pub among : {T : Type 0} (board : BoardState) (plans : List (Vec Command)) (thre
 among board plans threads its number plan Spawn few are one = tt
 among board plans threads its number plan Memory few are one = tt
 among board plans threads its number plan (Held p) few are one =
-    let within = slice_get_within threads one.0 one.1 one.2.0 in
-    let same = one.2.1 in
-    let for = (are one.0 one.1 one.2.0).for_process in
-    omega (arith, within, same, for, few)
+    let within = slice_get_within threads one.0 one.1 one.2 in
+    let same : p ≡ number one.1 = one.3 in
+    let which : number one.1 ≡ one.0 = (are one.0 one.1 one.2).for_process in
+    omega (arith, within, same, which, few)
 
 -- the same of what may have ended by such a fault
 pub ends_among : {X T : Type 0} (r : Result X RaceFault) (board : BoardState) (plans : List (Vec Command)) (threads : List T) (its : T → BoardState) (number : T → ℕ) (plan : T → List Command) → length threads ≤ length plans →

@@ -1,5 +1,5 @@
 -- What a race's fault says of what went before.
-use Rattle.std.specs.Prelude.{◌≡◌, ◌<◌, ℕ, ◌+◌}
+use Rattle.std.specs.Prelude.{◌≡◌, ◌<◌, ◌+◌, ℕ}
 use Rattle.plain_store.specs.declared.Setup.{Setup}
 use Rattle.record.specs.declared.stages.Stage.TheVariants.{Down}
 use Rattle.board.specs.Views.{OwnView, stage_in}
@@ -23,7 +23,7 @@ abbrev pub EndsPort : ℕ → Setup → OwnView → RaceFault → Type 0
 EndsPort p s own (Held q) = (q ≡ p) × (stage_in s own ≡ Down)
 EndsPort p s own fault = IsFaultOf p fault
 
--- a fault of a race of so many processes: a port that was held is that of one of them
+-- a fault of a race of so many plans: a port that was held is that of one of them
 abbrev pub IsFaultAmong : ℕ → RaceFault → Type 0
-IsFaultAmong processes (Held p) = p < processes
-IsFaultAmong processes fault = Unit {0}
+IsFaultAmong plans (Held p) = p < plans
+IsFaultAmong plans fault = Unit {0}

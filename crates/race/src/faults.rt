@@ -50,10 +50,10 @@ impl RaceFault {
         ensures least { rank_of result ≤ rank_of self }
         ensures least_of_both { IfSome other (λ told. rank_of result ≤ rank_of told) }
     {
-        match other {
-            Some(told) if told.rank() < self.rank() => told,
-            _ => self,
-        }
+        let Some(told) = other else {
+            return self;
+        };
+        if told.rank() < self.rank() { told } else { self }
     }
 }
 

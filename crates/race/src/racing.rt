@@ -1,5 +1,5 @@
 //! Races: a thread for each port.
-ghost use Rattle.std.specs.Prelude.{◌≡◌, ◌≤◌, ◌+◌, [], ℕ, All, IfErr, IfOk, IfSome, MatchResult, List, Ok, Some, length, slice_get, vec_capacity, vec_len};
+ghost use Rattle.std.specs.Prelude.{◌≡◌, ◌≤◌, ◌+◌, [], ℕ, All, IfErr, IfOk, IfSome, List, Ok, Some, length, slice_get, vec_capacity, vec_len};
 ghost use Rattle.board.specs.Boards.{IsOf};
 ghost use Rattle.board.specs.Ports.{PortState};
 ghost use Rattle.board.specs.Views.{new_own};
@@ -28,7 +28,7 @@ struct Making {
 }
 
 impl Promise<Result<Port, RaceFault>> for Making {
-    ghost kept_by = { λ p r. MatchResult r (HasMade p.board.value p.number p.plan.value.items) (IsFaultOf p.number) };
+    ghost kept_by = { λ p r. IfOk r (HasMade p.board.value p.number p.plan.value.items) × IfErr r (IsFaultOf p.number) };
 }
 
 /// A thread of a race.
@@ -48,7 +48,7 @@ pub fn race<R: Threads + Wait + Sync, G: Gate + Sync>(
     requires all { length plans.now ≡ setup.now.processes }
     requires few_calls { setup.now.version ≡ 2 → All (λ (plan : List Asked). length plan ≤ 65535) (plans_of plans.now) }
     ensures raced { IfOk result (λ closing. IsRaced setup.now (plans_of plans.now) (lists_of closing.answers.items) closing.image) }
-    ensures fault { IfErr result (IsFaultAmong setup.now.processes) }
+    ensures fault { IfErr result (IsFaultAmong (length plans.now)) }
 {
     let (board, ports) = Board::new(alloc, setup)?;
     let ports = run_all(rt, alloc, &board, ports, plans, gate)?;
@@ -80,8 +80,7 @@ fn run_all<R: Threads + Wait + Sync, G: Gate + Sync>(
         rt,
         move |scope| -> Result<Vec<Port>, RaceFault>
             requires { (length ports.items ≡ length plans.now) × (length ports.items ≤ 16) × AreNew board.now ports.items × (threads.items ≡ []) × (vec_len ports ≤ vec_capacity threads) × (made.items ≡ []) × (vec_len ports ≤ vec_capacity made) }
-            ensures made { IfOk result (λ made. AllHaveMade board.entry.now (plans_of plans.entry.now) made.items) }
-            ensures fault { IfErr result (IsFaultAmong (length plans.entry.now)) }
+            ensures { IfOk result (λ made. AllHaveMade board.entry.now (plans_of plans.entry.now) made.items) × IfErr result (IsFaultAmong (length plans.entry.now)) }
         { run_in(rt, scope, board, gate, ports, plans, threads, made) },
     )
 }
@@ -161,8 +160,7 @@ fn start<'s, E, R: Threads + Wait + Sync, G: Gate + Sync>(
             making,
             move || -> Result<Port, RaceFault>
                 requires { IsOf board.now port × (port.view.own ≡ new_own number) }
-                ensures made { IfOk result (HasMade board.entry.now number plan.entry.now.items) }
-                ensures fault { IfErr result (IsFaultOf number) }
+                ensures { IfOk result (HasMade board.entry.now number plan.entry.now.items) × IfErr result (IsFaultOf number) }
             { work(rt, board, gate, number, port, plan.as_slice()) },
         )
         .ok()

@@ -103,7 +103,7 @@ impl<'a, G: Gate> Worker<'a, G> {
     }
 
     /// Drives a port that has failed until it is down.
-    #[tactic(auto, using(crate::proofs::Calling::is_of_then, board::proofs::Drives::same_on))]
+    #[tactic(auto, using(crate::proofs::Calling::is_down, crate::proofs::Calling::is_of_then, board::proofs::Drives::same_on))]
     fn take_down<R: Wait>(&self, rt: &R, port: &mut Port, flicks: &mut Flicks)
         requires board { IsOf self.now.board.now port.old }
         ensures same { SamePort port.old port.new }

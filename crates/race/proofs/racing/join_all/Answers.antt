@@ -25,7 +25,7 @@ loop-thread-preserved-in-Ok g c =
       left = left_more threads (into_iter_items c.loop-thread.thread-iterator) c.in-Some.thread rest i.left step.0;
       told = i.told;
       each = λ none k t p t_at p_at.
-          made_one_more (λ (u : _) (q : PortState). HasMade u.promise.board.value u.promise.number u.promise.plan.value.items q) threads before.items c.in-Some.thread rest c.in-Ok.port (sym (i.rest none) ∙ step.0) c.in-Ok.ensures (i.each none) k t p t_at
+          made_one_more (λ (u : _) (q : PortState). HasMade u.promise.board.value u.promise.number u.promise.plan.value.items q) threads before.items c.in-Some.thread rest c.in-Ok.port (sym (i.rest none) ∙ step.0) c.in-Ok.ensures.0 (i.each none) k t p t_at
           (subst (λ xs. slice_get xs k ≡ Some p) pushed.items p_at);
     }
 
@@ -42,7 +42,7 @@ loop-thread-preserved-in-Err g c =
       all = λ none. let no : ⊥ = cc in absurd no;
       rest = λ none. let no : ⊥ = cc in absurd no;
       left = left_more threads (into_iter_items before) c.in-Some.thread rest i.left step.0;
-      told = told_more threads (λ (u : _). u.promise.number) (into_iter_items before) c.in-Some.thread rest c.in-Err.found c.or_lower.result c.loop-thread.fault i.left step.0 c.in-Err.ensures i.told c.or_lower.ensures.one;
+      told = told_more threads (λ (u : _). u.promise.number) (into_iter_items before) c.in-Some.thread rest c.in-Err.found c.or_lower.result c.loop-thread.fault i.left step.0 c.in-Err.ensures.1 i.told c.or_lower.ensures.one;
       each = λ none k t p t_at p_at. let no : ⊥ = cc in absurd no;
     }
 
