@@ -48,11 +48,7 @@ fn add_between(
 }
 
 /// Adds that this form was expected.
-pub(crate) fn add_form(
-    alloc: Global,
-    form: &[Item],
-    text: &mut String,
-) -> Result<(), AllocError> {
+pub(crate) fn add_form(alloc: Global, form: &[Item], text: &mut String) -> Result<(), AllocError> {
     text.push_str("the form")?;
     for item in form {
         text.push_str(" ")?;
@@ -75,8 +71,12 @@ pub(crate) fn add_operand(
 ) -> Result<(), AllocError> {
     let first = kind.word();
     match operand {
-        Operand::Number { most, .. } => write!(text, "a number from 0 to {most} without leading zeros"),
-        Operand::Heading { most } => write!(text,
+        Operand::Number { most, .. } => write!(
+            text,
+            "a number from 0 to {most} without leading zeros"
+        ),
+        Operand::Heading { most } => write!(
+            text,
             "a number from 1 to {most} without leading zeros, behind {first} {version}"
         ),
         Operand::Integer => text.push_str(

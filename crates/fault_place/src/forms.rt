@@ -40,11 +40,7 @@ fn key<M>(rows: &[(&'static str, M)], words: &[&[u8]], place: usize, table: Tabl
 }
 
 /// The form of a line of a scenario of this version, behind the first.
-pub(crate) fn line_form(
-    alloc: Global,
-    version: u8,
-    words: &[&[u8]],
-) -> Result<Form, AllocError> {
+pub(crate) fn line_form(alloc: Global, version: u8, words: &[&[u8]]) -> Result<Form, AllocError> {
     let first = key(&OPENERS, words, 0, Table::Openers(version));
     let mut form = Vec::new(alloc);
     match words.first().and_then(|word| Opener::of(word)) {
@@ -58,11 +54,7 @@ pub(crate) fn line_form(
 }
 
 /// The form of a line of a record of this version that is no entry.
-pub(crate) fn head_form(
-    alloc: Global,
-    version: u8,
-    words: &[&[u8]],
-) -> Result<Form, AllocError> {
+pub(crate) fn head_form(alloc: Global, version: u8, words: &[&[u8]]) -> Result<Form, AllocError> {
     let first = key(&OPENERS, words, 0, Table::Heads(version));
     let opener = words.first().and_then(|word| Opener::of(word));
     let mut form = Vec::new(alloc);
@@ -81,9 +73,12 @@ fn add_head(
     match opener {
         Some(Opener::Heading(heading)) => {
             add(form, first)?;
-            add(form, Item::Operand(Operand::Heading {
-                most: heading.most(version),
-            }))
+            add(
+                form,
+                Item::Operand(Operand::Heading {
+                    most: heading.most(version),
+                }),
+            )
         }
         Some(Opener::Open) if version == 2 => {
             add(form, first)?;
@@ -138,21 +133,28 @@ fn add_command(
     form: &mut Form,
 ) -> Result<(), AllocError> {
     let verb = words.get(place).and_then(|word| Verb::of(word));
-    let operands: &[Operand] = match verb {
-        Some(Verb::Ask) if version != 2 => {
-            return add(form, Item::Choice(Table::Verbs(version)));
-        }
-        Some(Verb::Read) => &[Operand::Name],
-        Some(Verb::Write) => &[Operand::Name, Operand::Value],
-        Some(Verb::Add) => &[Operand::Name, Operand::Integer],
-        Some(Verb::Cas) => &[Operand::Name, Operand::Value, Operand::Value],
-        Some(Verb::Ask) | None => &[],
+    let key = match verb {
+        Some(Verb::Ask) if version != 2 => Item::Choice(Table::Verbs(version)),
+        _ => key(&VERBS, words, place, Table::Verbs(version)),
     };
-    add(form, key(&VERBS, words, place, Table::Verbs(version)))?;
-    for operand in operands {
-        add(form, Item::Operand(*operand))?;
+    add(form, key)?;
+    match verb {
+        Some(Verb::Read) => add(form, Item::Operand(Operand::Name)),
+        Some(Verb::Write) => {
+            add(form, Item::Operand(Operand::Name))?;
+            add(form, Item::Operand(Operand::Value))
+        }
+        Some(Verb::Add) => {
+            add(form, Item::Operand(Operand::Name))?;
+            add(form, Item::Operand(Operand::Integer))
+        }
+        Some(Verb::Cas) => {
+            add(form, Item::Operand(Operand::Name))?;
+            add(form, Item::Operand(Operand::Value))?;
+            add(form, Item::Operand(Operand::Value))
+        }
+        Some(Verb::Ask) | None => Ok(()),
     }
-    Ok(())
 }
 
 /// The form of a line of a bits file, behind the first.

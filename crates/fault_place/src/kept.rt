@@ -48,7 +48,10 @@ impl Kept {
         if self.front.len() < INPUT_LIMIT || place < ends_among(self.front.as_slice()) {
             self.front.as_slice().lines().nth(place as usize)
         } else {
-            self.last.as_slice().lines().nth(place.saturating_sub(self.ended) as usize)
+            self.last
+                .as_slice()
+                .lines()
+                .nth(place.saturating_sub(self.ended) as usize)
         }
     }
 
@@ -60,14 +63,19 @@ impl Kept {
     }
 
     fn try_add(&mut self, bytes: &[u8]) -> Result<(), AllocError> {
-        let room = INPUT_LIMIT.saturating_sub(self.front.len()).min(bytes.len());
-        self.front.extend_from_slice(bytes.get(..room).unwrap_or(&[]))?;
+        let room = INPUT_LIMIT
+            .saturating_sub(self.front.len())
+            .min(bytes.len());
+        if let Some(more) = bytes.get(..room) {
+            self.front.extend_from_slice(more)?;
+        }
         if bytes.len() < 2 {
             return Ok(());
         }
         let block = self.block.min(self.last.len());
-        let ends = ends_among(self.last.get(..block).unwrap_or(&[]));
-        self.ended = self.ended.saturating_add(ends);
+        if let Some(before) = self.last.get(..block) {
+            self.ended = self.ended.saturating_add(ends_among(before));
+        }
         self.last.drain(..block);
         self.block = self.last.len();
         self.last.extend_from_slice(bytes)

@@ -100,7 +100,11 @@ impl<'a> Line<'a> {
         };
         let end = begin.saturating_add(MOST_SHOWN);
         text.push_str("  ")?;
-        for byte in self.bytes.get(begin..end.min(MOST_SEEN).min(self.len())).unwrap_or(&[]) {
+        for byte in self
+            .bytes
+            .get(begin..end.min(MOST_SEEN).min(self.len()))
+            .unwrap_or(&[])
+        {
             text.push(shown(*byte))?;
         }
         text.push_str("\n  ")?;

@@ -11,14 +11,9 @@ use std::fmt::{self, Display, Formatter};
 #[derive(Clone, Copy, Debug, PartialEq, Eq)]
 pub(crate) enum Operand {
     /// A number up to `most`, by the letter that a form has for it.
-    Number {
-        letter: &'static str,
-        most: u64,
-    },
+    Number { letter: &'static str, most: u64 },
     /// The number of a heading, from 1 to `most`.
-    Heading {
-        most: u8,
-    },
+    Heading { most: u8 },
     /// A number with a sign.
     Integer,
     /// 0 or 1.

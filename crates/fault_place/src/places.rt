@@ -1,6 +1,8 @@
 //! Where in a line a fault is, by its kind.
 use crate::expected::{add_choice, add_form, add_operand};
-use crate::forms::{Form, Item, access_form, bits_form, head_form, line_form, mark_form, refused_operand};
+use crate::forms::{
+    Form, Item, access_form, bits_form, head_form, line_form, mark_form, refused_operand,
+};
 use crate::lines::{Line, Span};
 use crate::near::add_near;
 use crate::operands::{Operand, PROCESS};

@@ -72,30 +72,44 @@ pub(crate) enum Table {
 impl Table {
     /// Its key words, in order.
     pub fn words(self, alloc: Global) -> Result<Vec<&'static str>, AllocError> {
-        let mut words = Vec::new(alloc);
+        let mut words: Vec<&'static str> = Vec::new(alloc);
+        self.add(&mut words)?;
+        Ok(words)
+    }
+
+    /// Adds its key words.
+    fn add(self, words: &mut Vec<&'static str>) -> Result<(), AllocError> {
         match self {
-            Table::First(kind) => words.push(kind.word())?,
-            Table::Openers(version) => add_openers(version, true, &mut words)?,
-            Table::Heads(version) => add_openers(version, false, &mut words)?,
-            Table::Verbs(version) => add_verbs(version, &mut words)?,
-            Table::Targets => add_all(&TARGETS, &mut words)?,
-            Table::Flicks => add_all(&FLICKS, &mut words)?,
-            Table::BitWords => add_all(&BIT_WORDS[1..], &mut words)?,
-            Table::Fields => add_all(&FIELDS, &mut words)?,
-            Table::Moves => add_all(&MOVES, &mut words)?,
-            Table::Marks => add_all(&MARK_WORDS, &mut words)?,
-            Table::Replies => add_all(&REPLY_WORDS, &mut words)?,
+            Table::First(kind) => add_word(kind.word(), words),
+            Table::Openers(version) => add_openers(version, true, words),
+            Table::Heads(version) => add_openers(version, false, words),
+            Table::Verbs(version) => add_verbs(version, words),
+            Table::Targets => add_all(&TARGETS, words),
+            Table::Flicks => add_all(&FLICKS, words),
+            Table::BitWords => add_all(&BIT_WORDS[1..], words),
+            Table::Fields => add_all(&FIELDS, words),
+            Table::Moves => add_all(&MOVES, words),
+            Table::Marks => add_all(&MARK_WORDS, words),
+            Table::Replies => add_all(&REPLY_WORDS, words),
             Table::Answers => {
-                add_all(&REPLY_WORDS, &mut words)?;
-                add_all(&OWN_ANSWERS, &mut words)?;
+                add_all(&REPLY_WORDS, words)?;
+                add_all(&OWN_ANSWERS, words)
             }
         }
-        Ok(words)
     }
 }
 
+/// Adds one word.
+fn add_word(word: &'static str, words: &mut Vec<&'static str>) -> Result<(), AllocError> {
+    words.push(word)?;
+    Ok(())
+}
+
 /// Adds the key words of a table.
-fn add_all<M>(table: &[(&'static str, M)], words: &mut Vec<&'static str>) -> Result<(), AllocError> {
+fn add_all<M>(
+    table: &[(&'static str, M)],
+    words: &mut Vec<&'static str>,
+) -> Result<(), AllocError> {
     for row in table {
         words.push(row.0)?;
     }
@@ -103,11 +117,7 @@ fn add_all<M>(table: &[(&'static str, M)], words: &mut Vec<&'static str>) -> Res
 }
 
 /// Adds the headings, `open` in version 2, and with `lines` the other first words but that of the first line.
-fn add_openers(
-    version: u8,
-    lines: bool,
-    words: &mut Vec<&'static str>,
-) -> Result<(), AllocError> {
+fn add_openers(version: u8, lines: bool, words: &mut Vec<&'static str>) -> Result<(), AllocError> {
     for row in &OPENERS {
         let has = match row.1 {
             Opener::Bakery => false,

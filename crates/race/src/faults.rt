@@ -53,7 +53,11 @@ impl RaceFault {
         let Some(told) = other else {
             return self;
         };
-        if told.rank() < self.rank() { told } else { self }
+        if told.rank() < self.rank() {
+            told
+        } else {
+            self
+        }
     }
 }
 
