@@ -266,8 +266,7 @@ The lines of a scenario: bakerystore help replay
 pub const FAULTS: &str =
     r"Of a file with faults one is told, on standard error: the first of the first faulty
 line, as `line <n>: <kind>`. Then nothing was run, no verdict is told, and the status
-is 1. With `--explain`, and at a terminal, there follow the line, carets below the word
-that is at fault, and what was expected in its place. Every line counts, from 1 on. The kinds, about in the order in which they are
+is 1. Every line counts, from 1 on. The kinds, about in the order in which they are
 looked for:
 
 too-long    The line has more than 128 bytes.
