@@ -1,9 +1,5 @@
 //! Where in a file a fault is, and what was expected there: the line, carets under the word that the grammar refused, and
 //! the words, numbers or forms that may stand in its place.
-//!
-//! ```rust
-//! let text = explanation(alloc, FileKind::Scenario, input.kept(), &fault)?;
-//! ```
 #![tactic(auto)]
 
 mod expected;
