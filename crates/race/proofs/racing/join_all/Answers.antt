@@ -29,8 +29,8 @@ loop-thread-preserved-in-Ok g c =
           (subst (λ xs. slice_get xs k ≡ Some p) pushed.items p_at);
     }
 
-pub loop-thread-preserved-in-Err : goal.loop-thread-preserved-in-Err
-loop-thread-preserved-in-Err g c =
+pub loop-thread-preserved : goal.loop-thread-preserved
+loop-thread-preserved g c =
     let i = c.loop-thread.invariant in
     let step = c.in-Some.ensures.steps in
     let less = step.1 in
