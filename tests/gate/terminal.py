@@ -26,7 +26,7 @@ from lib.places import PROGRAM, TOP
 from lib.preloading import built
 
 # in the order of the page
-COMMANDS = ["plain", "bits", "replay", "audit", "sweep", "race", "record", "judge", "draw", "draw-svg"]
+COMMANDS = ["plain", "bits", "replay", "audit", "sweep", "race", "record", "calls", "judge", "draw", "draw-svg"]
 KINDS = ["too-long", "not-first", "unknown", "words", "number", "bad-name", "bad-value", "bad-setup", "memory"]
 FAULT_LINES = ["read fault", "write fault", "out of memory", "no thread"]
 SCENARIO = "bakery 1\ncall 0 add a 1\n"
