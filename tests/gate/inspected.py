@@ -4,7 +4,8 @@
 Each folder of examples/inspect/ has the words behind `bakerystore` (`args`), a `scenario`, and what is written for it: `stdout`,
 `stderr` and `status`. `second/calls.py` finds the table of a run's calls by looking back over the record that `record` writes.
 What it says must be what `bakerystore calls` writes: for these scenarios and those of the worked examples, and for 2,000 that
-`lib/random_scenarios.py` makes up. Each column must be filled in some line, and each must be empty that can be.
+`lib/random_scenarios.py` makes up, each of which has 10,000 events at most. Each column must be filled in some line, and each
+must be empty that can be.
 
 tests/gate/inspected.py [NUMBER]: the first of the scenarios that are made up, by default 1. The program is the one that `rt ci` or
 `rt run` leaves in crates/bakerystore.
@@ -25,7 +26,7 @@ from lib.running import runner, workers
 from second.calls import HEADER, calls_text
 
 INSPECTED = EXAMPLES / "inspect"
-MANY, CHUNK = 2_000, 50
+MANY, CHUNK, MOST_EVENTS = 2_000, 25, 10_000
 ALWAYS = {"process", "call", "command", "called", "reads", "writes", "overlapped"}
 
 
@@ -46,10 +47,17 @@ def compare(name, text):
     return (None if told == wanted else f"{name}: {told}, and the second reading has {wanted}"), filled
 
 
+def is_short(text):
+    """Whether the run of a scenario has not too many events, by the last line of its replay."""
+    words = runner().run(["replay", "-"], text).output.rpartition(b"end events ")[2].split()
+    return not words or int(words[0]) <= MOST_EVENTS
+
+
 def compare_numbers(numbers):
-    """The same of the scenarios of these numbers."""
-    found = [compare(f"scenario {number}", scenario(number).encode()) for number in numbers]
-    return [why for why, _ in found if why], sum((filled for _, filled in found), collections.Counter())
+    """How many scenarios of these numbers are short enough, what is wrong with those, and how many lines have each column."""
+    texts = [(number, scenario(number).encode()) for number in numbers]
+    found = [compare(f"scenario {number}", text) for number, text in texts if is_short(text)]
+    return len(found), [why for why, _ in found if why], sum((filled for _, filled in found), collections.Counter())
 
 
 def examples(counter):
@@ -68,13 +76,16 @@ def main():
     for file in sorted([*INSPECTED.glob("*/scenario"), *WORKED.glob("*/scenario")]):
         why, _ = compare(file.parent.name, file.read_bytes())
         counter.count(why is None, why)
-    filled = collections.Counter()
+    filled, tried = collections.Counter(), 0
     with workers() as pool:
-        for wrong, more in pool.imap_unordered(compare_numbers, [range(at, at + CHUNK) for at in range(first, first + MANY, CHUNK)]):
-            filled += more
-            counter.add(CHUNK - len(wrong), 0)
+        for number, wrong, more in pool.imap(compare_numbers, (range(at, at + CHUNK) for at in range(first, first + 2 * MANY, CHUNK))):
+            filled, tried = filled + more, tried + number
+            counter.add(number - len(wrong), 0)
             for why in wrong:
                 counter.count(False, why)
+            if tried >= MANY:
+                break
+    counter.count(tried >= MANY, f"only {tried} scenarios are short enough")
     for column in HEADER:
         counter.count(filled[column, True], f"no line that is made up has this column: {column}")
         counter.count(filled[column, False] or column in ALWAYS, f"no line that is made up lacks this column: {column}")

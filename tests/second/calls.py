@@ -34,12 +34,14 @@ class Entries:
     def is_overlapped(self, number, bit):
         """Whether a write overlapped the read of a bit that ends with this entry."""
         moves = self.of_bit[bit]
-        at = bisect_left(moves, (number, ""))
-        begin = next(k for k in range(at - 1, -1, -1) if moves[k][1] == "read")
-        if any(word == "write" for _, word in moves[begin:at]):
-            return True
-        last = next((word for _, word in reversed(moves[:begin]) if word in ("write", "end", "settle")), None)
-        return last == "write"
+        at = bisect_left(moves, (number, "")) - 1
+        while moves[at][1] != "read":
+            if moves[at][1] == "write":
+                return True
+            at -= 1
+        while at >= 0 and moves[at][1] not in ("write", "end", "settle"):
+            at -= 1
+        return at >= 0 and moves[at][1] == "write"
 
 
 def first_with(own, word):

@@ -104,6 +104,13 @@ impl Table {
         self.entries
     }
 
+    /// The number of the newest entry; 0, if there is none.
+    pub fn newest(&self) -> u64
+        ensures { result ≡ self.now.entries - 1 }
+    {
+        self.entries.saturating_sub(1)
+    }
+
     /// The call of a process, if it has not ended.
     pub fn open_call(&self, process: u8) -> Option<Called>
         requires { process < self.now.setup.processes }

@@ -7,8 +7,8 @@ ghost use Rattle.scenario.specs.files.Streams.{ReadsFront, WritesFront};
 ghost use Rattle.scenario.specs.Reads.{script};
 ghost use Rattle.course.specs.Replays.{ended};
 ghost use Rattle.course.specs.Writing.{IsWriteFault, failed_write};
-ghost use Rattle.calls.specs.Hearing.{HasHeard};
-ghost use Rattle.calls.specs.Lines.{open_lines};
+ghost use Rattle.calls.specs.Hearing.{HasHeard, open_call};
+ghost use Rattle.calls.specs.Lines.{line_of, open_lines};
 ghost use Rattle.inspect.specs.Tables.{CutsTable, TablesLine, calls_text, tabled};
 
 use crate::hearing::{hear_told, write_if};
@@ -105,9 +105,27 @@ fn write_open<W: Sink>(
     ensures fault { IfErr result IsWriteFault }
     ensures failures { W.failures output.new ≡ W.failures output.old + failed_write result }
 {
-    let newest = table.entries().saturating_sub(1);
     for process in 0..setup.processes {
-        write_if(alloc, &table.open_call(process), newest, output)?;
+        write_open_call(alloc, table, process, output)?;
     }
     Ok(())
+}
+
+/// Writes the line of the call of a process, if it goes on.
+fn write_open_call<W: Sink>(
+    alloc: Global,
+    table: &Table,
+    process: u8,
+    output: &mut W,
+) -> Result<(), Fault>
+    requires writes { W.failures output.old < 2 ^ 64 - 1 }
+    requires process { process < table.now.setup.processes }
+    ensures ok { OnOk result ((past : Past) → HasHeard table.now past → Appends (W.taken output.old) (W.taken output.new) (line_of (length past - 1) (open_call table.now.setup process past))) }
+    ensures front { (past : Past) → HasHeard table.now past → WritesFront (W.taken output.old) (W.taken output.new) (line_of (length past - 1) (open_call table.now.setup process past)) }
+    ensures fault { IfErr result IsWriteFault }
+    ensures failures { W.failures output.new ≡ W.failures output.old + failed_write result }
+{
+    let called = table.open_call(process);
+    let last = table.newest();
+    write_if(alloc, &called, last, output)
 }

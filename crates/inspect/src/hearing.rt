@@ -43,7 +43,9 @@ pub(crate) fn hear_told<W: Sink>(
                 output,
             )
         }
-        Told::Refused { .. } | Told::Tired(_) | Told::Shown(_) => Ok(()),
+        Told::Refused { .. } => Ok(()),
+        Told::Tired(_) => Ok(()),
+        Told::Shown(_) => Ok(()),
     }
 }
 

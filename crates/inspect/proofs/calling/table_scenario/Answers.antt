@@ -4,7 +4,7 @@ use Rattle.plain_store.specs.Setups.{checked}
 use Rattle.plain_store.specs.declared.setups.Setup.{Setup}
 use Rattle.scenario.specs.declared.lines.Line.{Line}
 use Rattle.scenario.proofs.Places.{drop_in}
-use Rattle.course.proofs.Written.{front_all}
+use Rattle.course.proofs.Written.{ok_then}
 use Rattle.inspect.proofs.Tabling.{Tabled, head_torn, tabled_all, tabled_end_torn, tabled_on, tabled_start, tabled_torn}
 use Rattle.inspect.proofs.calling.table_scenario.Goals as goal
 
@@ -48,7 +48,17 @@ returns-in_err-table_line-clause-front g c =
     c.in_err-table_line.ensures.cut
 
 pub returns-clause-ok : goal.returns-clause-ok
-returns-clause-ok g c = ?
+returns-clause-ok g c =
+    let s : Setup = c.args.scenario.now.setup in
+    let lines : List Line = c.args.scenario.now.lines.items in
+    let u : Tabled s lines [] c.loop-line.course c.loop-line.table (g.W.Sink.taken c.args.output.now) (g.W.Sink.taken c.loop-line.output) =
+    subst (λ (rest : List Line). Tabled s lines rest c.loop-line.course c.loop-line.table (g.W.Sink.taken c.args.output.now) (g.W.Sink.taken c.loop-line.output)) (drop_all c.loop-line.line-index lines (omega arith)) c.loop-line.invariant.tabled in
+    ok_then c.write_open.result (λ ends. tabled_all s lines c.loop-line.course c.loop-line.table _ _ _ u ends) c.write_open.ensures.ok
 
 pub returns-clause-front : goal.returns-clause-front
-returns-clause-front g c = ?
+returns-clause-front g c =
+    let s : Setup = c.args.scenario.now.setup in
+    let lines : List Line = c.args.scenario.now.lines.items in
+    let u : Tabled s lines [] c.loop-line.course c.loop-line.table (g.W.Sink.taken c.args.output.now) (g.W.Sink.taken c.loop-line.output) =
+    subst (λ (rest : List Line). Tabled s lines rest c.loop-line.course c.loop-line.table (g.W.Sink.taken c.args.output.now) (g.W.Sink.taken c.loop-line.output)) (drop_all c.loop-line.line-index lines (omega arith)) c.loop-line.invariant.tabled in
+    tabled_end_torn s lines c.loop-line.course c.loop-line.table _ _ _ u c.write_open.ensures.front
