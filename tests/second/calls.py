@@ -1,6 +1,6 @@
 """A second reading of `calls`: the table of a record's calls, each number found by looking back over the record's entries.
 
-It is written from what docs/CALLS.md says, and shares nothing with the program that it is held against. The entries are those that
+It is written from what examples/inspect/README.md says, and shares nothing with the program that it is held against. The entries are those that
 `record` writes.
 """
 

@@ -1,5 +1,5 @@
 -- Reads that end.
-use Rattle.std.proofs.Common.{◌≡◌, Bool, true, false, List, ◌×◌, Option, None, Some, refl, sym, ap, ◌∙◌, true≢false}
+use Rattle.std.proofs.Common.{◌≡◌, Bool, true, false, List, Option, None, Some, refl, sym, ap, ◌∙◌, true≢false}
 use Rattle.record.specs.safe_bit.declared.Move.{Move}
 use Rattle.record.specs.safe_bit.declared.Move.TheVariants.{BeginWrite, EndWrite, BeginRead, EndRead, Settle}
 use Rattle.record.specs.declared.access.Access.{Access}

@@ -1,5 +1,6 @@
 -- Each entry of a run may come next: its process is there, its access is of a bit that is there, and a read that ends has begun.
-use Rattle.std.proofs.Common.{◌≡◌, ℕ, ◌<◌, ◌==◌, ◌&&◌, nat_lt, Bool, true, false, cond, List, [], ◌∷◌, ◌++◌, Option, None, Some, Ok, refl, sym, ap, subst, ◌∙◌, true≢false}
+use Rattle.std.proofs.Common.{◌≡◌, ℕ, ◌<◌, ◌==◌, ◌&&◌, nat_lt, Bool, true, false, cond, List, [], ◌∷◌, ◌++◌, Option, None, Some, Ok, refl, sym, ap, subst, ◌∙◌, arith, true≢false}
+use Rattle.std.proofs.lemmas.Bool.Decides.{nat_tests}
 use Rattle.record.specs.safe_bit.Cell.{Cell, MayMove, cell_after, without_read}
 use Rattle.record.specs.safe_bit.declared.Move.{Move}
 use Rattle.record.specs.safe_bit.declared.Move.TheVariants.{BeginWrite, EndWrite, BeginRead, EndRead, Settle}
@@ -57,9 +58,10 @@ entry_in_turn s good events event e mine is =
     let past : Past = past_of s events in
     let accepted = entry-accepted s past event e is in
     let there : nat_lt (process_of event) s.processes ≡ true = accepted.0 in
+    let inside : process_of event < s.processes = grind (arith, nat_tests, there) in
     let turn : (a : Access) → e.access ≡ Some a → MayMove (cell_held s past a) a.how = comes_in_turn s (is_good s good) events event e is in
     record {
-      process = subst (λ n. n < s.processes) (sym mine) (search rules);
+      process = subst (λ n. n < s.processes) (sym mine) inside;
       there = access_there s (is_good s good) events event e is;
       begun = λ a v made ends. open_has_begun s past a (subst (MayMove (cell_held s past a)) ends (turn a made)).0;
     }

@@ -1,5 +1,5 @@
 -- The lines of the calls that end, turn by turn and line by line.
-use Rattle.std.proofs.Common.{◌≡◌, ◌≤◌, ◌×◌, ℕ, List, [], ◌∷◌, ◌++◌, length, Option, None, Some, Ok, refl, ap, sym, subst, ◌∙◌, append-nil, append_assoc}
+use Rattle.std.proofs.Common.{◌≡◌, ◌≤◌, ℕ, List, [], ◌∷◌, ◌++◌, length, Option, None, Some, Ok, refl, ap, sym, subst, ◌∙◌, append-nil, append_assoc}
 use Rattle.std.specs.Io.KnownBytes.{Appends}
 use Rattle.scenario.specs.files.Streams.{WritesFront}
 use Rattle.plain_store.specs.declared.setups.Setup.{Setup}
@@ -119,7 +119,7 @@ tabling_start s line start course table taken setup kept left follows heard = re
   follows = record { shows = follows.shows; flicks = follows.flicks };
   setup = setup;
   kept = kept;
-  heard = record { watch = heard.watch; standings = heard.standings; entries = heard.entries };
+  heard = heard;
   text = [];
   is = sym (append-nil (ended_lines s (past_in s start)));
   taken = appends_none taken;

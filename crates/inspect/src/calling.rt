@@ -8,7 +8,7 @@ ghost use Rattle.scenario.specs.Reads.{script};
 ghost use Rattle.course.specs.Replays.{ended};
 ghost use Rattle.course.specs.Writing.{IsWriteFault, failed_write};
 ghost use Rattle.calls.specs.Hearing.{HasHeard, open_call};
-ghost use Rattle.calls.specs.Lines.{line_of, open_lines};
+ghost use Rattle.calls.specs.Lines.{header, line_of, open_lines};
 ghost use Rattle.inspect.specs.Tables.{CutsTable, TablesLine, calls_text, tabled};
 
 use crate::hearing::{hear_told, write_if};
@@ -56,13 +56,24 @@ fn table_scenario<W: Sink, L: Onlooker>(
 {
     let mut course = Course::new(alloc, &scenario.setup, false)?;
     let mut table = Table::new(alloc, &scenario.setup)?;
-    write_all(output, HEADER.as_bytes())?;
+    write_header(output)?;
     let mut place = Place::before(file, scenario.lines.len());
     for line in &scenario.lines {
         onlooker.reached(place.begin_line(table.entries()));
         table_line(alloc, &mut course, line, &mut table, output)?;
     }
     write_open(alloc, &scenario.setup, &table, output)
+}
+
+/// Writes the first line.
+fn write_header<W: Sink>(output: &mut W) -> Result<(), Fault>
+    requires { W.failures output.old < 2 ^ 64 - 1 }
+    ensures ok { OnOk result (Appends (W.taken output.old) (W.taken output.new) header) }
+    ensures front { WritesFront (W.taken output.old) (W.taken output.new) header }
+    ensures fault { IfErr result IsWriteFault }
+    ensures failures { W.failures output.new ≡ W.failures output.old + failed_write result }
+{
+    write_all(output, HEADER.as_bytes())
 }
 
 /// Makes the turns of a line, and writes the line of each call that ends before the next turn is made.

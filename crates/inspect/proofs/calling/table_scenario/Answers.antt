@@ -13,8 +13,8 @@ loop-line-init g c =
     let s : Setup = c.args.scenario.now.setup in
     record {
       tabled = tabled_start s c.args.scenario.now.lines.items c.in_ok-course.course c.in_ok-table.table _ _ (search rules) c.in_ok-course.ensures.setup c.in_ok-table.ensures.setup c.in_ok-course.ensures.follows c.in_ok-table.ensures.heard
-          c.in_ok-write_all.ensures.ok;
-      whole = omega (arith, c.in_ok-write_all.ensures.failures);
+          c.in_ok-write_header.ensures.ok;
+      whole = omega (arith, c.in_ok-write_header.ensures.failures);
       entries = omega (arith, c.in_ok-table.ensures.heard.entries);
     }
 
@@ -33,8 +33,8 @@ loop-line-preserved g c =
       entries = omega (arith, c.in_ok-table_line.ensures.entries, c.loop-line.invariant.entries);
     }
 
-pub returns-in_err-write_all-clause-front : goal.returns-in_err-write_all-clause-front
-returns-in_err-write_all-clause-front g c = head_torn c.args.scenario.now.setup c.args.scenario.now.lines.items _ _ c.in_err-write_all.ensures.front
+pub returns-in_err-write_header-clause-front : goal.returns-in_err-write_header-clause-front
+returns-in_err-write_header-clause-front g c = head_torn c.args.scenario.now.setup c.args.scenario.now.lines.items _ _ c.in_err-write_header.ensures.front
 
 pub returns-in_err-table_line-clause-front : goal.returns-in_err-table_line-clause-front
 returns-in_err-table_line-clause-front g c =

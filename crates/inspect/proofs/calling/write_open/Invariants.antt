@@ -10,6 +10,6 @@ use Rattle.inspect.proofs.calling.write_open.Given as goal
 abbrev pub invariant-loop-process : goal.invariant-loop-process
 invariant-loop-process g l = record {
   written : (past : Past) → HasHeard l.table past →
-      Appends (g.W.Sink.taken l.fn.output) (g.W.Sink.taken l.output) (flat_map (λ p. line_of (length past - 1) (open_call l.setup p past)) (range_with_len 0 l.process));
+      Appends (g.W.Sink.taken l.fn.output) (g.W.Sink.taken l.output) (flat_map (λ p. line_of (length past - 1) (open_call l.fn.setup p past)) (range_with_len 0 l.process));
   whole : g.W.Sink.failures l.output ≡ g.W.Sink.failures l.fn.output;
 }
