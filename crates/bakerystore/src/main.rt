@@ -11,9 +11,8 @@ use command_line::{
 use drawer::progress::Onlooker;
 use drawer::{Reads, draw, draw_svg};
 use engines::{replay, run_audit, run_bits, run_judge, run_plain, run_record, run_sweep};
-use inspect::run_calls;
+use inspect::{Fault, FromRead, IntoWrite, Sink, Source, ended, run_calls};
 use race::{RunFault, run_fault_status, run_race};
-use scenario::{Fault, FromRead, IntoWrite, Sink, Source, ended};
 use std::env::Env;
 use std::fs::{File, Files};
 use std::io;
