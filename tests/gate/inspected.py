@@ -4,8 +4,8 @@
 Each folder of examples/inspect/ has the words behind `bakerystore` (`args`), a `scenario`, and what is written for it: `stdout`,
 `stderr` and `status`. `second/calls.py` finds the table of a run's calls by looking back over the record that `record` writes.
 What it says must be what `bakerystore calls` writes: for these scenarios and those of the worked examples, and for 2,000 that
-`lib/random_scenarios.py` makes up, each of which has 10,000 events at most. Each column must be filled in some line, and each
-must be empty that can be.
+`lib/random_scenarios.py` makes up, each of which has 10,000 events at most. Its reads, writes and overlapped reads must sum up to
+those of the record, without those of memory units. Each column must be filled in some line, and each must be empty that can be.
 
 tests/gate/inspected.py [NUMBER]: the first of the scenarios that are made up, by default 1. The program is the one that `rt ci` or
 `rt run` leaves in crates/bakerystore.
@@ -23,7 +23,7 @@ from lib.counting import Counter
 from lib.places import EXAMPLES, PROGRAM, WORKED
 from lib.random_scenarios import scenario
 from lib.running import runner, workers
-from second.calls import HEADER, calls_text
+from second.calls import HEADER, Entries, calls_text, sums_of
 
 INSPECTED = EXAMPLES / "inspect"
 MANY, CHUNK, MOST_EVENTS = 2_000, 25, 10_000
@@ -44,6 +44,9 @@ def compare(name, text):
     wanted = (0, calls_text(record), b"")
     rows = list(csv.DictReader(wanted[1].decode().splitlines()))
     filled = collections.Counter((column, row[column] != "") for row in rows for column in HEADER)
+    sums = {column: sum(int(row[column]) for row in rows) for column in ("reads", "writes", "overlapped")}
+    if sums != sums_of(Entries(record)):
+        return f"{name}: {sums}, and the record has {sums_of(Entries(record))}", filled
     return (None if told == wanted else f"{name}: {told}, and the second reading has {wanted}"), filled
 
 

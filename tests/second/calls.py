@@ -112,6 +112,21 @@ def rows_of(entries):
     return [row for _, row in sorted(ended)] + others
 
 
+def sums_of(entries):
+    """How many reads and writes of bits the processes have begun themselves, and how many reads have ended that a write overlapped."""
+    sums, settling = collections.Counter(reads=0, writes=0, overlapped=0), set()
+    for number, (process, access, marks) in enumerate(entries.all):
+        word = access[4].split(" ")[0] if access else None
+        sums["reads"] += word == "read"
+        sums["writes"] += word == "write" and process not in settling
+        sums["overlapped"] += word == "value" and entries.is_overlapped(number, access[:4])
+        if "fail" in marks:
+            settling.add(process)
+        if "down" in marks:
+            settling.discard(process)
+    return dict(sums)
+
+
 def calls_text(record):
     """What `calls` writes of the scenario whose record this is, as its lines."""
     text = io.StringIO()

@@ -1,16 +1,28 @@
-use Rattle.std.proofs.Common.{◌≡◌, ◌+◌, ◌-◌, ℕ, List, ◌++◌, flat_map, length, refl, sym, ap, subst, ◌∙◌, arith}
+use Rattle.std.proofs.Common.{◌≡◌, ◌+◌, ◌-◌, ◌<◌, ℕ, List, ◌++◌, flat_map, length, refl, sym, ap, subst, ◌∙◌, arith}
 use Rattle.std.specs.Io.KnownBytes.{Appends}
 use Rattle.std.specs.List.{range_with_len}
 use Rattle.plain_store.specs.declared.setups.Setup.{Setup}
 use Rattle.scenario.specs.files.Streams.{WritesFront}
 use Rattle.calls.specs.Hearing.{open_call}
 use Rattle.calls.specs.Lines.{line_of, open_lines}
-use Rattle.course.proofs.Written.{appends_both, appends_none, front_after, front_all, front_longer}
+use Rattle.course.proofs.Written.{appends_both, appends_none, failed_same, front_after, front_all, front_longer}
 use Rattle.inspect.proofs.Ranges.{lines_front, lines_more}
 use Rattle.inspect.proofs.calling.write_open.Goals as goal
 
 pub loop-process-init : goal.loop-process-init
 loop-process-init g c = record { written = λ past h. appends_none (g.W.Sink.taken c.args.output.now); whole = refl }
+
+pub write_open_call-requires-clause-writes : goal.write_open_call-requires-clause-writes
+write_open_call-requires-clause-writes g c = rw c.loop-process.invariant.whole c.requires.writes
+
+pub write_open_call-requires-clause-process : goal.write_open_call-requires-clause-process
+write_open_call-requires-clause-process g c =
+    let below : c.loop-process.process < c.args.setup.now.processes = omega (arith, c.loop-process-test.true) in
+    subst (λ (s : Setup). c.loop-process.process < s.processes) (sym c.requires.setup) below
+
+pub returns-in_err-write_open_call-clause-failures : goal.returns-in_err-write_open_call-clause-failures
+returns-in_err-write_open_call-clause-failures g c =
+    omega (arith, c.in_err-write_open_call.ensures.failures, c.loop-process.invariant.whole, failed_same c.from_residual.result c.in_err-write_open_call.field-0.0 c.from_residual.ensures.1)
 
 pub loop-process-preserved : goal.loop-process-preserved
 loop-process-preserved g c =
