@@ -34,6 +34,19 @@ turns-preserved g c =
       entries = omega (arith, less, c.in_ok-hear_told.ensures.entries, c.turns.invariant.entries);
     }
 
+pub turns-preserved-in_ok-hear_told : goal.turns-preserved-in_ok-hear_told
+turns-preserved-in_ok-hear_told g c =
+    let made : MakesTurn c.turns.course c.args.line.now (Some c.in-Some.told) c.turn.new.self = subst (λ (o : Option Told). MakesTurn c.turns.course c.args.line.now o c.turn.new.self) c.in-Some.is c.in_ok-told.ensures.made in
+    let less : c.turn.new.self.left < c.turns.course.left = rw c.in-Some.is at c.in_ok-told.ensures.left in
+    record {
+      tabling = λ run good same follows heard. tabling_on c.args.course.now.world.setup good c.args.line.now run c.turns.course c.turn.new.self c.turns.table c.hear_told.new.table c.in-Some.told _ _ _ c.turns.invariant.left
+          (c.turns.invariant.tabling run good same follows heard) made c.in_ok-hear_told.ensures.ok c.in_ok-hear_told.ensures.setup;
+      setup = c.in_ok-hear_told.ensures.setup ∙ c.turns.invariant.setup;
+      whole = omega (arith, c.in_ok-hear_told.ensures.failures, c.turns.invariant.whole);
+      left = omega (arith, less, c.turns.invariant.left);
+      entries = omega (arith, less, c.in_ok-hear_told.ensures.entries, c.turns.invariant.entries);
+    }
+
 pub returns-in_err-told-clause-cut : goal.returns-in_err-told-clause-cut
 returns-in_err-told-clause-cut g c =
     on_err c.from_residual.result (CutsTable c.args.line.now c.args.course.now c.args.table.now (g.W.Sink.taken c.args.output.now) (g.W.Sink.taken c.turns.output))

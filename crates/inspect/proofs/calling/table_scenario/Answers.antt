@@ -1,4 +1,4 @@
-use Rattle.std.proofs.Common.{◌≡◌, ◌+◌, ℕ, List, [], ◌∷◌, drop, Ok, arith, subst, sym, ap, ◌∙◌}
+use Rattle.std.proofs.Common.{rules, ◌≡◌, ◌+◌, ℕ, List, [], ◌∷◌, drop, Ok, arith, subst, sym, ap, ◌∙◌}
 use Rattle.std.proofs.lemmas.List.{drop_all}
 use Rattle.plain_store.specs.Setups.{checked}
 use Rattle.plain_store.specs.declared.setups.Setup.{Setup}

@@ -8,7 +8,7 @@ use Rattle.inspect.proofs.hearing.hear_told.Goals as goal
 
 pub returns-in-Accepted-clause-ok : goal.returns-in-Accepted-clause-ok
 returns-in-Accepted-clause-ok g c =
-    let e : Entry = entry_made c.in-Accepted.made.now in
+    let e : Entry = entry_made c.in-Accepted.made in
     let marks = sym (c.as_slice.ensures ∙ c.marks-marks.ensures) in
     ok_then c.hear.result
     (λ wrote. subst (λ (t : Told). Tells t c.args.table.now c.hear.new.table (g.W.Sink.taken c.args.output.now) (g.W.Sink.taken c.hear.new.output)) (sym c.in-Accepted.is)
@@ -17,7 +17,7 @@ returns-in-Accepted-clause-ok g c =
 
 pub returns-in-Accepted-clause-cut : goal.returns-in-Accepted-clause-cut
 returns-in-Accepted-clause-cut g c =
-    let e : Entry = entry_made c.in-Accepted.made.now in
+    let e : Entry = entry_made c.in-Accepted.made in
     let marks = sym (c.as_slice.ensures ∙ c.marks-marks.ensures) in
     on_err c.hear.result (CutsTold c.args.told.now c.args.table.now (g.W.Sink.taken c.args.output.now) (g.W.Sink.taken c.hear.new.output))
     (subst (λ (t : Told). CutsTold t c.args.table.now (g.W.Sink.taken c.args.output.now) (g.W.Sink.taken c.hear.new.output)) (sym c.in-Accepted.is)
