@@ -26,7 +26,7 @@ from lib.places import PROGRAM, TOP
 from lib.preloading import built
 
 # in the order of the page
-COMMANDS = ["plain", "bits", "replay", "audit", "sweep", "race", "record", "judge", "draw", "draw-svg"]
+COMMANDS = ["plain", "bits", "replay", "audit", "sweep", "race", "record", "calls", "judge", "draw", "draw-svg"]
 KINDS = ["too-long", "not-first", "unknown", "words", "number", "bad-name", "bad-value", "bad-setup", "memory"]
 MARKS = ["call", "wait", "enter", "taken", "leave", "answer", "fail", "settled", "down", "withdraw", "restart"]
 REFUSALS = ["no-process", "busy", "is-down", "not-running", "not-waiting", "already-failed", "not-down", "calls-full"]

@@ -11,7 +11,7 @@ use command_line::{
 use drawer::progress::Onlooker;
 use drawer::{Reads, draw, draw_svg};
 use engines::{replay, run_audit, run_bits, run_judge, run_plain, run_record, run_sweep};
-use fault_place::{FileKind, Kept, KeptInput, explanation};
+use inspect::{FileKind, Kept, KeptInput, explanation, run_calls};
 use race::{RunFault, run_fault_status, run_race};
 use std::env::Env;
 use std::fs::{File, Files};
@@ -187,6 +187,7 @@ fn run_engine<T: AllocGlobal + Threads + Wait + Sync, R: Source, W: Sink, L: Onl
         Engine::Audit => run_audit(alloc, input, output, onlooker),
         Engine::Sweep => run_sweep(alloc, input, output, onlooker),
         Engine::Record => ended(run_record(alloc, input, output, onlooker)),
+        Engine::Calls => ended(run_calls(alloc, input, output, onlooker)),
         Engine::Judge if wanted.any_lock => judge_any_lock(alloc, input, output, wanted.why),
         Engine::Judge => run_judge(alloc, input, output),
         Engine::Race => return run_race(rt, alloc, input, output),

@@ -5,7 +5,7 @@ use Rattle.clap.specs.Words.{Text}
 use Rattle.clap.proofs.OnLiterals.{clap_on_literals}
 use Rattle.command_line.specs.Meaning.{Listed, RunsEachFile, RunsFile, command_named}
 use Rattle.command_line.specs.declared.commands.Engine.{Engine}
-use Rattle.command_line.specs.declared.commands.Engine.TheVariants.{Plain, Bits, Replay, Audit, Sweep, Race, Record, Judge, Draw, DrawSvg}
+use Rattle.command_line.specs.declared.commands.Engine.TheVariants.{Plain, Bits, Replay, Audit, Sweep, Race, Record, Calls, Judge, Draw, DrawSvg}
 
 abbrev command : Text → Engine → List Text → Listed
 command name engine options = record { name = name; engine = engine; options = options }
@@ -73,6 +73,14 @@ record_runs_empty : (own : Text) → RunsFile own [] (command (codes "record") R
 unfolding clap_on_literals command_named
 record_runs_empty own = (refl, refl, refl, refl, refl, refl)
 
+calls_runs : (own : Text) (x : ℕ) (rest : List ℕ) → (x == 45) ≡ false → RunsFile own (x ∷ rest) (command (codes "calls") Calls [])
+unfolding clap_on_literals command_named
+calls_runs own x rest e = (rw (e, no_flags x rest e) refl, rw (e, no_flags x rest e) refl, rw (e, no_flags x rest e) refl, rw (e, no_flags x rest e) refl, rw (e, no_flags x rest e) refl)
+
+calls_runs_empty : (own : Text) → RunsFile own [] (command (codes "calls") Calls [])
+unfolding clap_on_literals command_named
+calls_runs_empty own = (refl, refl, refl, refl, refl)
+
 judge_runs : (own : Text) (x : ℕ) (rest : List ℕ) → (x == 45) ≡ false → RunsFile own (x ∷ rest) (command (codes "judge") Judge (codes "any-lock" ∷ codes "why" ∷ []))
 unfolding clap_on_literals command_named
 judge_runs own x rest e = (rw (e, no_flags x rest e) refl, rw (e, no_flags x rest e) refl, rw (e, no_flags x rest e) refl, rw (e, no_flags x rest e) refl, rw (e, no_flags x rest e) refl, rw (e, no_flags x rest e) refl)
@@ -98,5 +106,5 @@ unfolding clap_on_literals command_named
 draw_svg_runs_empty own = (refl, refl, refl, refl, refl, refl)
 
 pub runs_each_file : RunsEachFile
-runs_each_file own [] e = (plain_runs_empty own, (bits_runs_empty own, (replay_runs_empty own, (audit_runs_empty own, (sweep_runs_empty own, (race_runs_empty own, (record_runs_empty own, (judge_runs_empty own, (draw_runs_empty own, (draw_svg_runs_empty own, tt))))))))))
-runs_each_file own (x ∷ rest) e = (plain_runs own x rest (no_hyphen (x == 45) e), (bits_runs own x rest (no_hyphen (x == 45) e), (replay_runs own x rest (no_hyphen (x == 45) e), (audit_runs own x rest (no_hyphen (x == 45) e), (sweep_runs own x rest (no_hyphen (x == 45) e), (race_runs own x rest (no_hyphen (x == 45) e), (record_runs own x rest (no_hyphen (x == 45) e), (judge_runs own x rest (no_hyphen (x == 45) e), (draw_runs own x rest (no_hyphen (x == 45) e), (draw_svg_runs own x rest (no_hyphen (x == 45) e), tt))))))))))
+runs_each_file own [] e = (plain_runs_empty own, (bits_runs_empty own, (replay_runs_empty own, (audit_runs_empty own, (sweep_runs_empty own, (race_runs_empty own, (record_runs_empty own, (calls_runs_empty own, (judge_runs_empty own, (draw_runs_empty own, (draw_svg_runs_empty own, tt)))))))))))
+runs_each_file own (x ∷ rest) e = (plain_runs own x rest (no_hyphen (x == 45) e), (bits_runs own x rest (no_hyphen (x == 45) e), (replay_runs own x rest (no_hyphen (x == 45) e), (audit_runs own x rest (no_hyphen (x == 45) e), (sweep_runs own x rest (no_hyphen (x == 45) e), (race_runs own x rest (no_hyphen (x == 45) e), (record_runs own x rest (no_hyphen (x == 45) e), (calls_runs own x rest (no_hyphen (x == 45) e), (judge_runs own x rest (no_hyphen (x == 45) e), (draw_runs own x rest (no_hyphen (x == 45) e), (draw_svg_runs own x rest (no_hyphen (x == 45) e), tt)))))))))))

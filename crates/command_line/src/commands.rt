@@ -3,7 +3,7 @@ ghost use Rattle.std.specs.Prelude.{◌≡◌, find, map, option_map};
 ghost use Rattle.std.specs.Str.{bytes_eq};
 ghost use Rattle.command_line.specs.Meaning.{command_named, listed, says};
 
-use crate::help::{AUDIT, BITS, DRAW, DRAW_SVG, JUDGE, PLAIN, RACE, RECORD, REPLAY, SWEEP};
+use crate::help::{AUDIT, BITS, CALLS, DRAW, DRAW_SVG, JUDGE, PLAIN, RACE, RECORD, REPLAY, SWEEP};
 use std::fmt::{self, Display, Formatter};
 
 /// What runs a file.
@@ -23,6 +23,8 @@ pub enum Engine {
     Race,
     /// The record of a scenario's run, entry by entry.
     Record,
+    /// What became of each call of a scenario's run.
+    Calls,
     /// The verdict on the record that a record file says.
     Judge,
     /// The page of a scenario's run: a picture from which its lines are read back.
@@ -72,7 +74,7 @@ pub type Row = (
 
 /// The commands, in the order in which the page of all words lists them. This is all that words, pages and the program
 /// know of them.
-pub const COMMANDS: [(&str, Engine, Intake, &[&str], &str, &str, &str); 10] = [
+pub const COMMANDS: [(&str, Engine, Intake, &[&str], &str, &str, &str); 11] = [
     (
         "plain",
         Engine::Plain,
@@ -135,6 +137,15 @@ pub const COMMANDS: [(&str, Engine, Intake, &[&str], &str, &str, &str); 10] = [
         "the record of a scenario's run, entry by entry",
         "examples/failed-read.bakery",
         RECORD,
+    ),
+    (
+        "calls",
+        Engine::Calls,
+        Intake::Whole,
+        &[],
+        "what became of each call of that run, as comma-separated values",
+        "examples/torn-commit.bakery",
+        CALLS,
     ),
     (
         "judge",

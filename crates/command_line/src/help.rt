@@ -201,6 +201,21 @@ The lines of a record: docs/RECORDS.md
   0 0.choosing.0.0 write 1
 ";
 
+/// The page of `calls`.
+pub const CALLS: &str = r"
+Makes the run of a scenario, as replay does, and prints a table of its calls: comma-
+separated values, a line for each call when it ends, and at the end those that go on.
+Its columns: the process, which of its calls it is, and the command; the events of
+its marks, its doorway's two and the place of its command; how many reads and writes
+of bits the process began, and how many of its reads were overlapped; how many events
+it waited, and for whom last; its answer. What is not there is left empty.
+The lines of a scenario: bakerystore help replay
+
+  $ printf 'bakery 1\ncall 0 read a\nstep 0 3\n' | bakerystore calls - | cut -d, -f 1-6
+  process,call,command,called,doorway,door_end
+  0,1,read a,0,1,
+";
+
 /// The page of `judge`.
 pub const JUDGE: &str = r"
 Reads a record to its end, whoever made it. Prints `good` and the number of entries

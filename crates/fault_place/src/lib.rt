@@ -13,5 +13,6 @@ mod places;
 mod tables;
 
 pub use explaining::explanation;
+pub use files::progress;
 pub use kept::{Kept, KeptInput};
 pub use tables::FileKind;

@@ -1,0 +1,114 @@
+-- What a table keeps goes on with an entry.
+use Rattle.std.proofs.Common.{◌≡◌, ◌≢◌, ℕ, suc, ◌+◌, ◌-◌, ◌^◌, ◌<◌, ◌≤◌, ◌==◌, Bool, true, false, not, ◌&&◌, cond, List, [], ◌∷◌, Option, None, Some, length, map, ◌++◌, slice_get, slice_set, refl, sym, ap, ◌∙◌, subst, arith, add-one, inl, inr, ne_eqb, eq-eqb, length-set}
+use Rattle.std.proofs.lemmas.Bool.{cases_eq, cases_lt}
+use Rattle.std.proofs.lemmas.Option.{slice_get-get_or, slice_get_past, slice_get_within}
+use Rattle.std.proofs.lemmas.List.{get_or-set_same, get_or-set_other}
+use Rattle.std.proofs.lemmas.List.FromFn.{get_or-map-range_with_len, length-map-range_with_len, map-range_with_len_more}
+use Rattle.std.specs.List.{range_with_len}
+use Rattle.plain_store.specs.declared.Setup.{Setup}
+use Rattle.record.specs.declared.access.Access.{Access}
+use Rattle.record.specs.declared.marks.Mark.{Mark}
+use Rattle.record.specs.Entries.{Entry, Past}
+use Rattle.watch.specs.Watching.{WatchState}
+use Rattle.watch.specs.Watching.{HasHeard as HasWatched}
+use Rattle.calls.specs.declared.called.Accesses.{Accesses}
+use Rattle.calls.specs.declared.called.Called.{Called}
+use Rattle.calls.specs.declared.standing.Standing.{Standing}
+use Rattle.calls.specs.Columns.{accesses, called, ends_overlapped_read, is_calling, is_read, is_write, makes_itself}
+use Rattle.calls.specs.Hearing.{ComesInTurn, GoesOn, HasHeard, TableState, ended_call, open_call}
+use Rattle.calls.specs.Stepping.{AreFew, at_rest, heard, standing}
+use Rattle.calls.proofs.InCall.{calls-few, count-few}
+use Rattle.calls.proofs.Steps.{standing-heard, standing-other}
+
+-- a look into a list that was set
+slice_get-set_same : (xs : List Standing) (i : ℕ) (x : Standing) → i < length xs → slice_get (slice_set xs i x) i ≡ Some x
+slice_get-set_same xs i x within =
+    slice_get-get_or (slice_set xs i x) i x (subst (λ n. i < n) (sym (length-set xs i x)) within) ∙ ap Some (get_or-set_same xs i x x within)
+
+slice_get-set_other : (xs : List Standing) (i j : ℕ) (x : Standing) → j ≢ i → slice_get (slice_set xs i x) j ≡ slice_get xs j
+slice_get-set_other xs i j x apart = elim (cases_lt j (length xs)) [
+  | inl within ↦ slice_get-get_or (slice_set xs i x) j x (subst (λ n. j < n) (sym (length-set xs i x)) within)
+      ∙ ap Some (get_or-set_other xs i j x x apart) ∙ sym (slice_get-get_or xs j x within)
+  | inr past ↦ slice_get_past (slice_set xs i x) j (subst (λ n. n ≤ j) (sym (length-set xs i x)) past) ∙ sym (slice_get_past xs j past)
+]
+
+-- at the start each process is at rest
+pub at_rest_more : (k : ℕ) → map at_rest (range_with_len 0 (k + 1)) ≡ map at_rest (range_with_len 0 k) ++ at_rest k ∷ []
+at_rest_more k = let same : 0 + k ≡ k = omega arith in map-range_with_len_more at_rest 0 k k same
+
+pub at_rest-there : (n p : ℕ) → p < n → slice_get (map at_rest (range_with_len 0 n)) p ≡ Some (at_rest p)
+at_rest-there n p below =
+    let same : 0 + p ≡ p = omega arith in
+    slice_get-get_or (map at_rest (range_with_len 0 n)) p (at_rest p) (subst (λ m. p < m) (sym (length-map-range_with_len at_rest 0 n)) below)
+    ∙ ap Some (get_or-map-range_with_len at_rest 0 n p p (at_rest p) below same)
+
+-- what there is no entry of has room for one more
+pub has_room : (s : Setup) (p : ℕ) (past : Past) (k : Standing) → k ≡ standing s p past → length past < 2 ^ 64 - 1 → (k.last.call < 2 ^ 64 - 1) × AreFew k.last.accesses
+has_room s p past k is few =
+    subst (λ (k : Standing). (k.last.call < 2 ^ 64 - 1) × AreFew k.last.accesses) (sym is) (
+      omega (arith, calls-few p past, few),
+      record {
+        reads = omega (arith, count-few p (makes_itself p is_read) past, few);
+        writes = omega (arith, count-few p (makes_itself p is_write) past, few);
+        overlapped = omega (arith, count-few p ends_overlapped_read past, few);
+      },
+    )
+
+-- the state with an entry
+abbrev pub table_with : TableState → ℕ → WatchState → Standing → TableState
+table_with t p w k = record { setup = t.setup; watch = w; standings = slice_set t.standings p k; entries = t.entries + 1 }
+
+pub hears_on : (t : TableState) (past : Past) (e : Entry) (w : WatchState) (before then : Standing) (b : Bool) → e.process < t.setup.processes → slice_get t.standings e.process ≡ Some before →
+    b ≡ ends_overlapped_read past e → t.entries < 2 ^ 64 - 1 →
+    (before.last.call < 2 ^ 64 - 1 → AreFew before.last.accesses → then ≡ heard t.setup t.entries b e.access e.marks before) → HasWatched w (e ∷ past) → HasHeard t past →
+    HasHeard (table_with t e.process w then) (e ∷ past) × (before ≡ standing t.setup e.process past) × (then ≡ standing t.setup e.process (e ∷ past))
+hears_on t past e w before then b below there is few on watched h = (record { watch = watched; standings = each; entries = ap (λ n. n + 1) h.entries ∙ add-one (length past) }, was, now)
+  where
+    s : Setup
+    s = t.setup
+
+    was : before ≡ standing s e.process past
+    was = let both : Some before ≡ Some (standing s e.process past) = sym there ∙ h.standings e.process below in cc
+
+    room : (before.last.call < 2 ^ 64 - 1) × AreFew before.last.accesses
+    room = has_room s e.process past before was (subst (λ n. n < 2 ^ 64 - 1) h.entries few)
+
+    now : then ≡ standing s e.process (e ∷ past)
+    now = on room.0 room.1 ∙ (λ i. heard s (h.entries i) b e.access e.marks (was i)) ∙ sym (standing-heard s e.process e past refl b is)
+
+    each : (q : ℕ) → q < s.processes → slice_get (slice_set t.standings e.process then) q ≡ Some (standing s q (e ∷ past))
+    each q inside = elim (cases_eq q e.process) [
+      | inl same ↦ ap (slice_get (slice_set t.standings e.process then)) same ∙ slice_get-set_same t.standings e.process then (slice_get_within t.standings e.process before there)
+          ∙ ap Some (now ∙ ap (λ n. standing s n (e ∷ past)) (sym same))
+      | inr apart ↦ slice_get-set_other t.standings e.process q then apart ∙ h.standings q inside
+          ∙ ap Some (sym (standing-other s q e past (ne_eqb e.process q (λ h. apart (sym h)))))
+    ]
+
+-- the call that ended
+pub ended_is : (s : Setup) (past : Past) (e : Entry) (before then : Standing) → before ≡ standing s e.process past → then ≡ standing s e.process (e ∷ past) →
+    cond (before.calling && not then.calling) (Some then.last) None ≡ ended_call s past e
+ended_is s past e before then was now = λ i. cond ((was i).calling && not (now i).calling) (Some (now i).last) None
+
+-- What a table makes of an entry, whatever it has heard before.
+abbrev pub Hears : TableState → TableState → ℕ → Option Access → List Mark → Option Called → Type 0
+Hears old new q access marks ended =
+    (past : Past) (e : Entry) → e.process ≡ q → e.access ≡ access → e.marks ≡ marks → HasHeard old past → ComesInTurn old.setup past e → HasHeard new (e ∷ past) × (ended ≡ ended_call old.setup past e)
+
+pub hears_entry : (old new : TableState) (q : ℕ) (access : Option Access) (marks : List Mark) (w : WatchState) (b : Bool) (ended : Option Called) → old.watch.setup ≡ old.setup →
+    ((past : Past) (e : Entry) → e.access ≡ access → HasWatched old.watch past → ComesInTurn old.watch.setup past e → b ≡ ends_overlapped_read past e) →
+    ((past : Past) (e : Entry) → e.access ≡ access → HasWatched old.watch past → HasWatched w (e ∷ past)) →
+    new.setup ≡ old.setup → new.watch ≡ w → new.entries ≡ old.entries + 1 → old.entries < 2 ^ 64 - 1 →
+    ((before : Standing) → slice_get old.standings q ≡ Some before → GoesOn (record old { watch = w }) q b access marks before ended new.standings) → Hears old new q access marks ended
+hears_entry old new q access marks w b ended watched overlapped heard setup watch count few goes past e p a m h turn =
+    let s : Setup = old.setup in
+    let e0 : Entry = record { process = q; access = access; marks = marks } in
+    let whole : e ≡ e0 = λ i. record { process = p i; access = a i; marks = m i } in
+    let before : Standing = standing s q past in
+    let below : q < s.processes = subst (λ n. n < s.processes) p turn.process in
+    let there : slice_get old.standings q ≡ Some before = h.standings q below in
+    let g : GoesOn (record old { watch = w }) q b access marks before ended new.standings = goes before there in
+    let is : b ≡ ends_overlapped_read past e0 = overlapped past e a h.watch (subst (λ s. ComesInTurn s past e) (sym watched) turn) ∙ ap (ends_overlapped_read past) whole in
+    let all = hears_on old past e0 w before g.then b below there is few g.heard (heard past e0 refl h.watch) h in
+    let same : new ≡ table_with old q w g.then = λ i. record { setup = setup i; watch = watch i; standings = g.set i; entries = count i } in
+    let made : HasHeard new (e0 ∷ past) × (ended ≡ ended_call s past e0) = (subst (λ (t : TableState). HasHeard t (e0 ∷ past)) (sym same) all.0, g.is ∙ ended_is s past e0 before g.then refl all.2) in
+    subst (λ (e : Entry). HasHeard new (e ∷ past) × (ended ≡ ended_call s past e)) (sym whole) made

@@ -1,0 +1,257 @@
+-- What is kept of a process is what looking back finds: it goes on with an entry as the look-backs do.
+use Rattle.std.proofs.Common.{◌≡◌, ℕ, suc, ◌+◌, ◌==◌, Bool, true, false, ◌&&◌, cond, [], ◌∷◌, List, Option, None, Some, fold, is_none, is_some, length, refl, sym, ap, ◌∙◌, eq-eqb, add-one}
+use Rattle.plain_store.specs.declared.Answer.{Answer}
+use Rattle.plain_store.specs.declared.Command.{Command}
+use Rattle.plain_store.specs.declared.Setup.{Setup}
+use Rattle.record.specs.declared.access.Access.{Access}
+use Rattle.record.specs.declared.marks.Mark.{Mark}
+use Rattle.record.specs.safe_bit.declared.Move.{Move}
+use Rattle.record.specs.Calls.{called_in, calls_in, last_command}
+use Rattle.record.specs.Doorways.{first_of, number_in_call}
+use Rattle.record.specs.Entries.{Entry, Past, has, is_called, is_entered, is_failed, is_waiting, own}
+use Rattle.record.specs.Moves.{moves_of}
+use Rattle.watch.specs.Looks.{ends_overlapped}
+use Rattle.calls.specs.declared.called.Accesses.{Accesses}
+use Rattle.calls.specs.declared.called.Called.{Called}
+use Rattle.calls.specs.declared.called.Marked.{Marked}
+use Rattle.calls.specs.declared.standing.Standing.{Standing}
+use Rattle.calls.specs.Columns.{accesses, answer_after, answer_in_call, called, called_at, count_in_call, ends_overlapped_read, ends_waiting, goes_on_after, has_access, is_answered, is_calling, is_left, is_read, is_taken, is_withdrawal, is_write, makes_itself, marked, more_if, number_after, number_read, over_call, place_after, place_in_call, tells_waiting, ticket_after, ticket_in_call, waited_for}
+use Rattle.calls.specs.Stepping.{accessed_by, begun, first_if, heard, marked_all, no_accesses, no_marks, standing, with_access, with_mark}
+use Rattle.calls.proofs.Folds.{answer-on, answered-on, called_has, door_end-on, entered-on, failed-on, fold-field, fold-first, left-on, marked_all-is, place-on, taken-on, ticket-on, wait_end-on, with_marks, withdrew-on}
+use Rattle.calls.proofs.InCall.{first_none, if_there, number-called, number-mine, number-other, over-called, over-mine, over-other}
+
+-- Marks.
+
+-- the number of the first entry of a call with such a mark
+number-on : (p : ℕ) (test : Mark → Bool) (get : Marked → Option ℕ) (e : Entry) (past : Past) → e.process ≡ p → has is_called e ≡ false →
+    ((k : Marked) (m : Mark) → get (with_mark (length past) k m) ≡ first_if (test m) (length past) (get k)) → get (marked p past) ≡ number_in_call p (has test) past →
+    number_in_call p (has test) (e ∷ past) ≡ get (fold (with_mark (length past)) (marked p past) e.marks)
+number-on p test get e past h none on is =
+    number-mine p (has test) e past h none (has test e) refl
+    ∙ sym (fold-first test (length past) (number_in_call p (has test) past) e.marks)
+    ∙ ap (λ found. fold (λ found m. first_if (test m) (length past) found) found e.marks) (sym is)
+    ∙ sym (fold-field get (λ found m. first_if (test m) (length past) found) (length past) on (marked p past) e.marks)
+
+-- what marks tell
+given-on : {A : Type 0} (p : ℕ) (after : Option A → Mark → Option A) (get : Marked → Option A) (e : Entry) (past : Past) → e.process ≡ p → has is_called e ≡ false →
+    ((k : Marked) (m : Mark) → get (with_mark (length past) k m) ≡ after (get k) m) → get (marked p past) ≡ over_call p None (λ before e found. fold after found e.marks) past →
+    over_call p None (λ before e found. fold after found e.marks) (e ∷ past) ≡ get (fold (with_mark (length past)) (marked p past) e.marks)
+given-on {A} p after get e past h none on is =
+    over-mine {A = Option A} p None (λ before e found. fold after found e.marks) e past h none
+    ∙ ap (λ (found : Option A). fold after found e.marks) (sym is)
+    ∙ sym (fold-field {A = Option A} get after (length past) on (marked p past) e.marks)
+
+pub marked-mine : (p : ℕ) (e : Entry) (past : Past) → e.process ≡ p → has is_called e ≡ false → marked p (e ∷ past) ≡ fold (with_mark (length past)) (marked p past) e.marks
+marked-mine p e past h none =
+    let n : ℕ = length past in
+    let door_end = number-on p is_waiting (λ k. k.door_end) e past h none (door_end-on n) refl in
+    let entered = number-on p is_entered (λ k. k.entered) e past h none (entered-on n) refl in
+    let wait_end = number-on p ends_waiting (λ k. k.wait_end) e past h none (wait_end-on n) refl in
+    let taken = number-on p is_taken (λ k. k.taken) e past h none (taken-on n) refl in
+    let place = given-on {A = ℕ} p place_after (λ k. k.place) e past h none (place-on n) refl in
+    let left = number-on p is_left (λ k. k.left) e past h none (left-on n) refl in
+    let answered = number-on p is_answered (λ k. k.answered) e past h none (answered-on n) refl in
+    let failed = number-on p is_failed (λ k. k.failed) e past h none (failed-on n) refl in
+    let withdrew = number-on p is_withdrawal (λ k. k.withdrew) e past h none (withdrew-on n) refl in
+    let ticket = given-on {A = ℕ} p ticket_after (λ k. k.ticket) e past h none (ticket-on n) refl in
+    let answer = given-on {A = Answer} p answer_after (λ k. k.answer) e past h none (answer-on n) refl in
+    λ i. record {
+      door_end = door_end i;
+      entered = entered i;
+      wait_end = wait_end i;
+      taken = taken i;
+      place = place i;
+      left = left i;
+      answered = answered i;
+      failed = failed i;
+      withdrew = withdrew i;
+      ticket = ticket i;
+      answer = answer i;
+    }
+
+pub marked-called : (p : ℕ) (e : Entry) (past : Past) → e.process ≡ p → has is_called e ≡ true → marked p (e ∷ past) ≡ no_marks
+marked-called p e past h some =
+    let place = over-called {A = Option ℕ} p None (λ before e found. fold place_after found e.marks) e past h some in
+    let ticket = over-called {A = Option ℕ} p None (λ before e found. fold ticket_after found e.marks) e past h some in
+    let answer = over-called {A = Option Answer} p None (λ before e found. fold answer_after found e.marks) e past h some in
+    λ i. record {
+      door_end = number-called p (has is_waiting) e past h some i;
+      entered = number-called p (has is_entered) e past h some i;
+      wait_end = number-called p (has ends_waiting) e past h some i;
+      taken = number-called p (has is_taken) e past h some i;
+      place = place i;
+      left = number-called p (has is_left) e past h some i;
+      answered = number-called p (has is_answered) e past h some i;
+      failed = number-called p (has is_failed) e past h some i;
+      withdrew = number-called p (has is_withdrawal) e past h some i;
+      ticket = ticket i;
+      answer = answer i;
+    }
+
+pub marked-other : (p : ℕ) (e : Entry) (past : Past) → (e.process == p) ≡ false → marked p (e ∷ past) ≡ marked p past
+marked-other p e past h =
+    let place = over-other {A = Option ℕ} p None (λ before e found. fold place_after found e.marks) e past h in
+    let ticket = over-other {A = Option ℕ} p None (λ before e found. fold ticket_after found e.marks) e past h in
+    let answer = over-other {A = Option Answer} p None (λ before e found. fold answer_after found e.marks) e past h in
+    λ i. record {
+      door_end = number-other p (has is_waiting) e past h i;
+      entered = number-other p (has is_entered) e past h i;
+      wait_end = number-other p (has ends_waiting) e past h i;
+      taken = number-other p (has is_taken) e past h i;
+      place = place i;
+      left = number-other p (has is_left) e past h i;
+      answered = number-other p (has is_answered) e past h i;
+      failed = number-other p (has is_failed) e past h i;
+      withdrew = number-other p (has is_withdrawal) e past h i;
+      ticket = ticket i;
+      answer = answer i;
+    }
+
+-- Accesses.
+
+-- the functions that go over a call's entries
+abbrev counting : (Past → Entry → Bool) → Past → Entry → ℕ → ℕ
+counting test before e n = more_if (test before e) n
+
+abbrev reading : Past → Entry → ℕ → ℕ
+reading before e n = elim e.access as (λ _. ℕ) [ None ↦ n | Some a ↦ number_after a.bit a.how n ]
+
+abbrev waiting : Setup → ℕ → Past → Entry → Option ℕ → Option ℕ
+waiting s p before e newest = elim e.access as (λ _. Option ℕ) [
+  | None ↦ newest
+  | Some a ↦ cond (tells_waiting s p (ticket_in_call p before) (number_in_call p (has ends_waiting) before) a (number_after a.bit a.how (number_read p before))) (Some a.owner) newest
+]
+
+accesses-with : (s : Setup) (p : ℕ) (e : Entry) (past : Past) → e.process ≡ p → has is_called e ≡ false → (o : Option Access) → e.access ≡ o → (b : Bool) → b ≡ ends_overlapped_read past e →
+    accesses s p (e ∷ past) ≡ elim o as (λ _. Accesses) [ None ↦ accesses s p past | Some a ↦ with_access s p (length past) b (marked p past) a (accesses s p past) ]
+accesses-with s p e past h called None none b is =
+    let doorway = number-mine p has_access e past h called false (ap is_some none) ∙ first_none (number_in_call p has_access past) in
+    let reads = over-mine {A = ℕ} p 0 (counting (makes_itself p is_read)) e past h called
+    ∙ ap (λ (o : Option Access). more_if (elim o as (λ _. Bool) [ None ↦ false | Some a ↦ is_read a.how && is_none (number_in_call p (has is_failed) past) ]) (count_in_call p (makes_itself p is_read) past)) none in
+    let writes = over-mine {A = ℕ} p 0 (counting (makes_itself p is_write)) e past h called
+    ∙ ap (λ (o : Option Access). more_if (elim o as (λ _. Bool) [ None ↦ false | Some a ↦ is_write a.how && is_none (number_in_call p (has is_failed) past) ]) (count_in_call p (makes_itself p is_write) past)) none in
+    let overlapped = over-mine {A = ℕ} p 0 (counting ends_overlapped_read) e past h called
+    ∙ ap (λ (o : Option Access). more_if (elim o as (λ _. Bool) [ None ↦ false | Some a ↦ ends_overlapped (moves_of a past) a.how ]) (count_in_call p ends_overlapped_read past)) none in
+    let number = over-mine {A = ℕ} p 0 reading e past h called
+    ∙ ap (λ (o : Option Access). elim o as (λ _. ℕ) [ None ↦ number_read p past | Some a ↦ number_after a.bit a.how (number_read p past) ]) none in
+    let waited = over-mine {A = Option ℕ} p None (waiting s p) e past h called
+    ∙ ap (λ (o : Option Access). elim o as (λ _. Option ℕ) [
+      | None ↦ waited_for s p past
+      | Some a ↦ cond (tells_waiting s p (ticket_in_call p past) (number_in_call p (has ends_waiting) past) a (number_after a.bit a.how (number_read p past))) (Some a.owner) (waited_for s p past)
+    ]) none in
+    λ i. record { doorway = doorway i; reads = reads i; writes = writes i; overlapped = overlapped i; number = number i; waited_for = waited i }
+accesses-with s p e past h called (Some a) some b is =
+    let doorway = number-mine p has_access e past h called true (ap is_some some) in
+    let reads = over-mine {A = ℕ} p 0 (counting (makes_itself p is_read)) e past h called
+    ∙ ap (λ (o : Option Access). more_if (elim o as (λ _. Bool) [ None ↦ false | Some a ↦ is_read a.how && is_none (number_in_call p (has is_failed) past) ]) (count_in_call p (makes_itself p is_read) past)) some in
+    let writes = over-mine {A = ℕ} p 0 (counting (makes_itself p is_write)) e past h called
+    ∙ ap (λ (o : Option Access). more_if (elim o as (λ _. Bool) [ None ↦ false | Some a ↦ is_write a.how && is_none (number_in_call p (has is_failed) past) ]) (count_in_call p (makes_itself p is_write) past)) some in
+    let overlapped = over-mine {A = ℕ} p 0 (counting ends_overlapped_read) e past h called
+    ∙ ap (λ t. more_if t (count_in_call p ends_overlapped_read past)) (sym is) in
+    let number = over-mine {A = ℕ} p 0 reading e past h called
+    ∙ ap (λ (o : Option Access). elim o as (λ _. ℕ) [ None ↦ number_read p past | Some a ↦ number_after a.bit a.how (number_read p past) ]) some in
+    let waited = over-mine {A = Option ℕ} p None (waiting s p) e past h called
+    ∙ ap (λ (o : Option Access). elim o as (λ _. Option ℕ) [
+      | None ↦ waited_for s p past
+      | Some a ↦ cond (tells_waiting s p (ticket_in_call p past) (number_in_call p (has ends_waiting) past) a (number_after a.bit a.how (number_read p past))) (Some a.owner) (waited_for s p past)
+    ]) some in
+    λ i. record { doorway = doorway i; reads = reads i; writes = writes i; overlapped = overlapped i; number = number i; waited_for = waited i }
+
+accesses-called : (s : Setup) (p : ℕ) (e : Entry) (past : Past) → e.process ≡ p → has is_called e ≡ true → accesses s p (e ∷ past) ≡ no_accesses
+accesses-called s p e past h some =
+    let reads = over-called {A = ℕ} p 0 (counting (makes_itself p is_read)) e past h some in
+    let writes = over-called {A = ℕ} p 0 (counting (makes_itself p is_write)) e past h some in
+    let overlapped = over-called {A = ℕ} p 0 (counting ends_overlapped_read) e past h some in
+    let number = over-called {A = ℕ} p 0 reading e past h some in
+    let waited = over-called {A = Option ℕ} p None (waiting s p) e past h some in
+    λ i. record { doorway = number-called p has_access e past h some i; reads = reads i; writes = writes i; overlapped = overlapped i; number = number i; waited_for = waited i }
+
+accesses-other : (s : Setup) (p : ℕ) (e : Entry) (past : Past) → (e.process == p) ≡ false → accesses s p (e ∷ past) ≡ accesses s p past
+accesses-other s p e past h =
+    let reads = over-other {A = ℕ} p 0 (counting (makes_itself p is_read)) e past h in
+    let writes = over-other {A = ℕ} p 0 (counting (makes_itself p is_write)) e past h in
+    let overlapped = over-other {A = ℕ} p 0 (counting ends_overlapped_read) e past h in
+    let number = over-other {A = ℕ} p 0 reading e past h in
+    let waited = over-other {A = Option ℕ} p None (waiting s p) e past h in
+    λ i. record { doorway = number-other p has_access e past h i; reads = reads i; writes = writes i; overlapped = overlapped i; number = number i; waited_for = waited i }
+
+-- All that is kept.
+
+standing_by : (k m : Standing) → k.calling ≡ m.calling → k.last.process ≡ m.last.process → k.last.call ≡ m.last.call → k.last.command ≡ m.last.command → k.last.called ≡ m.last.called →
+    k.last.accesses ≡ m.last.accesses → k.last.marks ≡ m.last.marks → k ≡ m
+standing_by k m a b c d e f g = λ i. record { calling = a i; last = record { process = b i; call = c i; command = d i; called = e i; accesses = f i; marks = g i } }
+
+own-mine : (p : ℕ) (e : Entry) (past : Past) → e.process ≡ p → own p (e ∷ past) ≡ e ∷ own p past
+own-mine p e past h = ap (λ b. cond b (e ∷ own p past) (own p past)) (eq-eqb e.process p h)
+
+pub standing-other : (s : Setup) (p : ℕ) (e : Entry) (past : Past) → (e.process == p) ≡ false → standing s p (e ∷ past) ≡ standing s p past
+standing-other s p e past h =
+    let mine : own p (e ∷ past) ≡ own p past = ap (λ b. cond b (e ∷ own p past) (own p past)) h in
+    standing_by (standing s p (e ∷ past)) (standing s p past)
+    (rw (h, is_calling) refl)
+    refl
+    (ap calls_in mine)
+    (ap last_command mine)
+    (rw (h, called_at) refl)
+    (accesses-other s p e past h)
+    (marked-other p e past h)
+
+pub standing-called : (s : Setup) (p : ℕ) (e : Entry) (past : Past) (c : Command) → e.process ≡ p → called_in e.marks ≡ Some c → standing s p (e ∷ past) ≡ begun (length past) c (standing s p past)
+standing-called s p e past c h is =
+    let some : has is_called e ≡ true = called_has e.marks ∙ ap is_some is in
+    let here : (e.process == p) ≡ true = eq-eqb e.process p h in
+    let mine = own-mine p e past h in
+    standing_by (standing s p (e ∷ past)) (begun (length past) c (standing s p past))
+    (rw (here, some, is_calling) refl)
+    refl
+    (ap calls_in mine ∙ ap (λ b. elim b as (λ _. ℕ) [ true ↦ suc (calls_in (own p past)) | false ↦ calls_in (own p past) ]) some ∙ sym (add-one (calls_in (own p past))))
+    (ap last_command mine ∙ ap (λ (o : Option Command). elim o as (λ _. Command) [ None ↦ last_command (own p past) | Some c ↦ c ]) is)
+    (rw (here, some, called_at) refl)
+    (accesses-called s p e past h some)
+    (marked-called p e past h some)
+
+pub standing-mine : (s : Setup) (p : ℕ) (e : Entry) (past : Past) → e.process ≡ p → called_in e.marks ≡ None → (b : Bool) → b ≡ ends_overlapped_read past e →
+    standing s p (e ∷ past) ≡ marked_all (length past) (accessed_by s (length past) b e.access (standing s p past)) e.marks
+standing-mine s p e past h is b overlapped =
+    let none : has is_called e ≡ false = called_has e.marks ∙ ap is_some is in
+    let here : (e.process == p) ≡ true = eq-eqb e.process p h in
+    let mine = own-mine p e past h in
+    let n : ℕ = length past in
+    go none here mine (ap calls_in mine ∙ ap (λ b. elim b as (λ _. ℕ) [ true ↦ suc (calls_in (own p past)) | false ↦ calls_in (own p past) ]) none)
+    (ap last_command mine ∙ ap (λ (o : Option Command). elim o as (λ _. Command) [ None ↦ last_command (own p past) | Some c ↦ c ]) is)
+    e.access refl
+  where
+    go : has is_called e ≡ false → (e.process == p) ≡ true → own p (e ∷ past) ≡ e ∷ own p past → calls_in (own p (e ∷ past)) ≡ calls_in (own p past) → last_command (own p (e ∷ past)) ≡ last_command (own p past) →
+        (o : Option Access) → e.access ≡ o → standing s p (e ∷ past) ≡ marked_all (length past) (accessed_by s (length past) b o (standing s p past)) e.marks
+    go none here mine calls command None access =
+        standing_by (standing s p (e ∷ past)) (with_marks (length past) (standing s p past) e.marks)
+        (rw (here, none, is_calling) refl)
+        refl
+        calls
+        command
+        (rw (here, none, called_at) refl)
+        (accesses-with s p e past h none None access b overlapped)
+        (marked-mine p e past h none)
+        ∙ sym (marked_all-is (length past) (standing s p past) e.marks)
+    go none here mine calls command (Some a) access =
+        standing_by (standing s p (e ∷ past)) (with_marks (length past) (accessed_by s (length past) b (Some a) (standing s p past)) e.marks)
+        (rw (here, none, is_calling) refl)
+        refl
+        calls
+        command
+        (rw (here, none, called_at) refl)
+        (accesses-with s p e past h none (Some a) access b overlapped)
+        (marked-mine p e past h none)
+        ∙ sym (marked_all-is (length past) (accessed_by s (length past) b (Some a) (standing s p past)) e.marks)
+
+-- with whatever entry of its own
+pub standing-heard : (s : Setup) (p : ℕ) (e : Entry) (past : Past) → e.process ≡ p → (b : Bool) → b ≡ ends_overlapped_read past e →
+    standing s p (e ∷ past) ≡ heard s (length past) b e.access e.marks (standing s p past)
+standing-heard s p e past h b overlapped = go (called_in e.marks) refl
+  where
+    go : (o : Option Command) → called_in e.marks ≡ o → standing s p (e ∷ past) ≡ elim o as (λ _. Standing) [
+      | Some c ↦ begun (length past) c (standing s p past)
+      | None ↦ marked_all (length past) (accessed_by s (length past) b e.access (standing s p past)) e.marks
+    ]
+    go None is = standing-mine s p e past h is b overlapped
+    go (Some c) is = standing-called s p e past c h is

@@ -1,0 +1,225 @@
+-- What became of a call: each number is found by looking back over a past.
+use Rattle.std.specs.Prelude.{ℕ, ◌+◌, ◌==◌, nat_lt, Bool, true, false, not, ◌&&◌, List, [], ◌∷◌, length, fold, cond, Option, None, Some, is_none, is_some, bit_or, ◌^◌}
+use Rattle.record.specs.safe_bit.declared.Move.{Move}
+use Rattle.record.specs.safe_bit.declared.Move.TheVariants.{BeginWrite, EndWrite, BeginRead, EndRead, Settle}
+use Rattle.plain_store.specs.declared.Answer.{Answer}
+use Rattle.plain_store.specs.declared.Setup.{Setup}
+use Rattle.record.specs.declared.access.Access.{Access}
+use Rattle.record.specs.declared.access.Field.{Field}
+use Rattle.record.specs.declared.access.Field.TheVariants.{Choosing, Ticket, Commit, Stamp0, Stamp1, Image0, Image1}
+use Rattle.record.specs.declared.marks.Mark.{Mark}
+use Rattle.record.specs.declared.marks.Mark.TheVariants.{Called, Waiting, Entered, Taken, Left, Answered, Failed, Down, Withdrew}
+use Rattle.record.specs.Calls.{calls_in, last_command}
+use Rattle.record.specs.Doorways.{doorway_end, first_of, number_in_call}
+use Rattle.record.specs.Entries.{Entry, Past, has, is_called, is_entered, is_failed, own}
+use Rattle.record.specs.Moves.{moves_of}
+use Rattle.record.specs.Program.{is_below}
+use Rattle.record.specs.Registers.{width}
+use Rattle.watch.specs.Looks.{ends_overlapped}
+use Rattle.calls.specs.declared.called.Accesses.{Accesses}
+use Rattle.calls.specs.declared.called.Called.{Called as Told}
+use Rattle.calls.specs.declared.called.Marked.{Marked}
+
+-- Marks.
+
+-- a command is taken
+abbrev pub is_taken : Mark → Bool
+is_taken (Taken k r) = true
+is_taken _ = false
+
+-- the process is no longer inside
+abbrev pub is_left : Mark → Bool
+is_left Left = true
+is_left _ = false
+
+-- its call is answered
+abbrev pub is_answered : Mark → Bool
+is_answered (Answered a) = true
+is_answered _ = false
+
+-- it gives up waiting
+abbrev pub is_withdrawal : Mark → Bool
+is_withdrawal Withdrew = true
+is_withdrawal _ = false
+
+-- with these marks waiting ends: it enters, withdraws or fails
+abbrev pub ends_waiting : Mark → Bool
+ends_waiting Entered = true
+ends_waiting Withdrew = true
+ends_waiting Failed = true
+ends_waiting _ = false
+
+-- Calls.
+
+-- a call has begun that has not ended: by an answer, or, cut by a failure, once its process is down
+abbrev pub goes_on_after : Bool → Mark → Bool
+goes_on_after is (Answered a) = false
+goes_on_after is Down = false
+goes_on_after is _ = is
+
+-- p has such a call
+abbrev pub is_calling : ℕ → Past → Bool
+is_calling p [] = false
+is_calling p (e ∷ past) = elim (e.process == p) [
+  | false ↦ is_calling p past
+  | true ↦ elim (has is_called e) [ true ↦ true | false ↦ fold goes_on_after (is_calling p past) e.marks ]
+]
+
+-- the number of the entry with which p called last
+abbrev pub called_at : ℕ → Past → ℕ
+called_at p [] = 0
+called_at p (e ∷ past) = elim (e.process == p) [
+  | false ↦ called_at p past
+  | true ↦ elim (has is_called e) [ true ↦ length past | false ↦ called_at p past ]
+]
+
+-- one more, if a test holds
+abbrev pub more_if : Bool → ℕ → ℕ
+more_if b n = cond b (n + 1) n
+
+-- what p's entries since its last call make of a start, one after the other, each with the past before it
+abbrev pub over_call : {A : Type 0} → ℕ → A → (Past → Entry → A → A) → Past → A
+over_call p start with [] = start
+over_call p start with (e ∷ past) = elim (e.process == p) [
+  | false ↦ over_call p start with past
+  | true ↦ elim (has is_called e) [ true ↦ start | false ↦ with past e (over_call p start with past) ]
+]
+
+-- how many entries of p's last call pass a test, each with the past before it
+abbrev pub count_in_call : ℕ → (Past → Entry → Bool) → Past → ℕ
+count_in_call p test past = over_call p 0 (λ before e n. more_if (test before e) n) past
+
+-- What marks tell, the first of each.
+
+-- the place of a command that is taken
+abbrev pub place_after : Option ℕ → Mark → Option ℕ
+place_after found (Taken k r) = first_of found (Some k)
+place_after found _ = found
+
+-- the ticket with which the process waits
+abbrev pub ticket_after : Option ℕ → Mark → Option ℕ
+ticket_after found (Waiting t) = first_of found (Some t)
+ticket_after found _ = found
+
+-- the first of two answers
+abbrev pub first_answer : Option Answer → Answer → Option Answer
+first_answer None a = Some a
+first_answer (Some b) a = Some b
+
+-- the answer
+abbrev pub answer_after : Option Answer → Mark → Option Answer
+answer_after found (Answered a) = first_answer found a
+answer_after found _ = found
+
+-- those of the marks of p's last call
+abbrev pub place_in_call : ℕ → Past → Option ℕ
+place_in_call p past = over_call p None (λ before e found. fold place_after found e.marks) past
+
+abbrev pub ticket_in_call : ℕ → Past → Option ℕ
+ticket_in_call p past = over_call p None (λ before e found. fold ticket_after found e.marks) past
+
+abbrev pub answer_in_call : ℕ → Past → Option Answer
+answer_in_call p past = over_call p None (λ before e found. fold answer_after found e.marks) past
+
+-- what the marks of p's last call tell; the number of an entry is how many there were before it
+abbrev pub marked : ℕ → Past → Marked
+marked p past = record {
+  door_end = doorway_end p past;
+  entered = number_in_call p (has is_entered) past;
+  wait_end = number_in_call p (has ends_waiting) past;
+  taken = number_in_call p (has is_taken) past;
+  place = place_in_call p past;
+  left = number_in_call p (has is_left) past;
+  answered = number_in_call p (has is_answered) past;
+  failed = number_in_call p (has is_failed) past;
+  withdrew = number_in_call p (has is_withdrawal) past;
+  ticket = ticket_in_call p past;
+  answer = answer_in_call p past;
+}
+
+-- What accesses tell.
+
+-- an entry has an access
+abbrev pub has_access : Entry → Bool
+has_access e = is_some e.access
+
+-- a read begins
+abbrev pub is_read : Move → Bool
+is_read BeginRead = true
+is_read _ = false
+
+-- a write begins
+abbrev pub is_write : Move → Bool
+is_write (BeginWrite v) = true
+is_write _ = false
+
+-- a read ends
+abbrev pub is_read_end : Move → Bool
+is_read_end (EndRead v) = true
+is_read_end _ = false
+
+-- p makes such a move itself: it has not failed before in this call
+abbrev pub makes_itself : ℕ → (Move → Bool) → Past → Entry → Bool
+makes_itself p test before e = elim e.access [ None ↦ false | Some a ↦ test a.how && is_none (number_in_call p (has is_failed) before) ]
+
+-- with an entry a read ends that a write overlapped
+abbrev pub ends_overlapped_read : Past → Entry → Bool
+ends_overlapped_read before e = elim e.access [ None ↦ false | Some a ↦ ends_overlapped (moves_of a before) a.how ]
+
+-- the first 64 bits of the number that is read, those read so far; its bit 0 begins it anew
+abbrev pub with_bit : ℕ → Bool → ℕ → ℕ
+with_bit k v n = cond (k == 0) (cond v 1 0) (cond (v && nat_lt k 64) (bit_or n (2 ^ k)) n)
+
+-- the same after a move on this bit
+abbrev pub number_after : ℕ → Move → ℕ → ℕ
+number_after k (EndRead v) n = with_bit k v n
+number_after k _ n = n
+
+-- that of p's last call
+abbrev pub number_read : ℕ → Past → ℕ
+number_read p past = over_call p 0 (λ before e n. elim e.access [ None ↦ n | Some a ↦ number_after a.bit a.how n ]) past
+
+-- a move on this bit ends the read of a number of so many bits
+abbrev pub ends_number : ℕ → ℕ → Move → Bool
+ends_number width k (EndRead v) = k + 1 == width
+ends_number width k _ = false
+
+-- a number that was read of a register of q holds up p, which waits with this ticket: q is choosing, or has a ticket below p's
+abbrev pub holds_up : ℕ → ℕ → ℕ → Field → ℕ → Bool
+holds_up p ticket q Choosing n = n == 1
+holds_up p ticket q Ticket n = nat_lt 0 n && is_below n q ticket p
+holds_up p ticket q _ n = false
+
+-- p waits with this ticket, and an access, with which it has read this number, tells that it waits for the register's owner
+abbrev pub tells_waiting : Setup → ℕ → Option ℕ → Option ℕ → Access → ℕ → Bool
+tells_waiting s p None wait_end a n = false
+tells_waiting s p (Some ticket) wait_end a n = is_none wait_end && (ends_number (width s a.field) a.bit a.how && holds_up p ticket a.owner a.field n)
+
+-- the newest of those for whom p waited in its last call, by the numbers that it read
+abbrev pub waited_for : Setup → ℕ → Past → Option ℕ
+waited_for s p past = over_call p None (λ before e newest. elim e.access [
+  | None ↦ newest
+  | Some a ↦ cond (tells_waiting s p (ticket_in_call p before) (number_in_call p (has ends_waiting) before) a (number_after a.bit a.how (number_read p before))) (Some a.owner) newest
+]) past
+
+-- what the accesses of p's last call tell
+abbrev pub accesses : Setup → ℕ → Past → Accesses
+accesses s p past = record {
+  doorway = number_in_call p has_access past;
+  reads = count_in_call p (makes_itself p is_read) past;
+  writes = count_in_call p (makes_itself p is_write) past;
+  overlapped = count_in_call p ends_overlapped_read past;
+  number = number_read p past;
+  waited_for = waited_for s p past;
+}
+
+-- p's last call
+abbrev pub called : Setup → ℕ → Past → Told
+called s p past = record {
+  process = p;
+  call = calls_in (own p past);
+  command = last_command (own p past);
+  called = called_at p past;
+  accesses = accesses s p past;
+  marks = marked p past;
+}

@@ -1,0 +1,98 @@
+-- How what is kept of a process goes on with an entry.
+use Rattle.std.specs.Prelude.{ℕ, ◌+◌, ◌-◌, ◌^◌, ◌<◌, Bool, true, false, ◌&&◌, List, fold, cond, Option, None, Some, is_none}
+use Rattle.plain_store.specs.declared.Command.{Command}
+use Rattle.plain_store.specs.declared.Command.TheVariants.{Ask}
+use Rattle.plain_store.specs.declared.Setup.{Setup}
+use Rattle.record.specs.declared.access.Access.{Access}
+use Rattle.record.specs.declared.marks.Mark.{Mark}
+use Rattle.record.specs.declared.marks.Mark.TheVariants as mark
+use Rattle.record.specs.Calls.{called_in}
+use Rattle.record.specs.Doorways.{first_of}
+use Rattle.record.specs.Entries.{Past}
+use Rattle.record.specs.safe_bit.declared.Move.{Move}
+use Rattle.calls.specs.declared.called.Accesses.{Accesses}
+use Rattle.calls.specs.declared.called.Marked.{Marked}
+use Rattle.calls.specs.declared.standing.Standing.{Standing}
+use Rattle.calls.specs.Columns.{answer_after, called, ends_waiting, goes_on_after, is_calling, is_read, is_write, more_if, number_after, place_after, tells_waiting, ticket_after}
+
+-- what is kept of p
+abbrev pub standing : Setup → ℕ → Past → Standing
+standing s p past = record { calling = is_calling p past; last = called s p past }
+
+-- no marks
+abbrev pub no_marks : Marked
+no_marks = record { door_end = None; entered = None; wait_end = None; taken = None; place = None; left = None; answered = None; failed = None; withdrew = None; ticket = None; answer = None }
+
+-- no accesses
+abbrev pub no_accesses : Accesses
+no_accesses = record { doorway = None; reads = 0; writes = 0; overlapped = 0; number = 0; waited_for = None }
+
+-- without an entry
+abbrev pub at_rest : ℕ → Standing
+at_rest p = record { calling = false; last = record { process = p; call = 0; command = Ask; called = 0; accesses = no_accesses; marks = no_marks } }
+
+-- with a call
+abbrev pub begun : ℕ → Command → Standing → Standing
+begun number c k = record {
+  calling = true;
+  last = record { process = k.last.process; call = k.last.call + 1; command = c; called = number; accesses = no_accesses; marks = no_marks };
+}
+
+-- with an access of the entry with this number; `overlapped`: it ends a read that a write overlapped
+abbrev pub with_access : Setup → ℕ → ℕ → Bool → Marked → Access → Accesses → Accesses
+with_access s p number overlapped m a k = record {
+  doorway = first_of k.doorway (Some number);
+  reads = more_if (is_read a.how && is_none m.failed) k.reads;
+  writes = more_if (is_write a.how && is_none m.failed) k.writes;
+  overlapped = more_if overlapped k.overlapped;
+  number = number_after a.bit a.how k.number;
+  waited_for = cond (tells_waiting s p m.ticket m.wait_end a (number_after a.bit a.how k.number)) (Some a.owner) k.waited_for;
+}
+
+-- the first number of an entry that has such a mark
+abbrev pub first_if : Bool → ℕ → Option ℕ → Option ℕ
+first_if b number found = cond b (first_of found (Some number)) found
+
+-- with a mark of the entry with this number
+abbrev pub with_mark : ℕ → Marked → Mark → Marked
+with_mark number k (mark.Called c) = k
+with_mark number k (mark.Waiting t) = record k { door_end = first_of k.door_end (Some number); ticket = first_of k.ticket (Some t) }
+with_mark number k mark.Entered = record k { entered = first_of k.entered (Some number); wait_end = first_of k.wait_end (Some number) }
+with_mark number k (mark.Taken place r) = record k { taken = first_of k.taken (Some number); place = first_of k.place (Some place) }
+with_mark number k mark.Left = record k { left = first_of k.left (Some number) }
+with_mark number k (mark.Answered a) = record k { answered = first_of k.answered (Some number); answer = answer_after k.answer (mark.Answered a) }
+with_mark number k mark.Failed = record k { failed = first_of k.failed (Some number); wait_end = first_of k.wait_end (Some number) }
+with_mark number k (mark.Settled v) = k
+with_mark number k mark.Down = k
+with_mark number k mark.Withdrew = record k { withdrew = first_of k.withdrew (Some number); wait_end = first_of k.wait_end (Some number) }
+with_mark number k mark.Restarted = k
+
+-- the same of what is kept
+abbrev pub marked_on : ℕ → Standing → Mark → Standing
+marked_on number k m = record { calling = goes_on_after k.calling m; last = record k.last { marks = with_mark number k.last.marks m } }
+
+-- with these marks
+abbrev pub marked_all : ℕ → Standing → List Mark → Standing
+marked_all number = fold (marked_on number)
+
+-- with an access
+abbrev pub accessed : Setup → ℕ → Bool → Access → Standing → Standing
+accessed s number overlapped a k = record k { last = record k.last { accesses = with_access s k.last.process number overlapped k.last.marks a k.last.accesses } }
+
+-- the same, if there is one
+abbrev pub accessed_by : Setup → ℕ → Bool → Option Access → Standing → Standing
+accessed_by s number overlapped None k = k
+accessed_by s number overlapped (Some a) k = accessed s number overlapped a k
+
+-- with an entry of this number: its call, or else its access and its marks
+abbrev pub heard : Setup → ℕ → Bool → Option Access → List Mark → Standing → Standing
+heard s number overlapped access marks k = elim (called_in marks) [
+  | Some c ↦ begun number c k
+  | None ↦ marked_all number (accessed_by s number overlapped access k) marks
+]
+
+-- each count has room for one more
+pub record AreFew (k : Accesses) : Type 0 where
+  pub reads : k.reads < 2 ^ 64 - 1
+  pub writes : k.writes < 2 ^ 64 - 1
+  pub overlapped : k.overlapped < 2 ^ 64 - 1

@@ -1,0 +1,53 @@
+//! What became of a call.
+use plain_store::{Answer, Command};
+
+/// What the accesses of a call tell. Events are told by their numbers, from 0.
+#[derive(Clone, Copy, Debug)]
+pub struct Accesses {
+    /// The first one: there its doorway begins.
+    pub doorway: Option<u64>,
+    /// How many reads of bits the process has begun itself, and not its memory unit.
+    pub reads: u64,
+    /// How many writes.
+    pub writes: u64,
+    /// How many of its reads that have ended were overlapped by a write.
+    pub overlapped: u64,
+    /// Of the number that it reads, the bits so far.
+    pub number: u64,
+    /// For whom it waited last.
+    pub waited_for: Option<u8>,
+}
+
+/// What the marks of a call tell, those of a memory unit too. Events are told by their numbers, from 0.
+#[derive(Clone, Copy, Debug)]
+pub struct Marked {
+    /// Its doorway is finished: it waits.
+    pub door_end: Option<u64>,
+    pub entered: Option<u64>,
+    /// Its waiting ends: it enters, withdraws or fails.
+    pub wait_end: Option<u64>,
+    /// Its command is taken.
+    pub taken: Option<u64>,
+    /// The place of its command in the history.
+    pub place: Option<u64>,
+    pub left: Option<u64>,
+    pub answered: Option<u64>,
+    pub failed: Option<u64>,
+    pub withdrew: Option<u64>,
+    /// The ticket with which it waits.
+    pub ticket: Option<u32>,
+    pub answer: Option<Answer>,
+}
+
+/// A call of a process, and what has become of it so far.
+#[derive(Clone, Copy, Debug)]
+pub struct Called {
+    pub process: u8,
+    /// Which of its calls it is, from 1.
+    pub call: u64,
+    pub command: Command,
+    /// The event with which it began.
+    pub called: u64,
+    pub accesses: Accesses,
+    pub marks: Marked,
+}

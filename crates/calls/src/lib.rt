@@ -1,0 +1,12 @@
+//! The calls of a run: a table hears the entries one by one, and gives of each call that ends what became of it. Each number
+//! is found by looking back over the entries; the table keeps the last call of each process.
+#![tactic(auto)]
+
+mod called;
+mod printed;
+mod standing;
+mod table;
+
+pub use called::{Accesses, Called, Marked};
+pub use printed::{HEADER, print_call};
+pub use table::Table;

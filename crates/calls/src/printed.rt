@@ -1,0 +1,185 @@
+//! How calls are printed: as lines of comma-separated values.
+ghost use Rattle.std.specs.Prelude.{◌≡◌, ◌++◌, ◌∷◌, ◌||◌, cond, codes, flat_map, IfOk, OnOk};
+ghost use Rattle.std.specs.List.{list_any};
+ghost use Rattle.std.specs.String.{string_bytes};
+ghost use Rattle.std.specs.Fmt.{decimal};
+ghost use Rattle.plain_store.specs.Shown.{answer_text, command_text};
+ghost use Rattle.calls.specs.Lines.{answer_field, call_line, doubled, field, is_special as special, line_of, number_field, numbers as numbers_of, number_text, waited as waited_by};
+
+use crate::called::{Called, Marked};
+use plain_store::{Answer, Command, NestedTypes};
+use std::alloc::{AllocError, Global};
+use std::fmt;
+
+/// The first line of a table.
+pub const HEADER: &str =
+    "process,call,command,called,doorway,door_end,entered,taken,place,left,answered,failed,withdrew,reads,writes,overlapped,waited,waited_for,answer\n";
+
+/// Prints the line of a call behind what is there, where the newest event has this number. The one fault is want of
+/// memory.
+pub fn print_call(
+    alloc: Global,
+    called: &Called,
+    newest: u64,
+    line: &mut Vec<u8>,
+) -> Result<(), AllocError>
+    ensures { OnOk result (line.new.items ≡ line.old.items ++ call_line newest called.now) }
+{
+    let _nested: NestedTypes = None;
+    let head = head(alloc, called.process, called.call)?;
+    line.extend_from_slice(head.as_bytes())?;
+    let command = command_shown(alloc, &called.command)?;
+    push_field(line, command.as_bytes())?;
+    push_numbers(alloc, line, &numbers(called, newest))?;
+    push_answer(alloc, line, &called.marks.answer)?;
+    Ok(line.push(b'\n')?)
+}
+
+/// The process and the number of a call.
+fn head(alloc: Global, process: u8, call: u64) -> Result<String, AllocError>
+    ensures { IfOk result (λ text. string_bytes text ≡ decimal process ++ (codes "," ++ (decimal call ++ codes ","))) }
+{
+    format!(in alloc; "{process},{call},")
+}
+
+/// A command.
+fn command_shown(alloc: Global, command: &Command) -> Result<String, AllocError>
+    ensures { IfOk result (λ text. string_bytes text ≡ command_text command.now) }
+{
+    format!(in alloc; "{command}")
+}
+
+/// An answer.
+fn answer_shown(alloc: Global, answer: &Answer) -> Result<String, AllocError>
+    ensures { IfOk result (λ text. string_bytes text ≡ answer_text answer.now) }
+{
+    format!(in alloc; "{answer}")
+}
+
+/// The numbers of a call that stand between its command and its answer.
+fn numbers(called: &Called, newest: u64) -> [Option<u64>; 15]
+    ensures { result ≡ numbers_of newest called.now }
+{
+    let Called {
+        accesses,
+        marks,
+        ..
+    } = called;
+    [
+        Some(called.called),
+        accesses.doorway,
+        marks.door_end,
+        marks.entered,
+        marks.taken,
+        marks.place,
+        marks.left,
+        marks.answered,
+        marks.failed,
+        marks.withdrew,
+        Some(accesses.reads),
+        Some(accesses.writes),
+        Some(accesses.overlapped),
+        waited(marks, newest),
+        number_of(accesses.waited_for),
+    ]
+}
+
+/// A process, as a number.
+fn number_of(process: Option<u8>) -> Option<u64>
+    ensures { result ≡ process }
+{
+    match process {
+        None => None,
+        Some(process) => Some(u64::from(process)),
+    }
+}
+
+/// How many events there were behind the `wait` of a call, up to the one with which its waiting ended, or up to the newest.
+fn waited(marks: &Marked, newest: u64) -> Option<u64>
+    ensures { result ≡ waited_by newest marks.now }
+{
+    let wait = marks.door_end?;
+    let end = match marks.wait_end {
+        None => newest,
+        Some(end) => end,
+    };
+    Some(end.saturating_sub(wait))
+}
+
+/// Numbers, each behind a comma.
+fn push_numbers(
+    alloc: Global,
+    line: &mut Vec<u8>,
+    numbers: &[Option<u64>],
+) -> Result<(), AllocError>
+    ensures { OnOk result (line.new.items ≡ line.old.items ++ flat_map number_field numbers.now) }
+{
+    for number in numbers {
+        push_number(alloc, line, *number)?;
+    }
+    Ok(())
+}
+
+/// A number or nothing, behind a comma.
+fn push_number(alloc: Global, line: &mut Vec<u8>, number: Option<u64>) -> Result<(), AllocError>
+    ensures { OnOk result (line.new.items ≡ line.old.items ++ number_field number) }
+{
+    line.push(b',')?;
+    if let Some(number) = number {
+        let digits = format!(in alloc; "{number}")?;
+        line.extend_from_slice(digits.as_bytes())?;
+    }
+    Ok(())
+}
+
+/// An answer as a field or nothing, behind a comma.
+fn push_answer(alloc: Global, line: &mut Vec<u8>, answer: &Option<Answer>) -> Result<(), AllocError>
+    ensures { OnOk result (line.new.items ≡ line.old.items ++ 44 ∷ answer_field answer.now) }
+{
+    line.push(b',')?;
+    if let Some(answer) = answer {
+        let text = answer_shown(alloc, answer)?;
+        push_field(line, text.as_bytes())?;
+    }
+    Ok(())
+}
+
+/// A text as a field: where a comma or a quote is in it, it stands in quotes, and its own are doubled.
+fn push_field(line: &mut Vec<u8>, text: &[u8]) -> Result<(), AllocError>
+    ensures { OnOk result (line.new.items ≡ line.old.items ++ field text.now) }
+{
+    if !has_special(text) {
+        return Ok(line.extend_from_slice(text)?);
+    }
+    line.push(b'"')?;
+    push_doubled(line, text)?;
+    Ok(line.push(b'"')?)
+}
+
+/// Whether a comma or a quote is in a text.
+fn has_special(text: &[u8]) -> bool
+    ensures { result ≡ list_any special text.now }
+{
+    text.iter().any(|byte| *byte == b',' || *byte == b'"')
+}
+
+/// A text whose quotes are doubled.
+fn push_doubled(line: &mut Vec<u8>, text: &[u8]) -> Result<(), AllocError>
+    ensures { OnOk result (line.new.items ≡ line.old.items ++ flat_map doubled text.now) }
+{
+    for byte in text {
+        push_byte(line, *byte)?;
+    }
+    Ok(())
+}
+
+/// A byte of such a text.
+#[tactic(auto, using(std::proofs::lemmas::Bool::Decides::nat_tests))]
+fn push_byte(line: &mut Vec<u8>, byte: u8) -> Result<(), AllocError>
+    ensures { OnOk result (line.new.items ≡ line.old.items ++ doubled byte) }
+{
+    if byte == b'"' {
+        line.push(byte)?;
+    }
+    Ok(line.push(byte)?)
+}

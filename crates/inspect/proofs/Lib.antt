@@ -1,0 +1,4 @@
+pub mod Fronts
+pub mod InTurn
+pub mod Ranges
+pub mod Tabling

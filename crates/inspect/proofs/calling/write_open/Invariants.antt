@@ -1,0 +1,15 @@
+use Rattle.std.proofs.Common.{◌≡◌, ◌-◌, flat_map, length}
+use Rattle.std.specs.Io.KnownBytes.{Appends}
+use Rattle.std.specs.List.{range_with_len}
+use Rattle.record.specs.Entries.{Past}
+use Rattle.calls.specs.Hearing.{HasHeard, open_call}
+use Rattle.calls.specs.Lines.{line_of}
+use Rattle.inspect.proofs.calling.write_open.Given as goal
+
+-- the lines of the calls of those below the present process were written
+abbrev pub invariant-loop-process : goal.invariant-loop-process
+invariant-loop-process g l = record {
+  written : (past : Past) → HasHeard l.table past →
+      Appends (g.W.Sink.taken l.fn.output) (g.W.Sink.taken l.output) (flat_map (λ p. line_of (length past - 1) (open_call l.fn.setup p past)) (range_with_len 0 l.process));
+  whole : g.W.Sink.failures l.output ≡ g.W.Sink.failures l.fn.output;
+}

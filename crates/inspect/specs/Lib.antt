@@ -1,0 +1,2 @@
+pub use Rattle.calls.specs as calls
+pub mod Tables

@@ -1,0 +1,142 @@
+//! The engine `calls`: a line for each call of a scenario's run, written as it ends; at the end the calls that go on.
+ghost use Rattle.std.specs.Prelude.{◌≡◌, ◌+◌, ◌-◌, ◌^◌, ◌<◌, flat_map, length, IfErr, IfOk, OnErr, OnOk};
+ghost use Rattle.std.specs.Io.KnownBytes.{Appends};
+ghost use Rattle.record.specs.Entries.{Past};
+ghost use Rattle.scenario.specs.files.Engines.{Ran};
+ghost use Rattle.scenario.specs.files.Streams.{ReadsFront, WritesFront};
+ghost use Rattle.scenario.specs.Reads.{script};
+ghost use Rattle.course.specs.Replays.{ended};
+ghost use Rattle.course.specs.Writing.{IsWriteFault, failed_write};
+ghost use Rattle.calls.specs.Hearing.{HasHeard, open_call};
+ghost use Rattle.calls.specs.Lines.{header, line_of, open_lines};
+ghost use Rattle.inspect.specs.Tables.{CutsTable, TablesLine, calls_text, tabled};
+
+use crate::hearing::{hear_told, write_if};
+use calls::{HEADER, Table};
+use course::Course;
+use fault_place::progress::{Onlooker, Place};
+use plain_store::Setup;
+use scenario::{Fault, Line, Scenario, Sink, Source, read_input, read_scenario, write_all};
+use std::alloc::Global;
+
+/// Reads a whole scenario file, and then writes the table of the calls of its run, as they end: a line of comma-separated
+/// values for each. However it ends, at most `INPUT_LIMIT` bytes are taken from the front of the input.
+/// An onlooker hears how far it is: `Nobody`, where nobody is to know.
+pub fn run_calls<R: Source, W: Sink, L: Onlooker>(
+    alloc: Global,
+    input: &mut R,
+    output: &mut W,
+    onlooker: &mut L,
+) -> Result<(), Fault>
+    requires reads { R.failures input.old < 2 ^ 64 - 1 }
+    requires writes { W.failures output.old < 2 ^ 64 - 1 }
+    ensures ran { Ran calls_text (ended result)
+        (record { to_come = R.to_come input.old; taken = W.taken output.old; read_failures = R.failures input.old; write_failures = W.failures output.old })
+        (record { to_come = R.to_come input.new; taken = W.taken output.new; read_failures = R.failures input.new; write_failures = W.failures output.new }) }
+    ensures input { ReadsFront (R.to_come input.old) (R.to_come input.new) }
+{
+    let file = read_input(alloc, input)?;
+    let scenario = read_scenario(alloc, file.as_slice())?;
+    table_scenario(alloc, file.as_slice(), &scenario, output, onlooker)
+}
+
+/// Writes the table of the calls of the run of a file's scenario.
+fn table_scenario<W: Sink, L: Onlooker>(
+    alloc: Global,
+    file: &[u8],
+    scenario: &Scenario,
+    output: &mut W,
+    onlooker: &mut L,
+) -> Result<(), Fault>
+    requires { W.failures output.old < 2 ^ 64 - 1 }
+    ensures ok { OnOk result (Appends (W.taken output.old) (W.taken output.new) (tabled (script scenario.now))) }
+    ensures front { WritesFront (W.taken output.old) (W.taken output.new) (tabled (script scenario.now)) }
+    ensures fault { IfErr result IsWriteFault }
+    ensures failures { W.failures output.new ≡ W.failures output.old + failed_write result }
+{
+    let mut course = Course::new(alloc, &scenario.setup, false)?;
+    let mut table = Table::new(alloc, &scenario.setup)?;
+    write_header(output)?;
+    let mut place = Place::before(file, scenario.lines.len());
+    for line in &scenario.lines {
+        onlooker.reached(place.begin_line(table.entries()));
+        table_line(alloc, &mut course, line, &mut table, output)?;
+    }
+    write_open(alloc, &scenario.setup, &table, output)
+}
+
+/// Writes the first line.
+fn write_header<W: Sink>(output: &mut W) -> Result<(), Fault>
+    requires { W.failures output.old < 2 ^ 64 - 1 }
+    ensures ok { OnOk result (Appends (W.taken output.old) (W.taken output.new) header) }
+    ensures front { WritesFront (W.taken output.old) (W.taken output.new) header }
+    ensures fault { IfErr result IsWriteFault }
+    ensures failures { W.failures output.new ≡ W.failures output.old + failed_write result }
+{
+    write_all(output, HEADER.as_bytes())
+}
+
+/// Makes the turns of a line, and writes the line of each call that ends before the next turn is made.
+fn table_line<W: Sink>(
+    alloc: Global,
+    course: &mut Course,
+    line: &Line,
+    table: &mut Table,
+    output: &mut W,
+) -> Result<(), Fault>
+    requires writes { W.failures output.old < 2 ^ 64 - 1 }
+    requires entries { table.old.entries < 2 ^ 63 }
+    ensures ok { OnOk result (TablesLine line.now course.old course.new table.old table.new (W.taken output.old) (W.taken output.new)) }
+    ensures cut { OnErr result (CutsTable line.now course.old table.old (W.taken output.old) (W.taken output.new)) }
+    ensures setup { table.new.setup ≡ table.old.setup }
+    ensures entries { OnOk result (table.new.entries < table.old.entries + 2 ^ 32) }
+    ensures fault { IfErr result IsWriteFault }
+    ensures failures { W.failures output.new ≡ W.failures output.old + failed_write result }
+{
+    course.begin(line);
+    'turns: loop {
+        let Some(told) = course.turn(line)? else {
+            return Ok(());
+        };
+        hear_told(alloc, &told, table, output)?;
+    }
+}
+
+/// Writes the lines of the calls that go on, by process.
+fn write_open<W: Sink>(
+    alloc: Global,
+    setup: &Setup,
+    table: &Table,
+    output: &mut W,
+) -> Result<(), Fault>
+    requires writes { W.failures output.old < 2 ^ 64 - 1 }
+    requires setup { table.now.setup ≡ setup.now }
+    ensures ok { OnOk result ((past : Past) → HasHeard table.now past → Appends (W.taken output.old) (W.taken output.new) (open_lines setup.now past)) }
+    ensures front { (past : Past) → HasHeard table.now past → WritesFront (W.taken output.old) (W.taken output.new) (open_lines setup.now past) }
+    ensures fault { IfErr result IsWriteFault }
+    ensures failures { W.failures output.new ≡ W.failures output.old + failed_write result }
+{
+    for process in 0..setup.processes {
+        write_open_call(alloc, table, process, output)?;
+    }
+    Ok(())
+}
+
+/// Writes the line of the call of a process, if it goes on.
+fn write_open_call<W: Sink>(
+    alloc: Global,
+    table: &Table,
+    process: u8,
+    output: &mut W,
+) -> Result<(), Fault>
+    requires writes { W.failures output.old < 2 ^ 64 - 1 }
+    requires process { process < table.now.setup.processes }
+    ensures ok { OnOk result ((past : Past) → HasHeard table.now past → Appends (W.taken output.old) (W.taken output.new) (line_of (length past - 1) (open_call table.now.setup process past))) }
+    ensures front { (past : Past) → HasHeard table.now past → WritesFront (W.taken output.old) (W.taken output.new) (line_of (length past - 1) (open_call table.now.setup process past)) }
+    ensures fault { IfErr result IsWriteFault }
+    ensures failures { W.failures output.new ≡ W.failures output.old + failed_write result }
+{
+    let called = table.open_call(process);
+    let last = table.newest();
+    write_if(alloc, &called, last, output)
+}
