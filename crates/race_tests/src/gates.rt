@@ -96,6 +96,30 @@ impl Gate for Passing {
     }
 }
 
+/// Holds port 0 inside for good. Port 1 begins once port 0 is there, and is seen where it comes inside.
+#[derive(Drop)]
+struct Keeping {
+    kept: AtomicBool,
+    followed: AtomicBool,
+}
+
+impl Gate for Keeping {
+    fn at(&self, port: u8, moment: Moment) -> Pass {
+        match (port, moment) {
+            (0, Moment::Inside) => {
+                self.kept.store(true, SeqCst);
+                Pass::Again
+            }
+            (1, Moment::Begun) => on_if(&self.kept),
+            (1, Moment::Inside) => {
+                self.followed.store(true, SeqCst);
+                Pass::On
+            }
+            _ => Pass::On,
+        }
+    }
+}
+
 /// Answers `Again` so often, and then `On`.
 #[derive(Drop)]
 struct Patient {
@@ -183,6 +207,21 @@ fn a_gate_is_asked_ten_million_times(rt: HostRuntime) -> Result<(), Fail> {
         fault == Some(RaceFault::Held(0)) && times == 10_000_000,
         "{fault:?}"
     );
+    Ok(())
+}
+
+// A port that is held inside fails and is driven down, so that the other one comes inside. With a body that keeps the section the
+// other one waits at the door, and the race has no end.
+#[test]
+fn a_port_held_inside_lets_the_other_in(rt: HostRuntime) -> Result<(), Fail> {
+    let adds = [add()?];
+    let gate = Keeping {
+        kept: AtomicBool::new(false),
+        followed: AtomicBool::new(false),
+    };
+    let fault = race_of_two(&rt, rt.alloc(), 4, [&adds, &adds], &gate)?.err();
+    assert!(&rt; fault == Some(RaceFault::Held(0)), "{fault:?}");
+    assert!(&rt; gate.followed.load(SeqCst));
     Ok(())
 }
 
