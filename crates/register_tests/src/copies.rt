@@ -71,11 +71,10 @@ fn write_last(rt: &impl Abort, row: &mut CopiedRow)
 }
 
 /// Such a write leaves the other bits as they are, in every state of their accesses.
-#[tactic(auto, using(crate::proofs::Copies::others_stay))]
+#[tactic(auto, using(crate::proofs::OtherBits::others_stay))]
 fn other_bits_stay()
     ensures { OthersStay }
-{
-}
+{}
 
 // A write of bit 64 of a row takes four steps and changes no other bit: not bit 0, where an index that
 // wraps would end up, of which a write is open meanwhile, and not bit 63, of which a read is open.
