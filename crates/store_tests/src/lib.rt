@@ -5,8 +5,6 @@
 #[cfg(test)]
 mod devices;
 #[cfg(test)]
-mod engine_runs;
-#[cfg(test)]
 mod images;
 #[cfg(test)]
 mod places;
@@ -14,8 +12,5 @@ mod places;
 mod printing;
 #[cfg(test)]
 mod stores;
-mod streams;
 #[cfg(test)]
 mod weighing;
-
-pub use streams::{Paper, Tape};

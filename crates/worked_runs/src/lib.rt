@@ -1,9 +1,7 @@
-//! Tests that cross crates, of what no file shows: worlds under single events, streams that fail amid a run, and the calls of the
-//! library by which a run is listed, recorded, audited and swept; and two uses of the headline, as callers have it.
+//! Tests that cross crates, of what no file shows: worlds under single events, and the calls of the library by which a run is
+//! listed, recorded, audited and swept; and two uses of the headline, as callers have it.
 #![tactic(auto)]
 
-#[cfg(test)]
-mod failing;
 #[cfg(test)]
 mod growths;
 #[cfg(test)]
