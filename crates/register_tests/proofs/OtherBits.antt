@@ -1,6 +1,6 @@
 -- A write of one bit of a row, beside whatever is done with the others.
 use Rattle.std.proofs.Common.{◌≡◌, ℕ, List, ◌∙◌}
-use Rattle.safe_bit.specs.Cell.{Cell, cell_after}
+use Rattle.reader_copies.specs.safe_bit.Cell.{Cell, cell_after}
 use Rattle.reader_copies.specs.declared.runs.Made.{Made}
 use Rattle.reader_copies.specs.Row.{cell_at, row_after}
 use Rattle.reader_copies.proofs.Writing.{with_cell-other}

@@ -1,6 +1,6 @@
 -- Copies of bits in the states that several tests share.
 use Rattle.std.specs.Prelude.{◌≡◌, ℕ, true, false, List, [], ◌∷◌}
-use Rattle.safe_bit.specs.Cell.{Cell, cell_of}
+use Rattle.reader_copies.specs.safe_bit.Cell.{Cell, cell_of}
 use Rattle.record.specs.safe_bit.declared.Move.TheVariants.{BeginWrite, EndWrite, BeginRead}
 use Rattle.reader_copies.specs.declared.runs.Made.{Made}
 use Rattle.reader_copies.specs.Row.{cell_at, new_row, row_after}
