@@ -1,5 +1,5 @@
-"""Refused memory: each growth is refused in turn, of each command on each file of examples/, of races, of a long replay, and of
-the tests of the crates; and each thread of a race.
+"""Refused memory: each growth is refused in turn, of each command on each file of examples/, of races, of boards, of a long replay,
+and of the tests of the crates; and each thread of a race.
 
 A run must end with status 4 and tell want of memory, behind a front of its text; a race and an answer to words, behind nothing.
 One growth is a hint, in the search for the nearest command to a word: there a run may end as with ample memory. A race tells
@@ -19,7 +19,8 @@ import signal
 import subprocess
 from concurrent.futures import ThreadPoolExecutor
 
-from lib.places import PROGRAM, TOP
+from gate.boards import turns
+from lib.places import PROGRAM, TOP, WORKLOADS
 from lib.refusing import Refuser
 from lib.running import COMMANDS, CORES, Row, script_row
 
@@ -57,7 +58,6 @@ COMMANDS_IN_SHORT = ["plain", "replay", "record", "audit"]
 QUICK, DRAWN = ["picture_tests_tests", "record_tests_tests", "register_tests_tests", "store_tests_tests"], 20
 # and the tests that are tried there always: of calls that no command makes, or makes on threads
 ALWAYS = {
-    "board_tests_tests": ["ports_go_on_after_refused_growths"],
     "store_tests_tests": ["prints_scenarios", "weighs_lists"],
     "worked_runs_tests": ["calls_succeed_after_refused_growths", "hears_and_audits_a_record"],
 }
@@ -186,6 +186,15 @@ def long_replay(refuser, folder):
     return Row("`replay` of a write and a hundred reads", "a file", tried, wrong)
 
 
+def board_row(refuser, text, left):
+    """Each growth of a board whose ports take turns: what is refused there changes nothing, and is asked for again. So the run
+    leaves the same, or tells want of memory where something else wants it."""
+    words = [WORKLOADS, "rounds", text, str(text.count("\n"))]
+    is_good = lambda copy: (copy.returncode, copy.stdout) == (0, left) or bool(TEST_WANTS_MEMORY.search(copy.stderr)) and copy.is_front
+    _, _, tried, wrong = refused(refuser, words, is_good)
+    return Row("boards whose ports take turns", "`examples/boards/turns`", tried, wrong or met_none(tried))
+
+
 def is_want_of_memory(ran):
     """Whether a test passed, or failed for want of memory, and was ended by nothing else."""
     tells = bool(TEST_WANTS_MEMORY.search(ran.stdout + ran.stderr))
@@ -239,6 +248,7 @@ def rows(examples, folder, is_short):
         running += [pool.submit(race_row, refuser, *race) for race in races(examples, folder, is_short)]
         running += [pool.submit(words_row, refuser, words) for words in WORDS]
         running.append(pool.submit(long_replay, refuser, folder))
+        running += [pool.submit(board_row, refuser, *each) for each in turns() if each[1] is not None]
         yield from (row.result() for row in running)
         tests = list(pool.map(lambda test: test_row(refuser, *test), all_tests(is_short)))
         yield from tests
