@@ -57,7 +57,7 @@ fn writes_each_entry_by_one_call(rt: HostRuntime) -> Result<(), Fail> {
         };
         let mut input = FromRead::new(FAILURE.as_bytes());
         let ran = run_record(rt.alloc(), &mut input, &mut output, &mut Nobody);
-        assert!(rt; ran.err() == Some(Fault::Write));
+        assert!(rt; matches!(ran, Err(Fault::Write)));
         assert!(rt; output.written.as_slice() == written.as_bytes());
     }
     Ok(())

@@ -10,10 +10,9 @@ mod growths;
 mod listed;
 #[cfg(test)]
 mod scenarios;
+#[cfg(test)]
 mod uses;
 #[cfg(test)]
 mod verdicts;
 #[cfg(test)]
 mod worlds;
-
-pub use uses::{printed_replies, two_events};

@@ -93,12 +93,13 @@ fn hears_and_audits_a_record(rt: HostRuntime) -> Result<(), Fail> {
     let mut record = record_of(rt.alloc(), setup, &events)?;
     assert!(rt; events.len() == 761 && record.entries.len() == 761 && comes_inside(&record));
     hear_all(&rt, rt.alloc(), setup, &record)?;
-    assert!(rt; audit_again(rt.alloc(), setup, &record)? == Verdict::Good);
+    let verdict = audit_again(rt.alloc(), setup, &record)?;
+    assert!(rt; matches!(verdict, Verdict::Good));
     if let Some(entry) = record.entries.get_mut(756) {
         entry.act.access = None;
     }
     let verdict = audit_again(rt.alloc(), setup, &record)?;
-    assert!(rt; verdict == Verdict::Bad(756, Law::Program));
+    assert!(rt; matches!(verdict, Verdict::Bad(756, Law::Program)));
     Ok(())
 }
 
