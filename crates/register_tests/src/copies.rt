@@ -71,7 +71,6 @@ fn write_last(rt: &impl Abort, row: &mut CopiedRow)
 }
 
 /// Such a write leaves the other bits as they are, in every state of their accesses.
-#[tactic(auto, using(crate::proofs::OtherBits::others_stay))]
 fn other_bits_stay()
     ensures { OthersStay }
 {}
