@@ -14,7 +14,7 @@ from lib.places import TOP
 SCRIPTS = [
     *["api", "claims", "quotes", "layers", "links", "worked", "picture_parts", "pictures", "cut_file", "command_line", "terminal"],
     *["record_files", "changed_records", "short_files", "other_locks", "fault_places", "any_lock_second", "lock_search", "run_script", "readme"],
-    *["lessons", "races", "refused_threads", "inspected"],
+    *["lessons", "races", "boards", "refused_threads", "inspected"],
 ]
 RUNS = [
     *([sys.executable, f"tests/gate/{name}.py"] for name in SCRIPTS),

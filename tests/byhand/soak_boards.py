@@ -4,27 +4,24 @@
 soak_boards.py [--rounds N] [--first K] [--keep FOLDER]: so many rounds, 2,000 if not said, from the one of number K on, 1 if
 not said. A round is drawn from its number; how its threads meet is not. The rounds are played by the part `rounds` of the
 program `workloads`, which `rt ci` or `rt run` leaves, each in a run of its own; the judge is `second/finished_calls.py`, a
-second reading of what lists of finished calls and an image are to be, which shares nothing with it. Of each good round it
-judges copies too in which a reply or the image is another one, and has to find these bad. The output of a round that is not
+second reading of what lists of finished calls and an image are to be, which shares nothing with it; in version 1 the program's
+own verdict has to be the same. Of each good round it judges copies too in which a reply or the image is another one, and has to find these bad. The output of a round that is not
 good is kept in the folder, `soak` if none is named. By hand: the rounds take some minutes, on all cores.
 """
 
 import pathlib
 import random
-import re
-import subprocess
 import sys
 from dataclasses import dataclass
 
 sys.path.insert(0, str(pathlib.Path(__file__).resolve().parents[1]))
 
-from lib.places import WORKLOADS
+from lib.rounds import play as played
+from lib.rounds import read_round
 from lib.soaks import CHANGED_COPIES, finds_changes, soak
-from second.finished_calls import Left, verdict
+from second.finished_calls import verdict
 from second.store import OTHER_ANSWERS, Call, Store
 
-SETUP = re.compile(r"version (\d+) processes (\d+) tickets (\d+) stamps (\d+) slots (\d+)")
-CALL = re.compile(r"(\d+) (\d+|-) (.*) = (.*)")
 FIGURES = ["calls", "replies", "failures", "cut and taken", "cut and not taken", *OTHER_ANSWERS, CHANGED_COPIES]
 
 # mostly `a`, so that most calls meet others at it, and small stores get full
@@ -95,22 +92,6 @@ def draw(number):
     return "\n".join(lines) + "\n", [sum(line.startswith("call") for line in plan) for plan in plans]
 
 
-def read_round(lines):
-    """A round from its lines."""
-    version, processes, _, _, slots = map(int, SETUP.fullmatch(lines[0]).groups())
-    told = Left(version, processes, slots, lists=[[] for _ in range(processes)])
-    for line in lines[1:]:
-        if line.startswith("open "):
-            told.opening.append(tuple(line.split()[1:]))
-        elif line.startswith("image "):
-            told.end = line.split()[1]
-        else:
-            process, place, command, answer = CALL.fullmatch(line).groups()
-            place, answer = None if place == "-" else int(place), None if answer == "-" else answer
-            told.add(int(process), place, command.split(), answer)
-    return told
-
-
 def count(told, figures):
     """What was tried."""
     calls = [call for calls in told.lists for call in calls]
@@ -125,23 +106,27 @@ def count(told, figures):
 
 
 def run(number):
-    """The scenario and the lines of a round, and what it leaves, if it came to its end and each call has its entry."""
+    """The scenario and the lines of a round; what it leaves, if it came to its end and each call has its entry; and in version 1
+    what weighing says of that."""
     scenario, calls = draw(number)
-    ran = subprocess.run([WORKLOADS, "rounds", scenario], capture_output=True, text=True)
+    ran = played(scenario)
     lines, kept = ran.stdout.splitlines(), f"{scenario}\n{ran.stdout}{ran.stderr}"
-    if ran.returncode != 0 or not lines or not lines[-1].startswith("image "):
-        return kept, None
-    told = read_round(lines)
-    return kept, told if [len(entries) for entries in told.lists] == calls else None
+    if ran.returncode != 0 or not lines:
+        return kept, None, None
+    told, weighed = read_round(lines)
+    is_whole = told.end != "" and [len(entries) for entries in told.lists] == calls
+    return kept, told if is_whole else None, weighed
 
 
 def play(number, figures):
     """Plays the round of this number: what to keep of it, and `good`, or what is wrong."""
-    text, told = run(number)
+    text, told, weighed = run(number)
     if told is None:
         return text, "no round"
     count(told, figures)
     found = verdict(told, Store.image)
+    if weighed not in (None, found):
+        found = f"{found}, and weighed {weighed}"
     if found == "good" and not finds_changes(told, Store.image, figures):
         found = "good, and so is a changed copy"
     return text, found

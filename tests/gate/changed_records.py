@@ -77,6 +77,9 @@ TAMPERED = [
     ("one-process-write", 756, "0 0.commit.0.0 end : taken 0 done", "0 : taken 0 done", "bad 756 program"),
     ("one-process-write", 760, "0 0.ticket.1.0 end : answer done", "0 0.ticket.1.0 end : answer no-name", "bad 760 program"),
     ("tie-of-tickets", 30, "1 1.ticket.0.0 write 1", "1 1.ticket.0.0 write 1 : enter", "bad 30 program"),
+    # (stamp 2 is written, from its least significant bit on)
+    ("failure-within-image", 2005, "0 0.stamp0.0.0 write 0", "0 0.stamp0.0.0 write 1", "bad 2005 program"),
+    ("failure-within-image", 2007, "0 0.stamp0.1.0 write 1", "0 0.stamp0.1.0 write 0", "bad 2007 program"),
 ]
 # a call of a lone process with tickets of one bit, which fails before its first access, and starts again
 CUT_CALL = ["0 : call ask", "0 : fail", "0 0.ticket.0.0 write 0", "0 0.ticket.0.0 end", "0 0.choosing.0.0 write 0"]

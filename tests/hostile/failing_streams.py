@@ -23,7 +23,8 @@ STREAMS = ["read", "write to standard output", "write to standard error"]
 # what becomes of a call
 HOWS = {"fail": "fails", "none": "takes no byte", "one": "takes one byte"}
 PIPES = {"stdin": subprocess.PIPE, "stdout": subprocess.PIPE, "stderr": subprocess.PIPE}
-MOST_WRITES = 250
+# (so that each command but those that draw writes single bytes)
+MOST_WRITES = 320
 INPUT_LIMIT = 532_481
 NOBODY = 2_000_000_000
 READ_FAULT = Ran(1, b"", b"read fault\n")
@@ -106,13 +107,13 @@ def spoil(spoiler, job):
     return what, f"`{command}`", f"call {call} of at most {most} bytes: {ran}, without it {whole}, on a cut file {cut}"
 
 
-def call_jobs(spoiler, examples, is_short):
-    """Each call of runs whose reads and writes take all that there is, and of runs whose calls take few bytes."""
+def call_jobs(spoiler, examples):
+    """Each call of runs whose reads and writes take all that there is, and of runs whose calls take few bytes, or one."""
     for command in COMMANDS:
         for file in [good_file(command, examples), faulty_file(command, examples)]:
             text = file.read_bytes()
             few = max(1, -(-len(plainly(command, text).output) // MOST_WRITES))
-            for most in [0, few * (20 if is_short else 1)]:
+            for most in [0, few]:
                 yield from spoiled_calls(spoiler, command, text, most)
 
 
@@ -186,7 +187,8 @@ def gone_readers(command, good):
     if command not in ("replay", "record", "draw", "draw-svg"):
         return
     tries = Tries("a pipe whose reader goes after ten bytes")
-    text = b"bakery 1\nprocesses 1\n" + b"call 0 write a c:5\ngo 0 idle\n" * 400
+    # (more than a pipe holds)
+    text = b"bakery 1\nprocesses 1\n" + b"call 0 write a c:5\ngo 0 idle\n" * 2000
     with subprocess.Popen([PROGRAM, command, "-"], **PIPES) as going:
         going.stdin.write(text)
         going.stdin.close()
@@ -293,7 +295,7 @@ def names(command, good, folder):
 
 def rows(examples, folder, is_short):
     spoiler = Spoiler(folder)
-    jobs = list(call_jobs(spoiler, examples, is_short))
+    jobs = list(call_jobs(spoiler, examples))
     with workers() as pool:
         spoiled = pool.imap_unordered(functools.partial(spoil, spoiler), jobs, CHUNK)
         yield from all_but_nothing(counted(spoiled))

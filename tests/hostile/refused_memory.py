@@ -1,5 +1,5 @@
-"""Refused memory: each growth is refused in turn, of each command on each file of examples/, of races, of a long replay, and of
-the tests of the crates; and each thread of a race.
+"""Refused memory: each growth is refused in turn, of each command on each file of examples/, of races, of boards, of a long replay,
+and of the tests of the crates; and each thread of a race.
 
 A run must end with status 4 and tell want of memory, behind a front of its text; a race and an answer to words, behind nothing.
 One growth is a hint, in the search for the nearest command to a word: there a run may end as with ample memory. A race tells
@@ -19,7 +19,8 @@ import signal
 import subprocess
 from concurrent.futures import ThreadPoolExecutor
 
-from lib.places import PROGRAM, TOP
+from gate.boards import turns
+from lib.places import PROGRAM, TOP, WORKLOADS
 from lib.refusing import Refuser
 from lib.running import COMMANDS, CORES, Row, script_row
 
@@ -49,8 +50,17 @@ RACES = {
 # how a test tells it: as its own error, or as the one that it found in place of what it asserts; a race that could not start
 # a thread tells that, and one of which a port waited at its gate for one that wanted memory tells that it was held
 TEST_WANTS_MEMORY = re.compile(r"\b(AllocError|AllocFailed|Memory|Spawn|Held)\b")
-# the programs of tests of which some are tried in short
-QUICK = ["picture_tests_tests", "record_tests_tests", "register_tests_tests", "store_tests_tests"]
+# the worked scenarios that are tried in short too, by these commands: a lone write, a commit bit settled at 1, a withdrawal, and
+# one that is there to be printed
+WORKED_IN_SHORT = ["one-process-write", "failure-commit-settled-new", "withdrawal", "comments-and-spaces"]
+COMMANDS_IN_SHORT = ["plain", "replay", "record", "audit"]
+# the programs of tests of which some are tried in short, and how many
+QUICK, DRAWN = ["picture_tests_tests", "record_tests_tests", "register_tests_tests", "store_tests_tests"], 20
+# and the tests that are tried there always: of calls that no command makes, or makes on threads
+ALWAYS = {
+    "store_tests_tests": ["prints_scenarios", "weighs_lists"],
+    "worked_runs_tests": ["calls_succeed_after_refused_growths", "hears_and_audits_a_record"],
+}
 
 
 def is_lost(copy):
@@ -92,12 +102,15 @@ def file_row(refuser, examples, command, file):
     return Row(*named(f"`{command}`", name, met), tried, wrong or met_none(tried))
 
 
-def files_in(examples, is_short):
-    """All files that are input, and those that stand beside them."""
+def files_run(examples, is_short):
+    """Each command with each file that it is tried on: all files that are input, and those that stand beside them."""
+    commands = [command for command in COMMANDS if command != "race"]
     files = [path for path in sorted(examples.iterdir()) if path.is_file()]
     if is_short:
-        return files
-    return files + [path for name in ("scenario", "bits-file", "record-file") for path in sorted(examples.glob(f"*/*/{name}"))]
+        worked = [examples / "worked" / name / "scenario" for name in WORKED_IN_SHORT]
+        return [*itertools.product(commands, files), *itertools.product(COMMANDS_IN_SHORT, worked)]
+    files += [path for name in ("scenario", "bits-file", "record-file") for path in sorted(examples.glob(f"*/*/{name}"))]
+    return list(itertools.product(commands, files))
 
 
 def words_row(refuser, words):
@@ -173,6 +186,15 @@ def long_replay(refuser, folder):
     return Row("`replay` of a write and a hundred reads", "a file", tried, wrong)
 
 
+def board_row(refuser, text, left):
+    """Each growth of a board whose ports take turns: what is refused there changes nothing, and is asked for again. So the run
+    leaves the same, or tells want of memory where something else wants it."""
+    words = [WORKLOADS, "rounds", text, str(text.count("\n"))]
+    is_good = lambda copy: (copy.returncode, copy.stdout) == (0, left) or bool(TEST_WANTS_MEMORY.search(copy.stderr)) and copy.is_front
+    _, _, tried, wrong = refused(refuser, words, is_good)
+    return Row("boards whose ports take turns", "`examples/boards/turns`", tried, wrong or met_none(tried))
+
+
 def is_want_of_memory(ran):
     """Whether a test passed, or failed for want of memory, and was ended by nothing else."""
     tells = bool(TEST_WANTS_MEMORY.search(ran.stdout + ran.stderr))
@@ -205,25 +227,28 @@ def test_row(refuser, program, test):
 
 
 def all_tests(is_short):
-    """Each test of each crate; in short twenty of some crates whose tests take no time."""
+    """Each test of each crate; in short some, and others that are drawn from crates whose tests take no time."""
     tests = []
     for program in sorted(TOP.glob("crates/*/out/*_tests")):
-        if is_short and program.name not in QUICK:
-            continue
         listed = subprocess.run([program, "--list"], capture_output=True, text=True, check=True).stdout
         tests += [(program, test) for test in re.findall(r"^(.*): test$", listed, re.M)]
-    return random.Random(1).sample(tests, min(20, len(tests))) if is_short else tests
+    if not is_short:
+        return tests
+    always = [each for each in tests if each[1].rpartition("::")[2] in ALWAYS.get(each[0].name, [])]
+    if len(always) != sum(map(len, ALWAYS.values())):
+        raise LookupError(f"of the tests that are always tried these are there: {always}")
+    others = [each for each in tests if each[0].name in QUICK and each not in always]
+    return always + random.Random(1).sample(others, min(DRAWN, len(others)))
 
 
 def rows(examples, folder, is_short):
     refuser = Refuser(folder, 1800)
     with ThreadPoolExecutor(CORES) as pool:
-        commands = [command for command in COMMANDS if command != "race"]
-        files = files_in(examples, is_short)
-        running = [pool.submit(file_row, refuser, examples, command, file) for command in commands for file in files]
+        running = [pool.submit(file_row, refuser, examples, *each) for each in files_run(examples, is_short)]
         running += [pool.submit(race_row, refuser, *race) for race in races(examples, folder, is_short)]
         running += [pool.submit(words_row, refuser, words) for words in WORDS]
         running.append(pool.submit(long_replay, refuser, folder))
+        running += [pool.submit(board_row, refuser, *each) for each in turns() if each[1] is not None]
         yield from (row.result() for row in running)
         tests = list(pool.map(lambda test: test_row(refuser, *test), all_tests(is_short)))
         yield from tests

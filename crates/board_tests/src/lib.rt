@@ -1,14 +1,8 @@
-//! Tests of ports and boards: ports that take turns on one thread, ports on threads of their own, also with failures, and
-//! boards that are closed.
+//! Tests of boards that can't be closed yet, and of ports at rest. What ports leave, by turns and on threads, stands under
+//! examples/boards/.
 #![tactic(auto)]
 
 #[cfg(test)]
 mod closings;
 #[cfg(test)]
-mod growths;
-#[cfg(test)]
-mod texts;
-#[cfg(test)]
-mod threads;
-#[cfg(test)]
-mod turns;
+mod rest;

@@ -6,8 +6,6 @@ mod adding;
 #[cfg(test)]
 mod gates;
 #[cfg(test)]
-mod growths;
-#[cfg(test)]
 mod plans;
 #[cfg(test)]
 mod statuses;

@@ -1,5 +1,5 @@
 ghost use Rattle.std.specs.Prelude.{◌≡◌, true, false, [], ◌∷◌, replicate, None, IfOk};
-ghost use Rattle.register_tests.specs.Copies.{written_copy, open_row, with_last_written};
+ghost use Rattle.register_tests.specs.Copies.{OthersStay, written_copy, open_row, with_last_written};
 
 use reader_copies::{CopiedBit, CopiedRow, CopyRead, CopyWrite, Made, Progress};
 use record::Move;
@@ -70,12 +70,18 @@ fn write_last(rt: &impl Abort, row: &mut CopiedRow)
     assert!(rt; progress == Progress::Done);
 }
 
+/// Such a write leaves the other bits as they are, in every state of their accesses.
+fn other_bits_stay()
+    ensures { OthersStay }
+{}
+
 // A write of bit 64 of a row takes four steps and changes no other bit: not bit 0, where an index that
 // wraps would end up, of which a write is open meanwhile, and not bit 63, of which a read is open.
 #[test]
 fn a_row_of_sixty_five_bits(rt: HostRuntime) -> Result<(), Fail> {
     let (mut row, mut write, mut read) = with_open_bits(rt.alloc())?;
     write_last(&rt, &mut row);
+    other_bits_stay();
     let (made, _) = row.read_step(63, 1, &mut read, true);
     assert!(rt; made.how == Move::EndRead(false));
     let (made, _) = row.write_step(0, &mut write);

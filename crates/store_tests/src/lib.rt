@@ -1,11 +1,7 @@
-//! Tests of the one-thread store and its image, of weighing, of scenarios as text, and of streams that fail at a chosen call, in
-//! a crate of their own, so that those layers are proved once. What a file shows stands under examples/, not here.
+//! Tests of the store's image, of weighing, and of scenarios as text, in a crate of their own, so that those layers are proved
+//! once. What a file shows stands under examples/, not here.
 #![tactic(auto)]
 
-#[cfg(test)]
-mod devices;
-#[cfg(test)]
-mod engine_runs;
 #[cfg(test)]
 mod images;
 #[cfg(test)]
@@ -13,9 +9,4 @@ mod places;
 #[cfg(test)]
 mod printing;
 #[cfg(test)]
-mod stores;
-mod streams;
-#[cfg(test)]
 mod weighing;
-
-pub use streams::{Paper, Tape};

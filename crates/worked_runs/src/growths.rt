@@ -19,10 +19,11 @@ fn write(count: i64) -> Command {
 /// was, and the same call is accepted then.
 fn call(rt: &impl Abort, world: &mut World, process: u8, count: i64) {
     if let Err(refusal) = world.event(Event::Call(process, write(count))) {
-        assert!(rt; refusal == Refusal::Memory && world.stage(process) == Some(Stage::Idle));
+        assert!(rt; matches!(refusal, Refusal::Memory));
+        assert!(rt; matches!(world.stage(process), Some(Stage::Idle)));
         assert!(rt; world.event(Event::Call(process, write(count))).is_ok());
     }
-    assert!(rt; world.stage(process) == Some(Stage::Doorway));
+    assert!(rt; matches!(world.stage(process), Some(Stage::Doorway)));
     go(rt, world, process, Stage::Waiting);
 }
 

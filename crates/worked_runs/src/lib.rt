@@ -1,5 +1,5 @@
-//! Tests that cross crates, of what no file shows: worlds under single events, streams that fail amid a run, and the calls of the
-//! library by which a run is listed, recorded, audited and swept; and two uses of the headline, as callers have it.
+//! Tests that cross crates, of what no file shows: worlds under single events, and the calls of the library by which a run is
+//! listed, recorded, audited and swept; and two uses of the headline, as callers have it.
 #![tactic(auto)]
 
 #[cfg(test)]
@@ -10,10 +10,9 @@ mod growths;
 mod listed;
 #[cfg(test)]
 mod scenarios;
+#[cfg(test)]
 mod uses;
 #[cfg(test)]
 mod verdicts;
 #[cfg(test)]
 mod worlds;
-
-pub use uses::{printed_replies, two_events};

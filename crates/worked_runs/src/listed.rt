@@ -1,25 +1,31 @@
 //! Worked runs as lists of events, each of which is made on a world by itself.
 use crate::scenarios::SCENARIOS;
+use crate::uses::printed_replies;
 use bstr::ByteSlice;
-use engines::progress::Nobody;
-use engines::{events_of, replay};
-use scenario::read_scenario;
+use engines::events_of;
+use scenario::{FromRead, IntoWrite, read_scenario};
 use std::alloc::Global;
 use std::test::Fail;
-use store_tests::{Paper, Tape};
 use world::World;
+
+/// For how many bytes of a text there is room from the start, so that want of memory is told as such.
+const ROOM: usize = 4_096;
+
+/// What a replay of a file prints.
+fn printed(alloc: Global, file: &str) -> Result<Vec<u8>, Fail> {
+    let mut text = Vec::with_capacity(alloc, ROOM)?;
+    printed_replies(
+        alloc,
+        &mut FromRead::new(file.as_bytes()),
+        &mut IntoWrite::new(&mut text),
+    )?;
+    Ok(text)
+}
 
 /// The marks that a replay of a file prints: its lines that begin with the number of an event.
 fn marks_of_replay(alloc: Global, file: &str) -> Result<Vec<u8>, Fail> {
-    let mut output = Paper::new(alloc)?;
-    replay(
-        alloc,
-        &mut Tape::new(file.as_bytes()),
-        &mut output,
-        &mut Nobody,
-    )?;
     let mut marks = Vec::new(alloc);
-    for line in output.written.as_slice().lines() {
+    for line in printed(alloc, file)?.as_slice().lines() {
         if line.first().is_some_and(|byte| byte.is_ascii_digit()) {
             marks.extend_from_slice(line)?;
             marks.push(b'\n')?;

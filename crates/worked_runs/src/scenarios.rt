@@ -1,4 +1,4 @@
-//! The scenarios of the worked runs, as examples/worked has them, and what one of them prints.
+//! The scenarios of the worked runs, as examples/worked has them.
 
 pub const ASK_AFTER_LOST_CUT_CALL: &str =
     "bakery 2\nprocesses 1\ntickets 2\nstamps 2\nopen a c:5\ncall 0 write a c:6\nstep 0 819\n\
@@ -45,11 +45,6 @@ pub const ONE_PROCESS_WANDER: &str =
 
 pub const LONE_WRITE: &str =
     "bakery 1\nprocesses 1\ntickets 2\nstamps 2\ncall 0 write a c:5\ngo 0 idle\nshow\n";
-
-/// What is printed for it.
-pub const LONE_WRITE_PRINTS: &str =
-    "0 0 call write a c:5\n8 0 wait 1\n8 0 enter\n756 0 taken 0 done\n757 0 leave\n\
-    760 0 answer done\nshow a=c:5\nend events 761 taken 1 refused 0\n";
 
 pub const ONE_PROCESS_WRITE_AND_READ: &str =
     "bakery 1\nprocesses 1\ntickets 2\nstamps 2\ncall 0 write a c:5\ngo 0 idle\ncall 0 read a\n\

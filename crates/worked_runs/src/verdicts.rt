@@ -3,16 +3,14 @@
 ghost use Rattle.std.specs.Prelude.{◌≡◌, Ok};
 ghost use Rattle.plain_store.specs.Setups.{checked};
 
-use crate::scenarios::{LONE_WRITE, LONE_WRITE_PRINTS};
-use engines::progress::Nobody;
-use engines::{Auditor, Law, Record, Swept, Verdict, audit, events_of, record_of, replay, sweep};
+use crate::scenarios::LONE_WRITE;
+use engines::{Auditor, Law, Record, Swept, Verdict, audit, events_of, record_of, sweep};
 use plain_store::{Command, Name, Setup, Value};
 use record::{Event, Mark};
 use scenario::read_scenario;
 use std::alloc::{AllocError, Global};
 use std::process::Abort;
 use std::test::Fail;
-use store_tests::{Paper, Tape};
 
 fn a() -> Name {
     Name::new(b"a").unwrap()
@@ -75,54 +73,33 @@ fn hear_all(
     Ok(())
 }
 
-/// What a replay of a file prints.
-fn printed(alloc: Global, file: &str) -> Result<Vec<u8>, Fail> {
-    let mut output = Paper::new(alloc)?;
-    replay(
-        alloc,
-        &mut Tape::new(file.as_bytes()),
-        &mut output,
-        &mut Nobody,
-    )?;
-    let Paper { written, .. } = output;
-    Ok(written)
+/// Whether the process of the lone write comes inside with its eighth step.
+fn comes_inside(record: &Record) -> bool {
+    match record.entries.get(8) {
+        Some(entry) => matches!(
+            entry.act.marks.as_slice(),
+            [Mark::Waiting(1), Mark::Entered]
+        ),
+        None => false,
+    }
 }
 
-#[test]
-fn prints_a_run(rt: HostRuntime) -> Result<(), Fail> {
-    let printed = printed(rt.alloc(), LONE_WRITE)?;
-    assert!(rt; printed.as_slice() == LONE_WRITE_PRINTS.as_bytes());
-    Ok(())
-}
-
-#[test]
-fn lists_events_and_their_record(rt: HostRuntime) -> Result<(), Fail> {
-    let scenario = read_scenario(rt.alloc(), LONE_WRITE.as_bytes())?;
-    let events = events_of(rt.alloc(), &scenario)?;
-    let record = record_of(rt.alloc(), &scenario.setup, &events)?;
-    assert!(rt; events.len() == 761 && record.entries.len() == 761);
-    let Some(entry) = record.entries.get(8) else {
-        panic!(rt; "the record has no entry 8");
-    };
-    let marks = entry.act.marks.as_slice();
-    assert!(rt; marks == [Mark::Waiting(1), Mark::Entered].as_slice());
-    Ok(())
-}
-
-// The record of a run is good, and one without an access breaks the local program.
+// The record of a run has its entries and is good, and one without an access breaks the local program.
 #[test]
 fn hears_and_audits_a_record(rt: HostRuntime) -> Result<(), Fail> {
     let scenario = read_scenario(rt.alloc(), LONE_WRITE.as_bytes())?;
     let events = events_of(rt.alloc(), &scenario)?;
     let setup = &scenario.setup;
     let mut record = record_of(rt.alloc(), setup, &events)?;
+    assert!(rt; events.len() == 761 && record.entries.len() == 761 && comes_inside(&record));
     hear_all(&rt, rt.alloc(), setup, &record)?;
-    assert!(rt; audit_again(rt.alloc(), setup, &record)? == Verdict::Good);
+    let verdict = audit_again(rt.alloc(), setup, &record)?;
+    assert!(rt; matches!(verdict, Verdict::Good));
     if let Some(entry) = record.entries.get_mut(756) {
         entry.act.access = None;
     }
     let verdict = audit_again(rt.alloc(), setup, &record)?;
-    assert!(rt; verdict == Verdict::Bad(756, Law::Program));
+    assert!(rt; matches!(verdict, Verdict::Bad(756, Law::Program)));
     Ok(())
 }
 

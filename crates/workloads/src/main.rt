@@ -21,8 +21,8 @@ use std::thread::Threads;
 const PARTS: [&str; 6] = ["registers", "image", "board", "weigh", "world", "rounds"];
 
 /// Runs the part that the first word names, or all parts if there is none, and prints what they leave. The second and the
-/// third word are numbers, which say how much of it there is; of `rounds` the second is a scenario. What took how long goes to
-/// standard error.
+/// third word are numbers, which say how much of it there is; of `rounds` the second is a scenario, and the third says how many of
+/// its lines are carried out by turns. What took how long goes to standard error.
 fn main(rt: HostRuntime) -> Result<()> {
     if let Some(word) = env::args(&rt)?.nth(1) {
         return run(&rt, word.as_str());
@@ -39,7 +39,8 @@ fn run<T: Env + Print + Eprint + Clock + AllocGlobal + Threads + Sync>(
     part: &str,
 ) -> Result<()> {
     if part == "rounds" {
-        return rounds::play_all(rt);
+        let by_turns = number(rt, 3)?.unwrap_or(0);
+        return rounds::play_all(rt, by_turns as usize);
     }
     let (first, second) = (number(rt, 2)?, number(rt, 3)?);
     let (some, more) = (first.unwrap_or(1), second.unwrap_or(1));

@@ -9,26 +9,19 @@ mod hearings;
 use crate::counters::{adds, counting};
 use anyhow::{Result, bail};
 use auditor::Auditor;
-use driver::{Calls, Driver};
+use driver::Driver;
 use hearings::{hear_all, recorded};
 use plain_store::Setup;
 use std::rt::Clock;
 use std::time::Instant;
 
-/// Prints what each run leaves, first those of two worked examples: of so many calls of a lone process, and of so many
-/// rounds of calls of a crowd. Each record is heard as often as a lone process calls.
+/// Prints what each run leaves: of so many calls of a lone process, and of so many rounds of calls of a crowd. Each record is
+/// heard as often as a lone process calls.
 pub fn times<T: Print + Eprint + Clock + AllocGlobal>(
     rt: &T,
     calls: u32,
     rounds: u32,
 ) -> Result<()> {
-    worked(rt, "lone write", &Setup::one(1, 2, 2, 1), Run::Alone(1))?;
-    worked(
-        rt,
-        "two calls under a seed",
-        &Setup::one(2, 4, 4, 1),
-        Run::Crowd(1),
-    )?;
     for (processes, slots) in [(2, 1), (2, 8), (16, 1), (16, 8)] {
         alone(rt, processes, slots, calls)?;
     }
@@ -58,10 +51,10 @@ struct Ran {
 }
 
 /// Makes a run of a new world.
-fn made<T: Clock + AllocGlobal>(rt: &T, setup: &Setup, calls: Calls, run: Run) -> Result<Ran>
+fn made<T: Clock + AllocGlobal>(rt: &T, setup: &Setup, run: Run) -> Result<Ran>
     requires { checked setup.now ≡ Ok tt }
 {
-    let mut driver = Driver::new(rt.alloc(), setup, calls)?;
+    let mut driver = Driver::new(rt.alloc(), setup)?;
     let start = Instant::now(rt)?;
     let has_ended = match run {
         Run::Alone(calls) => driver.alone(calls),
@@ -80,16 +73,6 @@ fn made<T: Clock + AllocGlobal>(rt: &T, setup: &Setup, calls: Calls, run: Run) -
     })
 }
 
-/// A worked example.
-fn worked<T: Print + Clock + AllocGlobal>(rt: &T, name: &str, setup: &Setup, run: Run) -> Result<()>
-    requires { checked setup.now ≡ Ok tt }
-{
-    let ran = made(rt, setup, Calls::Worked, run)?;
-    let (events, taken, count) = (ran.events, ran.taken, ran.count);
-    println!(rt; "{name}: {events} events, {taken} taken, a=c:{count}")?;
-    Ok(())
-}
-
 /// Calls of process 0 of so many.
 fn alone<T: Print + Eprint + Clock + AllocGlobal>(
     rt: &T,
@@ -98,7 +81,7 @@ fn alone<T: Print + Eprint + Clock + AllocGlobal>(
     calls: u32,
 ) -> Result<()> {
     let setup = counting(processes, 32, slots)?;
-    let ran = made(rt, &setup, Calls::Adds, Run::Alone(calls))?;
+    let ran = made(rt, &setup, Run::Alone(calls))?;
     let (events, taken, count) = (ran.events, ran.taken, ran.count);
     println!(rt;
         "alone of {processes}, slots {slots}: {events} events, {taken} taken, a=c:{count}"
@@ -114,7 +97,7 @@ fn crowd<T: Print + Eprint + Clock + AllocGlobal>(
     rounds: u32,
 ) -> Result<()> {
     let setup = counting(processes, 32, 1)?;
-    let ran = made(rt, &setup, Calls::Adds, Run::Crowd(rounds))?;
+    let ran = made(rt, &setup, Run::Crowd(rounds))?;
     println!(rt;
         "crowd of {processes}: {} taken, a=c:{}",
         ran.taken, ran.count

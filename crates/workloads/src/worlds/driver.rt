@@ -10,33 +10,22 @@ use std::alloc::{AllocError, Global};
 /// The most steps of a call that waits for nobody, and some more.
 const STEPS: u32 = 65_536;
 
-/// A world, how many processes it has and what they call, and how many events it has accepted.
+/// A world, how many processes it has, of which each call adds 1 to the counter, and how many events it has accepted.
 #[derive(Drop)]
 pub struct Driver {
     world: World,
     processes: u8,
-    calls: Calls,
     pub events: u64,
-}
-
-/// What the processes of a world call.
-#[derive(Clone, Copy)]
-pub enum Calls {
-    /// Each call adds 1 to the counter, so that it counts the calls.
-    Adds,
-    /// Process 0 writes 5, and each other adds 3.
-    Worked,
 }
 
 impl Driver {
     /// A world in which nothing has happened. The one fault is want of memory.
-    pub fn new(alloc: Global, setup: &Setup, calls: Calls) -> Result<Driver, AllocError>
+    pub fn new(alloc: Global, setup: &Setup) -> Result<Driver, AllocError>
         requires { checked setup.now ≡ Ok tt }
     {
         Ok(Driver {
             world: World::new(alloc, setup)?,
             processes: setup.processes,
-            calls,
             events: 0,
         })
     }
@@ -111,12 +100,8 @@ impl Driver {
         let Ok(name) = Name::new(b"a") else {
             return false;
         };
-        let command = match self.calls {
-            Calls::Adds => Command::Add(name, 1),
-            Calls::Worked if process == 0 => Command::Write(name, Value::Count(5)),
-            Calls::Worked => Command::Add(name, 3),
-        };
-        let accepted = self.world.event(Event::Call(process, command)).is_ok();
+        let add = Command::Add(name, 1);
+        let accepted = self.world.event(Event::Call(process, add)).is_ok();
         self.events = self.events.wrapping_add(u64::from(accepted));
         accepted
     }
