@@ -13,3 +13,5 @@ pub mod Headlines
 pub mod Stands
 pub mod Took
 pub mod Once
+pub mod Order
+pub mod May
