@@ -1,5 +1,5 @@
-//! Tests of the store's image, of weighing, and of scenarios as text, in a crate of their own, so that those layers are proved
-//! once. What a file shows stands under examples/, not here.
+//! Tests of both stores and of the image, of weighing, and of scenarios as text, in a crate of their own, so that those layers
+//! are proved once. What a file shows stands under examples/, not here.
 #![tactic(auto)]
 
 #[cfg(test)]
@@ -8,5 +8,7 @@ mod images;
 mod places;
 #[cfg(test)]
 mod printing;
+#[cfg(test)]
+mod stores;
 #[cfg(test)]
 mod weighing;
