@@ -23,7 +23,7 @@ from lib.places import PROGRAM, TOP
 
 INSPECT = TOP / "examples" / "inspect"
 COMMANDS = {
-    "scenario": ["plain", "replay", "audit", "sweep", "race", "record", "draw", "draw-svg"],
+    "scenario": ["plain", "replay", "audit", "sweep", "race", "record", "calls", "draw", "draw-svg"],
     "bits": ["bits"],
     "record": ["judge"],
 }

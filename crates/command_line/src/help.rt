@@ -120,8 +120,8 @@ event, the process, and one of these. The entries of `record` have the same word
   answer REPLY   its call is answered, or refused: `tickets-full P`, `stamps-full`,
                  or `withdrawn`
   fail           it halts, and its memory unit takes over
-  settled B      its unit settles the bit that it was writing at B, 0 or 1. Which bit:
-                 `state --at N`, N the number of this event, tells it behind `torn`
+  settled B      its unit settles the bit that it was writing at B, 0 or 1. Which bit
+                 that is stands in the entry of `record` with this number
   down           its unit has cleared its ticket and its choosing bit
   withdraw       it gives up waiting
   restart        it is back
