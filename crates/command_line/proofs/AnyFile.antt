@@ -75,11 +75,11 @@ record_runs_empty own = (refl, refl, refl, refl, refl, refl)
 
 calls_runs : (own : Text) (x : ℕ) (rest : List ℕ) → (x == 45) ≡ false → RunsFile own (x ∷ rest) (command (codes "calls") Calls [])
 unfolding clap_on_literals command_named
-calls_runs own x rest e = (rw (e, no_flags x rest e) refl, rw (e, no_flags x rest e) refl, rw (e, no_flags x rest e) refl, rw (e, no_flags x rest e) refl, rw (e, no_flags x rest e) refl)
+calls_runs own x rest e = (rw (e, no_flags x rest e) refl, rw (e, no_flags x rest e) refl, rw (e, no_flags x rest e) refl, rw (e, no_flags x rest e) refl, rw (e, no_flags x rest e) refl, rw (e, no_flags x rest e) refl)
 
 calls_runs_empty : (own : Text) → RunsFile own [] (command (codes "calls") Calls [])
 unfolding clap_on_literals command_named
-calls_runs_empty own = (refl, refl, refl, refl, refl)
+calls_runs_empty own = (refl, refl, refl, refl, refl, refl)
 
 judge_runs : (own : Text) (x : ℕ) (rest : List ℕ) → (x == 45) ≡ false → RunsFile own (x ∷ rest) (command (codes "judge") Judge (codes "any-lock" ∷ codes "why" ∷ []))
 unfolding clap_on_literals command_named
