@@ -20,12 +20,12 @@ import sys
 sys.path.insert(0, str(pathlib.Path(__file__).resolve().parents[1]))
 
 from lib.counting import Counter
-from lib.places import EXAMPLES, PROGRAM, WORKED
+from lib.places import PROGRAM, TOP, WORKED
 from lib.random_scenarios import scenario
 from lib.running import runner, workers
 from second.calls import HEADER, Entries, calls_text, sums_of
 
-INSPECTED = EXAMPLES / "inspect"
+INSPECTED = TOP / "examples" / "inspect"
 MANY, CHUNK, MOST_EVENTS = 2_000, 25, 10_000
 ALWAYS = {"process", "call", "command", "called", "reads", "writes", "overlapped"}
 

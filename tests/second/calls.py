@@ -19,8 +19,16 @@ MARKS = {"door_end": "wait", "entered": "enter", "taken": "taken", "left": "leav
 MARKS |= {"failed": "fail", "withdrew": "withdraw"}
 
 
+def last_write(moves):
+    """The last word among these moves of a bit that is of a write, if there is one."""
+    if not moves:
+        return None
+    _, word, before = moves[-1]
+    return word if word in ("write", "end", "settle") else before
+
+
 class Entries:
-    """The entries of a record, and the moves of each bit with the numbers of their entries."""
+    """The entries of a record, and the moves of each bit, with the numbers of their entries and the last word of a write before them."""
 
     def __init__(self, record):
         head = [line for line in record if not line[0].isdigit()]
@@ -29,7 +37,8 @@ class Entries:
         self.of_bit = collections.defaultdict(list)
         for number, (_, access, _) in enumerate(self.all):
             if access:
-                self.of_bit[access[:4]].append((number, access[4].split(" ")[0]))
+                moves, word = self.of_bit[access[:4]], access[4].split(" ")[0]
+                moves.append((number, word, last_write(moves)))
 
     def is_overlapped(self, number, bit):
         """Whether a write overlapped the read of a bit that ends with this entry."""
@@ -39,9 +48,7 @@ class Entries:
             if moves[at][1] == "write":
                 return True
             at -= 1
-        while at >= 0 and moves[at][1] not in ("write", "end", "settle"):
-            at -= 1
-        return at >= 0 and moves[at][1] == "write"
+        return moves[at][2] == "write"
 
 
 def first_with(own, word):

@@ -1,5 +1,5 @@
 -- What a table keeps goes on with an entry.
-use Rattle.std.proofs.Common.{◌≡◌, ◌≢◌, ℕ, suc, ◌+◌, ◌-◌, ◌^◌, ◌<◌, ◌≤◌, ◌==◌, Bool, true, false, not, ◌&&◌, cond, List, [], ◌∷◌, Option, None, Some, length, map, ◌++◌, slice_get, slice_set, refl, sym, ap, ◌∙◌, subst, arith, add-one, inl, inr, ne_eqb, eq-eqb, length-set}
+use Rattle.std.proofs.Common.{◌≡◌, ◌≢◌, ℕ, ◌+◌, ◌-◌, ◌^◌, ◌<◌, ◌≤◌, Bool, not, ◌&&◌, cond, List, [], ◌∷◌, Option, None, Some, length, map, ◌++◌, slice_get, slice_set, refl, sym, ap, ◌∙◌, subst, arith, add-one, inl, inr, ne_eqb, length-set}
 use Rattle.std.proofs.lemmas.Bool.{cases_eq, cases_lt}
 use Rattle.std.proofs.lemmas.Option.{slice_get-get_or, slice_get_past, slice_get_within}
 use Rattle.std.proofs.lemmas.List.{get_or-set_same, get_or-set_other}
@@ -11,11 +11,10 @@ use Rattle.record.specs.declared.marks.Mark.{Mark}
 use Rattle.record.specs.Entries.{Entry, Past}
 use Rattle.watch.specs.Watching.{WatchState}
 use Rattle.watch.specs.Watching.{HasHeard as HasWatched}
-use Rattle.calls.specs.declared.called.Accesses.{Accesses}
 use Rattle.calls.specs.declared.called.Called.{Called}
 use Rattle.calls.specs.declared.standing.Standing.{Standing}
-use Rattle.calls.specs.Columns.{accesses, called, ends_overlapped_read, is_calling, is_read, is_write, makes_itself}
-use Rattle.calls.specs.Hearing.{ComesInTurn, GoesOn, HasHeard, TableState, ended_call, open_call}
+use Rattle.calls.specs.Columns.{ends_overlapped_read, is_read, is_write, makes_itself}
+use Rattle.calls.specs.Hearing.{ComesInTurn, GoesOn, HasHeard, TableState, ended_call}
 use Rattle.calls.specs.Stepping.{AreFew, at_rest, heard, standing}
 use Rattle.calls.proofs.InCall.{calls-few, count-few}
 use Rattle.calls.proofs.Steps.{standing-heard, standing-other}

@@ -1,24 +1,22 @@
 -- What is kept of a process is what looking back finds: it goes on with an entry as the look-backs do.
-use Rattle.std.proofs.Common.{◌≡◌, ℕ, suc, ◌+◌, ◌==◌, Bool, true, false, ◌&&◌, cond, [], ◌∷◌, List, Option, None, Some, fold, is_none, is_some, length, refl, sym, ap, ◌∙◌, eq-eqb, add-one}
+use Rattle.std.proofs.Common.{◌≡◌, ℕ, suc, ◌==◌, Bool, true, false, ◌&&◌, cond, ◌∷◌, Option, None, Some, fold, is_none, is_some, length, refl, sym, ap, ◌∙◌, eq-eqb, add-one}
 use Rattle.plain_store.specs.declared.Answer.{Answer}
 use Rattle.plain_store.specs.declared.Command.{Command}
 use Rattle.plain_store.specs.declared.Setup.{Setup}
 use Rattle.record.specs.declared.access.Access.{Access}
 use Rattle.record.specs.declared.marks.Mark.{Mark}
-use Rattle.record.specs.safe_bit.declared.Move.{Move}
 use Rattle.record.specs.Calls.{called_in, calls_in, last_command}
-use Rattle.record.specs.Doorways.{first_of, number_in_call}
+use Rattle.record.specs.Doorways.{number_in_call}
 use Rattle.record.specs.Entries.{Entry, Past, has, is_called, is_entered, is_failed, is_waiting, own}
 use Rattle.record.specs.Moves.{moves_of}
 use Rattle.watch.specs.Looks.{ends_overlapped}
 use Rattle.calls.specs.declared.called.Accesses.{Accesses}
-use Rattle.calls.specs.declared.called.Called.{Called}
 use Rattle.calls.specs.declared.called.Marked.{Marked}
 use Rattle.calls.specs.declared.standing.Standing.{Standing}
-use Rattle.calls.specs.Columns.{accesses, answer_after, answer_in_call, called, called_at, count_in_call, ends_overlapped_read, ends_waiting, goes_on_after, has_access, is_answered, is_calling, is_left, is_read, is_taken, is_withdrawal, is_write, makes_itself, marked, more_if, number_after, number_read, over_call, place_after, place_in_call, tells_waiting, ticket_after, ticket_in_call, waited_for}
+use Rattle.calls.specs.Columns.{accesses, answer_after, called, called_at, count_in_call, ends_overlapped_read, ends_waiting, has_access, is_answered, is_calling, is_left, is_read, is_taken, is_withdrawal, is_write, makes_itself, marked, more_if, number_after, number_read, over_call, place_after, tells_waiting, ticket_after, ticket_in_call, waited_for}
 use Rattle.calls.specs.Stepping.{accessed_by, begun, first_if, heard, marked_all, no_accesses, no_marks, standing, with_access, with_mark}
 use Rattle.calls.proofs.Folds.{answer-on, answered-on, called_has, door_end-on, entered-on, failed-on, fold-field, fold-first, left-on, marked_all-is, place-on, taken-on, ticket-on, wait_end-on, with_marks, withdrew-on}
-use Rattle.calls.proofs.InCall.{first_none, if_there, number-called, number-mine, number-other, over-called, over-mine, over-other}
+use Rattle.calls.proofs.InCall.{first_none, number-called, number-mine, number-other, over-called, over-mine, over-other}
 
 -- Marks.
 

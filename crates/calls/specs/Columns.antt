@@ -1,14 +1,14 @@
 -- What became of a call: each number is found by looking back over a past.
-use Rattle.std.specs.Prelude.{ℕ, ◌+◌, ◌==◌, nat_lt, Bool, true, false, not, ◌&&◌, List, [], ◌∷◌, length, fold, cond, Option, None, Some, is_none, is_some, bit_or, ◌^◌}
+use Rattle.std.specs.Prelude.{ℕ, ◌+◌, ◌==◌, nat_lt, Bool, true, false, ◌&&◌, [], ◌∷◌, length, fold, cond, Option, None, Some, is_none, is_some, bit_or, ◌^◌}
 use Rattle.record.specs.safe_bit.declared.Move.{Move}
-use Rattle.record.specs.safe_bit.declared.Move.TheVariants.{BeginWrite, EndWrite, BeginRead, EndRead, Settle}
+use Rattle.record.specs.safe_bit.declared.Move.TheVariants.{BeginWrite, BeginRead, EndRead}
 use Rattle.plain_store.specs.declared.Answer.{Answer}
 use Rattle.plain_store.specs.declared.Setup.{Setup}
 use Rattle.record.specs.declared.access.Access.{Access}
 use Rattle.record.specs.declared.access.Field.{Field}
-use Rattle.record.specs.declared.access.Field.TheVariants.{Choosing, Ticket, Commit, Stamp0, Stamp1, Image0, Image1}
+use Rattle.record.specs.declared.access.Field.TheVariants.{Choosing, Ticket}
 use Rattle.record.specs.declared.marks.Mark.{Mark}
-use Rattle.record.specs.declared.marks.Mark.TheVariants.{Called, Waiting, Entered, Taken, Left, Answered, Failed, Down, Withdrew}
+use Rattle.record.specs.declared.marks.Mark.TheVariants.{Waiting, Entered, Taken, Left, Answered, Failed, Down, Withdrew}
 use Rattle.record.specs.Calls.{calls_in, last_command}
 use Rattle.record.specs.Doorways.{doorway_end, first_of, number_in_call}
 use Rattle.record.specs.Entries.{Entry, Past, has, is_called, is_entered, is_failed, own}

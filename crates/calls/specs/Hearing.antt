@@ -1,5 +1,5 @@
 -- What a table of calls keeps of the entries that it has heard.
-use Rattle.std.specs.Prelude.{◌≡◌, ℕ, ◌<◌, Bool, true, false, not, ◌&&◌, List, ◌∷◌, length, cond, slice_get, slice_set, ◌-◌, ◌^◌, Option, None, Some, Ok}
+use Rattle.std.specs.Prelude.{◌≡◌, ℕ, ◌<◌, Bool, true, not, ◌&&◌, List, ◌∷◌, length, cond, slice_get, slice_set, ◌-◌, ◌^◌, Option, None, Some, Ok}
 use Rattle.plain_store.specs.declared.Setup.{Setup}
 use Rattle.plain_store.specs.Setups.{checked}
 use Rattle.record.specs.declared.access.Access.{Access}

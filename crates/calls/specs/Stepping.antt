@@ -9,11 +9,10 @@ use Rattle.record.specs.declared.marks.Mark.TheVariants as mark
 use Rattle.record.specs.Calls.{called_in}
 use Rattle.record.specs.Doorways.{first_of}
 use Rattle.record.specs.Entries.{Past}
-use Rattle.record.specs.safe_bit.declared.Move.{Move}
 use Rattle.calls.specs.declared.called.Accesses.{Accesses}
 use Rattle.calls.specs.declared.called.Marked.{Marked}
 use Rattle.calls.specs.declared.standing.Standing.{Standing}
-use Rattle.calls.specs.Columns.{answer_after, called, ends_waiting, goes_on_after, is_calling, is_read, is_write, more_if, number_after, place_after, tells_waiting, ticket_after}
+use Rattle.calls.specs.Columns.{answer_after, called, goes_on_after, is_calling, is_read, is_write, more_if, number_after, tells_waiting}
 
 -- what is kept of p
 abbrev pub standing : Setup → ℕ → Past → Standing

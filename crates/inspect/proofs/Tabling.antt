@@ -5,7 +5,7 @@ use Rattle.scenario.specs.files.Streams.{WritesFront}
 use Rattle.plain_store.specs.declared.setups.Setup.{Setup}
 use Rattle.plain_store.specs.Setups.{checked}
 use Rattle.record.specs.Entries.{Entry, Past}
-use Rattle.record.specs.Records.{entry_of, past_of, process_of}
+use Rattle.record.specs.Records.{entry_of, process_of}
 use Rattle.scenario.specs.declared.lines.Line.{Line}
 use Rattle.calls.specs.Hearing.{HasHeard, TableState, ended_call}
 use Rattle.calls.specs.Lines.{ended_lines, header, line_of, open_lines, table_text}

@@ -1,4 +1,4 @@
-use Rattle.std.proofs.Common.{◌+◌, ◌<◌, ◌∙◌, ap, arith, refl, sym, subst}
+use Rattle.std.proofs.Common.{◌<◌, ◌∙◌, ap, arith, refl, sym, subst}
 use Rattle.std.specs.Prelude.{Option, Some, None}
 use Rattle.course.specs.Courses.{CourseState, Follows, MakesTurn}
 use Rattle.course.specs.declared.told.Told.{Told}

@@ -1,6 +1,5 @@
-use Rattle.std.proofs.Common.{rules, ◌≡◌, ◌+◌, ℕ, List, [], ◌∷◌, drop, Ok, arith, subst, sym, ap, ◌∙◌}
+use Rattle.std.proofs.Common.{rules, ◌≡◌, ◌+◌, ℕ, List, [], ◌∷◌, drop, arith, subst}
 use Rattle.std.proofs.lemmas.List.{drop_all}
-use Rattle.plain_store.specs.Setups.{checked}
 use Rattle.plain_store.specs.declared.setups.Setup.{Setup}
 use Rattle.scenario.specs.declared.lines.Line.{Line}
 use Rattle.scenario.proofs.Places.{drop_in}

@@ -1,4 +1,4 @@
-use Rattle.std.proofs.Common.{◌∷◌, length, subst, ◌∙◌}
+use Rattle.std.proofs.Common.{subst, ◌∙◌}
 use Rattle.std.specs.Io.KnownBytes.{Appends}
 use Rattle.scenario.specs.files.Streams.{WritesFront}
 use Rattle.calls.specs.Lines.{line_of}

@@ -1,4 +1,4 @@
-use Rattle.std.proofs.Common.{◌≡◌, refl, sym, subst, ◌∙◌}
+use Rattle.std.proofs.Common.{refl, sym, subst, ◌∙◌}
 use Rattle.record.specs.Entries.{Entry}
 use Rattle.course.specs.Telling.{entry_made}
 use Rattle.course.specs.declared.told.Told.{Told}

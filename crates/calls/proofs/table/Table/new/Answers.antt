@@ -1,6 +1,5 @@
-use Rattle.std.proofs.Common.{◌≡◌, ◌<◌, ap, refl, ◌∙◌, arith, length, map, slice_get}
+use Rattle.std.proofs.Common.{◌≡◌, ap, refl, ◌∙◌, arith, length, slice_get}
 use Rattle.std.specs.Prelude.{List}
-use Rattle.std.specs.List.{range_with_len}
 use Rattle.std.proofs.lemmas.List.FromFn.{length-map-range_with_len}
 use Rattle.calls.specs.Stepping.{at_rest}
 use Rattle.calls.specs.declared.standing.Standing.{Standing}
