@@ -1,4 +1,6 @@
 pub use Rattle.any_lock.specs as any_lock
+pub use Rattle.trial.specs as trial
 pub use Rattle.record_file.specs as record_file
 pub mod Judgements
-pub mod Trials
+pub mod ReasonLines
+pub mod Explanations

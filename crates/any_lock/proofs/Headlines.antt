@@ -7,6 +7,7 @@ use Rattle.any_lock.proofs.Alone.{AllKeep, all_alone, all_keep, overtakes_nobody
 use Rattle.any_lock.proofs.Cuts.{answers_no_cut_call}
 use Rattle.any_lock.proofs.Stands.{stands_in_history}
 use Rattle.any_lock.proofs.Once.{calls_take_once}
+use Rattle.any_lock.proofs.Order.{places_keep_order}
 use Rattle.any_lock.proofs.Took.{answers_what_it_took}
 
 -- the entries before one of those that keep all laws
@@ -25,6 +26,7 @@ throughout s past all later earlier e split =
       answers = answers_what_it_took s earlier e kept.1 kept.0;
       once = calls_take_once s (e ∷ earlier) kept;
       cut = answers_no_cut_call s earlier e kept.1 kept.0;
+      order = places_keep_order s (e ∷ earlier) kept;
     }
 
 pub good_says : GoodSaysTheHeadline

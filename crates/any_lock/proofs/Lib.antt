@@ -13,3 +13,4 @@ pub mod Headlines
 pub mod Stands
 pub mod Took
 pub mod Once
+pub mod Order

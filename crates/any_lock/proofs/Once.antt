@@ -25,7 +25,7 @@ since_stop (e ∷ l) x rest none called =
     ap (λ b. elim b as (λ _. Past) [ true ↦ [] | false ↦ e ∷ since is_called (l ++ x ∷ rest) ]) (or_left (has is_called e) (list_any (has is_called) l) none)
     ∙ ap (λ (y : Past). e ∷ y) (since_stop l x rest (or_right (has is_called e) (list_any (has is_called) l) none) called)
 
-own-append : (p : ℕ) (a b : Past) → own p (a ++ b) ≡ own p a ++ own p b
+pub own-append : (p : ℕ) (a b : Past) → own p (a ++ b) ≡ own p a ++ own p b
 own-append p [] b = refl
 own-append p (e ∷ a) b = by (e.process == p) (own-append p a b)
   where

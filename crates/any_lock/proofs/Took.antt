@@ -165,7 +165,7 @@ unreplied (Some q) (answer.TicketsFull j) not_reply other = absurd (true≢false
 unreplied (Some q) answer.StampsFull not_reply other = absurd (true≢false other)
 unreplied (Some q) answer.Withdrawn not_reply other = absurd (true≢false other)
 
-outside : (k : Standing) (cut : Bool) → IsSound k cut → holds k.stage ≡ false → k.inside ≡ false
+pub outside : (k : Standing) (cut : Bool) → IsSound k cut → holds k.stage ≡ false → k.inside ≡ false
 outside k cut sound h = by k.inside refl
   where
     by : (b : Bool) → k.inside ≡ b → k.inside ≡ false

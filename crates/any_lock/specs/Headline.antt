@@ -2,7 +2,7 @@
 use Rattle.std.specs.Prelude.{◌≡◌, ℕ, List, ◌∷◌, ◌++◌, reverse, IsTrue, IsFalse, Contains}
 use Rattle.plain_store.specs.declared.Setup.{Setup}
 use Rattle.record.specs.Entries.{Entry, Past, has, is_entered}
-use Rattle.record.specs.Headline.{AnswersNoCutCall, CallsTakeOnce, IsAlone, IsAnswerTo, StandsInHistory, TakesItsPlace}
+use Rattle.record.specs.Headline.{AnswersNoCutCall, CallsTakeOnce, IsAlone, IsAnswerTo, PlacesKeepOrder, StandsInHistory, TakesItsPlace}
 use Rattle.record.specs.Spans.{all_takings}
 use Rattle.record.specs.declared.marks.Mark.TheVariants.{Answered}
 use Rattle.plain_store.specs.declared.Answer.{Answer}
@@ -28,6 +28,7 @@ pub record KeepsHeadline (s : Setup) (past : Past) (e : Entry) : Type 0 where
   pub answers : AnswersWhatItTook past e  -- it is the reply of the one command of its call, and another answer says that none was taken
   pub once : CallsTakeOnce (e ∷ past)  -- each call, cut or not, is taken at most once
   pub cut : AnswersNoCutCall past e  -- a call that was cut is never answered
+  pub order : PlacesKeepOrder (e ∷ past)  -- places keep the order of calls that do not overlap
 
 -- Each entry of these keeps it.
 abbrev pub KeepsHeadlineThroughout : Setup → Past → Type 0

@@ -8,3 +8,4 @@ pub mod Shown
 pub mod Judging
 pub mod Headline
 pub mod Reasons
+pub mod Changes

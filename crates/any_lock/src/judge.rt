@@ -1,4 +1,4 @@
-ghost use Rattle.std.specs.Prelude.{◌≡◌, ◌+◌, ◌-◌, ◌^◌, ◌<◌, ◌∷◌, ◌++◌, [], not, IfOk, List, Ok, length, reverse};
+ghost use Rattle.std.specs.Prelude.{◌≡◌, ◌+◌, ◌-◌, ◌^◌, ◌<◌, ◌∷◌, ◌++◌, [], not, IfOk, List, Ok, Some, length, reverse};
 ghost use Rattle.plain_store.specs.declared.Setup.{Setup as Given};
 ghost use Rattle.plain_store.specs.Setups.{checked};
 ghost use Rattle.record.specs.Entries.{Entry as Noted, Past};
@@ -78,6 +78,16 @@ impl Judge {
         }
     }
 
+    /// The same of an entry with this access and no mark, as nearly all are.
+    #[inline]
+    pub fn hear_access(&mut self, process: u8, access: Access)
+        requires { self.old.entries < 2 ^ 64 - 1 }
+        ensures heard { (s : Given) (entries : List Noted) → HasJudged self.old s entries → HasJudged self.new s (entries ++ record { process = process; access = Some access; marks = [] } ∷ []) }
+        ensures count { self.new.entries ≡ self.old.entries + 1 }
+    {
+        self.hear_parts(process, &Some(access), &[]);
+    }
+
     /// The verdict with an entry of this number, where that on the entries before it is good.
     fn verdict_with(
         &mut self,
@@ -103,6 +113,7 @@ impl Judge {
     /// The verdict on the entries so far, and how many there are: the lowest entry that breaks a law, and the first law
     /// that it breaks.
     pub fn judged(&self) -> Judged
+        ensures now { result.verdict ≡ self.now.verdict }
         ensures verdict { (s : Given) (entries : List Noted) → HasJudged self.now s entries → result.verdict ≡ verdict_of s entries }
         ensures entries { (s : Given) (entries : List Noted) → HasJudged self.now s entries → result.entries ≡ length entries }
         ensures headline { (s : Given) (entries : List Noted) → HasJudged self.now s entries → result.verdict ≡ Good → KeepsHeadlineThroughout s (reverse entries) }

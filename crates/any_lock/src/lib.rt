@@ -4,6 +4,7 @@
 #![tactic(auto)]
 
 mod access_rules;
+mod changes;
 mod hearing;
 mod judge;
 mod judging;
@@ -15,6 +16,7 @@ mod shown;
 mod standings;
 mod verdicts;
 
+pub use changes::changed;
 pub use judge::Judge;
 pub use judging::{good_says_the_headline, judge_all};
 pub use reasons::{Change, Reasons, Refused};

@@ -3,10 +3,9 @@
 
 ghost use Rattle.std.specs.Prelude.{◌-◌, ◌<◌, ◌^◌};
 
-use any_judge::judge_any_lock;
+use any_judge::{judge_any_lock, run_judge_with_reasons};
 use command_line::{
-    Asked, Engine, Intake, Output, Request, Terminals, USAGE_STATUS, WatchedInput, Watcher,
-    all_words, read_words,
+    Asked, Engine, Intake, Output, Request, Terminals, WatchedInput, Watcher, all_words, read_words,
 };
 use drawer::progress::Onlooker;
 use drawer::{Reads, draw, draw_svg};
@@ -21,9 +20,6 @@ use std::process::ExitCode;
 use std::sync::Wait;
 use std::thread::Threads;
 use std::time::Clock;
-
-/// What is told where reasons are asked for that there are none of.
-const WHY_ALONE: &str = "error: '--why' gives reasons of '--any-lock' alone, which is not given";
 
 fn main(rt: HostRuntime) -> ExitCode {
     let terminals = Terminals {
@@ -43,10 +39,6 @@ fn do_asked<T: Env + Files + Input + Print + Eprint + Clock + AllocGlobal + Thre
         Err(notice) => return Ok(notice.tell(rt)?),
     };
     match read_words(rt.alloc(), words.as_slice()) {
-        Ok(Asked::Run(request)) if request.why && !request.any_lock => {
-            let _ = eprintln!(rt; "{WHY_ALONE}");
-            Ok(USAGE_STATUS)
-        }
         Ok(Asked::Run(request)) => run(rt, &request, terminals),
         Ok(Asked::Tell(page)) => Ok(page.tell(rt)?),
         Err(notice) => Ok(notice.tell(rt)?),
@@ -149,6 +141,7 @@ fn run_engine<T: AllocGlobal + Threads + Wait + Sync, R: Source, W: Sink, L: Onl
         Engine::Sweep => run_sweep(alloc, input, output, onlooker),
         Engine::Record => ended(run_record(alloc, input, output, onlooker)),
         Engine::Judge if wanted.any_lock => judge_any_lock(alloc, input, output, wanted.why),
+        Engine::Judge if wanted.why => run_judge_with_reasons(alloc, input, output),
         Engine::Judge => run_judge(alloc, input, output),
         Engine::Race => return run_race(rt, alloc, input, output),
         Engine::Draw => ended(draw(alloc, reads, input, output, onlooker)),

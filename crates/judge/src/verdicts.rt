@@ -4,7 +4,7 @@ ghost use Rattle.std.specs.String.{string_bytes};
 ghost use Rattle.judge.specs.Judgements.{status_of_verdict, verdict_line as line_of_verdict};
 
 use auditor::{Audited, Verdict};
-use files::DONE;
+use trial::DONE;
 use std::alloc::{AllocError, Global};
 
 /// The exit status where an audit finds a law broken.
