@@ -4,6 +4,7 @@
 
 mod explaining;
 mod judging;
+mod laws;
 mod plain;
 mod reason_lines;
 mod verdicts;
@@ -11,3 +12,4 @@ mod verdicts;
 pub use any_lock::{Judge, Judged, Law, Verdict};
 pub use judge::run_judge_with_reasons;
 pub use judging::judge_any_lock;
+pub use laws::good_records_keep_laws_of_any_lock;

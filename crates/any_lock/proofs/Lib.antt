@@ -14,3 +14,4 @@ pub mod Stands
 pub mod Took
 pub mod Once
 pub mod Order
+pub mod May

@@ -67,17 +67,17 @@ never_chooses stage.Leaving is = absurd (true≢false (sym is))
 
 -- a mark that begins no call leaves it so, and takes nothing
 over_marked : (s : Setup) (n : ℕ) (k : Standing) (m : Mark) → is_called m ≡ false → mark_refusal k m ≡ None → IsOver k → IsOver (marked s n k m) × (takings (m ∷ []) ≡ [])
-over_marked s n k (mark.Called c) no none over = absurd (true≢false no)
-over_marked s n k (mark.Waiting t) no none over = absurd (clash (not (is_in_doorway k.stage)) (never_chooses k.stage over.rest) (none_if (not (is_in_doorway k.stage)) refusal.NotInDoorway _ none))
-over_marked s n k mark.Entered no none over = absurd (clash (not (is_waiting_stage k.stage)) (never_waits k.stage over.rest) (none_if (not (is_waiting_stage k.stage)) refusal.NotWaiting _ none))
-over_marked s n k (mark.Taken j r) no none over = absurd (clash (not k.inside) (ap not over.out) (none_if (not k.inside) refusal.NotInside _ none))
-over_marked s n k mark.Left no none over = absurd (clash (not k.inside) (ap not over.out) (none_if (not k.inside) refusal.NotInside _ none))
-over_marked s n k (mark.Answered a) no none over = absurd (clash (rests k.stage) over.rest (answers_not k.stage (none_if (not (is_in_doorway k.stage || is_leaving k.stage)) refusal.NotLeaving _ none)).1)
-over_marked s n k mark.Failed no none over = (record { rest = refl; out = over.out }, refl)
-over_marked s n k (mark.Settled v) no none over = (over, refl)
-over_marked s n k mark.Down no none over = (record { rest = refl; out = over.out }, refl)
-over_marked s n k mark.Withdrew no none over = absurd (clash (not (is_waiting_stage k.stage)) (never_waits k.stage over.rest) (none_if (not (is_waiting_stage k.stage)) refusal.NotWaiting _ none))
-over_marked s n k mark.Restarted no none over = (record { rest = refl; out = over.out }, refl)
+over_marked s n k (mark.Called c) uncalled none over = absurd (true≢false uncalled)
+over_marked s n k (mark.Waiting t) uncalled none over = absurd (clash (not (is_in_doorway k.stage)) (never_chooses k.stage over.rest) (none_if (not (is_in_doorway k.stage)) refusal.NotInDoorway _ none))
+over_marked s n k mark.Entered uncalled none over = absurd (clash (not (is_waiting_stage k.stage)) (never_waits k.stage over.rest) (none_if (not (is_waiting_stage k.stage)) refusal.NotWaiting _ none))
+over_marked s n k (mark.Taken j r) uncalled none over = absurd (clash (not k.inside) (ap not over.out) (none_if (not k.inside) refusal.NotInside _ none))
+over_marked s n k mark.Left uncalled none over = absurd (clash (not k.inside) (ap not over.out) (none_if (not k.inside) refusal.NotInside _ none))
+over_marked s n k (mark.Answered a) uncalled none over = absurd (clash (rests k.stage) over.rest (answers_not k.stage (none_if (not (is_in_doorway k.stage || is_leaving k.stage)) refusal.NotLeaving _ none)).1)
+over_marked s n k mark.Failed uncalled none over = (record { rest = refl; out = over.out }, refl)
+over_marked s n k (mark.Settled v) uncalled none over = (over, refl)
+over_marked s n k mark.Down uncalled none over = (record { rest = refl; out = over.out }, refl)
+over_marked s n k mark.Withdrew uncalled none over = absurd (clash (not (is_waiting_stage k.stage)) (never_waits k.stage over.rest) (none_if (not (is_waiting_stage k.stage)) refusal.NotWaiting _ none))
+over_marked s n k mark.Restarted uncalled none over = (record { rest = refl; out = over.out }, refl)
 
 -- what marks take
 takings_more : (m : Mark) (ms : List Mark) → takings (m ∷ ms) ≡ takings (m ∷ []) ++ takings ms
@@ -94,81 +94,80 @@ takings_more mark.Withdrew ms = refl
 takings_more mark.Restarted ms = refl
 
 over_all : (s : Setup) (n : ℕ) (ms : List Mark) (k : Standing) → list_any is_called ms ≡ false → refusal_on s n k ms ≡ None → IsOver k → IsOver (marked_all s n k ms) × (takings ms ≡ [])
-over_all s n [] k no none over = (over, refl)
-over_all s n (m ∷ ms) k no none over =
-    let first = over_marked s n k m (or_left (is_called m) (list_any is_called ms) no) (first_unrefused s n k m ms none) over in
-    let rest = over_all s n ms (marked s n k m) (or_right (is_called m) (list_any is_called ms) no) (rest_unrefused s n k m ms none) first.0 in
+over_all s n [] k uncalled none over = (over, refl)
+over_all s n (m ∷ ms) k uncalled none over =
+    let first = over_marked s n k m (or_left (is_called m) (list_any is_called ms) uncalled) (first_unrefused s n k m ms none) over in
+    let rest = over_all s n ms (marked s n k m) (or_right (is_called m) (list_any is_called ms) uncalled) (rest_unrefused s n k m ms none) first.0 in
     (rest.0, takings_more m ms ∙ ap (λ (l : List (ℕ × Reply)). l ++ takings ms) first.1 ∙ rest.1)
 
 -- marks with which a span ends
 ends_all : (s : Setup) (n : ℕ) (ms : List Mark) (k : Standing) (cut : Bool) → list_any is_called ms ≡ false → list_any ends_span ms ≡ true → refusal_on s n k ms ≡ None → IsSound k cut → IsOver (marked_all s n k ms)
-ends_all s n [] k cut no ends none sound = absurd (true≢false (sym ends))
-ends_all s n (m ∷ ms) k cut no ends none sound = by m ends (or_left (is_called m) (list_any is_called ms) no) (first_unrefused s n k m ms none) (rest_unrefused s n k m ms none)
+ends_all s n [] k cut uncalled ends none sound = absurd (true≢false (sym ends))
+ends_all s n (m ∷ ms) k cut uncalled ends none sound =
+    by (λ (x : Mark) ends first rest. ends_all s n ms (marked s n k x) (cut_after cut x) (or_right (is_called m) (list_any is_called ms) uncalled) ends rest (sound_marked s n k x cut first sound))
+    m ends (or_left (is_called m) (list_any is_called ms) uncalled) (first_unrefused s n k m ms none) (rest_unrefused s n k m ms none)
   where
     later : list_any is_called ms ≡ false
-    later = or_right (is_called m) (list_any is_called ms) no
+    later = or_right (is_called m) (list_any is_called ms) uncalled
 
-    on : (m : Mark) → list_any ends_span ms ≡ true → mark_refusal k m ≡ None → refusal_on s n (marked s n k m) ms ≡ None → IsOver (marked_all s n (marked s n k m) ms)
-    on m ends first rest = ends_all s n ms (marked s n k m) (cut_after cut m) later ends rest (sound_marked s n k m cut first sound)
-
-    by : (m : Mark) → list_any ends_span (m ∷ ms) ≡ true → is_called m ≡ false → mark_refusal k m ≡ None → refusal_on s n (marked s n k m) ms ≡ None → IsOver (marked_all s n (marked s n k m) ms)
-    by (mark.Answered a) ends no first rest =
+    by : ((m : Mark) → list_any ends_span ms ≡ true → mark_refusal k m ≡ None → refusal_on s n (marked s n k m) ms ≡ None → IsOver (marked_all s n (marked s n k m) ms)) → (m : Mark) → list_any ends_span (m ∷ ms) ≡ true → is_called m ≡ false → mark_refusal k m ≡ None → refusal_on s n (marked s n k m) ms ≡ None → IsOver (marked_all s n (marked s n k m) ms)
+    by on (mark.Answered a) ends uncalled first rest =
         let out : k.inside ≡ false = outside k cut sound (answers_not k.stage (none_if (not (is_in_doorway k.stage || is_leaving k.stage)) refusal.NotLeaving _ first)).0 in
         (over_all s n ms (marked s n k (mark.Answered a)) later rest (record { rest = refl; out = out })).0
-    by mark.Down ends no first rest =
+    by on mark.Down ends uncalled first rest =
         let out : k.inside ≡ false = none_if k.inside refusal.StillInside _ (none_else (not (is_settling k.stage)) refusal.NotSettling _ first) in
         (over_all s n ms (marked s n k mark.Down) later rest (record { rest = refl; out = out })).0
-    by (mark.Called c) ends no first rest = absurd (true≢false no)
-    by (mark.Waiting t) ends no first rest = on (mark.Waiting t) ends first rest
-    by mark.Entered ends no first rest = on mark.Entered ends first rest
-    by (mark.Taken j r) ends no first rest = on (mark.Taken j r) ends first rest
-    by mark.Left ends no first rest = on mark.Left ends first rest
-    by mark.Failed ends no first rest = on mark.Failed ends first rest
-    by (mark.Settled v) ends no first rest = on (mark.Settled v) ends first rest
-    by mark.Withdrew ends no first rest = on mark.Withdrew ends first rest
-    by mark.Restarted ends no first rest = on mark.Restarted ends first rest
+    by on (mark.Called c) ends uncalled first rest = absurd (true≢false uncalled)
+    by on (mark.Waiting t) ends uncalled first rest = on (mark.Waiting t) ends first rest
+    by on mark.Entered ends uncalled first rest = on mark.Entered ends first rest
+    by on (mark.Taken j r) ends uncalled first rest = on (mark.Taken j r) ends first rest
+    by on mark.Left ends uncalled first rest = on mark.Left ends first rest
+    by on mark.Failed ends uncalled first rest = on mark.Failed ends first rest
+    by on (mark.Settled v) ends uncalled first rest = on (mark.Settled v) ends first rest
+    by on mark.Withdrew ends uncalled first rest = on mark.Withdrew ends first rest
+    by on mark.Restarted ends uncalled first rest = on mark.Restarted ends first rest
 
 -- an entry of its own process: what its marks take, where its call is over
 over_entry : (s : Setup) (past : Past) (e : Entry) → Keeps s past e → has is_called e ≡ false → IsOver (standing s e.process past) → IsOver (standing s e.process (e ∷ past)) × (takings e.marks ≡ [])
-over_entry s past e kept no over =
+over_entry s past e kept uncalled over =
     let fine = orderly s past e.process e.access e.marks kept.marks in
     let none = unrefused_on s past e.process e.access e.marks kept.marks in
-    let all = over_all s (length past) e.marks (accessed_by (length past) (standing s e.process past) e.access) no none (over_accessed (length past) (standing s e.process past) e.access over) in
+    let all = over_all s (length past) e.marks (accessed_by (length past) (standing s e.process past) e.access) uncalled none (over_accessed (length past) (standing s e.process past) e.access over) in
     (subst IsOver (stands_whole s e.process past e.access e.marks fine.apart none) all.0, all.1)
 
 ends_entry : (s : Setup) (past : Past) (e : Entry) → AllKeep s past → Keeps s past e → has is_called e ≡ false → has ends_span e ≡ true → IsOver (standing s e.process (e ∷ past))
-ends_entry s past e before kept no ends =
+ends_entry s past e before kept uncalled ends =
     let fine = orderly s past e.process e.access e.marks kept.marks in
     let none = unrefused_on s past e.process e.access e.marks kept.marks in
     let sound = sound_accessed (length past) (standing s e.process past) e.access (is_cut e.process past) (all_sound s past before e.process) in
     subst IsOver (stands_whole s e.process past e.access e.marks fine.apart none)
-    (ends_all s (length past) e.marks (accessed_by (length past) (standing s e.process past) e.access) (is_cut e.process past) no ends none sound)
+    (ends_all s (length past) e.marks (accessed_by (length past) (standing s e.process past) e.access) (is_cut e.process past) uncalled ends none sound)
 
 -- where p stands once the span of its call has ended, until its next call
 is_over : (s : Setup) (p : ℕ) (later rest : Past) → AllKeep s (later ++ rest) → list_any (has is_called) (own p later) ≡ false → list_any (has ends_span) (own p later) ≡ true → IsOver (standing s p (later ++ rest))
-is_over s p [] rest all no ends = absurd (true≢false (sym ends))
-is_over s p (e ∷ later) rest all no ends = go (cases_eq e.process p)
+is_over s p [] rest all uncalled ends = absurd (true≢false (sym ends))
+is_over s p (e ∷ later) rest all uncalled ends = go (is_over s p later rest all.1) (cases_eq e.process p)
   where
-    mine : e.process ≡ p → list_any (has is_called) (e ∷ own p later) ≡ false → list_any (has ends_span) (e ∷ own p later) ≡ true → IsOver (standing s p (e ∷ (later ++ rest)))
-    mine same no ends = subst (λ q. IsOver (standing s q (e ∷ (later ++ rest)))) same (by (list_any (has ends_span) (own p later)) refl ends)
+    mine : (list_any (has is_called) (own p later) ≡ false → list_any (has ends_span) (own p later) ≡ true → IsOver (standing s p (later ++ rest))) → e.process ≡ p → list_any (has is_called) (e ∷ own p later) ≡ false → list_any (has ends_span) (e ∷ own p later) ≡ true → IsOver (standing s p (e ∷ (later ++ rest)))
+    mine before same uncalled ends = subst (λ q. IsOver (standing s q (e ∷ (later ++ rest)))) same (by (list_any (has ends_span) (own p later)) refl ends)
       where
         e_no : has is_called e ≡ false
-        e_no = or_left (has is_called e) (list_any (has is_called) (own p later)) no
+        e_no = or_left (has is_called e) (list_any (has is_called) (own p later)) uncalled
 
         here : (a : Bool) → has ends_span e ≡ a → (a || false) ≡ true → has ends_span e ≡ true
         here true is h = is
         here false is h = absurd (true≢false (sym h))
 
         by : (b : Bool) → list_any (has ends_span) (own p later) ≡ b → (has ends_span e || b) ≡ true → IsOver (standing s e.process (e ∷ (later ++ rest)))
-        by true before h =
+        by true ended h =
             (over_entry s (later ++ rest) e all.0 e_no (subst (λ q. IsOver (standing s q (later ++ rest))) (sym same)
-            (is_over s p later rest all.1 (or_right (has is_called e) (list_any (has is_called) (own p later)) no) before))).0
-        by false before h = ends_entry s (later ++ rest) e all.1 all.0 e_no (here (has ends_span e) refl h)
+            (before (or_right (has is_called e) (list_any (has is_called) (own p later)) uncalled) ended))).0
+        by false ended h = ends_entry s (later ++ rest) e all.1 all.0 e_no (here (has ends_span e) refl h)
 
-    go : (e.process ≡ p) ⊎ (e.process ≢ p) → IsOver (standing s p (e ∷ (later ++ rest)))
-    go (inl same) = mine same (ap (list_any (has is_called)) (sym (own-mine p e later same)) ∙ no) (ap (list_any (has ends_span)) (sym (own-mine p e later same)) ∙ ends)
-    go (inr apart) = subst IsOver (sym (standing-other s p e (later ++ rest) (ne_eqb e.process p apart)))
-        (is_over s p later rest all.1 (ap (list_any (has is_called)) (sym (own-other p e later apart)) ∙ no) (ap (list_any (has ends_span)) (sym (own-other p e later apart)) ∙ ends))
+    go : (list_any (has is_called) (own p later) ≡ false → list_any (has ends_span) (own p later) ≡ true → IsOver (standing s p (later ++ rest))) → (e.process ≡ p) ⊎ (e.process ≢ p) → IsOver (standing s p (e ∷ (later ++ rest)))
+    go before (inl same) = mine before same (ap (list_any (has is_called)) (sym (own-mine p e later same)) ∙ uncalled) (ap (list_any (has ends_span)) (sym (own-mine p e later same)) ∙ ends)
+    go before (inr apart) = subst IsOver (sym (standing-other s p e (later ++ rest) (ne_eqb e.process p apart)))
+        (before (ap (list_any (has is_called)) (sym (own-other p e later apart)) ∙ uncalled) (ap (list_any (has ends_span)) (sym (own-other p e later apart)) ∙ ends))
 
 -- The entries of a call.
 
@@ -270,15 +269,12 @@ record IsWithin (s : Setup) (l rest : Past) (k : ℕ) : Type 0 where
 
 placed_within : (s : Setup) (p : ℕ) (l rest : Past) → AllKeep s (l ++ rest) → (k : ℕ) (q : Reply) → Contains (takings_of_call p l) (k, q) → IsWithin s l rest k
 placed_within s p [] rest all k q among = let within = among.1 in absurd (omega (arith, within))
-placed_within s p (e ∷ l) rest all k q among = go (cases_eq e.process p)
+placed_within s p (e ∷ l) rest all k q among = go (placed_within s p l rest all.1 k q) (cases_eq e.process p)
   where
     further : IsWithin s l rest k → IsWithin s (e ∷ l) rest k
     further before =
         let from = before.from in let below = before.below in let more = (history_grows s (l ++ rest) e).0 in
         record { from = from; below = omega (arith, below, more) }
-
-    earlier : Contains (takings_of_call p l) (k, q) → IsWithin s (e ∷ l) rest k
-    earlier among = further (placed_within s p l rest all.1 k q among)
 
     here : Contains (takings e.marks) (k, q) → IsWithin s (e ∷ l) rest k
     here among =
@@ -287,17 +283,17 @@ placed_within s p (e ∷ l) rest all k q among = go (cases_eq e.process p)
         let more = (history_grows s (l ++ rest) e).1 (k, q) among in
         record { from = omega (arith, from, place); below = omega (arith, place, more) }
 
-    mine : (b : Bool) → list_any (has is_called) (e ∷ own p l) ≡ b → Contains (all_takings (elim b as (λ _. Past) [ true ↦ until is_called (own p l) | false ↦ e ∷ own p l ])) (k, q) → IsWithin s (e ∷ l) rest k
-    mine true any among = earlier among
-    mine false none among = either (Contains-append_cases (all_takings (own p l)) (takings e.marks) (k, q) among)
+    mine : (Contains (takings_of_call p l) (k, q) → IsWithin s l rest k) → (b : Bool) → list_any (has is_called) (e ∷ own p l) ≡ b → Contains (all_takings (elim b as (λ _. Past) [ true ↦ until is_called (own p l) | false ↦ e ∷ own p l ])) (k, q) → IsWithin s (e ∷ l) rest k
+    mine before true any among = further (before among)
+    mine before false none among = either (Contains-append_cases (all_takings (own p l)) (takings e.marks) (k, q) among)
       where
         either : Contains (all_takings (own p l)) (k, q) ⊎ Contains (takings e.marks) (k, q) → IsWithin s (e ∷ l) rest k
-        either (inl before) = earlier (subst (λ (x : Past). Contains (all_takings x) (k, q)) (sym (until_none (own p l) (or_right (has is_called e) (list_any (has is_called) (own p l)) none))) before)
+        either (inl old) = further (before (subst (λ (x : Past). Contains (all_takings x) (k, q)) (sym (until_none (own p l) (or_right (has is_called e) (list_any (has is_called) (own p l)) none))) old))
         either (inr now) = here now
 
-    go : (e.process ≡ p) ⊎ (e.process ≢ p) → IsWithin s (e ∷ l) rest k
-    go (inl same) = mine (list_any (has is_called) (e ∷ own p l)) refl (subst (λ (x : Past). Contains (all_takings (until is_called x)) (k, q)) (own-mine p e l same) among)
-    go (inr apart) = earlier (subst (λ (x : Past). Contains (all_takings (until is_called x)) (k, q)) (own-other p e l apart) among)
+    go : (Contains (takings_of_call p l) (k, q) → IsWithin s l rest k) → (e.process ≡ p) ⊎ (e.process ≢ p) → IsWithin s (e ∷ l) rest k
+    go before (inl same) = mine before (list_any (has is_called) (e ∷ own p l)) refl (subst (λ (x : Past). Contains (all_takings (until is_called x)) (k, q)) (own-mine p e l same) among)
+    go before (inr apart) = further (before (subst (λ (x : Past). Contains (all_takings (until is_called x)) (k, q)) (own-other p e l apart) among))
 
 -- the entries before one of those that keep all laws
 kept_before : (s : Setup) (later rest : Past) → AllKeep s (later ++ rest) → AllKeep s rest
@@ -306,7 +302,7 @@ kept_before s (x ∷ later) rest all = kept_before s later rest all.1
 
 pub places_keep_order : (s : Setup) (past : Past) → AllKeep s past → PlacesKeepOrder past
 places_keep_order s past all newer between earlier x y splits x_called y_called ended k m q r x_takes y_takes =
-    let whole : AllKeep s (newer ++ (y ∷ (between ++ x ∷ earlier))) = subst (AllKeep s) splits all in
+    let whole : AllKeep s (newer ++ (y ∷ (between ++ x ∷ earlier))) = subst (AllKeep s) (splits ∙ append_assoc newer (y ∷ between) (x ∷ earlier)) all in
     let from_y : AllKeep s (y ∷ (between ++ x ∷ earlier)) = kept_before s newer (y ∷ (between ++ x ∷ earlier)) whole in
     let front : Past = newer ++ y ∷ [] in
     let assoc : front ++ (between ++ x ∷ earlier) ≡ newer ++ (y ∷ (between ++ x ∷ earlier)) = append_assoc newer (y ∷ []) (between ++ x ∷ earlier) in

@@ -1,6 +1,7 @@
 ghost use Rattle.std.specs.Prelude.{◌≡◌, IfOk, Ok, length, reverse};
 ghost use Rattle.plain_store.specs.Setups.{checked};
 ghost use Rattle.any_lock.specs.declared.verdicts.Verdict.TheVariants.{Good};
+ghost use Rattle.any_lock.specs.Changes.{MaysKeepAllLaws};
 ghost use Rattle.any_lock.specs.Headline.{GoodSaysTheHeadline, KeepsHeadlineThroughout};
 ghost use Rattle.any_lock.specs.Verdicts.{verdict_of};
 
@@ -26,7 +27,13 @@ pub fn judge_all(alloc: Global, setup: &Setup, entries: &[Entry]) -> Result<Judg
 }
 
 /// What a good verdict says, whoever made the record: never two are inside, nobody gets inside while another is ahead,
-/// what is taken has its place and the one-thread store's reply there, and no call that was cut is answered.
+/// what is taken has its place and the one-thread store's reply there, no call that was cut is answered, and places keep the
+/// order of calls that do not overlap.
 pub fn good_says_the_headline()
     ensures { GoodSaysTheHeadline }
+{}
+
+/// What reasons say: a bad entry with the change that is told of it keeps all laws.
+pub fn changed_entries_keep_all_laws()
+    ensures { MaysKeepAllLaws }
 {}

@@ -18,7 +18,7 @@ mod verdicts;
 
 pub use changes::changed;
 pub use judge::Judge;
-pub use judging::{good_says_the_headline, judge_all};
+pub use judging::{changed_entries_keep_all_laws, good_says_the_headline, judge_all};
 pub use reasons::{Change, Reasons, Refused};
 pub use refusals::{AccessRefusal, MarkRefusal};
 pub use standings::{Begun, Standing};

@@ -39,7 +39,7 @@ fn hear_file<H: Hearer, R: Source>(alloc: Global, input: &mut R) -> Result<H, Fa
     ensures failures { R.failures input.new ≡ R.failures input.old + failed_reading result }
 {
     let mut lines = Lines::new(alloc);
-    let mut trial = Trial::new(alloc);
+    let mut trial: Trial<H> = Trial::new(alloc);
     'lines: while lines.next(input)? {
         if let Err(kind) = trial.line(lines.taken(), lines.line()) {
             return Err(lines.here(kind));

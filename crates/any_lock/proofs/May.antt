@@ -1,0 +1,361 @@
+-- Each entry that is said to keep all laws does.
+use Rattle.std.proofs.Common.{◌≡◌, ℕ, zero, suc, ◌<◌, ◌==◌, nat_lt, not, ◌&&◌, ◌||◌, Bool, true, false, cond, if◌then◌else◌, List, [], ◌∷◌, Option, None, Some, length, map, refl, sym, ap, ◌∙◌, subst, arith, true≢false}
+use Rattle.std.proofs.lemmas.Bool.Decides.{Decides-int_eq, nat_tests}
+use Rattle.std.proofs.lemmas.List.{length-map}
+use Rattle.std.specs.List.{list_all, list_any}
+use Rattle.std.specs.Option.{is_none, is_some}
+use Rattle.record.specs.safe_bit.declared.Move.{Move}
+use Rattle.record.specs.safe_bit.declared.Move.TheVariants.{BeginWrite, EndWrite, BeginRead, EndRead, Settle}
+use Rattle.record.specs.safe_bit.SafeRule.{before_read, is_overlapped, last_written}
+use Rattle.plain_store.specs.declared.Answer.{Answer}
+use Rattle.plain_store.specs.declared.Answer.TheVariants as answer
+use Rattle.plain_store.specs.declared.Reply.{Reply}
+use Rattle.plain_store.specs.declared.Reply.TheVariants as reply
+use Rattle.plain_store.specs.declared.Setup.{Setup}
+use Rattle.plain_store.proofs.Changes.{same_value-Decides}
+use Rattle.record.specs.declared.access.Access.{Access}
+use Rattle.record.specs.declared.marks.Mark.{Mark}
+use Rattle.record.specs.declared.marks.Mark.TheVariants as mark
+use Rattle.record.specs.Entries.{Entry, Past, has, is_entered}
+use Rattle.record.specs.Histories.{history}
+use Rattle.record.specs.Moves.{begins_read, moves_of}
+use Rattle.record.specs.Registers.{opening_bit}
+use Rattle.record.specs.Spans.{takings}
+use Rattle.any_lock.specs.declared.reasons.Change.{Change}
+use Rattle.any_lock.specs.declared.reasons.Change.TheVariants.{Value, Taking}
+use Rattle.any_lock.specs.declared.verdicts.Law.{Law}
+use Rattle.any_lock.specs.declared.verdicts.Law.TheVariants as law
+use Rattle.any_lock.specs.Changes.{MaysKeepAllLaws, changed, mark_with}
+use Rattle.any_lock.specs.declared.refusals.MarkRefusal.{MarkRefusal}
+use Rattle.any_lock.specs.declared.refusals.MarkRefusal.TheVariants as refusal
+use Rattle.any_lock.specs.declared.standings.Standing.{Standing}
+use Rattle.any_lock.specs.Keeping.{accessed_by, marked, refusal_on}
+use Rattle.any_lock.specs.Laws.{breaks_access, breaks_history, breaks_marks, breaks_overtaken, breaks_safe, breaks_together, broken_inside, broken_later, ends_wrongly, first_broken, is_that, lowest_other, right_reply, waits_before}
+use Rattle.any_lock.specs.Reasons.{change_of, ends_with, other_value, value_in, with_value}
+use Rattle.any_lock.specs.Refusals.{first_that, has_other_reply, is_in_doorway, is_leaving, is_reply, is_withdrawn, mark_refusal, refusal_of_marks, same_reply, same_truth, stands_alone}
+use Rattle.any_lock.specs.Standings.{standing}
+use Rattle.any_lock.proofs.Alone.{AllKeep, all_keep}
+use Rattle.any_lock.proofs.Breaks.{none_else, none_if, unsome}
+use Rattle.any_lock.proofs.Cuts.{IsSound, Orderly, all_sound, answers_not, cut_after, first_unrefused, is_cut, orderly, rest_unrefused, sound_accessed, sound_marked, unrefused_on}
+use Rattle.any_lock.proofs.Loops.{refused_later}
+use Rattle.any_lock.proofs.Markings.{ArePlain, or_left, or_right, untaken, with_marks}
+use Rattle.any_lock.proofs.Took.{at_rest_none, outside, unreplied}
+use Rattle.any_lock.proofs.Whole.{one_alone, refused}
+
+-- a change of a value leaves the marks
+same_marks : (v : Bool) (ms : List Mark) → map (mark_with (Value v)) ms ≡ ms
+same_marks v [] = refl
+same_marks v (m ∷ ms) = ap (λ (l : List Mark). m ∷ l) (same_marks v ms)
+
+value_changed : (v : Bool) (e : Entry) → changed (Value v) e ≡ with_value v e
+value_changed v e = ap (λ (l : List Mark). let x : Entry = record { process = e.process; access = ends_with v e.access; marks = l } in x) (same_marks v e.marks)
+
+-- where one value is wrong the other is right
+other_is_right : (opening : Bool) (moves : List Move) (v : Bool) → ends_wrongly opening moves (EndRead v) ≡ true → ends_wrongly opening moves (EndRead (not v)) ≡ false
+other_is_right opening moves v wrong = by (begins_read moves) (is_overlapped moves) v (last_written opening (before_read moves)) wrong
+  where
+    by : (a b v w : Bool) → (a && (not b && not (same_truth v w))) ≡ true → (a && (not b && not (same_truth (not v) w))) ≡ false
+    by false b v w wrong = refl
+    by true true v w wrong = refl
+    by true false true true wrong = absurd (true≢false (sym wrong))
+    by true false true false wrong = refl
+    by true false false true wrong = refl
+    by true false false false wrong = absurd (true≢false (sym wrong))
+
+-- the entry with the other value
+with_other_value : (s : Setup) (past : Past) (e : Entry) (c : Change) → breaks_safe s past e ≡ true → other_value s past e ≡ Some c → first_broken s past (changed c e) ≡ None
+with_other_value s past e c breaks may = by e.access refl breaks may
+  where
+    safe_of : Option Access → Bool
+    safe_of o = elim o as (λ _. Bool) [ None ↦ false | Some a ↦ ends_wrongly (opening_bit s a) (moves_of a past) a.how ]
+
+    whole : (v : Bool) → safe_of (ends_with (not v) e.access) ≡ false → broken_later s past (with_value (not v) e) ≡ None → Value (not v) ≡ c → first_broken s past (changed c e) ≡ None
+    whole v safe later is = subst (λ (c : Change). first_broken s past (changed c e) ≡ None) is
+        (subst (λ (x : Entry). first_broken s past x ≡ None) (sym (value_changed (not v) e)) (ap (λ b. if b then Some law.Safe else broken_later s past (with_value (not v) e)) safe ∙ later))
+
+    told : (v : Bool) → safe_of (ends_with (not v) e.access) ≡ false → (b : Bool) → is_none (broken_later s past (with_value (not v) e)) ≡ b → cond b (Some (Value (not v))) None ≡ Some c → first_broken s past (changed c e) ≡ None
+    told v safe true none may = let same : Value (not v) ≡ c = cc in whole v safe (unnone (broken_later s past (with_value (not v) e)) none) same
+      where
+        unnone : (o : Option Law) → is_none o ≡ true → o ≡ None
+        unnone None is = refl
+        unnone (Some l) is = absurd (true≢false (sym is))
+    told v safe false none may = absurd (cc)
+
+    ending : (a : Access) (m : Move) → a.how ≡ m → e.access ≡ Some a → ends_wrongly (opening_bit s a) (moves_of a past) m ≡ true →
+        elim (elim m as (λ _. Option Bool) [ EndRead v ↦ Some v | BeginWrite v ↦ None | EndWrite ↦ None | BeginRead ↦ None | Settle v ↦ None ]) as (λ _. Option Change) [ None ↦ None | Some v ↦ cond (is_none (broken_later s past (with_value (not v) e))) (Some (Value (not v))) None ] ≡ Some c →
+        first_broken s past (changed c e) ≡ None
+    ending a (EndRead v) how is breaks may = told v (ap (λ (o : Option Access). safe_of (ends_with (not v) o)) is ∙ other_is_right (opening_bit s a) (moves_of a past) v breaks) (is_none (broken_later s past (with_value (not v) e))) refl may
+    ending a (BeginWrite v) how is breaks may = absurd (true≢false (sym breaks))
+    ending a EndWrite how is breaks may = absurd (true≢false (sym breaks))
+    ending a BeginRead how is breaks may = absurd (true≢false (sym breaks))
+    ending a (Settle v) how is breaks may = absurd (true≢false (sym breaks))
+
+    by : (o : Option Access) → e.access ≡ o → safe_of o ≡ true →
+        elim (value_in o) as (λ _. Option Change) [ None ↦ None | Some v ↦ cond (is_none (broken_later s past (with_value (not v) e))) (Some (Value (not v))) None ] ≡ Some c → first_broken s past (changed c e) ≡ None
+    by None is breaks may = absurd (true≢false (sym breaks))
+    by (Some a) is breaks may = ending a a.how refl is breaks may
+
+-- The right place and reply.
+
+-- a reply is the same as itself
+pub same_as_itself : (r : Reply) → same_reply r r ≡ true
+same_as_itself (reply.Value x) = (same_value-Decides x x).1 refl
+same_as_itself reply.Done = refl
+same_as_itself (reply.Sum n) = (Decides-int_eq n n).1 refl
+same_as_itself reply.Swapped = refl
+same_as_itself (reply.Kept x) = (same_value-Decides x x).1 refl
+same_as_itself reply.NoName = refl
+same_as_itself reply.NotCounter = refl
+same_as_itself reply.Overflow = refl
+same_as_itself reply.StoreFull = refl
+same_as_itself (reply.Last n) = grind (arith, nat_tests)
+
+-- an entry that breaks `History` first breaks no other law
+none_but_history : (a b c d f h : Bool) → (if a then Some law.Safe else if b then Some law.Access else if c then Some law.Marks else first_that ((d, law.Together) ∷ (f, law.Overtaken) ∷ (h, law.History) ∷ [])) ≡ Some law.History →
+    (a ≡ false) × (b ≡ false) × (c ≡ false) × (d ≡ false) × (f ≡ false) × (h ≡ true)
+none_but_history true b c d f h is = absurd (cc)
+none_but_history false true c d f h is = absurd (cc)
+none_but_history false false true d f h is = absurd (cc)
+none_but_history false false false true f h is = absurd (cc)
+none_but_history false false false false true h is = absurd (cc)
+none_but_history false false false false false true is = (refl, refl, refl, refl, refl, refl)
+none_but_history false false false false false false is = absurd (cc)
+
+module _ (n : ℕ) (r : Reply) where
+  abbrev put : Mark → Mark
+  put = mark_with (Taking n r)
+
+  put_any : (test : Mark → Bool) → ((m : Mark) → test (put m) ≡ test m) → (ms : List Mark) → list_any test (map put ms) ≡ list_any test ms
+  put_any test same [] = refl
+  put_any test same (m ∷ ms) = ap (λ b. b || list_any test (map put ms)) (same m) ∙ ap (λ b. test m || b) (put_any test same ms)
+
+  alone_same : (m : Mark) → stands_alone (put m) ≡ stands_alone m
+  alone_same (mark.Called c) = refl
+  alone_same (mark.Waiting t) = refl
+  alone_same mark.Entered = refl
+  alone_same (mark.Taken j q) = refl
+  alone_same mark.Left = refl
+  alone_same (mark.Answered (answer.Reply q)) = refl
+  alone_same (mark.Answered (answer.TicketsFull j)) = refl
+  alone_same (mark.Answered answer.StampsFull) = refl
+  alone_same (mark.Answered answer.Withdrawn) = refl
+  alone_same mark.Failed = refl
+  alone_same (mark.Settled v) = refl
+  alone_same mark.Down = refl
+  alone_same mark.Withdrew = refl
+  alone_same mark.Restarted = refl
+
+  entered_same : (m : Mark) → is_entered (put m) ≡ is_entered m
+  entered_same (mark.Called c) = refl
+  entered_same (mark.Waiting t) = refl
+  entered_same mark.Entered = refl
+  entered_same (mark.Taken j q) = refl
+  entered_same mark.Left = refl
+  entered_same (mark.Answered (answer.Reply q)) = refl
+  entered_same (mark.Answered (answer.TicketsFull j)) = refl
+  entered_same (mark.Answered answer.StampsFull) = refl
+  entered_same (mark.Answered answer.Withdrawn) = refl
+  entered_same mark.Failed = refl
+  entered_same (mark.Settled v) = refl
+  entered_same mark.Down = refl
+  entered_same mark.Withdrew = refl
+  entered_same mark.Restarted = refl
+
+  -- all that is taken is taken so
+  put_taken : (ms : List Mark) → list_all (is_that n r) (takings (map put ms)) ≡ true
+  put_taken [] = refl
+  put_taken (mark.Called c ∷ ms) = put_taken ms
+  put_taken (mark.Waiting t ∷ ms) = put_taken ms
+  put_taken (mark.Entered ∷ ms) = put_taken ms
+  put_taken (mark.Taken j q ∷ ms) =
+      let place : (n == n) ≡ true = grind (arith, nat_tests) in
+      ap (λ b. (b && same_reply r r) && list_all (is_that n r) (takings (map put ms))) place
+      ∙ ap (λ b. b && list_all (is_that n r) (takings (map put ms))) (same_as_itself r) ∙ put_taken ms
+  put_taken (mark.Left ∷ ms) = put_taken ms
+  put_taken (mark.Answered (answer.Reply q) ∷ ms) = put_taken ms
+  put_taken (mark.Answered (answer.TicketsFull j) ∷ ms) = put_taken ms
+  put_taken (mark.Answered answer.StampsFull ∷ ms) = put_taken ms
+  put_taken (mark.Answered answer.Withdrawn ∷ ms) = put_taken ms
+  put_taken (mark.Failed ∷ ms) = put_taken ms
+  put_taken (mark.Settled v ∷ ms) = put_taken ms
+  put_taken (mark.Down ∷ ms) = put_taken ms
+  put_taken (mark.Withdrew ∷ ms) = put_taken ms
+  put_taken (mark.Restarted ∷ ms) = put_taken ms
+
+  -- where its process stands, with this reply
+  abbrev replied : Standing → Standing
+  replied k = record k { reply = Some r }
+
+  -- a mark behind the one that takes is refused no more than before
+  abbrev GoesOnSo : Setup → ℕ → Standing → Mark → Type 0
+  GoesOnSo s j k m = (mark_refusal (replied k) (put m) ≡ None) × (marked s j (replied k) (put m) ≡ replied (marked s j k m)) × ((marked s j k m).reply ≡ k.reply)
+
+  answers_so : (k : Standing) (q q0 : Reply) → k.reply ≡ Some q0 → mark_refusal k (mark.Answered (answer.Reply q)) ≡ None → mark_refusal (replied k) (mark.Answered (answer.Reply r)) ≡ None
+  answers_so k q q0 some none =
+      let a = none_if (not (is_in_doorway k.stage || is_leaving k.stage)) refusal.NotLeaving _ none in
+      let rest = none_else (not (is_in_doorway k.stage || is_leaving k.stage)) refusal.NotLeaving _ none in
+      let b = none_if (k.withdrawn && true) refusal.WasWithdrawn _ rest in
+      let rest' = none_else (k.withdrawn && true) refusal.WasWithdrawn _ rest in
+      let rest'' = none_else (has_other_reply k.reply (answer.Reply q)) refusal.OtherReply _ rest' in
+      let rest''' = none_else (is_none k.reply && true) refusal.NotTaken _ rest'' in
+      ap (λ t. if t then Some refusal.NotLeaving else first_that ((k.withdrawn && true, refusal.WasWithdrawn) ∷ (not (same_reply r r), refusal.OtherReply) ∷ (false, refusal.NotTaken) ∷ (not k.withdrawn && false, refusal.NotWithdrawn) ∷ (is_some k.opened, refusal.AccessOpen) ∷ [])) a
+      ∙ ap (λ t. if t then Some refusal.WasWithdrawn else first_that ((not (same_reply r r), refusal.OtherReply) ∷ (false, refusal.NotTaken) ∷ (not k.withdrawn && false, refusal.NotWithdrawn) ∷ (is_some k.opened, refusal.AccessOpen) ∷ [])) b
+      ∙ ap (λ t. if not t then Some refusal.OtherReply else first_that ((false, refusal.NotTaken) ∷ (not k.withdrawn && false, refusal.NotWithdrawn) ∷ (is_some k.opened, refusal.AccessOpen) ∷ [])) (same_as_itself r)
+      ∙ rest'''
+
+  never : (k : Standing) (a : Answer) (q0 : Reply) → k.reply ≡ Some q0 → is_reply a ≡ false → mark_refusal k (mark.Answered a) ≡ None → ⊥
+  never k a q0 some other none =
+      let rest = none_else (not (is_in_doorway k.stage || is_leaving k.stage)) refusal.NotLeaving _ none in
+      let rest' = none_else (k.withdrawn && not (is_withdrawn a)) refusal.WasWithdrawn _ rest in
+      let nothing : k.reply ≡ None = unreplied k.reply a other (none_if (has_other_reply k.reply a) refusal.OtherReply _ rest') in
+      let both : Some q0 ≡ None = sym some ∙ nothing in cc
+
+  goes_on_so : (s : Setup) (j : ℕ) (k : Standing) (q0 : Reply) (m : Mark) → k.reply ≡ Some q0 → stands_alone m ≡ false → mark_refusal k m ≡ None → GoesOnSo s j k m
+  goes_on_so s j k q0 (mark.Called c) some plain none = absurd (true≢false plain)
+  goes_on_so s j k q0 (mark.Waiting t) some plain none = (none, refl, refl)
+  goes_on_so s j k q0 mark.Entered some plain none = (none, refl, refl)
+  goes_on_so s j k q0 (mark.Taken i q) some plain none = let both : Some q0 ≡ None = sym some ∙ untaken k i q none in absurd (cc)
+  goes_on_so s j k q0 mark.Left some plain none = (none, refl, refl)
+  goes_on_so s j k q0 (mark.Answered (answer.Reply q)) some plain none = (answers_so k q q0 some none, refl, refl)
+  goes_on_so s j k q0 (mark.Answered (answer.TicketsFull i)) some plain none = absurd (never k (answer.TicketsFull i) q0 some refl none)
+  goes_on_so s j k q0 (mark.Answered answer.StampsFull) some plain none = absurd (never k answer.StampsFull q0 some refl none)
+  goes_on_so s j k q0 (mark.Answered answer.Withdrawn) some plain none = absurd (never k answer.Withdrawn q0 some refl none)
+  goes_on_so s j k q0 mark.Failed some plain none = absurd (true≢false plain)
+  goes_on_so s j k q0 (mark.Settled v) some plain none = (none, refl, refl)
+  goes_on_so s j k q0 mark.Down some plain none = (none, refl, refl)
+  goes_on_so s j k q0 mark.Withdrew some plain none = absurd (true≢false plain)
+  goes_on_so s j k q0 mark.Restarted some plain none = absurd (true≢false plain)
+
+  marks_after : (s : Setup) (j : ℕ) (ms : List Mark) (k : Standing) (q0 : Reply) → k.reply ≡ Some q0 → ArePlain ms → refusal_on s j k ms ≡ None → refusal_on s j (replied k) (map put ms) ≡ None
+  marks_after s j [] k q0 some plain none = refl
+  marks_after s j (m ∷ ms) k q0 some plain none =
+      let so = goes_on_so s j k q0 m some (or_left (stands_alone m) (list_any stands_alone ms) plain) (first_unrefused s j k m ms none) in
+      let rest = marks_after s j ms (marked s j k m) q0 (so.2 ∙ some) (or_right (stands_alone m) (list_any stands_alone ms) plain) (rest_unrefused s j k m ms none) in
+      refused_later s j (replied k) (put m) (map put ms) so.0 ∙ ap (λ x. refusal_on s j x (map put ms)) so.1 ∙ rest
+
+  -- and so are those before it
+  marks_before : (s : Setup) (j : ℕ) (ms : List Mark) (k : Standing) (cut : Bool) → IsSound k cut → ArePlain ms → refusal_on s j k ms ≡ None → (takings ms ≡ [] → ⊥) → refusal_on s j k (map put ms) ≡ None
+  marks_before s j [] k cut sound plain none takes = refl
+  marks_before s j (m ∷ ms) k cut sound plain none takes =
+      by (λ (x : Mark) first more. marks_before s j ms (marked s j k x) (cut_after cut x) (sound_marked s j k x cut first sound) (or_right (stands_alone m) (list_any stands_alone ms) plain) more)
+      m (or_left (stands_alone m) (list_any stands_alone ms) plain) (first_unrefused s j k m ms none) (rest_unrefused s j k m ms none) takes
+    where
+      later : ArePlain ms
+      later = or_right (stands_alone m) (list_any stands_alone ms) plain
+
+      by : ((x : Mark) → mark_refusal k x ≡ None → refusal_on s j (marked s j k x) ms ≡ None → (takings ms ≡ [] → ⊥) → refusal_on s j (marked s j k x) (map put ms) ≡ None) →
+          (m : Mark) → stands_alone m ≡ false → mark_refusal k m ≡ None → refusal_on s j (marked s j k m) ms ≡ None → (takings (m ∷ ms) ≡ [] → ⊥) → refusal_on s j k (put m ∷ map put ms) ≡ None
+      by on (mark.Taken i q) apart first more takes =
+          refused_later s j k (mark.Taken n r) (map put ms) first
+          ∙ marks_after s j ms (marked s j k (mark.Taken i q)) q refl later more
+      by on (mark.Answered a) apart first more takes =
+          let out : k.inside ≡ false = outside k cut sound (answers_not k.stage (none_if (not (is_in_doorway k.stage || is_leaving k.stage)) refusal.NotLeaving _ first)).0 in
+          absurd (takes (ap takings (at_rest_none s j (marked s j k (mark.Answered a)) ms refl out more later)))
+      by on (mark.Waiting t) apart first more takes = refused_later s j k (mark.Waiting t) (map put ms) first ∙ on (mark.Waiting t) first more takes
+      by on mark.Entered apart first more takes = refused_later s j k mark.Entered (map put ms) first ∙ on mark.Entered first more takes
+      by on mark.Left apart first more takes = refused_later s j k mark.Left (map put ms) first ∙ on mark.Left first more takes
+      by on (mark.Settled v) apart first more takes = refused_later s j k (mark.Settled v) (map put ms) first ∙ on (mark.Settled v) first more takes
+      by on mark.Down apart first more takes = refused_later s j k mark.Down (map put ms) first ∙ on mark.Down first more takes
+      by on (mark.Called c) apart first more takes = absurd (true≢false apart)
+      by on mark.Failed apart first more takes = absurd (true≢false apart)
+      by on mark.Withdrew apart first more takes = absurd (true≢false apart)
+      by on mark.Restarted apart first more takes = absurd (true≢false apart)
+
+-- a mark that stands alone takes nothing
+alone_takes_none : (m : Mark) → stands_alone m ≡ true → takings (m ∷ []) ≡ []
+alone_takes_none (mark.Called c) is = refl
+alone_takes_none mark.Failed is = refl
+alone_takes_none mark.Withdrew is = refl
+alone_takes_none mark.Restarted is = refl
+alone_takes_none (mark.Waiting t) is = absurd (true≢false (sym is))
+alone_takes_none mark.Entered is = absurd (true≢false (sym is))
+alone_takes_none (mark.Taken i q) is = absurd (true≢false (sym is))
+alone_takes_none mark.Left is = absurd (true≢false (sym is))
+alone_takes_none (mark.Answered a) is = absurd (true≢false (sym is))
+alone_takes_none (mark.Settled v) is = absurd (true≢false (sym is))
+alone_takes_none mark.Down is = absurd (true≢false (sym is))
+
+with_right_taking : (s : Setup) (past : Past) (e : Entry) → AllKeep s past → first_broken s past e ≡ Some law.History → first_broken s past (changed (Taking (length (history s past)) (right_reply s past e.process)) e) ≡ None
+with_right_taking s past e all breaks =
+    let is = none_but_history (breaks_safe s past e) (breaks_access s past e) (breaks_marks s past e) (breaks_together s past e) (breaks_overtaken s past e) (breaks_history s past e) breaks in
+    let unrefused : refusal_of_marks s past (with_marks p o ms) ≡ None = unsome (refusal_of_marks s past e) is.2.0 in
+    let takes : takings ms ≡ [] → ⊥ = λ none. true≢false (sym is.2.2.2.2 ∙ ap (λ (ts : List (ℕ × Reply)). not (list_all (is_that n r) ts)) none) in
+    let fine = orderly s past p o ms unrefused in
+    let marks = unrefused_with fine takes (unrefused_on s past p o ms unrefused) in
+    ap (λ b. if b then Some law.Safe else broken_later s past x) is.0
+    ∙ ap (λ b. if b then Some law.Access else (if breaks_marks s past x then Some law.Marks else broken_inside s past x)) is.1
+    ∙ ap (λ (w : Option MarkRefusal). if is_some w then Some law.Marks else broken_inside s past x) marks
+    ∙ ap (λ b. first_that ((b && is_some (lowest_other s p (λ q. (standing s q past).inside)), law.Together) ∷ (breaks_overtaken s past x, law.Overtaken) ∷ (breaks_history s past x, law.History) ∷ [])) entered
+    ∙ ap (λ b. if b then Some law.Together else first_that ((breaks_overtaken s past x, law.Overtaken) ∷ (breaks_history s past x, law.History) ∷ [])) is.2.1
+    ∙ ap (λ b. first_that ((b && is_some (lowest_other s p (λ q. waits_before (standing s q past) (standing s p past))), law.Overtaken) ∷ (breaks_history s past x, law.History) ∷ [])) entered
+    ∙ ap (λ b. if b then Some law.Overtaken else first_that ((breaks_history s past x, law.History) ∷ [])) is.2.2.0
+    ∙ ap (λ b. if not b then Some law.History else None) (put_taken n r ms)
+  where
+    p : ℕ
+    p = e.process
+
+    o : Option Access
+    o = e.access
+
+    ms : List Mark
+    ms = e.marks
+
+    n : ℕ
+    n = length (history s past)
+
+    r : Reply
+    r = right_reply s past e.process
+
+    x : Entry
+    x = changed (Taking (length (history s past)) (right_reply s past e.process)) e
+
+    entered : has is_entered (changed (Taking (length (history s past)) (right_reply s past e.process)) e) ≡ has is_entered e
+    entered = put_any (length (history s past)) (right_reply s past e.process) is_entered (entered_same (length (history s past)) (right_reply s past e.process)) e.marks
+
+    unrefused_with : Orderly e.access e.process e.marks → (takings e.marks ≡ [] → ⊥) → refusal_on s (length past) (accessed_by (length past) (standing s e.process past) e.access) e.marks ≡ None →
+        refusal_of_marks s past (changed (Taking (length (history s past)) (right_reply s past e.process)) e) ≡ None
+    unrefused_with fine takes none =
+        let m = length (history s past) in
+        let q = right_reply s past e.process in
+        let long : length (map (mark_with (Taking m q)) e.marks) ≡ length e.marks = length-map e.marks (mark_with (Taking m q)) in
+        let alone : list_any stands_alone (map (mark_with (Taking m q)) e.marks) ≡ list_any stands_alone e.marks = put_any m q stands_alone (alone_same m q) e.marks in
+        let k : Standing = accessed_by (length past) (standing s e.process past) e.access in
+        refused s e.process past e.access (map (mark_with (Taking m q)) e.marks)
+        (ap (λ l. is_none e.access && (l == 0)) long ∙ fine.something)
+        (ap (λ b. b && not (is_none e.access && (length (map (mark_with (Taking m q)) e.marks) == 1))) alone ∙ ap (λ l. list_any stands_alone e.marks && not (is_none e.access && (l == 1))) long ∙ fine.apart)
+        ∙ marks_before m q s (length past) e.marks k (is_cut e.process past) (sound_accessed (length past) (standing s e.process past) e.access (is_cut e.process past) (all_sound s past all e.process))
+        (plain (list_any stands_alone e.marks) refl) none takes
+      where
+        plain : (b : Bool) → list_any stands_alone e.marks ≡ b → list_any stands_alone e.marks ≡ false
+        plain false is = is
+        plain true any =
+            let one = one_alone e.access e.marks e.process any fine.apart in
+            absurd (takes (ap takings one.2 ∙ alone_takes_none one.0 one.3))
+
+-- Each `may` keeps all laws.
+pub mays_keep : MaysKeepAllLaws
+mays_keep s past good e l c breaks may = by l breaks may
+  where
+    safe : (b : Bool) → breaks_safe s past e ≡ b → (if b then Some law.Safe else broken_later s past e) ≡ Some law.Safe → breaks_safe s past e ≡ true
+    safe true is breaks = is
+    safe false is breaks = later (breaks_access s past e) (breaks_marks s past e) (breaks_together s past e) (breaks_overtaken s past e) (breaks_history s past e) breaks
+      where
+        later : (b c d f h : Bool) → (if b then Some law.Access else if c then Some law.Marks else first_that ((d, law.Together) ∷ (f, law.Overtaken) ∷ (h, law.History) ∷ [])) ≡ Some law.Safe → breaks_safe s past e ≡ true
+        later true c d f h is = absurd (cc)
+        later false true d f h is = absurd (cc)
+        later false false true f h is = absurd (cc)
+        later false false false true h is = absurd (cc)
+        later false false false false true is = absurd (cc)
+        later false false false false false is = absurd (cc)
+
+    taking : (b : Bool) → cond b (Some (Taking (length (history s past)) (right_reply s past e.process))) None ≡ Some c → Taking (length (history s past)) (right_reply s past e.process) ≡ c
+    taking true is = cc
+    taking false is = absurd (cc)
+
+    by : (l : Law) → first_broken s past e ≡ Some l → change_of s past e l ≡ Some c → first_broken s past (changed c e) ≡ None
+    by law.Safe breaks may = with_other_value s past e c (safe (breaks_safe s past e) refl breaks) may
+    by law.History breaks may = subst (λ (c : Change). first_broken s past (changed c e) ≡ None) (taking (nat_lt e.process s.processes) may) (with_right_taking s past e (all_keep s past good) breaks)
+    by law.Access breaks may = absurd (cc)
+    by law.Marks breaks may = absurd (cc)
+    by law.Together breaks may = absurd (cc)
+    by law.Overtaken breaks may = absurd (cc)
