@@ -13,7 +13,7 @@ use Rattle.any_lock.specs.declared.verdicts.Verdict.{Verdict}
 use Rattle.any_lock.specs.declared.verdicts.Verdict.TheVariants.{Good, Bad}
 use Rattle.any_lock.proofs.Told.{newest_first, verdict_bad, verdict_good}
 use Rattle.any_judge.specs.Explanations.{AreLinesAt, AreLinesOf, Explains, ExplainsIf, HasExplained, TellsReasons, is_good}
-use Rattle.any_judge.specs.Judgements.{status_of_verdict, verdict_line}
+use Rattle.any_judge.specs.Judgements.{TellsVerdict, status_of_verdict, verdict_line}
 use Rattle.any_judge.specs.ReasonLines.{reason_lines}
 
 -- the newest of some entries
@@ -61,9 +61,9 @@ explained_now j j' lines lines' n e s entries numbers explained good judged bad 
         let given : Some told.0 ≡ Some at.told = at.is in
         let reasons : at.told ≡ told.0 = cc in
         let are : AreReasons s (reverse entries) e l told.0 =
-            subst (λ (r : Reasons). AreReasons s (reverse entries) e l r) reasons
-            (subst (λ (past : Past). AreReasons s past e l at.told) (sym same.1)
-            (subst (λ (x : Entry). AreReasons s at.past x l at.told) (sym same.0) at.are)) in
+        subst (λ (r : Reasons). AreReasons s (reverse entries) e l r) reasons
+        (subst (λ (past : Past). AreReasons s past e l at.told) (sym same.1)
+        (subst (λ (x : Entry). AreReasons s at.past x l at.told) (sym same.0) at.are)) in
         record {
           judged = judged;
           counted = let had : length numbers ≡ length entries = explained.counted in omega (arith, had, length-append numbers (n ∷ []), length-append entries (e ∷ []));
@@ -138,4 +138,10 @@ tells j lines told status s entries numbers explained answer text = record {
   are = subst (λ (v : Verdict). AreLinesOf s entries numbers v lines) explained.judged.verdict explained.are;
   answer = answer;
   text = text;
+}
+
+pub tells_verdict : (s : Setup) (entries : List Entry) (numbers told : List ℕ) (status n : ℕ) (v : Verdict) → v ≡ verdict_of s entries → n ≡ length entries → status ≡ status_of_verdict v → told ≡ verdict_line n v → TellsVerdict s entries numbers told status
+tells_verdict s entries numbers told status n v is count answer line = record {
+  answer = answer ∙ ap status_of_verdict is;
+  line = line ∙ ap (λ k. verdict_line k v) count ∙ ap (verdict_line (length entries)) is;
 }

@@ -36,7 +36,14 @@ impl Hearer for Explaining {
     fn take(&mut self, alloc: Global, number: u64, entry: &Entry) -> Result<(), AllocError> {
         let was_good = is_good(&self.judge);
         self.judge.hear(entry);
-        explain_if(was_good, alloc, number, entry, &self.judge, &mut self.reasons)
+        explain_if(
+            was_good,
+            alloc,
+            number,
+            entry,
+            &self.judge,
+            &mut self.reasons,
+        )
     }
 
     fn take_access(

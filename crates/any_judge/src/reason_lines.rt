@@ -176,12 +176,7 @@ fn push_pair(
     text.extend_from_slice(line.as_bytes())
 }
 
-fn pair_text(
-    alloc: Global,
-    word: &str,
-    process: u64,
-    entry: u64,
-) -> Result<String, AllocError>
+fn pair_text(alloc: Global, word: &str, process: u64, entry: u64) -> Result<String, AllocError>
     ensures { IfOk result (λ line. string_bytes line ≡ pair_line word.now process entry) }
 {
     format!(in alloc; "{word} {process} {entry}\n")

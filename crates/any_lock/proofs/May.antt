@@ -54,7 +54,7 @@ value_changed v e = ap (λ (l : List Mark). let x : Entry = record { process = e
 other_is_right : (opening : Bool) (moves : List Move) (v : Bool) → ends_wrongly opening moves (EndRead v) ≡ true → ends_wrongly opening moves (EndRead (not v)) ≡ false
 other_is_right opening moves v wrong = by (begins_read moves) (is_overlapped moves) v (last_written opening (before_read moves)) wrong
   where
-    by : (a b v w : Bool) → (a && (not b && not (same_truth v w))) ≡ true → (a && (not b && not (same_truth (not v) w))) ≡ false
+    by : (a b v w : Bool) → ((a && not b) && not (same_truth v w)) ≡ true → ((a && not b) && not (same_truth (not v) w)) ≡ false
     by false b v w wrong = refl
     by true true v w wrong = refl
     by true false true true wrong = absurd (true≢false (sym wrong))
@@ -278,17 +278,17 @@ alone_takes_none mark.Down is = absurd (true≢false (sym is))
 with_right_taking : (s : Setup) (past : Past) (e : Entry) → AllKeep s past → first_broken s past e ≡ Some law.History → first_broken s past (changed (Taking (length (history s past)) (right_reply s past e.process)) e) ≡ None
 with_right_taking s past e all breaks =
     let is = none_but_history (breaks_safe s past e) (breaks_access s past e) (breaks_marks s past e) (breaks_together s past e) (breaks_overtaken s past e) (breaks_history s past e) breaks in
-    let unrefused : refusal_of_marks s past (with_marks p o ms) ≡ None = unsome (refusal_of_marks s past e) is.2.0 in
-    let takes : takings ms ≡ [] → ⊥ = λ none. true≢false (sym is.2.2.2.2 ∙ ap (λ (ts : List (ℕ × Reply)). not (list_all (is_that n r) ts)) none) in
+    let unrefused : refusal_of_marks s past (with_marks p o ms) ≡ None = unsome (refusal_of_marks s past e) is.2 in
+    let takes : takings ms ≡ [] → ⊥ = λ none. true≢false (sym is.5 ∙ ap (λ (ts : List (ℕ × Reply)). not (list_all (is_that n r) ts)) none) in
     let fine = orderly s past p o ms unrefused in
     let marks = unrefused_with fine takes (unrefused_on s past p o ms unrefused) in
     ap (λ b. if b then Some law.Safe else broken_later s past x) is.0
     ∙ ap (λ b. if b then Some law.Access else (if breaks_marks s past x then Some law.Marks else broken_inside s past x)) is.1
     ∙ ap (λ (w : Option MarkRefusal). if is_some w then Some law.Marks else broken_inside s past x) marks
     ∙ ap (λ b. first_that ((b && is_some (lowest_other s p (λ q. (standing s q past).inside)), law.Together) ∷ (breaks_overtaken s past x, law.Overtaken) ∷ (breaks_history s past x, law.History) ∷ [])) entered
-    ∙ ap (λ b. if b then Some law.Together else first_that ((breaks_overtaken s past x, law.Overtaken) ∷ (breaks_history s past x, law.History) ∷ [])) is.2.1
+    ∙ ap (λ b. if b then Some law.Together else first_that ((breaks_overtaken s past x, law.Overtaken) ∷ (breaks_history s past x, law.History) ∷ [])) is.3
     ∙ ap (λ b. first_that ((b && is_some (lowest_other s p (λ q. waits_before (standing s q past) (standing s p past))), law.Overtaken) ∷ (breaks_history s past x, law.History) ∷ [])) entered
-    ∙ ap (λ b. if b then Some law.Overtaken else first_that ((breaks_history s past x, law.History) ∷ [])) is.2.2.0
+    ∙ ap (λ b. if b then Some law.Overtaken else first_that ((breaks_history s past x, law.History) ∷ [])) is.4
     ∙ ap (λ b. if not b then Some law.History else None) (put_taken n r ms)
   where
     p : ℕ

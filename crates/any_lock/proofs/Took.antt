@@ -137,7 +137,7 @@ all_take s (e ∷ past) all p = go (cases_eq e.process p) (all_take s past all.1
 -- An answer that is no reply.
 
 -- no mark follows at rest
-at_rest_none : (s : Setup) (n : ℕ) (k : Standing) (ms : List Mark) → k.stage ≡ stage.Idle → k.inside ≡ false → refusal_on s n k ms ≡ None → ArePlain ms → ms ≡ []
+pub at_rest_none : (s : Setup) (n : ℕ) (k : Standing) (ms : List Mark) → k.stage ≡ stage.Idle → k.inside ≡ false → refusal_on s n k ms ≡ None → ArePlain ms → ms ≡ []
 at_rest_none s n k [] idle out none plain = refl
 at_rest_none s n k (m ∷ ms) idle out none plain = absurd (by m (first_unrefused s n k m ms none) (or_left (stands_alone m) (list_any stands_alone ms) plain))
   where
@@ -158,7 +158,7 @@ at_rest_none s n k (m ∷ ms) idle out none plain = absurd (by m (first_unrefuse
     by mark.Restarted h apart = true≢false apart
 
 -- it comes where nothing was taken
-unreplied : (o : Option Reply) (a : Answer) → is_reply a ≡ false → has_other_reply o a ≡ false → o ≡ None
+pub unreplied : (o : Option Reply) (a : Answer) → is_reply a ≡ false → has_other_reply o a ≡ false → o ≡ None
 unreplied None a not_reply other = refl
 unreplied (Some q) (answer.Reply r) not_reply other = absurd (true≢false not_reply)
 unreplied (Some q) (answer.TicketsFull j) not_reply other = absurd (true≢false other)

@@ -6,3 +6,5 @@ pub use Rattle.auditor.proofs.watch as watch
 pub mod Lines
 -- A judge
 pub mod Judged
+-- What is told
+pub mod Tells

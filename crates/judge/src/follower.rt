@@ -51,8 +51,7 @@ impl Follower {
     }
 
     /// One more entry, which keeps all laws. It takes no memory.
-    pub fn follow(&mut self, process: u8, access: &Option<Access>, marks: &[Mark])
-    {
+    pub fn follow(&mut self, process: u8, access: &Option<Access>, marks: &[Mark]) {
         match event_in(process, access, marks) {
             Some(event) => self.make(&event),
             None => self.step(process, flick_in(access)),

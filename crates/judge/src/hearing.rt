@@ -1,5 +1,4 @@
 //! A judge hears a record file.
-ghost use Rattle.std.specs.Prelude.{refl};
 ghost use Rattle.judge.specs.Judgements.{TellsVerdict};
 ghost use Rattle.judge.specs.Judging.{HasJudged};
 

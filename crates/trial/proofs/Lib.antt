@@ -4,6 +4,6 @@ pub mod Lines
 pub mod Trials
 -- The engine
 pub mod Ends
-pub mod Engine
+pub mod EngineEnds
 -- Texts
 pub mod Texts

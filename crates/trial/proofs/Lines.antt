@@ -1,5 +1,5 @@
 -- What a line of a record file says of what was read before it.
-use Rattle.std.proofs.Common.{◌≡◌, ℕ, ◌==◌, ◌<◌, ◌≤◌, ◌||◌, not, nat_lt, Bool, true, false, if◌then◌else◌, List, [], ◌∷◌, length, codes, cond, IsSome, Option, Some, None, Result, Ok, Err, refl, ap, sym, ◌∙◌, arith}
+use Rattle.std.proofs.Common.{◌≡◌, ℕ, ◌==◌, ◌<◌, ◌≤◌, ◌||◌, not, nat_lt, Bool, true, false, if◌then◌else◌, List, [], ◌∷◌, length, codes, cond, IsSome, Option, Some, None, Result, Ok, Err, refl, ap, sym, subst, ◌∙◌, arith}
 use Rattle.std.proofs.lemmas.Bool.Decides.{nat_tests}
 use Rattle.std.proofs.lemmas.Slice.Eq.{bytes_eq-Decides}
 use Rattle.std.specs.Option.{option_to_list}
@@ -77,15 +77,15 @@ opener_kind (Some opener.Open) kind.Entry is = absurd (cc)
 opener_kind (Some other) kind.Entry is = absurd (cc)
 
 -- a first word means an entry exactly if it begins with a digit
-kind_is : (first : List ℕ) (kind : LineKind) → kind_of first ≡ Some kind → is_entry_kind kind ≡ begins_with_digit first
-kind_is first kind is = by (begins_with_digit first) is
+kind_is : (first : List ℕ) (what : LineKind) → kind_of first ≡ Some what → is_entry_kind what ≡ begins_with_digit first
+kind_is first what is = by (begins_with_digit first) is
   where
-    other : (b : Bool) → (if b then Some kind.Record else kind_in (opener_of first)) ≡ Some kind → is_entry_kind kind ≡ false
-    other true is = let same : kind.Record ≡ kind = cc in ap is_entry_kind (sym same)
-    other false is = opener_kind (opener_of first) kind is
+    other : (b : Bool) → (if b then Some kind.Record else kind_in (opener_of first)) ≡ Some what → is_entry_kind what ≡ false
+    other true is = let same : kind.Record ≡ what = cc in ap is_entry_kind (sym same)
+    other false is = opener_kind (opener_of first) what is
 
-    by : (b : Bool) → (if b then Some kind.Entry else if bytes_eq first (codes "record") then Some kind.Record else kind_in (opener_of first)) ≡ Some kind → is_entry_kind kind ≡ b
-    by true is = let same : kind.Entry ≡ kind = cc in ap is_entry_kind (sym same)
+    by : (b : Bool) → (if b then Some kind.Entry else if bytes_eq first (codes "record") then Some kind.Record else kind_in (opener_of first)) ≡ Some what → is_entry_kind what ≡ b
+    by true is = let same : kind.Entry ≡ what = cc in ap is_entry_kind (sym same)
     by false is = other (bytes_eq first (codes "record")) is
 
 -- a line whose first word begins with # says none

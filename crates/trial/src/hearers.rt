@@ -1,8 +1,6 @@
 //! Who hears the entries of a record file.
 ghost use Rattle.std.specs.Prelude.{◌≡◌, ◌-◌, ◌^◌, ◌<◌, ◌∷◌, ◌++◌, [], IfOk, List, Ok, OnOk, length, ℕ};
 ghost use Rattle.plain_store.specs.Setups.{checked};
-ghost use Rattle.plain_store.specs.declared.setups.Setup.{Setup as Given};
-ghost use Rattle.record.specs.Entries.{Entry as Noted};
 ghost use Rattle.record_file.specs.Printing.{step_entry};
 
 use plain_store::Setup;

@@ -79,11 +79,7 @@ pub fn push_bad(
 
 /// Writes the stage of its process, if that is there.
 #[tactic(auto, using(crate::proofs::Texts::none))]
-pub fn push_stage(
-    alloc: Global,
-    stage: Option<Stage>,
-    text: &mut Vec<u8>,
-) -> Result<(), AllocError>
+pub fn push_stage(alloc: Global, stage: Option<Stage>, text: &mut Vec<u8>) -> Result<(), AllocError>
     ensures { OnOk result (text.new.items ≡ text.old.items ++ stage_line stage) }
 {
     match stage {

@@ -82,12 +82,17 @@ impl<H: Hearer> Trial<H> {
     pub fn into_hearer(self) -> Result<Option<H>, AllocError>
         ensures { IfOk result (λ heard. (before : Option Progress) (entries : List Noted) (numbers : List ℕ) → Stands H.HasHeard self.reader self.hearer before entries numbers → IsHeard H.HasHeard heard before entries numbers) }
     {
-        let Some(reader) = self.reader else {
+        let Trial {
+            alloc,
+            reader,
+            hearer,
+        } = self;
+        let Some(reader) = reader else {
             return Ok(None);
         };
-        match self.hearer {
+        match hearer {
             Some(hearer) => Ok(Some(hearer)),
-            None => Ok(Some(H::begin(self.alloc, reader.setup())?)),
+            None => Ok(Some(H::begin(alloc, reader.setup())?)),
         }
     }
 }
@@ -117,11 +122,7 @@ fn hear<H: Hearer>(
 /// Now there is one, who has heard nothing. It is a function of its own, since the room in which one is made would else be
 /// cleared before each entry.
 #[inline(never)]
-fn begin<H: Hearer>(
-    alloc: Global,
-    setup: &Setup,
-    hearer: &mut Option<H>,
-) -> Result<(), AllocError>
+fn begin<H: Hearer>(alloc: Global, setup: &Setup, hearer: &mut Option<H>) -> Result<(), AllocError>
     requires good { checked setup.now ≡ Ok tt }
     ensures some { OnOk result (IsSome hearer.new) }
     ensures none { OnOk result (count_in H.count hearer.new ≡ 0) }
