@@ -3,7 +3,7 @@ use Rattle.std.proofs.Common.{◌≡◌, ℕ, zero, suc, ◌+◌, ◌<◌, not, 
 use Rattle.std.proofs.lemmas.List.{length-append, length-reverse}
 use Rattle.plain_store.specs.declared.setups.Setup.{Setup}
 use Rattle.record.specs.Entries.{Entry, Past}
-use Rattle.any_lock.specs.Judging.{AreReasonsAt, HasJudged, JudgeState}
+use Rattle.any_lock.specs.Judging.{AreReasonsAt, AreReasonsOf, HasJudged, JudgeState}
 use Rattle.any_lock.specs.Laws.{first_broken}
 use Rattle.any_lock.specs.Reasons.{AreReasons}
 use Rattle.any_lock.specs.Verdicts.{verdict_of, verdict_with}
@@ -145,3 +145,12 @@ tells_verdict s entries numbers told status n v is count answer line = record {
   answer = answer ∙ ap status_of_verdict is;
   line = line ∙ ap (λ k. verdict_line k v) count ∙ ap (verdict_line (length entries)) is;
 }
+
+-- whether reasons are there or not
+pub explains_none : (j : JudgeState) (n : ℕ) (e : Entry) (lines : List ℕ) → ((s : Setup) (entries : List Entry) → HasJudged j s entries → AreReasonsOf s entries (verdict_of s entries) None) → Explains j n e lines lines
+explains_none j n e lines none s entries judged k l is =
+    let at : AreReasonsAt s entries k l None = subst (λ (v : Verdict). AreReasonsOf s entries v None) is (none s entries judged) in
+    let no : None ≡ Some at.told = at.is in absurd (cc)
+
+pub explains_some : (j : JudgeState) (n : ℕ) (e : Entry) (lines lines' : List ℕ) (r : Reasons) → ((s : Setup) (entries : List Entry) → HasJudged j s entries → AreReasonsOf s entries (verdict_of s entries) (Some r)) → lines' ≡ lines ++ reason_lines n e r → Explains j n e lines lines'
+explains_some j n e lines lines' r reasons written s entries judged k l is = (r, subst (λ (v : Verdict). AreReasonsOf s entries v (Some r)) is (reasons s entries judged), written)

@@ -1,10 +1,9 @@
 //! The lines of reasons.
-ghost use Rattle.std.specs.Prelude.{◌≡◌, ◌++◌, IfOk, OnOk};
+ghost use Rattle.std.specs.Prelude.{◌≡◌, ◌++◌, IfOk, OnOk, codes};
 ghost use Rattle.std.specs.String.{string_bytes};
 ghost use Rattle.any_lock.specs.Shown.{access_refusal_text, mark_refusal_text};
 ghost use Rattle.trial.specs.ReasonLines.{word_line};
 ghost use Rattle.any_judge.specs.ReasonLines.{entry_if, inside_line, may_line, others_lines, pair_line, reason_lines as lines_of, refused_line, standing_lines, wait_line, waits_from};
-ghost use Rattle.std.specs.Prelude.{codes};
 
 use any_lock::{AccessRefusal, Change, MarkRefusal, Reasons, Refused, changed};
 use plain_store::NestedTypes;

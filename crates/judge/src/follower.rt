@@ -1,14 +1,9 @@
 //! What goes along with a good record, one entry behind the judge: it tells what a process would do next.
-ghost use Rattle.std.specs.Prelude.{◌≡◌, ◌∷◌, ℕ, Bool, None, Some, IfOk};
+ghost use Rattle.std.specs.Prelude.{◌≡◌, [], ℕ, IfOk, Ok};
 ghost use Rattle.plain_store.specs.Setups.{checked};
-ghost use Rattle.record.specs.declared.events.Event.TheVariants.{Step};
-ghost use Rattle.record.specs.Entries.{Entry as Noted, Past};
 ghost use Rattle.record.specs.Histories.{reply_taken};
-ghost use Rattle.record.specs.Records.{entry_of, refused};
-ghost use Rattle.world.specs.Events.{stage_in};
 ghost use Rattle.world.specs.process.Telling.{marks_told};
 ghost use Rattle.auditor.specs.Hearing.{HasHeard, IsCount, event_in as event_told, flick_in as flick_told, with_reply};
-ghost use Rattle.auditor.specs.Verdicts.{KeepsAll};
 
 use plain_store::{NestedTypes, Setup};
 use record::{Access, Act, Entry, Event, Mark, Move, Refusal, Stage};
@@ -61,19 +56,18 @@ impl Follower {
     /// An event that is no step.
     fn make(&mut self, event: &Event) {
         let mut effect = Effect::Steps(Told::Nothing);
-        let _made = self.core.event(event, &mut effect);
+        let Ok(_access) = self.core.event(event, &mut effect) else {
+            return;
+        };
     }
 
     /// A step.
     fn step(&mut self, process: u8, flick: bool) {
         let mut told = Told::Nothing;
-        let _made = self.core.step(process, flick, &mut told);
-        if told.reply().is_some() {
-            self.taken = match self.taken {
-                None => None,
-                Some(count) => count.checked_add(1),
-            };
-        }
+        let Ok(_access) = self.core.step(process, flick, &mut told) else {
+            return;
+        };
+        self.taken = more(self.taken, &told);
     }
 
     /// The stage of a process, if it is there.
@@ -104,6 +98,19 @@ impl Follower {
                 marks: told.marks(alloc, place),
             },
         })
+    }
+}
+
+/// How many commands were taken, after what a step leads to.
+fn more(taken: Option<u64>, told: &Told) -> Option<u64>
+    ensures { (n : ℕ) → IsCount taken n → IsCount result (with_reply n (reply_taken (marks_told told.now))) }
+{
+    if told.reply().is_none() {
+        return taken;
+    }
+    match taken {
+        None => None,
+        Some(count) => count.checked_add(1),
     }
 }
 
