@@ -2,14 +2,14 @@
 //! a bad verdict stand its reasons, if they are asked for; so they do for this project's lock.
 #![tactic(auto)]
 
+mod common_laws;
 mod explaining;
 mod judging;
-mod laws;
 mod plain;
 mod reason_lines;
 mod verdicts;
 
 pub use any_lock::{Judge, Judged, Law, Verdict};
+pub use common_laws::good_records_keep_laws_of_any_lock;
 pub use judge::run_judge_with_reasons;
 pub use judging::judge_any_lock;
-pub use laws::good_records_keep_laws_of_any_lock;

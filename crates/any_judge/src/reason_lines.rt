@@ -141,7 +141,7 @@ fn push_waits(alloc: Global, waits: &[Option<u64>], text: &mut Vec<u8>) -> Resul
 {
     let mut process = 0;
     'waits: for wait in waits {
-        push_wait(alloc, process, *wait, text)?;
+        push_wait(alloc, process, wait, text)?;
         process += 1;
     }
     Ok(())
@@ -151,14 +151,14 @@ fn push_waits(alloc: Global, waits: &[Option<u64>], text: &mut Vec<u8>) -> Resul
 fn push_wait(
     alloc: Global,
     process: u64,
-    wait: Option<u64>,
+    wait: &Option<u64>,
     text: &mut Vec<u8>,
 ) -> Result<(), AllocError>
-    ensures { OnOk result (text.new.items ≡ text.old.items ++ wait_line process wait) }
+    ensures { OnOk result (text.new.items ≡ text.old.items ++ wait_line process wait.now) }
 {
     match wait {
         None => Ok(()),
-        Some(entry) => push_pair(alloc, "waits", process, entry, text),
+        Some(entry) => push_pair(alloc, "waits", process, *entry, text),
     }
 }
 
