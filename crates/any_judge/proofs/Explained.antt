@@ -1,5 +1,5 @@
 -- The reasons behind a verdict, as entries are heard.
-use Rattle.std.proofs.Common.{◌≡◌, ℕ, zero, suc, ◌+◌, ◌<◌, not, ◌&&◌, Bool, true, false, List, [], ◌∷◌, ◌++◌, length, reverse, Option, None, Some, slice_get, refl, ap, sym, subst, ◌∙◌, true≢false, arith}
+use Rattle.std.proofs.Common.{◌≡◌, ℕ, zero, suc, ◌+◌, ◌<◌, not, ◌&&◌, Bool, true, false, List, [], ◌∷◌, ◌++◌, length, reverse, Option, None, Some, Result, Ok, Err, OnOk, slice_get, refl, ap, sym, subst, ◌∙◌, true≢false, arith}
 use Rattle.std.proofs.lemmas.List.{length-append, length-reverse}
 use Rattle.plain_store.specs.declared.setups.Setup.{Setup}
 use Rattle.record.specs.Entries.{Entry, Past}
@@ -40,7 +40,7 @@ and_false : (b : Bool) → (b && not true) ≡ false
 and_false true = refl
 and_false false = refl
 
-good_is : (v : Verdict) → is_good v ≡ true → v ≡ Good
+pub good_is : (v : Verdict) → is_good v ≡ true → v ≡ Good
 good_is Good is = refl
 good_is (Bad k l) is = absurd (true≢false (sym is))
 
@@ -145,6 +145,11 @@ tells_verdict s entries numbers told status n v is count answer line = record {
   answer = answer ∙ ap status_of_verdict is;
   line = line ∙ ap (λ k. verdict_line k v) count ∙ ap (verdict_line (length entries)) is;
 }
+
+-- what follows, where there was memory
+pub ok_then : {A E : Type 0} (r : Result A E) {P Q : Type 0} → (P → Q) → OnOk r P → OnOk r Q
+ok_then (Ok a) then p = then p
+ok_then (Err e) then p = tt
 
 -- whether reasons are there or not
 pub explains_none : (j : JudgeState) (n : ℕ) (e : Entry) (lines : List ℕ) → ((s : Setup) (entries : List Entry) → HasJudged j s entries → AreReasonsOf s entries (verdict_of s entries) None) → Explains j n e lines lines

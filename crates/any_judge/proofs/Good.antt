@@ -1,5 +1,5 @@
 -- What is good for this project's lock is good for any lock.
-use Rattle.std.proofs.Common.{◌≡◌, ◌≢◌, ℕ, zero, suc, ◌+◌, ◌<◌, ◌==◌, not, ◌&&◌, Bool, true, false, cond, List, [], ◌∷◌, Contains, Option, None, Some, length, refl, sym, ap, ◌∙◌, subst, arith, true≢false, ◌⊎◌, inl, inr, ne_eqb}
+use Rattle.std.proofs.Common.{◌≡◌, ◌≢◌, ℕ, zero, suc, ◌+◌, ◌<◌, ◌==◌, not, ◌&&◌, Bool, true, false, cond, List, [], ◌∷◌, Contains, Option, None, Some, length, refl, sym, ap, ◌∙◌, subst, arith, add-one, true≢false, ◌⊎◌, inl, inr, ne_eqb}
 use Rattle.std.proofs.lemmas.Bool.Decides.{nat_tests}
 use Rattle.std.specs.List.{list_all}
 use Rattle.std.specs.Option.{is_some}
@@ -25,7 +25,7 @@ use Rattle.any_judge.specs.Good.{GoodKeepsOfAny, KeepsOfAny}
 -- none is the lowest where there is none
 none_below : (n : ℕ) (test : ℕ → Bool) → ((k : ℕ) → test k ≡ false) → lowest_below n test ≡ None
 none_below zero test never = refl
-none_below (suc n) test never = lowest_none n test (none_below n test never) (never n)
+none_below (suc n) test never = ap (λ k. lowest_below k test) (sym (add-one n)) ∙ lowest_none n test (none_below n test never) (never n)
 
 keeps_together : (s : Setup) (past : Past) (e : Entry) → KeepsTogether past e → breaks_together s past e ≡ false
 keeps_together s past e kept = by (has is_entered e) refl
@@ -43,10 +43,10 @@ keeps_together s past e kept = by (has is_entered e) refl
         go true is (inr apart) = absurd (apart (kept entered q is))
 
     by : (b : Bool) → has is_entered e ≡ b → breaks_together s past e ≡ false
-    by false no = ap (λ b. b && is_some (lowest_other s e.process (λ q. (standing s q past).inside))) no
-    by true yes =
-        ap (λ b. b && is_some (lowest_other s e.process (λ q. (standing s q past).inside))) yes
-        ∙ ap is_some (none_below s.processes (λ q. not (q == e.process) && (standing s q past).inside) (other yes))
+    by false outside = ap (λ b. b && is_some (lowest_other s e.process (λ q. (standing s q past).inside))) outside
+    by true enters =
+        ap (λ b. b && is_some (lowest_other s e.process (λ q. (standing s q past).inside))) enters
+        ∙ ap is_some (none_below s.processes (λ q. not (q == e.process) && (standing s q past).inside) (other enters))
 
 -- a reply is the same as itself
 same_as_itself : (r : Reply) → same_reply r r ≡ true
