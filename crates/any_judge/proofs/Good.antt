@@ -1,5 +1,5 @@
 -- What is good for this project's lock is good for any lock.
-use Rattle.std.proofs.Common.{◌≡◌, ◌≢◌, ℕ, zero, suc, ◌+◌, ◌<◌, ◌==◌, not, ◌&&◌, Bool, true, false, cond, List, [], ◌∷◌, Contains, Option, None, Some, length, refl, sym, ap, ◌∙◌, subst, arith, add-one, true≢false, ◌⊎◌, inl, inr, ne_eqb}
+use Rattle.std.proofs.Common.{◌≡◌, ◌≢◌, ℕ, zero, suc, ◌==◌, not, ◌&&◌, Bool, true, false, List, [], ◌∷◌, Contains, None, length, refl, sym, ap, ◌∙◌, subst, arith, add-one, ◌⊎◌, inl, inr}
 use Rattle.std.proofs.lemmas.Bool.Decides.{nat_tests}
 use Rattle.std.specs.List.{list_all}
 use Rattle.std.specs.Option.{is_some}
@@ -13,14 +13,14 @@ use Rattle.record.specs.Headline.{TakesItsPlace}
 use Rattle.record.specs.Histories.{history}
 use Rattle.record.specs.Spans.{takings}
 use Rattle.record.specs.Stages.{inside}
-use Rattle.judge.specs.auditor.Verdicts.{AllKeep, KeepsTogether}
+use Rattle.judge.specs.auditor.Verdicts.{KeepsTogether}
 use Rattle.judge.specs.auditor.declared.verdicts.Law.TheVariants as law
 use Rattle.any_lock.specs.Laws.{breaks_history, breaks_together, is_that, lowest_below, lowest_other, right_reply}
 use Rattle.any_lock.specs.Refusals.{same_reply}
 use Rattle.any_lock.specs.Standings.{standing}
 use Rattle.any_lock.proofs.Breaks.{broken_by}
 use Rattle.any_lock.proofs.Lowest.{lowest_none}
-use Rattle.any_judge.specs.Good.{GoodKeepsOfAny, KeepsOfAny}
+use Rattle.any_judge.specs.Good.{GoodKeepsOfAny}
 
 -- none is the lowest where there is none
 none_below : (n : ℕ) (test : ℕ → Bool) → ((k : ℕ) → test k ≡ false) → lowest_below n test ≡ None

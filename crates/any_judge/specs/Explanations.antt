@@ -1,5 +1,5 @@
 -- The reasons that stand behind a bad verdict.
-use Rattle.std.specs.Prelude.{◌≡◌, ℕ, Bool, true, false, List, [], ◌∷◌, ◌++◌, length, reverse, slice_get, Option, Some, Result}
+use Rattle.std.specs.Prelude.{◌≡◌, ℕ, Bool, true, false, List, [], ◌∷◌, ◌++◌, length, reverse, slice_get, Some, Result}
 use Rattle.plain_store.specs.declared.setups.Setup.{Setup}
 use Rattle.record.specs.Entries.{Entry, Past}
 use Rattle.any_lock.specs.Judging.{AreReasonsAt, HasJudged, JudgeState}

@@ -1,4 +1,4 @@
-use Rattle.std.proofs.Common.{◌≡◌, ◌+◌, suc, ℕ, List, Option, None, [], ◌∷◌, ◌++◌, drop, drop-cons, get_or, ap, sym, ◌∙◌, append_assoc, append-nil, add-one, arith}
+use Rattle.std.proofs.Common.{◌≡◌, ◌+◌, ℕ, List, Option, None, ◌∷◌, ◌++◌, drop, drop-cons, get_or, ap, sym, ◌∙◌, append_assoc, append-nil, add-one, arith}
 use Rattle.any_lock.proofs.Loops.{dropped_all}
 use Rattle.any_judge.specs.ReasonLines.{wait_line, waits_from}
 use Rattle.any_judge.proofs.reason_lines.push_waits.Goals as goal

@@ -1,4 +1,4 @@
-use Rattle.std.proofs.Common.{◌≡◌, not, ◌&&◌, Bool, true, false, sym, ap, ◌∙◌, subst}
+use Rattle.std.proofs.Common.{◌≡◌, not, ◌&&◌, true, false, sym, ap, ◌∙◌, subst}
 use Rattle.record.specs.Entries.{Entry}
 use Rattle.record_file.specs.Printing.{step_entry as entry_of_step}
 use Rattle.any_judge.specs.Explanations.{Explains, is_good}
@@ -25,6 +25,6 @@ returns c =
     let now : is_good judge.verdict ≡ false = sym c.if-is_good.ensures in
     ok_then c.explain.result
     (λ explains s entries numbers explained.
-      explained_now c.args.self.now.judge judge old new c.args.number (entry_of_step c.args.process c.args.access) s entries numbers explained (good_is c.args.self.now.judge.verdict was) (c.hear_access.ensures.heard s entries explained.judged) now
-      (subst (λ (e : Entry). Explains judge c.args.number e old new) c.step_entry-entry.ensures explains))
+    explained_now c.args.self.now.judge judge old new c.args.number (entry_of_step c.args.process c.args.access) s entries numbers explained (good_is c.args.self.now.judge.verdict was) (c.hear_access.ensures.heard s entries explained.judged) now
+    (subst (λ (e : Entry). Explains judge c.args.number e old new) c.step_entry-entry.ensures explains))
     c.explain.ensures
