@@ -23,6 +23,7 @@ RACE = (0, "0 0 no-name\nshow empty\ngood\n", "")
 RECORD = (0, "record 1\nprocesses 2\ntickets 4\nstamps 4\nslots 1\n0 : call add a 1\n", "")
 
 WHY = "bad 1 marks\nline 3\nis 0 : enter\nrefused not-waiting\nstage doorway\n"
+OWN_WHY = "bad 1 program\nline 3\nis 0 : enter\nmay 0 0.choosing.0.0 write 1\nstage doorway\n"
 
 # the words, standard input, and what is wanted: exit status, standard output, standard error
 CASES = [
@@ -41,7 +42,8 @@ CASES = [
     (["judge", "-"], RECORD[1], (0, "good 1\n", "")),
     (["judge", "-"], RECORD[1] + "0 : fail\n0 : fail\n", (3, "bad 2 program\n", "")),
     *((words, "record 1\n0 : call read a\n0 : enter\n", (3, WHY, "")) for words in [["judge", "--why", "-", "--any-lock"], ["judge", "-", "--any-lock", "--why"]]),
-    (["judge", "--why", "-"], "record 1\n", (2, "", "error: '--why' gives reasons of '--any-lock' alone, which is not given\n")),
+    (["judge", "--why", "-"], "record 1\n", (0, "good 0\n", "")),
+    (["judge", "--why", "-"], "record 1\n0 : call read a\n0 : enter\n", (3, OWN_WHY, "")),
     (["judge", "--any-lock", "-"], "record 1\n0 : call read a\n0 : enter\n", (3, "bad 1 marks\n", "")),
     (["judge", "a file"], "", (1, "", "line 1: not-first\n")),
     (["bits", "-"], "bits 1\nend\n", (0, "refused\n", "")),

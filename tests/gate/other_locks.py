@@ -1,8 +1,8 @@
 #!/usr/bin/env python3
 """Judges the records of other locks with the proved program, and compares byte for byte.
 
-Each folder of examples/other-locks/ has a file `record`, and under `any-lock`, `any-lock-why` and `judge` what `judge` with
-`--any-lock`, with `--why` beside it and without options writes for it to standard output; beside it `any-lock.err` (no such file:
+Each folder of examples/other-locks/ has a file `record`, and under `any-lock`, `any-lock-why`, `why` and `judge` what `judge`
+with `--any-lock`, with `--why` beside it, with `--why` alone and without options writes for it to standard output; beside it `any-lock.err` (no such file:
 nothing) and `any-lock.status` (no such file: 0), and so on. The file `refusals` has a record for each refusal of an entry:
 a block is the law, the refusal, and the entries, of which the last one is bad.
 The program is the one that `rt run` leaves in crates/bakerystore.
@@ -23,6 +23,7 @@ OTHER_LOCKS = TOP / "examples" / "other-locks"
 OPTIONS = {
     "any-lock": ["--any-lock"],
     "any-lock-why": ["--any-lock", "--why"],
+    "why": ["--why"],
     "judge": [],
 }
 

@@ -1,12 +1,15 @@
-//! Judging the record file of any lock: it is read line by line, and no record is held. Behind a bad verdict stand its
-//! reasons, if they are asked for.
+//! The engine `judge` with its options. The record file of any lock is judged line by line, and no record is held. Behind
+//! a bad verdict stand its reasons, if they are asked for; so they do for this project's lock.
 #![tactic(auto)]
 
-mod changes;
+mod common_laws;
+mod explaining;
 mod judging;
+mod plain;
 mod reason_lines;
-mod stages;
-mod trial;
+mod verdicts;
 
 pub use any_lock::{Judge, Judged, Law, Verdict};
+pub use common_laws::good_records_keep_laws_of_any_lock;
+pub use judge::run_judge_with_reasons;
 pub use judging::judge_any_lock;

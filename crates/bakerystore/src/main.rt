@@ -3,10 +3,10 @@
 
 ghost use Rattle.std.specs.Prelude.{◌-◌, ◌<◌, ◌^◌};
 
-use any_judge::judge_any_lock;
+use any_judge::{judge_any_lock, run_judge_with_reasons};
 use command_line::{
     Asked, Engine, Fault, FromRead, Intake, IntoWrite, LineFault, Output, Request, Sink, Source,
-    Terminals, USAGE_STATUS, Uninterrupted, WatchedInput, Watcher, all_words, ended, read_words,
+    Terminals, Uninterrupted, WatchedInput, Watcher, all_words, ended, read_words,
 };
 use drawer::progress::Onlooker;
 use drawer::{Reads, draw, draw_svg};
@@ -21,9 +21,6 @@ use std::process::ExitCode;
 use std::sync::Wait;
 use std::thread::Threads;
 use std::time::Clock;
-
-/// What is told where reasons are asked for that there are none of.
-const WHY_ALONE: &str = "error: '--why' gives reasons of '--any-lock' alone, which is not given";
 
 /// What is told at a terminal where there are no words.
 const NO_WORDS: &str =
@@ -51,10 +48,6 @@ fn do_asked<T: Env + Files + Input + Print + Eprint + Clock + AllocGlobal + Thre
         let _ = eprintln!(rt; "{NO_WORDS}");
     }
     match read_words(rt.alloc(), words.as_slice()) {
-        Ok(Asked::Run(request)) if request.why && !request.any_lock => {
-            let _ = eprintln!(rt; "{WHY_ALONE}");
-            Ok(USAGE_STATUS)
-        }
         Ok(Asked::Run(request)) => run(rt, &request, terminals),
         Ok(Asked::Tell(page)) => Ok(page.tell(rt)?),
         Err(notice) => Ok(notice.tell(rt)?),
@@ -189,6 +182,7 @@ fn run_engine<T: AllocGlobal + Threads + Wait + Sync, R: Source, W: Sink, L: Onl
         Engine::Record => ended(run_record(alloc, input, output, onlooker)),
         Engine::Calls => ended(run_calls(alloc, input, output, onlooker)),
         Engine::Judge if wanted.any_lock => judge_any_lock(alloc, input, output, wanted.why),
+        Engine::Judge if wanted.why => run_judge_with_reasons(alloc, input, output),
         Engine::Judge => run_judge(alloc, input, output),
         Engine::Race => return run_race(rt, alloc, input, output),
         Engine::Draw => ended(draw(alloc, reads, input, output, onlooker)),

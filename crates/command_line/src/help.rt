@@ -229,7 +229,7 @@ With --any-lock it takes the record of any lock on safe bits, and judges its bit
 calls and critical section; no algorithm is asked for. The laws, in order: `safe`,
 `access`, `marks`, `together`, `overtaken`, `history`.
 
-With --why beside it reasons follow a `bad`, each where there is something to say:
+With --why reasons follow a `bad`, each where there is something to say:
 
   line N          its line in the file, with skipped lines
   is ENTRY        the entry

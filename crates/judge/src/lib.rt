@@ -6,9 +6,11 @@
 //! ```
 #![tactic(auto)]
 
+mod explaining;
+mod follower;
+mod hearing;
 mod judge;
 mod judging;
-mod trial;
 mod verdicts;
 
 pub use auditor::{
@@ -16,6 +18,6 @@ pub use auditor::{
     records_have_one_verdict, records_of_events_are_good,
 };
 pub use judge::Judge;
-pub use judging::run_judge;
+pub use judging::{run_judge, run_judge_with_reasons};
 pub use record_file::{StepLine, print_entry, print_setup};
 pub use verdicts::{status_of, verdict_line};

@@ -4,8 +4,8 @@ ghost use Rattle.std.specs.String.{string_bytes};
 ghost use Rattle.judge.specs.Judgements.{status_of_verdict, verdict_line as line_of_verdict};
 
 use auditor::{Audited, Verdict};
-use files::DONE;
 use std::alloc::{AllocError, Global};
+use trial::DONE;
 
 /// The exit status where an audit finds a law broken.
 const BAD: u8 = 3;

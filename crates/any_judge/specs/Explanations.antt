@@ -1,0 +1,66 @@
+-- The reasons that stand behind a bad verdict.
+use Rattle.std.specs.Prelude.{◌≡◌, ℕ, Bool, true, false, List, [], ◌∷◌, ◌++◌, length, reverse, slice_get, Some, Result}
+use Rattle.plain_store.specs.declared.setups.Setup.{Setup}
+use Rattle.record.specs.Entries.{Entry, Past}
+use Rattle.any_lock.specs.Judging.{AreReasonsAt, HasJudged, JudgeState}
+use Rattle.any_lock.specs.Reasons.{AreReasons}
+use Rattle.any_lock.specs.Verdicts.{verdict_of}
+use Rattle.any_lock.specs.declared.reasons.Reasons.{Reasons}
+use Rattle.any_lock.specs.declared.verdicts.Law.{Law}
+use Rattle.any_lock.specs.declared.verdicts.Verdict.{Verdict}
+use Rattle.any_lock.specs.declared.verdicts.Verdict.TheVariants.{Good, Bad}
+use Rattle.trial.specs.Ends.{TrialEnds}
+use Rattle.trial.specs.files.Engines.{Streams}
+use Rattle.trial.specs.files.declared.faults.Fault.{Fault}
+use Rattle.any_judge.specs.Judgements.{TellsVerdict, status_of_verdict, verdict_line}
+use Rattle.any_judge.specs.ReasonLines.{reason_lines}
+
+-- these are the lines of the reasons of the bad entry of a record: entry k breaks law l first, and stands in the line with its number
+pub record AreLinesAt (s : Setup) (entries : List Entry) (numbers : List ℕ) (k : ℕ) (l : Law) (lines : List ℕ) : Type 0 where
+  pub entry : Entry
+  pub past : Past
+  pub later : Past
+  pub splits : reverse entries ≡ later ++ entry ∷ past
+  pub place : length past ≡ k
+  pub number : ℕ
+  pub line : slice_get numbers k ≡ Some number
+  pub reasons : Reasons
+  pub are : AreReasons s past entry l reasons
+  pub text : lines ≡ reason_lines number entry reasons
+
+-- these are the lines of the reasons of a verdict on a record: a good one has none
+abbrev pub AreLinesOf : Setup → List Entry → List ℕ → Verdict → List ℕ → Type 0
+AreLinesOf s entries numbers Good lines = lines ≡ []
+AreLinesOf s entries numbers (Bad k l) lines = AreLinesAt s entries numbers k l lines
+
+-- a judge has heard these entries, and these are the lines of his reasons
+pub record HasExplained (j : JudgeState) (lines : List ℕ) (s : Setup) (entries : List Entry) (numbers : List ℕ) : Type 0 where
+  pub judged : HasJudged j s entries
+  pub counted : length numbers ≡ length entries
+  pub are : AreLinesOf s entries numbers j.verdict lines
+
+-- a verdict is good
+abbrev pub is_good : Verdict → Bool
+is_good Good = true
+is_good (Bad k l) = false
+
+-- the reasons of the verdict of a judge were written behind a text, for an entry that stands in line n
+abbrev pub Explains : JudgeState → ℕ → Entry → List ℕ → List ℕ → Type 0
+Explains j n e old new = (s : Setup) (entries : List Entry) → HasJudged j s entries → (k : ℕ) (l : Law) → verdict_of s entries ≡ Bad k l → (r : Reasons) × AreReasonsAt s entries k l (Some r) × (new ≡ old ++ reason_lines n e r)
+
+-- they were, if they are wanted; else nothing was
+abbrev pub ExplainsIf : Bool → JudgeState → ℕ → Entry → List ℕ → List ℕ → Type 0
+ExplainsIf true j n e old new = Explains j n e old new
+ExplainsIf false j n e old new = new ≡ old
+
+-- the line of the verdict on a record, the lines of its reasons, and its status
+pub record TellsReasons (s : Setup) (entries : List Entry) (numbers told : List ℕ) (status : ℕ) : Type 0 where
+  pub lines : List ℕ
+  pub are : AreLinesOf s entries numbers (verdict_of s entries) lines
+  pub answer : status ≡ status_of_verdict (verdict_of s entries)
+  pub text : told ≡ verdict_line (length entries) (verdict_of s entries) ++ lines
+
+-- How judging ends: with the verdict on what the whole input says, and with the lines of its reasons if they are asked for; or with its fault.
+abbrev pub JudgeEnds : Bool → Result ℕ Fault → Streams → Streams → Type 0
+JudgeEnds false = TrialEnds TellsVerdict
+JudgeEnds true = TrialEnds TellsReasons

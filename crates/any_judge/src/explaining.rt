@@ -1,0 +1,131 @@
+//! A judge who tells the reasons of a bad verdict too.
+ghost use Rattle.std.specs.Prelude.{◌≡◌, ◌&&◌, not, OnOk};
+ghost use Rattle.record_file.specs.Printing.{step_entry as entry_of_step};
+ghost use Rattle.any_judge.specs.Explanations.{Explains, ExplainsIf, HasExplained, TellsReasons, is_good};
+
+use crate::reason_lines::reason_lines;
+use crate::verdicts::{status_of, verdict_line};
+use any_lock::{Judge, Verdict};
+use plain_store::{NestedTypes, Setup};
+use record::{Access, Act, Entry};
+use smallvec::SmallVec;
+use std::alloc::{AllocError, Global};
+use trial::{Hearer, Telling};
+
+/// A judge, and the lines of the reasons once his verdict is bad.
+#[derive(Drop)]
+pub(crate) struct Explaining {
+    pub judge: Judge,
+    pub reasons: Vec<u8>,
+}
+
+impl Hearer for Explaining {
+    ghost HasHeard = { λ e s entries numbers. HasExplained e.judge e.reasons.items s entries numbers };
+
+    ghost count = { λ e. e.judge.entries };
+
+    ghost Tells = { TellsReasons };
+
+    fn begin(alloc: Global, setup: &Setup) -> Result<Explaining, AllocError> {
+        Ok(Explaining {
+            judge: Judge::new(alloc, setup)?,
+            reasons: Vec::new(alloc),
+        })
+    }
+
+    fn take(&mut self, alloc: Global, number: u64, entry: &Entry) -> Result<(), AllocError> {
+        let was_good = is_good(&self.judge);
+        self.judge.hear(entry);
+        explain_if(
+            was_good,
+            alloc,
+            number,
+            entry,
+            &self.judge,
+            &mut self.reasons,
+        )
+    }
+
+    fn take_access(
+        &mut self,
+        alloc: Global,
+        number: u64,
+        process: u8,
+        access: Access,
+    ) -> Result<(), AllocError> {
+        let was_good = is_good(&self.judge);
+        self.judge.hear_access(process, access);
+        if !was_good || is_good(&self.judge) {
+            return Ok(());
+        }
+        let entry = step_entry(alloc, process, access);
+        explain(alloc, number, &entry, &self.judge, &mut self.reasons)
+    }
+
+    fn tell(&self, alloc: Global) -> Result<Telling, AllocError> {
+        let judged = self.judge.judged();
+        let mut text = verdict_line(alloc, &judged)?.into_bytes();
+        text.extend_from_slice(self.reasons.as_slice())?;
+        Ok(Telling {
+            text,
+            status: status_of(&judged.verdict),
+        })
+    }
+
+    ghost counts = { λ e s entries numbers explained. explained.judged.count };
+}
+
+/// Whether the verdict of a judge is good.
+#[inline]
+fn is_good(judge: &Judge) -> bool
+    ensures { result ≡ is_good judge.now.verdict }
+{
+    matches!(judge.judged().verdict, Verdict::Good)
+}
+
+/// The entry of a Step with this access and no mark.
+fn step_entry(alloc: Global, process: u8, access: Access) -> Entry
+    ensures { result ≡ entry_of_step process access }
+{
+    let _nested: NestedTypes = None;
+    Entry {
+        process,
+        act: Act {
+            access: Some(access),
+            marks: SmallVec::new(alloc),
+        },
+    }
+}
+
+/// Writes the reasons of an entry, which stands in this line, if it is the bad one: the verdict was good, and is bad now.
+fn explain_if(
+    was_good: bool,
+    alloc: Global,
+    number: u64,
+    entry: &Entry,
+    judge: &Judge,
+    lines: &mut Vec<u8>,
+) -> Result<(), AllocError>
+    ensures { OnOk result (ExplainsIf (was_good && not (is_good judge.now.verdict)) judge.now number entry.now lines.old.items lines.new.items) }
+{
+    if !was_good || is_good(judge) {
+        return Ok(());
+    }
+    explain(alloc, number, entry, judge, lines)
+}
+
+/// Writes the reasons of an entry, which stands in this line and is the bad one.
+fn explain(
+    alloc: Global,
+    number: u64,
+    entry: &Entry,
+    judge: &Judge,
+    lines: &mut Vec<u8>,
+) -> Result<(), AllocError>
+    ensures { OnOk result (Explains judge.now number entry.now lines.old.items lines.new.items) }
+{
+    let Some(reasons) = judge.reasons() else {
+        return Ok(());
+    };
+    reason_lines(alloc, number, entry, &reasons, lines)
+}

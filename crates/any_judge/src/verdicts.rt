@@ -1,0 +1,29 @@
+//! What the engine writes and answers for verdicts.
+ghost use Rattle.std.specs.Prelude.{◌≡◌, IfOk};
+ghost use Rattle.std.specs.String.{string_bytes};
+ghost use Rattle.any_judge.specs.Judgements.{status_of_verdict, verdict_line as line_of_verdict};
+
+use any_lock::{Judged, Verdict};
+use std::alloc::{AllocError, Global};
+use trial::DONE;
+
+/// The exit status where a law is broken.
+const BAD: u8 = 3;
+
+/// The exit status that a verdict stands for: 0 for a good one, 3 for a bad one.
+pub(crate) fn status_of(verdict: &Verdict) -> u8
+    ensures { result ≡ status_of_verdict verdict.now }
+{
+    match verdict {
+        Verdict::Good => DONE,
+        Verdict::Bad(..) => BAD,
+    }
+}
+
+/// The line of a verdict.
+#[tactic(auto, using(crate::proofs::Lines::verdict_line_is))]
+pub(crate) fn verdict_line(alloc: Global, judged: &Judged) -> Result<String, AllocError>
+    ensures { IfOk result (λ line. string_bytes line ≡ line_of_verdict judged.now.entries judged.now.verdict) }
+{
+    format!(in alloc; "{judged}\n")
+}

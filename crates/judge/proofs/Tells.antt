@@ -1,0 +1,13 @@
+-- What is told of a record.
+use Rattle.std.proofs.Common.{◌≡◌, ℕ, List, ◌++◌, length, ap, ◌∙◌}
+use Rattle.plain_store.specs.declared.setups.Setup.{Setup}
+use Rattle.record.specs.Entries.{Entry}
+use Rattle.auditor.specs.Verdicts.{IsVerdict}
+use Rattle.auditor.specs.declared.verdicts.Verdict.{Verdict}
+use Rattle.judge.specs.Judgements.{TellsReasons, TellsVerdict, status_of_verdict, verdict_line}
+
+pub tells_verdict : (s : Setup) (entries : List Entry) (numbers told : List ℕ) (status n : ℕ) (v : Verdict) → IsVerdict s entries v → n ≡ length entries → status ≡ status_of_verdict v → told ≡ verdict_line n v → TellsVerdict s entries numbers told status
+tells_verdict s entries numbers told status n v is count answer line = record { verdict = v; is = is; answer = answer; line = line ∙ ap (λ k. verdict_line k v) count }
+
+pub tells_reasons : (s : Setup) (entries : List Entry) (numbers told reasons : List ℕ) (status n : ℕ) (v : Verdict) → IsVerdict s entries v → n ≡ length entries → status ≡ status_of_verdict v → told ≡ verdict_line n v ++ reasons → TellsReasons s entries numbers told status
+tells_reasons s entries numbers told reasons status n v is count answer text = record { verdict = v; is = is; answer = answer; reasons = reasons; text = text ∙ ap (λ k. verdict_line k v ++ reasons) count }

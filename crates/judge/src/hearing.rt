@@ -1,0 +1,49 @@
+//! A judge hears a record file.
+ghost use Rattle.judge.specs.Judgements.{TellsVerdict};
+ghost use Rattle.judge.specs.Judging.{HasJudged};
+
+use crate::judge::Judge;
+use crate::verdicts::{status_of, verdict_line};
+use plain_store::Setup;
+use record::{Access, Entry};
+use std::alloc::{AllocError, Global};
+use trial::{Hearer, Telling};
+
+impl Hearer for Judge {
+    ghost HasHeard = { λ judge s entries numbers. HasJudged judge s entries };
+
+    ghost count = { λ judge. judge.entries };
+
+    ghost Tells = { TellsVerdict };
+
+    fn begin(alloc: Global, setup: &Setup) -> Result<Judge, AllocError> {
+        Judge::new(alloc, setup)
+    }
+
+    fn take(&mut self, _alloc: Global, _number: u64, entry: &Entry) -> Result<(), AllocError> {
+        self.hear(entry);
+        Ok(())
+    }
+
+    #[inline]
+    fn take_access(
+        &mut self,
+        _alloc: Global,
+        _number: u64,
+        process: u8,
+        access: Access,
+    ) -> Result<(), AllocError> {
+        self.hear_access(process, access);
+        Ok(())
+    }
+
+    fn tell(&self, alloc: Global) -> Result<Telling, AllocError> {
+        let audited = self.audited();
+        Ok(Telling {
+            text: verdict_line(alloc, &audited)?.into_bytes(),
+            status: status_of(&audited.verdict),
+        })
+    }
+
+    ghost counts = { λ judge s entries numbers judged. judged.count };
+}

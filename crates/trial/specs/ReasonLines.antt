@@ -1,0 +1,38 @@
+-- The lines of reasons that all judges have.
+use Rattle.std.specs.Prelude.{ℕ, List, [], ◌++◌, codes, Option, Some, None}
+use Rattle.std.specs.Fmt.{decimal}
+use Rattle.record.specs.Entries.{Entry}
+use Rattle.record.specs.declared.stages.Stage.{Stage}
+use Rattle.record.specs.declared.stages.Stage.TheVariants.{Idle, Doorway, Waiting, Inside, Leaving, Settling, Down}
+use Rattle.record_file.specs.Printing.{entry_line}
+
+-- a word and a number
+abbrev pub number_line : List ℕ → ℕ → List ℕ
+number_line word n = word ++ (codes " " ++ (decimal n ++ codes "\n"))
+
+-- two words
+abbrev pub word_line : List ℕ → List ℕ → List ℕ
+word_line name word = name ++ (codes " " ++ (word ++ codes "\n"))
+
+-- a word and an entry, spelled as in a record
+abbrev pub named_entry : List ℕ → Entry → List ℕ
+named_entry name e = name ++ (codes " " ++ entry_line e)
+
+-- the number of the line of the bad entry, and that entry
+abbrev pub bad_lines : ℕ → Entry → List ℕ
+bad_lines n e = number_line (codes "line") n ++ named_entry (codes "is") e
+
+-- the word of a stage
+abbrev pub stage_word : Stage → List ℕ
+stage_word Idle = codes "idle"
+stage_word Doorway = codes "doorway"
+stage_word Waiting = codes "waiting"
+stage_word Inside = codes "inside"
+stage_word Leaving = codes "leaving"
+stage_word Settling = codes "settling"
+stage_word Down = codes "down"
+
+-- the stage of its process, if that is there
+abbrev pub stage_line : Option Stage → List ℕ
+stage_line None = []
+stage_line (Some stage) = word_line (codes "stage") (stage_word stage)

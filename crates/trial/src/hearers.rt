@@ -1,0 +1,58 @@
+//! Who hears the entries of a record file.
+ghost use Rattle.std.specs.Prelude.{◌≡◌, ◌-◌, ◌^◌, ◌<◌, ◌∷◌, ◌++◌, [], IfOk, List, Ok, OnOk, length, ℕ};
+ghost use Rattle.plain_store.specs.Setups.{checked};
+ghost use Rattle.record_file.specs.Printing.{step_entry};
+
+use plain_store::Setup;
+use record::{Access, Entry};
+use std::alloc::{AllocError, Global};
+
+/// What is told of a record: a text, and an exit status.
+#[derive(Drop)]
+pub struct Telling {
+    pub text: Vec<u8>,
+    pub status: u8,
+}
+
+/// Who hears the entries of a record, each with the number of its line, and then tells of them.
+pub trait Hearer: Sized + Drop {
+    ghost use Rattle.plain_store.specs.declared.setups.Setup.{Setup as Given};
+    ghost use Rattle.record.specs.Entries.{Entry as Noted};
+
+    /// It has heard these entries of a record with this setup, and these are the numbers of their lines.
+    ghost HasHeard: { Self → Given → List Noted → List ℕ → Type 0 };
+
+    /// How many entries it has heard.
+    ghost count: { Self → ℕ };
+
+    /// This text and this status are told of such a record.
+    ghost Tells: { Given → List Noted → List ℕ → List ℕ → ℕ → Type 0 };
+
+    /// Before the first entry. The one fault is want of memory.
+    fn begin(alloc: Global, setup: &Setup) -> Result<Self, AllocError>
+        requires { checked setup.now ≡ Ok tt }
+        ensures { IfOk result (λ hearer. HasHeard hearer setup.now [] []) };
+
+    /// One more entry, and the number of its line. After an `Err`, which is want of memory, no more is heard.
+    fn take(&mut self, alloc: Global, number: u64, entry: &Entry) -> Result<(), AllocError>
+        requires { count self.old < 2 ^ 64 - 1 }
+        ensures { OnOk result ((s : Given) (entries : List Noted) (numbers : List ℕ) → HasHeard self.old s entries numbers → HasHeard self.new s (entries ++ entry.now ∷ []) (numbers ++ number ∷ [])) };
+
+    /// The same of an entry with this access and no mark, as nearly all are, by its parts: so it need not stand
+    /// anywhere.
+    fn take_access(
+        &mut self,
+        alloc: Global,
+        number: u64,
+        process: u8,
+        access: Access,
+    ) -> Result<(), AllocError>
+        requires { count self.old < 2 ^ 64 - 1 }
+        ensures { OnOk result ((s : Given) (entries : List Noted) (numbers : List ℕ) → HasHeard self.old s entries numbers → HasHeard self.new s (entries ++ step_entry process access ∷ []) (numbers ++ number ∷ [])) };
+
+    /// What is told of the entries so far. The one fault is want of memory.
+    fn tell(&self, alloc: Global) -> Result<Telling, AllocError>
+        ensures { IfOk result (λ telling. (s : Given) (entries : List Noted) (numbers : List ℕ) → HasHeard self.now s entries numbers → Tells s entries numbers telling.text.items telling.status) };
+
+    ghost counts: { (hearer : Self) (s : Given) (entries : List Noted) (numbers : List ℕ) → HasHeard hearer s entries numbers → count hearer ≡ length entries };
+}
