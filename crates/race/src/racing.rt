@@ -19,7 +19,8 @@ use std::snapshot::Snapshot;
 use std::sync::Wait;
 use std::thread::{self, Promise, PromisedHandle, Scope, Threads};
 
-/// What a thread promises: the port of this process makes this plan, on this board; or this port was held, or memory wanting.
+/// What a thread promises: the port of this process makes this plan, on this board; or this port was held, or memory
+/// wanting.
 #[derive(Drop)]
 struct Making {
     board: Snapshot<Board>,

@@ -39,7 +39,8 @@ pub(crate) struct Worker<'a, G> {
 }
 
 impl<'a, G: Gate> Worker<'a, G> {
-    /// Makes the calls of the plan, in order, and gives the port back. A port that the gate holds is dropped once it is down.
+    /// Makes the calls of the plan, in order, and gives the port back. A port that the gate holds is dropped once it is
+    /// down.
     #[tactic(auto, using(crate::proofs::Threads::ended_by))]
     pub fn run<R: Wait>(&self, rt: &R, mut port: Port, plan: &[Command]) -> Result<Port, RaceFault>
         requires board { IsOf self.now.board.now port }
