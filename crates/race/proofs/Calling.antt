@@ -376,3 +376,7 @@ pub has_called_inside : (old begun middle new : PortState) (command : Command) �
 has_called_inside old begun middle new command b same same' c d =
     let then : ComesTo begun.setup (Some reached.Answer) middle.view new.view = subst (λ (s : Setup). ComesTo s (Some reached.Answer) middle.view new.view) same' d in
     has_called old begun new command b same (answered_trans begun.view.own.calls middle.view.own.calls new.view.own.calls c.1 then.0, then.1)
+
+-- a port that is driven until its process is down
+pub is_down : (old new : PortState) (turns : ℕ) (flicks then : FlickState) → SamePort old new → Drives old.setup old.view turns flicks driven.Down new.view then → stage_in new.setup new.view.own ≡ stage.Down
+is_down old new turns flicks then same drives = ap (λ (s : Setup). stage_in s new.view.own) same.2 ∙ drives.ends.2

@@ -1,5 +1,5 @@
 -- Lists that are gone through from the front.
-use Rattle.std.proofs.Common.{◌≡◌, ◌+◌, ℕ, zero, suc, List, [], ◌∷◌, ◌++◌, map, take, drop, Some, ap}
+use Rattle.std.proofs.Common.{◌≡◌, ℕ, zero, suc, List, [], ◌∷◌, ◌++◌, map, take, drop, Some, ap}
 use Rattle.std.specs.Prelude.{slice_get}
 
 -- the first of what is left stands at the index of those gone through

@@ -1,5 +1,5 @@
 -- How the engine ends.
-use Rattle.std.proofs.Common.{◌≡◌, ℕ, ◌+◌, List, [], Option, Some, None, Result, Ok, Err, IsErrAnd, IfOk, IfSome, subst, sym, ap, ◌∙◌, refl, arith}
+use Rattle.std.proofs.Common.{◌≡◌, ℕ, ◌+◌, List, [], Option, Some, None, Result, Ok, Err, IsErrAnd, subst, sym, ap, ◌∙◌, refl, arith}
 use Rattle.std.specs.Io.KnownBytes.{Appends, IsAtEnd, Keeps}
 use Rattle.scenario.proofs.files.CutTexts.{input_tells}
 use Rattle.scenario.proofs.files.EngineEnds.{ran_to_line, read_to_end}

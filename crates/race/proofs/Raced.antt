@@ -1,5 +1,5 @@
 -- What a race leaves, from what its ports have made and what closing leaves.
-use Rattle.std.proofs.Common.{◌≡◌, ◌<◌, ◌≤◌, ℕ, zero, suc, List, [], ◌∷◌, inl, length, map, Some, refl, sym, ap, subst, ◌∙◌, arith}
+use Rattle.std.proofs.Common.{◌≡◌, ◌<◌, ◌≤◌, ℕ, zero, suc, List, [], ◌∷◌, inl, length, Some, refl, sym, ap, subst, ◌∙◌, arith}
 use Rattle.std.specs.Prelude.{Ok, slice_get}
 use Rattle.std.proofs.lemmas.List.{length-map}
 use Rattle.std.proofs.lemmas.Option.{slice_get_within}
@@ -49,7 +49,7 @@ raced board plans ports answers image h all lists stand leaves = record {
   end = λ calls at.
       let a = answer_at ports answers lists (in_order board plans ports h) 0 calls at in
       let l = leaves 0 a.0 a.1 (in_order board plans ports h 0 a.0 a.1) in
-      (changes_of board.setup (past_of board.setup l.events), (l.events, l.given, refl), subst (λ (xs : List Placed). StandsIn board.setup 0 xs (changes_of board.setup (past_of board.setup l.events))) a.2 l.stands, l.store);
+      (changes_of board.setup (past_of board.setup l.events), record { events = l.events; given = l.given; headline = l.headline; are = refl }, subst (λ (xs : List Placed). StandsIn board.setup 0 xs (changes_of board.setup (past_of board.setup l.events))) a.2 l.stands, l.store);
 }
 
 -- So the board can be closed: its ports are all there, and at rest.

@@ -1,6 +1,6 @@
 -- What the threads of a race give back, from what each promised.
-use Rattle.std.proofs.Common.{◌≡◌, ◌<◌, ℕ, zero, suc, List, [], ◌∷◌, ◌++◌, drop, length, Some, refl, sym, subst, ◌∙◌, arith}
-use Rattle.std.specs.Prelude.{IfOk, Result, Ok, Err, slice_get}
+use Rattle.std.proofs.Common.{◌≡◌, ◌⊎◌, ◌<◌, ◌≤◌, ℕ, zero, suc, List, [], ◌∷◌, ◌++◌, drop, inl, inr, length, Option, None, Some, refl, sym, subst, ◌∙◌, arith}
+use Rattle.std.specs.Prelude.{IfOk, IfErr, IfSome, Result, Ok, Err, slice_get}
 use Rattle.std.specs.Global.{Vec}
 use Rattle.std.proofs.lemmas.List.{length-map}
 use Rattle.std.proofs.lemmas.Option.{slice_get_within}
@@ -8,7 +8,12 @@ use Rattle.plain_store.specs.declared.Command.{Command}
 use Rattle.board.proofs.PortLists.{all_push}
 use Rattle.board.specs.Boards.{BoardState}
 use Rattle.board.specs.Ports.{PortState}
-use Rattle.race.proofs.Lists.{at_drop}
+use Rattle.race.proofs.Lists.{at_drop, drop_more}
+use Rattle.race.specs.Faults.{EndsPort, IsFaultAmong, IsFaultOf}
+use Rattle.board.specs.Views.{OwnView}
+use Rattle.plain_store.specs.declared.Setup.{Setup}
+use Rattle.race.specs.declared.faults.RaceFault.{RaceFault}
+use Rattle.race.specs.declared.faults.RaceFault.TheVariants.{Spawn, Held, Memory}
 use Rattle.race.specs.Races.{AllHaveMade, HasMade, IsFor, plans_of}
 
 -- an index below the length has an item
@@ -47,3 +52,41 @@ all_made board plans threads its number plan ports many all are made = (
       let f = are p t.0 t.1 in
       (plan t.0, f.makes_plan, subst (λ (b : BoardState). HasMade b p (plan t.0) port) f.on_board (subst (λ (n : ℕ). HasMade (its t.0) n (plan t.0) port) f.for_process (made p t.0 port t.1 at))),
 )
+
+-- the threads that are left, behind one more
+pub left_more : {T : Type 0} (threads items : List T) (thread : T) (rest : List T) → ((at : ℕ) × (items ≡ drop at threads)) → items ≡ thread ∷ rest → (at : ℕ) × (rest ≡ drop at threads)
+left_more threads items thread rest left is = (suc left.0, sym (drop_more threads left.0 thread rest (sym left.1 ∙ is)))
+
+-- a fault that a thread has found, or that was told before
+pub told_more : {T : Type 0} (threads : List T) (number : T → ℕ) (items : List T) (thread : T) (rest : List T) (found result : RaceFault) (other : Option RaceFault) → ((at : ℕ) × (items ≡ drop at threads)) → items ≡ thread ∷ rest → IsFaultOf (number thread) found →
+    IfSome other (λ fault. (k : ℕ) × (t : T) × (slice_get threads k ≡ Some t) × IsFaultOf (number t) fault) → (result ≡ found) ⊎ (other ≡ Some result) → (k : ℕ) × (t : T) × (slice_get threads k ≡ Some t) × IsFaultOf (number t) result
+told_more threads number items thread rest found result other left is its told (inl same) = (left.0, thread, at_drop threads left.0 thread rest (sym left.1 ∙ is), subst (λ (f : RaceFault). IsFaultOf (number thread) f) (sym same) its)
+told_more threads number items thread rest found result None left is its told (inr same) = let no : ⊥ = cc in absurd no
+told_more {T} threads number items thread rest found result (Some fault) left is its told (inr same) =
+    let equal : fault ≡ result = cc in
+    subst (λ (f : RaceFault). (k : ℕ) × (t : T) × (slice_get threads k ≡ Some t) × IsFaultOf (number t) f) equal told
+
+-- a fault of one of these threads is one of a race of as many processes
+pub among : {T : Type 0} (board : BoardState) (plans : List (Vec Command)) (threads : List T) (its : T → BoardState) (number : T → ℕ) (plan : T → List Command) (fault : RaceFault) → length threads ≤ length plans →
+    ((k : ℕ) (t : T) → slice_get threads k ≡ Some t → IsFor board (plans_of plans) k (its t) (number t) (plan t)) →
+    ((k : ℕ) × (t : T) × (slice_get threads k ≡ Some t) × IsFaultOf (number t) fault) → IsFaultAmong (length plans) fault
+among board plans threads its number plan Spawn few are one = tt
+among board plans threads its number plan Memory few are one = tt
+among board plans threads its number plan (Held p) few are one =
+    let within = slice_get_within threads one.0 one.1 one.2 in
+    let same : p ≡ number one.1 = one.3 in
+    let which : number one.1 ≡ one.0 = (are one.0 one.1 one.2).for_process in
+    omega (arith, within, same, which, few)
+
+-- the same of what may have ended by such a fault
+pub ends_among : {X T : Type 0} (r : Result X RaceFault) (board : BoardState) (plans : List (Vec Command)) (threads : List T) (its : T → BoardState) (number : T → ℕ) (plan : T → List Command) → length threads ≤ length plans →
+    ((k : ℕ) (t : T) → slice_get threads k ≡ Some t → IsFor board (plans_of plans) k (its t) (number t) (plan t)) →
+    IfErr r (λ fault. (k : ℕ) × (t : T) × (slice_get threads k ≡ Some t) × IsFaultOf (number t) fault) → IfErr r (IsFaultAmong (length plans))
+ends_among (Ok x) board plans threads its number plan few are one = tt
+ends_among (Err fault) board plans threads its number plan few are one = among board plans threads its number plan fault few are one
+
+-- what ends a port is a fault of it
+pub ended_by : (p : ℕ) (s : Setup) (own : OwnView) (fault : RaceFault) → EndsPort p s own fault → IsFaultOf p fault
+ended_by p s own Spawn h = h
+ended_by p s own (Held q) h = h.0
+ended_by p s own Memory h = h

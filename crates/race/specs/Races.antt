@@ -9,6 +9,7 @@ use Rattle.record.specs.declared.events.Event.{Event}
 use Rattle.record.specs.declared.history.Taken.{Taken}
 use Rattle.record.specs.declared.stages.Stage.TheVariants.{Idle}
 use Rattle.record.specs.Given.{AreGiven}
+use Rattle.record.specs.Headline.{KeepsHeadlineThroughout}
 use Rattle.record.specs.Histories.{store_after}
 use Rattle.record.specs.Records.{past_of}
 use Rattle.board.specs.Boards.{BoardState, IsOf}
@@ -28,11 +29,14 @@ pub record AreMade (plan : List Command) (calls : List Placed) : Type 0 where
   pub commands : map (λ (call : Placed). call.command) calls ≡ plan
   pub answered : (k : ℕ) (call : Placed) → slice_get calls k ≡ Some call → (answer : Answer) × (call.answer ≡ Some answer)
 
--- a list of changes: that of the record of some events
-abbrev pub AreChanges : Setup → List Taken → Type 0
-AreChanges s list = (events : List Event) × AreGiven s events × (list ≡ changes_of s (past_of s events))
+-- a list of changes: that of the record of some events, which keeps the headline
+pub record AreChanges (s : Setup) (list : List Taken) : Type 0 where
+  pub events : List Event
+  pub given : AreGiven s events
+  pub headline : KeepsHeadlineThroughout s (past_of s events)
+  pub are : list ≡ changes_of s (past_of s events)
 
--- What a race leaves: the calls of each plan; those of each process by itself stand in the changes of the record of some events; and the image is that of the store after one such list of changes, in which those of process 0 stand.
+-- What a race leaves: the calls of each plan; those of each process by itself stand in the changes of the record of some events; and the image is that of the store after one such list of changes, whose record keeps the headline, and in which those of process 0 stand.
 pub record IsRaced (s : Setup) (plans : List (List Command)) (answers : List (List Placed)) (image : Contents) : Type 0 where
   pub all : length answers ≡ s.processes
   pub made : (p : ℕ) (calls : List Placed) → slice_get answers p ≡ Some calls → (plan : List Command) × (slice_get plans p ≡ Some plan) × AreMade plan calls

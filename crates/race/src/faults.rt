@@ -1,5 +1,6 @@
 //! Why a race has no closing, why a race of a file ended early, and the exit statuses.
-ghost use Rattle.std.specs.Prelude.{◌≡◌};
+ghost use Rattle.std.specs.Prelude.{◌≡◌, ◌≤◌, ◌⊎◌, IfSome, Some};
+ghost use Rattle.race.specs.Faults.{rank as rank_of};
 ghost use Rattle.race.specs.Statuses.{status_of_race, status_of_run_fault};
 
 use scenario::{DONE, Fault, LineFault, fault_status};
@@ -22,8 +23,41 @@ pub enum RaceFault {
 }
 
 impl From<AllocError> for RaceFault {
+    ghost use Rattle.race.specs.declared.faults.RaceFault.TheVariants.{Memory};
+
+    ghost from_gives = { λ error result. result ≡ Memory };
+
     fn from(_: AllocError) -> RaceFault {
         RaceFault::Memory
+    }
+}
+
+impl RaceFault {
+    /// Its place in the order in which the faults of a race are told.
+    fn rank(self) -> u16
+        ensures { result ≡ rank_of self }
+    {
+        match self {
+            RaceFault::Spawn => 0,
+            RaceFault::Held(port) => 1 + u16::from(port),
+            RaceFault::Memory => 257,
+        }
+    }
+
+    /// The fault that is told where this one was found beside another one.
+    pub(crate) fn or_lower(self, other: Option<RaceFault>) -> RaceFault
+        ensures one { (result ≡ self) ⊎ (other ≡ Some result) }
+        ensures least { rank_of result ≤ rank_of self }
+        ensures least_of_both { IfSome other (λ told. rank_of result ≤ rank_of told) }
+    {
+        let Some(told) = other else {
+            return self;
+        };
+        if told.rank() < self.rank() {
+            told
+        } else {
+            self
+        }
     }
 }
 

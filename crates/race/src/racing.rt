@@ -1,10 +1,11 @@
 //! Races: a thread for each port.
-ghost use Rattle.std.specs.Prelude.{◌≡◌, ◌≤◌, ◌+◌, [], ℕ, All, IfOk, IfSome, List, Ok, Some, length, slice_get, vec_capacity, vec_len};
+ghost use Rattle.std.specs.Prelude.{◌≡◌, ◌≤◌, ◌+◌, [], ℕ, All, IfErr, IfOk, IfSome, List, Ok, Some, length, slice_get, vec_capacity, vec_len};
 ghost use Rattle.board.specs.Boards.{IsOf};
 ghost use Rattle.board.specs.Ports.{PortState};
 ghost use Rattle.board.specs.Views.{new_own};
 ghost use Rattle.plain_store.specs.Setups.{checked};
 ghost use Rattle.plain_store.specs.declared.Command.{Command as Asked};
+ghost use Rattle.race.specs.Faults.{IsFaultAmong, IsFaultOf};
 ghost use Rattle.race.specs.Races.{AllHaveMade, AreNew, HasMade, IsFor, IsRaced, plans_of};
 ghost use Rattle.record.specs.CallLists.{lists_of};
 
@@ -18,7 +19,8 @@ use std::snapshot::Snapshot;
 use std::sync::Wait;
 use std::thread::{self, Promise, PromisedHandle, Scope, Threads};
 
-/// What a thread promises: the port of this process makes this plan, on this board.
+/// What a thread promises: the port of this process makes this plan, on this board; or this port was held, or memory
+/// wanting.
 #[derive(Drop)]
 struct Making {
     board: Snapshot<Board>,
@@ -27,7 +29,7 @@ struct Making {
 }
 
 impl Promise<Result<Port, RaceFault>> for Making {
-    ghost kept_by = { λ p r. IfOk r (HasMade p.board.value p.number p.plan.value.items) };
+    ghost kept_by = { λ p r. IfOk r (HasMade p.board.value p.number p.plan.value.items) × IfErr r (IsFaultOf p.number) };
 }
 
 /// A thread of a race.
@@ -46,7 +48,8 @@ pub fn race<R: Threads + Wait + Sync, G: Gate + Sync>(
     requires good { checked setup.now ≡ Ok tt }
     requires all { length plans.now ≡ setup.now.processes }
     requires few_calls { setup.now.version ≡ 2 → All (λ (plan : List Asked). length plan ≤ 65535) (plans_of plans.now) }
-    ensures { IfOk result (λ closing. IsRaced setup.now (plans_of plans.now) (lists_of closing.answers.items) closing.image) }
+    ensures raced { IfOk result (λ closing. IsRaced setup.now (plans_of plans.now) (lists_of closing.answers.items) closing.image) }
+    ensures fault { IfErr result (IsFaultAmong (length plans.now)) }
 {
     let (board, ports) = Board::new(alloc, setup)?;
     let ports = run_all(rt, alloc, &board, ports, plans, gate)?;
@@ -68,7 +71,8 @@ fn run_all<R: Threads + Wait + Sync, G: Gate + Sync>(
 ) -> Result<Vec<Port>, RaceFault>
     requires all { (length ports.items ≡ length plans.now) × (length ports.items ≤ 16) }
     requires new { AreNew board.now ports.items }
-    ensures { IfOk result (λ made. AllHaveMade board.now (plans_of plans.now) made.items) }
+    ensures made { IfOk result (λ made. AllHaveMade board.now (plans_of plans.now) made.items) }
+    ensures fault { IfErr result (IsFaultAmong (length plans.now)) }
 {
     let threads: Vec<Thread> = Vec::with_capacity(alloc, ports.len())?;
     let made: Vec<Port> = Vec::with_capacity(alloc, ports.len())?;
@@ -77,7 +81,7 @@ fn run_all<R: Threads + Wait + Sync, G: Gate + Sync>(
         rt,
         move |scope| -> Result<Vec<Port>, RaceFault>
             requires { (length ports.items ≡ length plans.now) × (length ports.items ≤ 16) × AreNew board.now ports.items × (threads.items ≡ []) × (vec_len ports ≤ vec_capacity threads) × (made.items ≡ []) × (vec_len ports ≤ vec_capacity made) }
-            ensures { IfOk result (λ made. AllHaveMade board.entry.now (plans_of plans.entry.now) made.items) }
+            ensures { IfOk result (λ made. AllHaveMade board.entry.now (plans_of plans.entry.now) made.items) × IfErr result (IsFaultAmong (length plans.entry.now)) }
         { run_in(rt, scope, board, gate, ports, plans, threads, made) },
     )
 }
@@ -97,7 +101,8 @@ fn run_in<'s, E, R: Threads + Wait + Sync, G: Gate + Sync>(
     requires new { AreNew board.now ports.items }
     requires threads { (threads.items ≡ []) × (vec_len ports ≤ vec_capacity threads) }
     requires made { (made.items ≡ []) × (vec_len ports ≤ vec_capacity made) }
-    ensures { IfOk result (λ v. AllHaveMade board.now (plans_of plans.now) v.items) }
+    ensures made { IfOk result (λ v. AllHaveMade board.now (plans_of plans.now) v.items) }
+    ensures fault { IfErr result (IsFaultAmong (length plans.now)) }
 {
     let threads = start_all(rt, scope, board, gate, ports, plans, threads);
     let all = threads.len() == plans.len();
@@ -156,7 +161,7 @@ fn start<'s, E, R: Threads + Wait + Sync, G: Gate + Sync>(
             making,
             move || -> Result<Port, RaceFault>
                 requires { IsOf board.now port × (port.view.own ≡ new_own number) }
-                ensures { IfOk result (HasMade board.entry.now number plan.entry.now.items) }
+                ensures { IfOk result (HasMade board.entry.now number plan.entry.now.items) × IfErr result (IsFaultOf number) }
             { work(rt, board, gate, number, port, plan.as_slice()) },
         )
         .ok()
@@ -173,7 +178,8 @@ fn work<R: Wait, G: Gate>(
 ) -> Result<Port, RaceFault>
     requires board { IsOf board.now port }
     requires new { port.view.own ≡ new_own number }
-    ensures { IfOk result (HasMade board.now number plan.now) }
+    ensures made { IfOk result (HasMade board.now number plan.now) }
+    ensures fault { IfErr result (IsFaultOf number) }
 {
     let worker = Worker {
         board,
@@ -185,7 +191,7 @@ fn work<R: Wait, G: Gate>(
     made
 }
 
-/// Waits for all threads, and gives their ports; or the first fault.
+/// Waits for all threads, and gives their ports; or, of the faults that they found, the first in the order.
 fn join_all<R: Threads>(
     rt: &R,
     threads: Vec<Thread>,
@@ -194,12 +200,13 @@ fn join_all<R: Threads>(
     requires room { (ports.items ≡ []) × (vec_len threads ≤ vec_capacity ports) }
     ensures all { IfOk result (λ v. vec_len v ≡ vec_len threads) }
     ensures each { IfOk result (λ v. (k : ℕ) (thread : _) (port : PortState) → slice_get threads.items k ≡ Some thread → slice_get v.items k ≡ Some port → HasMade thread.promise.board.value thread.promise.number thread.promise.plan.value.items port) }
+    ensures fault { IfErr result (λ fault. (k : ℕ) × (thread : _) × (slice_get threads.items k ≡ Some thread) × IsFaultOf thread.promise.number fault) }
 {
     let mut fault = None;
     for thread in threads {
         match thread.join(rt) {
             Ok(port) => ports.push_reserved(port),
-            Err(found) => fault = Some(fault.map_or(found, |told: RaceFault| told.min(found))),
+            Err(found) => fault = Some(found.or_lower(fault)),
         }
     }
     match fault {

@@ -1,9 +1,10 @@
 //! What each thread of a race does: its port makes the calls of a plan, one after the other.
-ghost use Rattle.std.specs.Prelude.{◌≡◌, IfOk, OnOk, Some};
+ghost use Rattle.std.specs.Prelude.{◌≡◌, IfErr, IfOk, OnOk, Some};
 ghost use Rattle.board.specs.Boards.{IsOf};
 ghost use Rattle.board.specs.Ports.{SamePort};
-ghost use Rattle.board.specs.Views.{new_own};
+ghost use Rattle.board.specs.Views.{new_own, stage_in};
 ghost use Rattle.race.specs.Calling.{ComesTo, HasCalled, IsCalling};
+ghost use Rattle.race.specs.Faults.{EndsPort, IsFaultOf};
 ghost use Rattle.race.specs.Races.{HasMade};
 ghost use Rattle.race.specs.declared.workers.Reached.TheVariants.{Answer};
 
@@ -38,11 +39,14 @@ pub(crate) struct Worker<'a, G> {
 }
 
 impl<'a, G: Gate> Worker<'a, G> {
-    /// Makes the calls of the plan, in order, and gives the port back.
+    /// Makes the calls of the plan, in order, and gives the port back. A port that the gate holds is dropped once it is
+    /// down.
+    #[tactic(auto, using(crate::proofs::Threads::ended_by))]
     pub fn run<R: Wait>(&self, rt: &R, mut port: Port, plan: &[Command]) -> Result<Port, RaceFault>
         requires board { IsOf self.now.board.now port }
         requires new { port.view.own ≡ new_own self.now.number }
-        ensures { IfOk result (HasMade self.now.board.now self.now.number plan.now) }
+        ensures made { IfOk result (HasMade self.now.board.now self.now.number plan.now) }
+        ensures fault { IfErr result (IsFaultOf self.now.number) }
     {
         let mut flicks = Flicks::pcg(u64::from(self.number));
         for command in plan {
@@ -62,6 +66,7 @@ impl<'a, G: Gate> Worker<'a, G> {
         requires board { IsOf self.now.board.now port.old }
         ensures same { SamePort port.old port.new }
         ensures called { OnOk result (HasCalled port.old.setup command port.old.view port.new.view) }
+        ensures fault { IfErr result (EndsPort self.now.number port.new.setup port.new.view.own) }
     {
         if port.begin(self.board, command).is_err() {
             return Err(RaceFault::Memory);
@@ -88,6 +93,7 @@ impl<'a, G: Gate> Worker<'a, G> {
         requires board { IsOf self.now.board.now port.old }
         ensures same { SamePort port.old port.new }
         ensures passed { OnOk result (port.new ≡ port.old) }
+        ensures fault { IfErr result (EndsPort self.now.number port.new.setup port.new.view.own) }
     {
         if passes(self.gate, self.number, moment) {
             return Ok(());
@@ -98,15 +104,15 @@ impl<'a, G: Gate> Worker<'a, G> {
     }
 
     /// Drives a port that has failed until it is down.
-    #[tactic(auto, using(crate::proofs::Calling::is_of_then, board::proofs::Drives::same_on))]
+    #[tactic(auto, using(crate::proofs::Calling::is_down, crate::proofs::Calling::is_of_then, board::proofs::Drives::same_on))]
     fn take_down<R: Wait>(&self, rt: &R, port: &mut Port, flicks: &mut Flicks)
         requires board { IsOf self.now.board.now port.old }
         ensures same { SamePort port.old port.new }
+        ensures down { stage_in port.new.setup port.new.view.own ≡ Stage.Down }
     {
         for _ in rt.forever() {
-            match port.drive(self.board, u64::MAX, flicks) {
-                Driven::Turns => {}
-                _ => return,
+            if let Driven::Down = port.drive(self.board, u64::MAX, flicks) {
+                return;
             }
         }
         unreachable!()

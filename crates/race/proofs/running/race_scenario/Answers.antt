@@ -19,7 +19,7 @@ pub weigh-requires-clause-few_calls : goal.weigh-requires-clause-few_calls
 weigh-requires-clause-few_calls g c = λ two.
     let said : Script = script c.args.scenario.now in
     let plans : plans_of c.as_slice.result.now ≡ plans_in said = ap plans_of c.as_slice.ensures.value ∙ c.in_ok-plans.ensures in
-    let raced : IsRaced said.setup (plans_in said) (lists_of c.in_ok-closing.closing.answers.items) c.in_ok-closing.closing.image = rw plans at c.in_ok-closing.ensures in
+    let raced : IsRaced said.setup (plans_in said) (lists_of c.in_ok-closing.closing.answers.items) c.in_ok-closing.closing.image = rw plans at c.in_ok-closing.ensures.raced in
     raced_lists_short said (lists_of c.as_slice-lists.result.now) c.in_ok-closing.closing.image c.args.scenario.now.few
     (subst (λ (vecs : List (Vec Placed)). IsRaced said.setup (plans_in said) (lists_of vecs) c.in_ok-closing.closing.image) (sym c.as_slice-lists.ensures.value) raced)
 
@@ -27,7 +27,7 @@ pub returns-clause-raced : goal.returns-clause-raced
 returns-clause-raced g c =
     let said : Script = script c.args.scenario.now in
     let plans : plans_of c.as_slice.result.now ≡ plans_in said = ap plans_of c.as_slice.ensures.value ∙ c.in_ok-plans.ensures in
-    let raced : IsRaced said.setup (plans_in said) (lists_of c.in_ok-closing.closing.answers.items) c.in_ok-closing.closing.image = rw plans at c.in_ok-closing.ensures in
+    let raced : IsRaced said.setup (plans_in said) (lists_of c.in_ok-closing.closing.answers.items) c.in_ok-closing.closing.image = rw plans at c.in_ok-closing.ensures.raced in
     record {
       race = record {
         lists = lists_of c.as_slice-lists.result.now;

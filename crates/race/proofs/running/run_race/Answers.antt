@@ -1,4 +1,3 @@
-use Rattle.std.proofs.Common.{◌≡◌, sym}
 use Rattle.std.specs.String.{string_bytes}
 use Rattle.scenario.proofs.files.EngineEnds.{kept}
 use Rattle.scenario.specs.Reads.{script}

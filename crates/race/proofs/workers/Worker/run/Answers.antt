@@ -16,5 +16,5 @@ loop-command-preserved g c =
     subst (λ (made : List Command). HasMade c.args.self.now.board.now c.args.self.now.number made c.call.new.port) (sym (ap (λ n. take n plan) next ∙ take_more plan at command (item_at plan at command c.loop-command-test.true c.command-item.is)))
     (made_then c.args.self.now.board.now c.args.self.now.number (take at plan) c.loop-command.port c.call.new.port command c.loop-command.invariant c.call.ensures.same c.in_ok-call.ensures.called)
 
-pub returns : goal.returns
-returns g c = subst (λ (made : List Command). HasMade c.args.self.now.board.now c.args.self.now.number made c.loop-command.port) (take_all c.loop-command.command-index c.args.plan.now c.loop-command-test.false) c.loop-command.invariant
+pub returns-clause-made : goal.returns-clause-made
+returns-clause-made g c = subst (λ (made : List Command). HasMade c.args.self.now.board.now c.args.self.now.number made c.loop-command.port) (take_all c.loop-command.command-index c.args.plan.now c.loop-command-test.false) c.loop-command.invariant
