@@ -1,31 +1,29 @@
 //! Ports that have nothing to do.
-use board::{Board, Driven, Flicks};
+ghost use Rattle.board.specs.Boards.{IsOf};
+
+use board::{Board, Driven, Flicks, Port};
 use plain_store::Setup;
 use std::test::Fail;
 
-// A port that is idle makes no step and says so, with turns and without.
-#[test]
-fn an_idle_port_makes_no_step(rt: HostRuntime) -> Result<(), Fail> {
-    let (board, mut ports) = Board::new(rt.alloc(), &Setup::one(1, 2, 2, 1))?;
-    let Some(port) = ports.get_mut(0) else {
-        panic!(rt; "there is no port");
-    };
-    let mut flicks = Flicks::constant(false);
-    assert!(rt; matches!(port.drive(&board, 0, &mut flicks), Driven::Idle));
-    assert!(rt; matches!(port.drive(&board, 9, &mut flicks), Driven::Idle));
-    Ok(())
+/// What driving a port so many turns has led to.
+fn driven(board: &Board, port: &mut Port, turns: u64) -> Driven
+    requires { IsOf board.now port.old }
+    ensures { IsOf board.now port.new }
+{
+    port.drive(board, turns, &mut Flicks::constant(false))
 }
 
-// And so does one that is down.
+// A port that is idle makes no step and says so, with turns and without; and so does one that is down.
 #[test]
-fn a_port_that_is_down_makes_no_step(rt: HostRuntime) -> Result<(), Fail> {
+fn ports_at_rest_make_no_step(rt: HostRuntime) -> Result<(), Fail> {
     let (board, mut ports) = Board::new(rt.alloc(), &Setup::one(1, 2, 2, 1))?;
     let Some(port) = ports.get_mut(0) else {
         panic!(rt; "there is no port");
     };
-    let mut flicks = Flicks::constant(false);
+    assert!(rt; driven(&board, port, 0) == Driven::Idle);
+    assert!(rt; driven(&board, port, 9) == Driven::Idle);
     assert!(rt; port.fail().is_ok());
-    assert!(rt; matches!(port.drive(&board, 99, &mut flicks), Driven::Down));
-    assert!(rt; matches!(port.drive(&board, 9, &mut flicks), Driven::Down));
+    assert!(rt; driven(&board, port, 99) == Driven::Down);
+    assert!(rt; driven(&board, port, 0) == Driven::Down);
     Ok(())
 }
