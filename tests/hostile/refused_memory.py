@@ -190,7 +190,8 @@ def board_row(refuser, text, left):
     """Each growth of a board whose ports take turns: what is refused there changes nothing, and is asked for again. So the run
     leaves the same, or tells want of memory where something else wants it."""
     words = [WORKLOADS, "rounds", text, str(text.count("\n"))]
-    is_good = lambda copy: (copy.returncode, copy.stdout) == (0, left) or bool(TEST_WANTS_MEMORY.search(copy.stderr)) and copy.is_front
+    lost = (1, "Error: out of memory\n", True)
+    is_good = lambda copy: (copy.returncode, copy.stdout) == (0, left) or (copy.returncode, copy.stderr, copy.is_front) == lost
     _, _, tried, wrong = refused(refuser, words, is_good)
     return Row("boards whose ports take turns", "`examples/boards/turns`", tried, wrong or met_none(tried))
 
