@@ -50,6 +50,8 @@ RACES = {
 # how a test tells it: as its own error, or as the one that it found in place of what it asserts; a race that could not start
 # a thread tells that, and one of which a port waited at its gate for one that wanted memory tells that it was held
 TEST_WANTS_MEMORY = re.compile(r"\b(AllocError|AllocFailed|Memory|Spawn|Held)\b")
+# and how `workloads` does
+WORKLOADS_WANTS_MEMORY = re.compile(r"Error: (out of memory|line \d+: memory|memory allocation failed)\n")
 # the worked scenarios that are tried in short too, by these commands: a lone write, a commit bit settled at 1, a withdrawal, and
 # one that is there to be printed
 WORKED_IN_SHORT = ["one-process-write", "failure-commit-settled-new", "withdrawal", "comments-and-spaces"]
@@ -186,12 +188,16 @@ def long_replay(refuser, folder):
     return Row("`replay` of a write and a hundred reads", "a file", tried, wrong)
 
 
+def tells_want_of_memory(copy):
+    """Whether a copy of the program `workloads` ended so: the memory was wanted for a line, or elsewhere."""
+    return copy.returncode == 1 and copy.is_front and bool(WORKLOADS_WANTS_MEMORY.fullmatch(copy.stderr))
+
+
 def board_row(refuser, text, left):
     """Each growth of a board whose ports take turns: what is refused there changes nothing, and is asked for again. So the run
     leaves the same, or tells want of memory where something else wants it."""
     words = [WORKLOADS, "rounds", text, str(text.count("\n"))]
-    lost = (1, "Error: out of memory\n", True)
-    is_good = lambda copy: (copy.returncode, copy.stdout) == (0, left) or (copy.returncode, copy.stderr, copy.is_front) == lost
+    is_good = lambda copy: (copy.returncode, copy.stdout) == (0, left) or tells_want_of_memory(copy)
     _, _, tried, wrong = refused(refuser, words, is_good)
     return Row("boards whose ports take turns", "`examples/boards/turns`", tried, wrong or met_none(tried))
 
