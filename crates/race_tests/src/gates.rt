@@ -206,9 +206,9 @@ fn asked(
 #[test]
 fn a_gate_is_asked_ten_million_times(rt: HostRuntime) -> Result<(), Fail> {
     let (fault, times) = asked(&rt, rt.alloc(), 9_999_999)?;
-    assert!(&rt; fault.is_none() && times == 10_000_001);
+    assert!(&rt; fault.is_none() && times == 10_000_001, "{fault:?}");
     let (fault, times) = asked(&rt, rt.alloc(), u32::MAX)?;
-    assert!(&rt; matches!(fault, Some(RaceFault::Held(0))));
+    assert!(&rt; matches!(fault, Some(RaceFault::Held(0))), "{fault:?}");
     assert!(&rt; times == 10_000_000);
     Ok(())
 }
@@ -223,8 +223,8 @@ fn a_port_held_inside_lets_the_other_in(rt: HostRuntime) -> Result<(), Fail> {
         followed: AtomicBool::new(false),
     };
     let fault = race_of_two(&rt, rt.alloc(), 4, [&adds, &adds], &gate)?.err();
-    assert!(&rt; matches!(fault, Some(RaceFault::Held(0))));
-    assert!(&rt; gate.followed.load(SeqCst));
+    assert!(&rt; matches!(fault, Some(RaceFault::Held(0))), "{fault:?}");
+    assert!(&rt; gate.followed.load(SeqCst), "{fault:?}");
     Ok(())
 }
 
