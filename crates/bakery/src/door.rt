@@ -153,12 +153,17 @@ impl Door {
         requires turn { (next_of self.old false).field ≡ Ticket → let next = answered locks.old flick (next_of self.old false) in CanAccess (lock_of locks.old next.owner) next }
         ensures { GoesOnWithin self.old locks.old flick self.new locks.new }
     {
-        let me = self.process;
         match self.standing.read() {
-            Some((owner, _)) => locks.read_on(owner, me, &mut self.runs.read, flick, pace),
+            Some((owner, _)) => {
+                let lock = locks.own(owner);
+                let run = &mut self.runs.read;
+                lock.ticket.read_on(self.process, run, flick, pace);
+            }
             None => {
-                let readers = self.setup.processes;
-                locks.write_on(me, readers, &mut self.runs.write, self.standing.written().1);
+                let ticket = bits_of(self.standing.written().1.into());
+                let lock = locks.own(self.process);
+                let run = &mut self.runs.write;
+                lock.ticket.write_on(self.setup.processes, run, &ticket);
             }
         }
     }

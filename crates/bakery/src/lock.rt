@@ -1,14 +1,7 @@
-ghost use Rattle.std.specs.Prelude.{◌≡◌, ◌<◌, ◌≤◌, ◌*◌, Ok, IfOk, [], length, slice_set};
+ghost use Rattle.std.specs.Prelude.{◌≡◌, ◌<◌, ◌≤◌, Ok, IfOk, length, slice_set};
 ghost use Rattle.std.specs.Borrow.{sem};
 ghost use Rattle.reader_copies.specs.safe_bit.Cell.{read_answer};
-ghost use Rattle.reader_copies.specs.Row.{cell_at, new_row, row_after, without_reads, CanMake, HasCell};
-ghost use Rattle.reader_copies.specs.Runs.{next_read, next_write};
-ghost use Rattle.record.specs.declared.access.Field.TheVariants.{Ticket};
-ghost use Rattle.record.specs.Accesses.{access_of};
-ghost use Rattle.safe_number.specs.Bytes.{bits_of_number};
-ghost use Rattle.safe_number.specs.Runs.{bit_read, next_of_read, number_read_after};
-ghost use Rattle.safe_number.specs.Written.{loaded};
-ghost use Rattle.record.specs.Places.{bit_written, next_written, write_moved};
+ghost use Rattle.reader_copies.specs.Row.{cell_at, new_row, without_reads, HasCell};
 ghost use Rattle.plain_store.specs.Setups.{checked};
 ghost use Rattle.bakery.specs.Locks.{new_lock, new_locks, row_in, with_row, made_by, CanAccess, lock_after, lock_of, locks_after, answer_to, answered, locks_without_reads, AreAlike, AreAllAlike};
 ghost use Rattle.bakery.specs.Lending.{LendsLock};
@@ -16,7 +9,7 @@ ghost use Rattle.bakery.specs.Lending.{LendsLock};
 use plain_store::Setup;
 use reader_copies::{Made, Move};
 use record::{Access, Field};
-use safe_number::{NumberFault, Pace, ReadRun, Register, WriteRun, bits_of};
+use safe_number::{NumberFault, Register};
 use std::alloc::{AllocError, Global};
 use std::marker::Model;
 
@@ -24,7 +17,7 @@ use std::marker::Model;
 #[derive(Drop)]
 pub struct Lock {
     choosing: Register,
-    ticket: Register,
+    pub(crate) ticket: Register,
 }
 
 impl Model for Lock {
@@ -90,31 +83,6 @@ impl Lock {
             _ => &self.ticket,
         };
         register.answer(access.bit, access.reader, flick)
-    }
-
-    /// Makes the next access of a read of the ticket by its reader, whose end gives what the reader's copy answers.
-    #[inline(always)]
-    fn read_on(&mut self, reader: u8, run: &mut ReadRun, flick: bool, pace: Pace)
-        requires going { length run.old.bits < run.old.width }
-        requires there { HasCell self.old.ticket (length run.old.bits) reader }
-        requires turn { (cell_at self.old.ticket (length run.old.bits) reader).reading ≡ run.old.begun }
-        ensures lock { self.new ≡ record { choosing = self.old.choosing; ticket = row_after self.old.ticket (length run.old.bits) (next_read reader (bit_read run.old) (loaded self.old.ticket reader run.old flick)) } }
-        ensures run { run.new ≡ number_read_after run.old (loaded self.old.ticket reader run.old flick) }
-    {
-        self.ticket.read_on(reader, run, flick, pace);
-    }
-
-    /// Makes the next access of a write of a ticket, with copies for so many readers.
-    #[inline(always)]
-    fn write_on(&mut self, readers: u8, run: &mut WriteRun, ticket: u32)
-        requires going { run.old.bit < run.old.width × (bit_written [] run.old).made < 2 * readers }
-        requires readers { readers ≤ 16 }
-        requires width { run.old.width ≤ 32 }
-        requires can { CanMake self.old.ticket run.old.bit (next_write (bit_written (bits_of_number run.old.width ticket) run.old)) }
-        ensures lock { self.new ≡ record { choosing = self.old.choosing; ticket = row_after self.old.ticket run.old.bit (next_write (bit_written (bits_of_number run.old.width ticket) run.old)) } }
-        ensures run { run.new ≡ write_moved readers (bits_of_number run.old.width ticket) run.old }
-    {
-        self.ticket.write_on(readers, run, &bits_of(ticket.into()));
     }
 
     /// Drops the open read of a register by a reader.
@@ -185,41 +153,6 @@ impl Locks {
         ensures { result ≡ answer_to self.now access flick }
     {
         self.locks[access.owner as usize].answer(access, flick)
-    }
-
-    /// Makes the next access of a read of a process's ticket by its reader, whose end gives what the reader's copy
-    /// answers.
-    #[inline(always)]
-    pub(crate) fn read_on(
-        &mut self,
-        owner: u8,
-        reader: u8,
-        run: &mut ReadRun,
-        flick: bool,
-        pace: Pace,
-    )
-        requires owner { owner < length self.old }
-        requires going { length run.old.bits < run.old.width }
-        requires there { HasCell (lock_of self.old owner).ticket (length run.old.bits) reader }
-        requires turn { (cell_at (lock_of self.old owner).ticket (length run.old.bits) reader).reading ≡ run.old.begun }
-        ensures locks { self.new ≡ locks_after self.old (access_of owner Ticket (next_of_read reader run.old (loaded (lock_of self.old owner).ticket reader run.old flick))) }
-        ensures run { run.new ≡ number_read_after run.old (loaded (lock_of self.old owner).ticket reader run.old flick) }
-    {
-        self.own(owner).read_on(reader, run, flick, pace);
-    }
-
-    /// Makes the next access of a process's write of its ticket, with copies for so many readers.
-    #[inline(always)]
-    pub(crate) fn write_on(&mut self, owner: u8, readers: u8, run: &mut WriteRun, ticket: u32)
-        requires owner { owner < length self.old }
-        requires going { run.old.bit < run.old.width × (bit_written [] run.old).made < 2 * readers }
-        requires readers { readers ≤ 16 }
-        requires width { run.old.width ≤ 32 }
-        requires can { CanMake (lock_of self.old owner).ticket run.old.bit (next_write (bit_written (bits_of_number run.old.width ticket) run.old)) }
-        ensures locks { self.new ≡ locks_after self.old (access_of owner Ticket (next_written (bits_of_number run.old.width ticket) run.old)) }
-        ensures run { run.new ≡ write_moved readers (bits_of_number run.old.width ticket) run.old }
-    {
-        self.own(owner).write_on(readers, run, ticket);
     }
 
     /// The access, a read's end with what the reader's copy answers.

@@ -1,5 +1,6 @@
-ghost use Rattle.std.specs.Prelude.{◌≡◌, ◌<◌, ◌==◌, ◌*◌, ◌≤◌};
+ghost use Rattle.std.specs.Prelude.{◌≡◌, ℕ, ◌<◌, ◌==◌, ◌*◌, ◌≤◌, length};
 ghost use Rattle.reader_copies.specs.Runs.{progress_of};
+ghost use Rattle.safe_number.specs.Bytes.{bits_in, little_endian};
 ghost use Rattle.record.specs.Accesses.{access_of};
 ghost use Rattle.record.specs.Places.{next_written, write_moved};
 ghost use Rattle.record.specs.Program.{stamp_field, image_field, max_of};
@@ -54,10 +55,8 @@ impl Change {
         ensures { result ≡ next_written (change_bits part self.now run.now.width) run.now }
     {
         bytes_go_by_their_bits();
-        match part {
-            Written::Image => run.next(self.store.bytes()),
-            Written::Stamp | Written::Commit => run.next(&bits_of(self.number(part))),
-        }
+        let number = bits_of(self.number(part));
+        run.next(self.value(part, &number))
     }
 
     /// Goes on by that access.
@@ -70,14 +69,11 @@ impl Change {
         ensures progress { result ≡ progress_of (run.new.bit == run.new.width) }
     {
         bytes_go_by_their_bits();
-        match part {
-            Written::Image => run.advance(readers, self.store.bytes()),
-            Written::Stamp | Written::Commit => run.advance(readers, &bits_of(self.number(part))),
-        }
+        let number = bits_of(self.number(part));
+        run.advance(readers, self.value(part, &number))
     }
 
-    /// Makes that access on the registers of the process that writes, and goes on by it. It is quick for an
-    /// image, which has many bits.
+    /// Makes that access on the registers of the process that writes, and goes on by it.
     #[inline(always)]
     pub fn write_on(
         &self,
@@ -94,37 +90,24 @@ impl Change {
         ensures registers { row.new ≡ after_access row.old (access_of owner (change_field part self.now) (next_written (change_bits part self.now run.old.width) run.old)) }
         ensures run { run.new ≡ write_moved readers (change_bits part self.now run.old.width) run.old }
     {
-        match part {
-            Written::Image => {
-                bytes_go_by_their_bits();
-                let field = image_field(self.commit);
-                row.write_on(owner, field, readers, run, self.store.bytes());
-            }
-            Written::Stamp | Written::Commit => {
-                self.write_number_on(part, row, owner, readers, run);
-            }
-        }
+        bytes_go_by_their_bits();
+        let number = bits_of(self.number(part));
+        let value = self.value(part, &number);
+        let register = row.own(owner).register(self.field(part));
+        register.write_on(readers, run, value);
     }
 
-    /// Does the same for any part, in the way of the few bits of a number.
-    #[inline(never)]
-    fn write_number_on(
-        &self,
-        part: Written,
-        row: &mut DataRow,
-        owner: u8,
-        readers: u8,
-        run: &mut WriteRun,
-    )
-        requires width { FitsWidth part self.now run.old.width }
-        requires going { run.old.bit < run.old.width × made_so_far run.old < 2 * readers }
-        requires readers { readers ≤ 16 }
-        requires may { MayMake row.old (access_of owner (change_field part self.now) (next_written (change_bits part self.now run.old.width) run.old)) }
-        ensures registers { row.new ≡ after_access row.old (access_of owner (change_field part self.now) (next_written (change_bits part self.now run.old.width) run.old)) }
-        ensures run { run.new ≡ write_moved readers (change_bits part self.now run.old.width) run.old }
+    /// The bytes of a part: the image's, or these, which are those of its number.
+    #[inline(always)]
+    fn value<'a>(&'a self, part: Written, number: &'a [u8; 8]) -> &'a [u8]
+        requires number { little_endian number.now ≡ number_written part self.now }
+        ensures enough { (width : ℕ) → FitsWidth part self.now width → width ≤ 8 * length result.now }
+        ensures bits { (width : ℕ) → FitsWidth part self.now width → bits_in result.now width ≡ change_bits part self.now width }
     {
-        row.apply(Access::of(owner, self.field(part), self.next(part, run)));
-        self.advance(part, run, readers);
+        match part {
+            Written::Image => self.store.bytes(),
+            Written::Stamp | Written::Commit => number,
+        }
     }
 
     /// The number of a part that is no image.

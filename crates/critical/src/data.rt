@@ -1,21 +1,18 @@
-ghost use Rattle.std.specs.Prelude.{◌≡◌, ◌<◌, ◌≤◌, ◌*◌, IfOk, Ok, length, take};
+ghost use Rattle.std.specs.Prelude.{◌≡◌, ◌≤◌, ◌*◌, true, IfOk, Ok, length, take};
 ghost use Rattle.reader_copies.specs.safe_bit.Cell.{read_answer};
-ghost use Rattle.reader_copies.specs.Row.{cell_at, row_after, without_reads, HasCell, CanMake};
-ghost use Rattle.reader_copies.specs.Runs.{next_read, next_write};
-ghost use Rattle.safe_number.specs.Runs.{bit_read, bit_write, number_read_after, number_write_after};
-ghost use Rattle.safe_number.specs.Written.{loaded};
+ghost use Rattle.reader_copies.specs.Row.{cell_at, row_after, HasCell, CanMake};
 ghost use Rattle.plain_store.specs.Setups.{checked, opening_store};
 ghost use Rattle.record.specs.Program.{image_field};
 ghost use Rattle.record.specs.Registers.{bytes_of_bits};
 ghost use Rattle.critical.specs.Newest.{version_held, values_of, IsReadable};
-ghost use Rattle.critical.specs.Registers.{register_of, with_register, data_from, register_from, opening_cell, zero_cell, AreAlike};
+ghost use Rattle.critical.specs.Registers.{is_data, register_of, with_register, data_from, register_from, opening_cell, zero_cell, AreAlike};
 
 use crate::held;
 use crate::image::{self, MOST_IMAGE_BYTES};
 use plain_store::Setup;
 use reader_copies::Made;
 use record::Field;
-use safe_number::{NumberFault, Pace, ReadRun, Register, WriteRun};
+use safe_number::{NumberFault, Register};
 use std::alloc::{AllocError, Global};
 use std::marker::Model;
 use store_image::Image;
@@ -40,6 +37,9 @@ impl Model for Data {
 }
 
 impl Data {
+    ghost use Rattle.std.specs.Borrow.{sem};
+    ghost use Rattle.critical.specs.Lending.{LendsRegister};
+
     /// The registers of a process as they open: those of process 0 with the opening store's image, and all
     /// else 0.
     pub(crate) fn open(alloc: Global, setup: &Setup, process: u8) -> Result<Data, AllocError>
@@ -69,20 +69,30 @@ impl Data {
         })
     }
 
-    /// Makes one access to a register, in its turn. The lock's registers are not among these.
+    /// Lends a register: the others stay as they are. The lock's registers are not among these.
+    #[inline(always)]
+    pub(crate) fn register(&mut self, field: Field) -> &mut Register
+        requires { is_data field ≡ true }
+        ensures register { result.now ≡ register_of self.old field }
+        ensures* lent { sem 𝓛 (LendsRegister self.entry field result) }
+    {
+        match field {
+            Field::Choosing | Field::Ticket => unreachable!(),
+            Field::Commit => &mut self.commit,
+            Field::Stamp0 => &mut self.stamp0,
+            Field::Stamp1 => &mut self.stamp1,
+            Field::Image0 => &mut self.image0,
+            Field::Image1 => &mut self.image1,
+        }
+    }
+
+    /// Makes one access to a register, in its turn.
     #[inline]
     pub fn apply(&mut self, field: Field, bit: u16, made: Made)
         requires { CanMake (register_of self.old field) bit made }
         ensures { self.new ≡ with_register self.old field (row_after (register_of self.old field) bit made) }
     {
-        match field {
-            Field::Choosing | Field::Ticket => {}
-            Field::Commit => self.commit.apply(bit, made),
-            Field::Stamp0 => self.stamp0.apply(bit, made),
-            Field::Stamp1 => self.stamp1.apply(bit, made),
-            Field::Image0 => self.image0.apply(bit, made),
-            Field::Image1 => self.image1.apply(bit, made),
-        }
+        self.register(field).apply(bit, made);
     }
 
     /// What the end of a reader's open read of a bit gives: `flick` if a write of the reader's copy was
@@ -99,93 +109,6 @@ impl Data {
             Field::Stamp1 => self.stamp1.answer(bit, reader, flick),
             Field::Image0 => self.image0.answer(bit, reader, flick),
             Field::Image1 => self.image1.answer(bit, reader, flick),
-        }
-    }
-
-    /// Makes the next access of a read of a register by its reader, whose end gives what `answer` tells. It is
-    /// quick for an image, which has many bits.
-    #[inline(always)]
-    pub(crate) fn read_on(
-        &mut self,
-        field: Field,
-        reader: u8,
-        run: &mut ReadRun,
-        flick: bool,
-        pace: Pace,
-    )
-        requires going { length run.old.bits < run.old.width }
-        requires there { HasCell (register_of self.old field) (length run.old.bits) reader }
-        requires turn { (cell_at (register_of self.old field) (length run.old.bits) reader).reading ≡ run.old.begun }
-        ensures register { self.new ≡ with_register self.old field (row_after (register_of self.old field) (length run.old.bits) (next_read reader (bit_read run.old) (loaded (register_of self.old field) reader run.old flick))) }
-        ensures run { run.new ≡ number_read_after run.old (loaded (register_of self.old field) reader run.old flick) }
-    {
-        match field {
-            Field::Image0 => self.image0.read_on(reader, run, flick, pace),
-            Field::Image1 => self.image1.read_on(reader, run, flick, pace),
-            Field::Choosing | Field::Ticket | Field::Commit | Field::Stamp0 | Field::Stamp1 => {
-                self.read_number_on(field, reader, run, flick, pace);
-            }
-        }
-    }
-
-    /// Does the same for any register, in the way of the few bits of a number.
-    #[inline(never)]
-    fn read_number_on(
-        &mut self,
-        field: Field,
-        reader: u8,
-        run: &mut ReadRun,
-        flick: bool,
-        pace: Pace,
-    )
-        requires going { length run.old.bits < run.old.width }
-        requires there { HasCell (register_of self.old field) (length run.old.bits) reader }
-        requires turn { (cell_at (register_of self.old field) (length run.old.bits) reader).reading ≡ run.old.begun }
-        ensures register { self.new ≡ with_register self.old field (row_after (register_of self.old field) (length run.old.bits) (next_read reader (bit_read run.old) (loaded (register_of self.old field) reader run.old flick))) }
-        ensures run { run.new ≡ number_read_after run.old (loaded (register_of self.old field) reader run.old flick) }
-    {
-        match field {
-            Field::Choosing | Field::Ticket => unreachable!(),
-            Field::Commit => self.commit.read_on(reader, run, flick, pace),
-            Field::Stamp0 => self.stamp0.read_on(reader, run, flick, pace),
-            Field::Stamp1 => self.stamp1.read_on(reader, run, flick, pace),
-            Field::Image0 => self.image0.read_on(reader, run, flick, pace),
-            Field::Image1 => self.image1.read_on(reader, run, flick, pace),
-        }
-    }
-
-    /// Makes the next access of a write of `value` to a register with copies for `readers` readers.
-    #[inline(always)]
-    pub(crate) fn write_on(&mut self, field: Field, readers: u8, run: &mut WriteRun, value: &[u8])
-        requires going { run.old.bit < run.old.width × (bit_write value.now run.old).made < 2 * readers }
-        requires readers { readers ≤ 16 }
-        requires value { run.old.bit < 8 * length value.now }
-        requires can { CanMake (register_of self.old field) run.old.bit (next_write (bit_write value.now run.old)) }
-        ensures register { self.new ≡ with_register self.old field (row_after (register_of self.old field) run.old.bit (next_write (bit_write value.now run.old))) }
-        ensures run { run.new ≡ number_write_after readers value.now run.old }
-    {
-        match field {
-            Field::Choosing | Field::Ticket => unreachable!(),
-            Field::Commit => self.commit.write_on(readers, run, value),
-            Field::Stamp0 => self.stamp0.write_on(readers, run, value),
-            Field::Stamp1 => self.stamp1.write_on(readers, run, value),
-            Field::Image0 => self.image0.write_on(readers, run, value),
-            Field::Image1 => self.image1.write_on(readers, run, value),
-        }
-    }
-
-    /// Drops the open reads that a reader has of a register.
-    pub(crate) fn drop_read(&mut self, field: Field, reader: u8)
-        requires { reader < length (register_of self.old field) }
-        ensures { self.new ≡ with_register self.old field (without_reads (register_of self.old field) reader) }
-    {
-        match field {
-            Field::Choosing | Field::Ticket => {}
-            Field::Commit => self.commit.drop_read(reader),
-            Field::Stamp0 => self.stamp0.drop_read(reader),
-            Field::Stamp1 => self.stamp1.drop_read(reader),
-            Field::Image0 => self.image0.drop_read(reader),
-            Field::Image1 => self.image1.drop_read(reader),
         }
     }
 

@@ -1,11 +1,7 @@
-ghost use Rattle.std.specs.Prelude.{◌≡◌, ◌<◌, ◌≤◌, ◌*◌, IfOk, Ok, length};
-ghost use Rattle.reader_copies.specs.Row.{cell_at, row_after, HasCell, CanMake};
-ghost use Rattle.reader_copies.specs.Runs.{next_read, next_write};
-ghost use Rattle.safe_number.specs.Runs.{bit_read, bit_write, number_read_after, number_write_after};
-ghost use Rattle.safe_number.specs.Written.{loaded};
+ghost use Rattle.std.specs.Prelude.{◌≡◌, ◌<◌, IfOk, Ok, length};
 ghost use Rattle.plain_store.specs.Setups.{checked};
 ghost use Rattle.critical.specs.Newest.{newest_store, IsQuiet};
-ghost use Rattle.critical.specs.Registers.{data_of, register_at, with_register_at, row_from, opening_cell, after_access, answered, without_reads_at, HasCopy, MayMake, FitsSetup, AreAllAlike};
+ghost use Rattle.critical.specs.Registers.{data_of, register_at, row_from, opening_cell, after_access, answered, without_reads_at, HasCopy, MayMake, FitsSetup, AreAllAlike};
 
 use crate::data::Data;
 use crate::newest::Newest;
@@ -13,7 +9,6 @@ use crate::{held, image};
 use plain_store::Setup;
 use reader_copies::{Made, Move};
 use record::{Access, Field};
-use safe_number::{Pace, ReadRun, WriteRun};
 use std::alloc::{AllocError, Global};
 use std::marker::Model;
 use store_image::Image;
@@ -116,56 +111,13 @@ impl DataRow {
         self.parts[usize::from(access.owner)].apply(access.field, access.bit, made);
     }
 
-    /// Makes the next access of a read of a register by its reader, whose end gives what the reader's copy
-    /// answers.
-    #[inline(always)]
-    pub(crate) fn read_on(
-        &mut self,
-        owner: u8,
-        field: Field,
-        reader: u8,
-        run: &mut ReadRun,
-        flick: bool,
-        pace: Pace,
-    )
-        requires owner { owner < length self.old.parts }
-        requires going { length run.old.bits < run.old.width }
-        requires there { HasCell (register_at self.old owner field) (length run.old.bits) reader }
-        requires turn { (cell_at (register_at self.old owner field) (length run.old.bits) reader).reading ≡ run.old.begun }
-        ensures register { self.new ≡ with_register_at self.old owner field (row_after (register_at self.old owner field) (length run.old.bits) (next_read reader (bit_read run.old) (loaded (register_at self.old owner field) reader run.old flick))) }
-        ensures run { run.new ≡ number_read_after run.old (loaded (register_at self.old owner field) reader run.old flick) }
-    {
-        self.parts[usize::from(owner)].read_on(field, reader, run, flick, pace);
-    }
-
-    /// Makes the next access of a write of `value` to a register with copies for `readers` readers.
-    #[inline(always)]
-    pub(crate) fn write_on(
-        &mut self,
-        owner: u8,
-        field: Field,
-        readers: u8,
-        run: &mut WriteRun,
-        value: &[u8],
-    )
-        requires owner { owner < length self.old.parts }
-        requires going { run.old.bit < run.old.width × (bit_write value.now run.old).made < 2 * readers }
-        requires readers { readers ≤ 16 }
-        requires value { run.old.bit < 8 * length value.now }
-        requires can { CanMake (register_at self.old owner field) run.old.bit (next_write (bit_write value.now run.old)) }
-        ensures register { self.new ≡ with_register_at self.old owner field (row_after (register_at self.old owner field) run.old.bit (next_write (bit_write value.now run.old))) }
-        ensures run { run.new ≡ number_write_after readers value.now run.old }
-    {
-        self.parts[usize::from(owner)].write_on(field, readers, run, value);
-    }
-
     /// Drops the open read that a reader has of a register of a process.
     pub fn drop_read(&mut self, owner: u8, field: Field, reader: u8)
         requires owner { owner < length self.old.parts }
         requires reader { reader < length (register_at self.old owner field) }
         ensures { self.new ≡ without_reads_at self.old owner field reader }
     {
-        self.parts[usize::from(owner)].drop_read(field, reader);
+        self.own(owner).register(field).drop_read(reader);
     }
 
     /// Becomes as the other, of the same setup: the same copies, and the same accesses open on them. It takes no

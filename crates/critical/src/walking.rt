@@ -36,7 +36,8 @@ pub(crate) fn read_on(
     ensures room { run.new.room ≡ run.old.room }
 {
     let (owner, field) = asked;
-    row.read_on(owner, field, call.process, run, flick, pace);
+    let register = row.own(owner).register(field);
+    register.read_on(call.process, run, flick, pace);
 }
 
 /// So many of them, each by the flick that is next.
