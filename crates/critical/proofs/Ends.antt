@@ -147,18 +147,6 @@ told-write called part change r w now v result wide moved done after =
     after at.part (ap (λ (s : Section). s.standing) (sym same))
     ∙ ap (λ (p : Place). told (changes_at at.part) p.part) (sym (place-write called part change r w v at wide (sym (ap (λ (x : NumberWrite). x.bit == x.width) moved) ∙ done) same))
 
--- what follows a standing that is a write follows the write
-pub from-old : (called : Called) (old next : kept.Standing) (part : Written) (change : Change) → old ≡ keeps.Writes part change →
-    ((c : Call) (P : Part) (bits : List Bool) (n : ℕ) → standing_at c P ≡ shown n old → shown n next ≡ standing_at c (part_after c P bits)) →
-    (P : Part) → standing_at (call_of called) P ≡ Writes part change → shown called.setup.processes next ≡ standing_at (call_of called) (part_after (call_of called) P [])
-from-old called old next part change is after P e = after (call_of called) P [] called.setup.processes (e ∙ sym (ap (shown called.setup.processes) is))
-
--- and what is told of it
-pub told-old : (called : Called) (old : kept.Standing) (result : SectionProgress) (part : Written) (change : Change) → old ≡ keeps.Writes part change →
-    ((c : Call) (P : Part) (bits : List Bool) (n : ℕ) → standing_at c P ≡ shown n old → result ≡ told (changes_at P) (part_after c P bits)) →
-    (P : Part) → standing_at (call_of called) P ≡ Writes part change → result ≡ told (changes_at P) (part_after (call_of called) P [])
-told-old called old result part change is after P e = after (call_of called) P [] called.setup.processes (e ∙ sym (ap (shown called.setup.processes) is))
-
 -- the marks on an access are those that are told with it
 quiet : (f l : Bool) → cond f (let none : List Mark = [] in none) [] ++ cond l (let none : List Mark = [] in none) [] ≡ []
 quiet true true = refl

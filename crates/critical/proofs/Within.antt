@@ -1,5 +1,5 @@
 -- An access within a number access: it ends nothing, and has no mark.
-use Rattle.std.proofs.Common.{◌≡◌, ℕ, ◌+◌, ◌-◌, ◌<◌, ◌≤◌, ◌==◌, Bool, true, false, ◌&&◌, List, [], ◌∷◌, ◌++◌, length, length-append, cond, if◌then◌else◌, Some, None, refl, ap, ◌∙◌, arith}
+use Rattle.std.proofs.Common.{◌≡◌, ℕ, ◌+◌, ◌-◌, ◌<◌, ◌≤◌, ◌==◌, Bool, true, false, ◌&&◌, List, [], ◌∷◌, ◌++◌, length, length-append, cond, if◌then◌else◌, Some, None, refl, sym, ap, subst, ◌∙◌, arith}
 use Rattle.std.proofs.lemmas.Bool.{ne_eqb}
 use Rattle.std.proofs.lemmas.Bool.Decides.{nat_tests}
 use Rattle.std.specs.Prelude.{nat_lt}
@@ -149,3 +149,17 @@ write-fewer w run = by run.ended
     by : (b : Bool) → w.width - (w.bit + 1) ≤ (let x : NumberWrite = (if b then (let y : NumberWrite = record { width = w.width; bit = w.bit + 1; run = None } in y) else record { width = w.width; bit = w.bit; run = Some run }) in x.width - (x.bit + 1) + 1)
     by true = omega arith
     by false = omega arith
+
+run-fewer : (c : Call) (part : Part) (wide : ℕ) (run : Run) (v : Bool) → bits_before_last wide run ≤ bits_before_last wide (run_after c part run v) + 1
+run-fewer c part wide (Writing w) v = write-fewer w _
+run-fewer c part wide (Reading bits true) v = omega (arith, length-append bits (v ∷ []))
+run-fewer c part wide (Reading bits false) v = omega arith
+
+-- and so the section has at most one bit less to go
+pub within-fewer : (c : Call) (at : Place) (v : Bool) → is_within (section_at c at) ≡ true → bits_within (section_at c at) ≤ bits_within (section_at c (place_after c at v)) + 1
+within-fewer c at v h =
+    let wide : ℕ = width c.setup (field_read (standing_at c at.part)) in
+    let left : Bool → Run → ℕ = λ going run. cond going (bits_before_last wide (cond going run (Reading [] false))) 0 in
+    let on : Run = run_after c at.part at.run v in
+    subst (λ (to : Place). bits_within (section_at c at) ≤ bits_within (section_at c to) + 1) (sym (within-place c at v h))
+    (subst (λ going. left going at.run ≤ left going on + 1) (sym (within-goes (section_at c at) h)) (run-fewer c at.part wide at.run v))

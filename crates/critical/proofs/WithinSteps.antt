@@ -54,14 +54,6 @@ run-moved c part r me v = by r.begun
     by true = refl
     by false = refl
 
--- and so it does by the value, at which a begin does not look
-pub run-on : (c : Call) (part : Part) (r : NumberRead) (v : Bool) → (let now = number_read_after r v in Reading now.bits now.begun) ≡ run_after c part (Reading r.bits r.begun) v
-run-on c part r v = by r.begun
-  where
-    by : (begun : Bool) → (let now = number_read_after (record { width = r.width; bits = r.bits; begun = begun; room = r.room }) v in Reading now.bits now.begun) ≡ run_after c part (Reading r.bits begun) v
-    by true = refl
-    by false = refl
-
 -- a section that goes on with its number access goes on in its part
 stays : (section : Section) (c : Call) (at : Place) (run : Run) → section ≡ section_at c at → is_going section ≡ true →
     (let s : Section = record { call = section.call; standing = section.standing; run = run } in s) ≡ section_at c (record { part = at.part; run = run })

@@ -123,16 +123,10 @@ impl Section {
             Standing::Reads { part, versions } => match self.reading.advance(value) {
                 Progress::Going => SectionProgress::Reading,
                 Progress::Done => {
-                    let part = *part;
-                    let versions = *versions;
-                    let progress = standing::pass_read(
-                        &mut self.standing,
-                        &self.call,
-                        &part,
-                        &versions,
-                        value,
-                        &self.reading,
-                    );
+                    let read = &self.reading;
+                    let (next, progress) =
+                        standing::after_read(&self.call, part, versions, value, read);
+                    self.standing = next;
                     begin(
                         &self.standing,
                         &self.call.setup,
@@ -147,7 +141,8 @@ impl Section {
                 match change.advance(*part, &mut self.writing, readers) {
                     Progress::Going => SectionProgress::Writing,
                     Progress::Done => {
-                        let progress = standing::pass_write(&mut self.standing);
+                        let (next, progress) = standing::after_write(*part, change);
+                        self.standing = next;
                         begin(
                             &self.standing,
                             &self.call.setup,
@@ -157,27 +152,6 @@ impl Section {
                         progress
                     }
                 }
-            }
-            Standing::Done => unreachable!(),
-        }
-    }
-
-    /// Goes on as `advance` does by an access that is within a number access, and tells nothing.
-    #[inline(always)]
-    pub fn advance_within(&mut self, value: bool)
-        requires { 0 < bits_within self.old }
-        ensures place { (c : Call) (at : Place) → self.old ≡ section_at c at → self.new ≡ section_at c (place_after c at value) }
-        ensures marks { (c : Call) (at : Place) → self.old ≡ section_at c at → marks_of c at value ≡ [] }
-        ensures going { is_going self.new ≡ true }
-        ensures fewer { bits_within self.old ≤ bits_within self.new + 1 }
-    {
-        match &self.standing {
-            Standing::Reads { .. } => {
-                self.reading.advance(value);
-            }
-            Standing::Writes { part, change } => {
-                let readers = self.call.setup.processes;
-                change.advance(*part, &mut self.writing, readers);
             }
             Standing::Done => unreachable!(),
         }

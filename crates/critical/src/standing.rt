@@ -120,6 +120,7 @@ pub(crate) fn made_next(
 }
 
 /// What comes after a read that is done, whose last bit is `value`.
+#[inline(never)]
 pub(crate) fn after_read(
     call: &Called,
     part: &Asked,
@@ -156,50 +157,6 @@ pub(crate) fn after_read(
             )
         }
         Asked::Image => after_image(call, versions, image::image_read(&call.setup, read.bytes())),
-    }
-}
-
-/// Goes on from a read that is done to what comes after it.
-#[inline(never)]
-pub(crate) fn pass_read(
-    standing: &mut Standing,
-    call: &Called,
-    part: &Asked,
-    versions: &Versions,
-    value: bool,
-    read: &ReadRun,
-) -> SectionProgress
-    requires call { IsCall call.now }
-    requires asked { IsAsked call.now.setup part.now }
-    requires newest { IsNewest call.now.setup versions.now.newest }
-    requires whole { length read.now.bits ≡ width call.now.setup (register_asked part.now versions.now).1 }
-    requires last { slice_index_or read.now.bits (length read.now.bits - 1) false ≡ value }
-    ensures standing { (at : Part) → standing_at (call_of call.now) at ≡ asking call.now.setup.processes part.now versions.now → shown call.now.setup.processes standing.new ≡ standing_at (call_of call.now) (part_after (call_of call.now) at read.now.bits) }
-    ensures progress { (at : Part) → standing_at (call_of call.now) at ≡ asking call.now.setup.processes part.now versions.now → result ≡ told (changes_at at) (part_after (call_of call.now) at read.now.bits) }
-    ensures going { goes (shown call.now.setup.processes standing.new) ≡ goes_on result }
-    ensures kept { IsStanding call.now.setup standing.new }
-{
-    let (next, progress) = after_read(call, part, versions, value, read);
-    *standing = next;
-    progress
-}
-
-/// Goes on from a write that is done to what comes after it.
-#[inline(never)]
-pub(crate) fn pass_write(standing: &mut Standing) -> SectionProgress
-    requires { (part : Written) × (change : Change) × (standing.old ≡ Standing.Writes part change) }
-    ensures standing { (c : Call) (at : Part) (bits : List Bool) (n : ℕ) → standing_at c at ≡ shown n standing.old → shown n standing.new ≡ standing_at c (part_after c at bits) }
-    ensures progress { (c : Call) (at : Part) (bits : List Bool) (n : ℕ) → standing_at c at ≡ shown n standing.old → result ≡ told (changes_at at) (part_after c at bits) }
-    ensures going { (n : ℕ) → goes (shown n standing.new) ≡ goes_on result }
-    ensures kept { (s : Setup) → IsStanding s standing.old → IsStanding s standing.new }
-{
-    match &*standing {
-        Standing::Writes { part, change } => {
-            let (next, progress) = after_write(*part, change);
-            *standing = next;
-            progress
-        }
-        _ => unreachable!(),
     }
 }
 
@@ -317,6 +274,7 @@ fn applied(call: &Called, read: Image) -> (Image, Reply)
 
 /// What comes after a write: the image is followed by the stamp, and the stamp by the commit bit, with which
 /// the command is taken.
+#[inline(never)]
 pub(crate) fn after_write(part: Written, change: &Change) -> (Standing, SectionProgress)
     ensures standing { (c : Call) (at : Part) (bits : List Bool) (n : ℕ) → standing_at c at ≡ Writes part change.now → shown n result.0 ≡ standing_at c (part_after c at bits) }
     ensures progress { (c : Call) (at : Part) (bits : List Bool) → standing_at c at ≡ Writes part change.now → result.1 ≡ told (changes_at at) (part_after c at bits) }

@@ -61,7 +61,7 @@ pub record IsAtData (s : Setup) (p : ℕ) (command : Command) (number : ℕ) (se
   pub shown : section ≡ section_at (call s p command number) (place_of (call s p command number) accesses)
   pub goes : goes (standing_at (call s p command number) (place_of (call s p command number) accesses).part) ≡ true
 
-at-data : (s : Setup) (p : ℕ) (command : Command) (number : ℕ) (section : Section) (d : Doing) → kept_at s p d ≡ kept.AtData section → IsCallOf command number d → IsReached s p d → IsAtData s p command number section d
+pub at-data : (s : Setup) (p : ℕ) (command : Command) (number : ℕ) (section : Section) (d : Doing) → kept_at s p d ≡ kept.AtData section → IsCallOf command number d → IsReached s p d → IsAtData s p command number section d
 at-data s p command number section doing.Rests k its reached = cc
 at-data s p command number section doing.Lies k its reached = cc
 at-data s p command number section (doing.Runs x n at) k its reached =

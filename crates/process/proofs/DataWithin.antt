@@ -1,14 +1,18 @@
 -- A process within a number access at the data.
-use Rattle.std.proofs.Common.{◌≡◌, ◌<◌, true, false, refl, arith}
+use Rattle.std.proofs.Common.{◌≡◌, ◌<◌, true, false, refl, sym, ap, ◌∙◌, arith}
+use Rattle.record.specs.Places.{place_of}
 use Rattle.bakery.specs.Doors.{DoorState}
 use Rattle.critical.specs.Sections as sections
-use Rattle.critical.specs.Sections.{Section}
+use Rattle.critical.specs.Sections.{Section, section_at}
+use Rattle.critical.proofs.Within.{bits-within, is_within}
 use Rattle.process.specs.declared.process.Work.{Work}
 use Rattle.process.specs.declared.process.Work.TheVariants as work
+use Rattle.laws.specs.Doings.{Doing, call}
 use Rattle.process.specs.Keeping.{is_at_data, kept_shown}
 use Rattle.process.specs.Processes as kept
-use Rattle.process.specs.Processes.{Kept}
-use Rattle.process.specs.Steps.{bits_to_walk, bits_within, is_at_door}
+use Rattle.process.specs.Processes.{Kept, ProcessState}
+use Rattle.process.specs.Steps.{IsAt, bits_to_walk, bits_within, is_at_door}
+use Rattle.process.proofs.Data.{IsAtData, at-data}
 
 -- it is at the data
 pub data-within : (k : Kept) → 0 < bits_within k → is_at_data k ≡ true
@@ -31,6 +35,28 @@ section-within (work.Leaves answer fresh leaving) door section h = absurd (omega
 section-within (work.Withdraws leaving) door section h = absurd (omega (arith, h))
 section-within (work.Settles inside taken value unit) door section h = absurd (omega (arith, h))
 section-within (work.Frees inside unit) door section h = absurd (omega (arith, h))
+
+-- what it is doing: its section is within the number access
+pub record IsWithin (state : ProcessState) (d : Doing) : Type 0 where
+  pub section : Section
+  pub shown : state.kept ≡ kept.AtData section
+  pub at : IsAtData state.setup state.process state.command state.number section d
+  pub within : is_within (section_at (call state.setup state.process state.command state.number) (place_of (call state.setup state.process state.command state.number) at.accesses)) ≡ true
+
+pub is-within : (state : ProcessState) (d : Doing) → IsAt state d → 0 < bits_within state.kept → IsWithin state d
+is-within state d is h = by state.kept refl h
+  where
+    by : (k : Kept) → state.kept ≡ k → 0 < bits_within k → IsWithin state d
+    by (kept.AtData section) e h =
+        let at = at-data state.setup state.process state.command state.number section d (sym is.kept ∙ e) is.call is.reached in
+        record { section = section; shown = e; at = at; within = ap is_within (sym at.shown) ∙ bits-within section h }
+    by kept.Rests e h = absurd (omega (arith, h))
+    by kept.Lies e h = absurd (omega (arith, h))
+    by (kept.AtDoor door) e h = absurd (omega (arith, h))
+    by (kept.Leaves answer fresh leaving) e h = absurd (omega (arith, h))
+    by (kept.Withdraws leaving) e h = absurd (omega (arith, h))
+    by (kept.Settles inside taken value unit) e h = absurd (omega (arith, h))
+    by (kept.Frees inside unit) e h = absurd (omega (arith, h))
 
 -- where it is not at the door, what it has to walk is at the data
 pub data-to-walk : (k : Kept) → is_at_door k ≡ false → 0 < bits_to_walk k → 0 < bits_within k

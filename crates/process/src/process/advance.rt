@@ -132,7 +132,7 @@ impl Process {
     }
 
     /// The same at the data.
-    #[inline]
+    #[inline(always)]
     pub(crate) fn advance_at_data(&mut self, value: bool) -> Told
         requires at_data { is_at_data self.old.kept ≡ true }
         requires at { (d : Doing) × IsAt self.old d }
@@ -163,7 +163,7 @@ impl Process {
         ensures marks { (flick : Bool) (d : Doing) → IsAt self.old d → marks_with self.old.setup self.old.process d flick value ≡ [] }
         ensures fewer { bits_within self.old.kept ≤ bits_within self.new.kept + 1 }
     {
-        self.section.advance_within(value);
+        self.advance_at_data(value);
     }
 
     /// The same while the ticket is cleared before the answer.

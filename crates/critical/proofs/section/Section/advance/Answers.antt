@@ -1,8 +1,8 @@
-use Rattle.std.proofs.Common.{sym, ap, ◌∙◌, subst}
-use Rattle.critical.specs.Keeping.{section_of, register_asked, IsRunOf, IsReadOf, IsWriteOf}
+use Rattle.std.proofs.Common.{[], sym, ap, ◌∙◌, subst}
+use Rattle.critical.specs.Keeping.{call_of, section_of, register_asked, IsRunOf, IsReadOf, IsStanding, IsWriteOf}
 use Rattle.critical.specs.Changes.{change_field}
 use Rattle.critical.specs.Sections.{is_going, marks_told}
-use Rattle.critical.proofs.Ends.{done-at, past-read, told-read, past-write, told-write, marks-told, from-old, told-old}
+use Rattle.critical.proofs.Ends.{done-at, past-read, told-read, past-write, told-write, marks-told}
 use Rattle.critical.proofs.section.Section.advance.Goals as goal
 
 pub returns-in-Done-advance-clause-place : goal.returns-in-Done-advance-clause-place
@@ -10,8 +10,8 @@ returns-in-Done-advance-clause-place c =
     let s = c.self.inside in
     let run : IsReadOf s.call.setup (register_asked c.in-Reads.part c.in-Reads.versions).1 s.reading = subst (λ st. IsRunOf s.call.setup st s.reading s.writing) c.in-Reads.is c.self.invariant.run in
     λ d at same.
-    past-read s.call c.in-Reads.part c.in-Reads.versions s.reading c.advance.new.self s.writing c.args.value c.pass_read-progress.new.standing c.begin.new.reading c.begin.new.writing
-    run c.advance.ensures.run (done-at _ (sym c.advance.ensures.progress ∙ c.in-Done-advance.is)) c.pass_read-progress.ensures.standing c.begin.ensures.fresh
+    past-read s.call c.in-Reads.part c.in-Reads.versions s.reading c.advance.new.self s.writing c.args.value c.after_read-next.result.0 c.begin.new.reading c.begin.new.writing
+    run c.advance.ensures.run (done-at _ (sym c.advance.ensures.progress ∙ c.in-Done-advance.is)) c.after_read-next.ensures.standing c.begin.ensures.fresh
     d at (ap (λ st. section_of s.call st s.reading s.writing) (sym c.in-Reads.is) ∙ c.self.view_is ∙ same)
 
 pub returns-in-Done-advance-clause-progress : goal.returns-in-Done-advance-clause-progress
@@ -19,8 +19,8 @@ returns-in-Done-advance-clause-progress c =
     let s = c.self.inside in
     let run : IsReadOf s.call.setup (register_asked c.in-Reads.part c.in-Reads.versions).1 s.reading = subst (λ st. IsRunOf s.call.setup st s.reading s.writing) c.in-Reads.is c.self.invariant.run in
     λ d at same.
-    told-read s.call c.in-Reads.part c.in-Reads.versions s.reading c.advance.new.self s.writing c.args.value c.pass_read-progress.result
-    run c.advance.ensures.run (done-at _ (sym c.advance.ensures.progress ∙ c.in-Done-advance.is)) c.pass_read-progress.ensures.progress
+    told-read s.call c.in-Reads.part c.in-Reads.versions s.reading c.advance.new.self s.writing c.args.value c.after_read-next.result.1
+    run c.advance.ensures.run (done-at _ (sym c.advance.ensures.progress ∙ c.in-Done-advance.is)) c.after_read-next.ensures.progress
     d at (ap (λ st. section_of s.call st s.reading s.writing) (sym c.in-Reads.is) ∙ c.self.view_is ∙ same)
 
 pub returns-in-Done-advance-2-clause-place : goal.returns-in-Done-advance-2-clause-place
@@ -28,8 +28,8 @@ returns-in-Done-advance-2-clause-place c =
     let s = c.self.inside in
     let run : IsWriteOf s.call.setup (change_field c.in-Writes.part c.in-Writes.change) s.writing = subst (λ st. IsRunOf s.call.setup st s.reading s.writing) c.in-Writes.is c.self.invariant.run in
     λ d at same.
-    past-write s.call c.in-Writes.part c.in-Writes.change s.reading s.writing c.advance-in-Writes.new.run c.args.value c.pass_write-progress.new.standing c.begin-in-Done-advance-2.new.reading c.begin-in-Done-advance-2.new.writing
-    run.wide c.advance-in-Writes.ensures.run (done-at _ (sym c.advance-in-Writes.ensures.progress ∙ c.in-Done-advance-2.is)) (from-old s.call s.standing c.pass_write-progress.new.standing c.in-Writes.part c.in-Writes.change c.in-Writes.is c.pass_write-progress.ensures.standing) c.begin-in-Done-advance-2.ensures.fresh
+    past-write s.call c.in-Writes.part c.in-Writes.change s.reading s.writing c.advance-in-Writes.new.run c.args.value c.after_write-next.result.0 c.begin-in-Done-advance-2.new.reading c.begin-in-Done-advance-2.new.writing
+    run.wide c.advance-in-Writes.ensures.run (done-at _ (sym c.advance-in-Writes.ensures.progress ∙ c.in-Done-advance-2.is)) (λ P e. c.after_write-next.ensures.standing (call_of s.call) P [] s.call.setup.processes e) c.begin-in-Done-advance-2.ensures.fresh
     d at (ap (λ st. section_of s.call st s.reading s.writing) (sym c.in-Writes.is) ∙ c.self.view_is ∙ same)
 
 pub returns-in-Done-advance-2-clause-progress : goal.returns-in-Done-advance-2-clause-progress
@@ -37,8 +37,8 @@ returns-in-Done-advance-2-clause-progress c =
     let s = c.self.inside in
     let run : IsWriteOf s.call.setup (change_field c.in-Writes.part c.in-Writes.change) s.writing = subst (λ st. IsRunOf s.call.setup st s.reading s.writing) c.in-Writes.is c.self.invariant.run in
     λ d at same.
-    told-write s.call c.in-Writes.part c.in-Writes.change s.reading s.writing c.advance-in-Writes.new.run c.args.value c.pass_write-progress.result
-    run.wide c.advance-in-Writes.ensures.run (done-at _ (sym c.advance-in-Writes.ensures.progress ∙ c.in-Done-advance-2.is)) (told-old s.call s.standing c.pass_write-progress.result c.in-Writes.part c.in-Writes.change c.in-Writes.is c.pass_write-progress.ensures.progress)
+    told-write s.call c.in-Writes.part c.in-Writes.change s.reading s.writing c.advance-in-Writes.new.run c.args.value c.after_write-next.result.1
+    run.wide c.advance-in-Writes.ensures.run (done-at _ (sym c.advance-in-Writes.ensures.progress ∙ c.in-Done-advance-2.is)) (λ P e. c.after_write-next.ensures.progress (call_of s.call) P [] e)
     d at (ap (λ st. section_of s.call st s.reading s.writing) (sym c.in-Writes.is) ∙ c.self.view_is ∙ same)
 
 pub returns-in-Done-advance-clause-marks : goal.returns-in-Done-advance-clause-marks
@@ -52,7 +52,7 @@ invariant_of-self-in-Done-advance-2 c =
     let s = c.self.inside in
     record {
       call = c.self.invariant.call;
-      standing = c.pass_write-progress.ensures.kept s.call.setup c.self.invariant.standing;
+      standing = c.after_write-next.ensures.kept s.call.setup (subst (IsStanding s.call.setup) c.in-Writes.is c.self.invariant.standing);
       run = c.begin-in-Done-advance-2.ensures.run;
       room = c.begin-in-Done-advance-2.ensures.room ∙ c.self.invariant.room;
     }

@@ -1,66 +1,36 @@
 -- An access within a number access at the data, by the place of the call.
-use Rattle.std.proofs.Common.{◌≡◌, ◌+◌, ◌<◌, ◌≤◌, sym, ap, subst, ◌∙◌}
-use Rattle.record.specs.Places.{place_of}
-use Rattle.critical.specs.Sections.{Section}
+use Rattle.std.proofs.Common.{◌+◌, ◌≤◌, refl, sym, ap, subst, ◌∙◌}
+use Rattle.record.specs.Places.{place_after, place_of}
+use Rattle.critical.specs.Sections.{section_at}
+use Rattle.critical.proofs.Within.{within-fewer, within-going, within-marks}
 use Rattle.laws.specs.Doings.{call}
-use Rattle.laws.specs.Steps.{does_then, marks_with}
-use Rattle.process.specs.Keeping.{Goes, is_at_data, kept_shown}
-use Rattle.process.specs.Processes.{Kept, ProcessState, kept_at}
+use Rattle.laws.specs.Steps.{marks_with}
+use Rattle.process.specs.Processes as kept
+use Rattle.process.specs.Processes.{Kept, ProcessState}
 use Rattle.process.specs.Steps.{bits_within}
-use Rattle.process.proofs.Data.{data-works, here, then-data}
-use Rattle.process.proofs.DataWithin.{data-within, section-within}
+use Rattle.process.proofs.Data.{then-data}
+use Rattle.process.proofs.DataWithin.{data-within, is-within}
 use Rattle.process.proofs.process.Process.advance_within.Goals as goal
 
-pub advance_within-requires : goal.advance_within-requires
-advance_within-requires c =
-    let f = c.self.inside in
-    section-within f.work f.door f.section (subst (λ (state : ProcessState). 0 < bits_within state.kept) (sym c.self.view_is) c.requires.within)
-
-pub invariant_of-self : goal.invariant_of-self
-invariant_of-self c =
-    let f = c.self.inside in
-    let m = c.requires.at in
-    let at_data = data-within c.args.self.now.kept c.requires.within in
-    let at = (here f.setup f.process f.command f.number f.work f.door f.section c.args.self.now c.self.view_is c.self.invariant.goes at_data).1 m.0 m.1 in
-    let k = call f.setup f.process f.command f.number in
-    let place = c.advance_within.ensures.place k (place_of k at.accesses) at.shown in
-    record {
-      good = c.self.invariant.good;
-      process = c.self.invariant.process;
-      door_setup = c.self.invariant.door_setup;
-      door_process = c.self.invariant.door_process;
-      section_setup = ap (λ (s : Section). s.call.setup) place;
-      section_process = ap (λ (s : Section). s.call.process) place;
-      goes = subst (λ current. Goes f.setup f.process current f.door c.advance_within.new.self) (sym (data-works f.work f.door f.section (ap (λ (state : ProcessState). is_at_data state.kept) c.self.view_is ∙ at_data)))
-          c.advance_within.ensures.going;
-    }
-
-pub returns-clause-process : goal.returns-clause-process
-returns-clause-process c = λ flick d is.
-    let f = c.self.inside in
-    let e = c.advance_within.ensures in
-    let at_data = data-within c.args.self.now.kept c.requires.within in
-    let works = data-works f.work f.door f.section (ap (λ (state : ProcessState). is_at_data state.kept) c.self.view_is ∙ at_data) in
-    let at = (here f.setup f.process f.command f.number f.work f.door f.section c.args.self.now c.self.view_is c.self.invariant.goes at_data).1 d is in
-    let k = call f.setup f.process f.command f.number in
-    let v = c.args.value in
-    let then : ProcessState → Kept = λ state. kept_at state.setup state.process (does_then state.setup state.process d flick v) in
-    let with_kept : Kept → ProcessState = λ kept. record { setup = f.setup; process = f.process; kept = kept; command = f.command; number = f.number } in
-    subst (λ (state : ProcessState). with_kept (kept_shown f.work f.door c.advance_within.new.self) ≡ record state { kept = then state }) c.self.view_is
-    (ap (λ current. with_kept (kept_shown current f.door c.advance_within.new.self)) works ∙ ap with_kept (then-data f.setup f.process f.command f.number f.section d at flick v c.advance_within.new.self (e.place k (place_of k at.accesses) at.shown) e.going))
+pub advance_at_data-requires-clause-at_data : goal.advance_at_data-requires-clause-at_data
+advance_at_data-requires-clause-at_data c = data-within c.args.self.now.kept c.requires.within
 
 pub returns-clause-marks : goal.returns-clause-marks
 returns-clause-marks c = λ flick d is.
-    let f = c.self.inside in
-    let at = (here f.setup f.process f.command f.number f.work f.door f.section c.args.self.now c.self.view_is c.self.invariant.goes (data-within c.args.self.now.kept c.requires.within)).1 d is in
-    let k = call f.setup f.process f.command f.number in
-    ap (λ (state : ProcessState). marks_with state.setup state.process d flick c.args.value) (sym c.self.view_is)
-    ∙ ap (λ d. marks_with f.setup f.process d flick c.args.value) at.is
-    ∙ c.advance_within.ensures.marks k (place_of k at.accesses) at.shown
+    let now = c.args.self.now in
+    let w = is-within now d is c.requires.within in
+    let k = call now.setup now.process now.command now.number in
+    ap (λ d. marks_with now.setup now.process d flick c.args.value) w.at.is ∙ within-marks k (place_of k w.at.accesses) c.args.value w.within
 
 pub returns-clause-fewer : goal.returns-clause-fewer
 returns-clause-fewer c =
-    let f = c.self.inside in
-    let works = data-works f.work f.door f.section (ap (λ (state : ProcessState). is_at_data state.kept) c.self.view_is ∙ data-within c.args.self.now.kept c.requires.within) in
-    subst (λ (state : ProcessState). bits_within state.kept ≤ bits_within (kept_shown f.work f.door c.advance_within.new.self) + 1) c.self.view_is
-    (subst (λ current. bits_within (kept_shown current f.door f.section) ≤ bits_within (kept_shown current f.door c.advance_within.new.self) + 1) (sym works) c.advance_within.ensures.fewer)
+    let now = c.args.self.now in
+    let m = c.requires.at in
+    let w = is-within now m.0 m.1 c.requires.within in
+    let k = call now.setup now.process now.command now.number in
+    let at = place_of k w.at.accesses in
+    let then = section_at k (place_after k at c.args.value) in
+    let going = within-going k at c.args.value then w.within refl in
+    let goes = ap (λ (state : ProcessState). state.kept) (c.advance_at_data.ensures.process false m.0 m.1) ∙ sym (then-data now.setup now.process now.command now.number w.section m.0 w.at false c.args.value then refl going) in
+    subst (λ (after : Kept). bits_within now.kept ≤ bits_within after + 1) (sym goes)
+    (subst (λ (before : Kept). bits_within before ≤ bits_within (kept.AtData then) + 1) (sym (w.shown ∙ ap kept.AtData w.at.shown)) (within-fewer k at c.args.value w.within))
