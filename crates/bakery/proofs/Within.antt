@@ -1,5 +1,5 @@
 -- An access of a door within its number access: it is of a ticket, ends nothing, and has no mark.
-use Rattle.std.proofs.Common.{◌≡◌, ℕ, ◌+◌, ◌-◌, ◌<◌, ◌≤◌, ◌==◌, Bool, true, false, ◌&&◌, cond, not, if◌then◌else◌, List, [], ◌∷◌, ◌++◌, length, length-append, Option, None, Some, unwrap_or, refl, sym, ap, subst, ◌∙◌, arith}
+use Rattle.std.proofs.Common.{◌≡◌, ℕ, ◌+◌, ◌-◌, ◌<◌, ◌≤◌, ◌==◌, Bool, true, false, ◌&&◌, cond, if◌then◌else◌, List, [], ◌∷◌, ◌++◌, length, length-append, None, Some, unwrap_or, refl, sym, ap, subst, ◌∙◌, arith}
 use Rattle.std.proofs.lemmas.Bool.Decides.{nat_tests}
 use Rattle.reader_copies.specs.safe_bit.Cell.{Cell, MayMove}
 use Rattle.reader_copies.specs.safe_bit.declared.Move.TheVariants.{BeginRead, EndRead}

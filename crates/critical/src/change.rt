@@ -10,7 +10,7 @@ ghost use Rattle.critical.specs.Registers.{after_access, MayMake};
 use crate::data_row::DataRow;
 use plain_store::Reply;
 use reader_copies::{Made, Progress};
-use record::{Access, Field, bytes_go_by_their_bits};
+use record::{Field, bytes_go_by_their_bits};
 use safe_number::{WriteRun, bits_of};
 use store_image::Image;
 

@@ -1,5 +1,4 @@
-ghost use Rattle.std.specs.Prelude.{◌≡◌, ◌+◌, ◌<◌, ◌≤◌, ◌*◌, true, [], length, IfOk, IfSome, Ok};
-ghost use Rattle.safe_number.specs.Runs.{new_write};
+ghost use Rattle.std.specs.Prelude.{◌≡◌, ◌<◌, ◌≤◌, ◌*◌, true, IfOk, IfSome, Ok};
 ghost use Rattle.plain_store.specs.Setups.{checked};
 ghost use Rattle.record.specs.Cuts.{IsTornOf, pending_at, torn_at, torn_in};
 ghost use Rattle.record.specs.Moves.{ended_with};
@@ -124,8 +123,9 @@ impl Section {
                 Progress::Going => SectionProgress::Reading,
                 Progress::Done => {
                     let read = &self.reading;
-                    let (next, progress) =
-                        standing::after_read(&self.call, part, versions, value, read);
+                    let (next, progress) = standing::after_read(
+                        &self.call, part, versions, value, read,
+                    );
                     self.standing = next;
                     begin(
                         &self.standing,

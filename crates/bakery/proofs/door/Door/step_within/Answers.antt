@@ -1,4 +1,4 @@
-use Rattle.std.proofs.Common.{◌≡◌, ◌<◌, Bool, false, List, length, slice_set, sym, ap, subst, ◌∙◌, arith, rules}
+use Rattle.std.proofs.Common.{◌≡◌, ◌<◌, Bool, false, List, length, slice_set, sym, ap, subst, ◌∙◌, rules}
 use Rattle.reader_copies.specs.safe_bit.Cell.{Cell}
 use Rattle.reader_copies.specs.Row.{CanMake, HasCell, cell_at, row_after}
 use Rattle.reader_copies.specs.Runs.{Writing, next_read, next_write}

@@ -1,5 +1,5 @@
 -- An access within a number access at the data, by the place of the call.
-use Rattle.std.proofs.Common.{◌+◌, ◌≤◌, refl, sym, ap, subst, ◌∙◌}
+use Rattle.std.proofs.Common.{◌+◌, ◌≤◌, false, refl, sym, ap, subst, ◌∙◌}
 use Rattle.record.specs.Places.{place_after, place_of}
 use Rattle.critical.specs.Sections.{section_at}
 use Rattle.critical.proofs.Within.{within-fewer, within-going, within-marks}
