@@ -17,71 +17,27 @@ first_none (Some k) = refl
 
 pub number-mine : (p : ℕ) (test : Entry → Bool) (e : Entry) (past : Past) → e.process ≡ p → has is_called e ≡ false → (b : Bool) → test e ≡ b →
     number_in_call p test (e ∷ past) ≡ first_of (number_in_call p test past) (if_there b (length past))
-number-mine p test e past h called b is =
-    ap (λ t. elim t as (λ _. Option ℕ) [
-      | false ↦ number_in_call p test past
-      | true ↦ elim (has is_called e) as (λ _. Option ℕ) [
-        | true ↦ None
-        | false ↦ first_of (number_in_call p test past) (if_there (test e) (length past))
-      ]
-    ]) (eq-eqb e.process p h)
-    ∙ ap (λ t. elim t as (λ _. Option ℕ) [
-      | true ↦ None
-      | false ↦ first_of (number_in_call p test past) (if_there (test e) (length past))
-    ]) called
-    ∙ ap (λ t. first_of (number_in_call p test past) (if_there t (length past))) is
+number-mine p test e past h called b is = rw (eq-eqb e.process p h, called, is, number_in_call) refl
 
 pub number-called : (p : ℕ) (test : Entry → Bool) (e : Entry) (past : Past) → e.process ≡ p → has is_called e ≡ true → number_in_call p test (e ∷ past) ≡ None
-number-called p test e past h called =
-    ap (λ t. elim t as (λ _. Option ℕ) [
-      | false ↦ number_in_call p test past
-      | true ↦ elim (has is_called e) as (λ _. Option ℕ) [
-        | true ↦ None
-        | false ↦ first_of (number_in_call p test past) (if_there (test e) (length past))
-      ]
-    ]) (eq-eqb e.process p h)
-    ∙ ap (λ t. elim t as (λ _. Option ℕ) [
-      | true ↦ None
-      | false ↦ first_of (number_in_call p test past) (if_there (test e) (length past))
-    ]) called
+number-called p test e past h called = rw (eq-eqb e.process p h, called, number_in_call) refl
 
 pub number-other : (p : ℕ) (test : Entry → Bool) (e : Entry) (past : Past) → (e.process == p) ≡ false → number_in_call p test (e ∷ past) ≡ number_in_call p test past
-number-other p test e past h =
-    ap (λ t. elim t as (λ _. Option ℕ) [
-      | false ↦ number_in_call p test past
-      | true ↦ elim (has is_called e) as (λ _. Option ℕ) [
-        | true ↦ None
-        | false ↦ first_of (number_in_call p test past) (if_there (test e) (length past))
-      ]
-    ]) h
+number-other p test e past h = rw (h, number_in_call) refl
 
 -- What a call's entries make.
 
 pub over-mine : {A : Type 0} (p : ℕ) (start : A) (with : Past → Entry → A → A) (e : Entry) (past : Past) → e.process ≡ p → has is_called e ≡ false →
     over_call p start with (e ∷ past) ≡ with past e (over_call p start with past)
-over-mine {A} p start with e past h called =
-    ap (λ t. elim t as (λ _. A) [
-      | false ↦ over_call p start with past
-      | true ↦ elim (has is_called e) as (λ _. A) [ true ↦ start | false ↦ with past e (over_call p start with past) ]
-    ]) (eq-eqb e.process p h)
-    ∙ ap (λ t. elim t as (λ _. A) [ true ↦ start | false ↦ with past e (over_call p start with past) ]) called
+over-mine p start with e past h called = rw (eq-eqb e.process p h, called, over_call) refl
 
 pub over-called : {A : Type 0} (p : ℕ) (start : A) (with : Past → Entry → A → A) (e : Entry) (past : Past) → e.process ≡ p → has is_called e ≡ true →
     over_call p start with (e ∷ past) ≡ start
-over-called {A} p start with e past h called =
-    ap (λ t. elim t as (λ _. A) [
-      | false ↦ over_call p start with past
-      | true ↦ elim (has is_called e) as (λ _. A) [ true ↦ start | false ↦ with past e (over_call p start with past) ]
-    ]) (eq-eqb e.process p h)
-    ∙ ap (λ t. elim t as (λ _. A) [ true ↦ start | false ↦ with past e (over_call p start with past) ]) called
+over-called p start with e past h called = rw (eq-eqb e.process p h, called, over_call) refl
 
 pub over-other : {A : Type 0} (p : ℕ) (start : A) (with : Past → Entry → A → A) (e : Entry) (past : Past) → (e.process == p) ≡ false →
     over_call p start with (e ∷ past) ≡ over_call p start with past
-over-other {A} p start with e past h =
-    ap (λ t. elim t as (λ _. A) [
-      | false ↦ over_call p start with past
-      | true ↦ elim (has is_called e) as (λ _. A) [ true ↦ start | false ↦ with past e (over_call p start with past) ]
-    ]) h
+over-other p start with e past h = rw (h, over_call) refl
 
 -- Counts are no more than the entries.
 

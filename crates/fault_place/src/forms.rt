@@ -27,16 +27,22 @@ pub(crate) enum Item {
 /// A form: its last item is a choice where the line has no such key word, and nothing is known of what is behind it.
 pub(crate) type Form = Vec<Item>;
 
-/// The key word of a table that stands at a place of a line.
-fn key<M>(rows: &[(&'static str, M)], words: &[&[u8]], place: usize, table: Table) -> Item {
-    if let Some(word) = words.get(place) {
-        for row in rows {
-            if *word == row.0.as_bytes() {
-                return Item::Key(row.0);
-            }
+/// The key word of a table that a word is.
+pub(crate) fn key_word<M>(rows: &[(&'static str, M)], word: &[u8]) -> Option<&'static str> {
+    for row in rows {
+        if word == row.0.as_bytes() {
+            return Some(row.0);
         }
     }
-    Item::Choice(table)
+    None
+}
+
+/// The key word of a table that stands at a place of a line.
+fn key<M>(rows: &[(&'static str, M)], words: &[&[u8]], place: usize, table: Table) -> Item {
+    match words.get(place).and_then(|word| key_word(rows, word)) {
+        Some(word) => Item::Key(word),
+        None => Item::Choice(table),
+    }
 }
 
 /// The form of a line of a scenario of this version, behind the first.
@@ -72,18 +78,13 @@ fn add_head(
 ) -> Result<(), AllocError> {
     match opener {
         Some(Opener::Heading(heading)) => {
+            let most = heading.most(version);
             add(form, first)?;
-            add(
-                form,
-                Item::Operand(Operand::Heading {
-                    most: heading.most(version),
-                }),
-            )
+            add_operands(form, &[Operand::Heading { most }])
         }
         Some(Opener::Open) if version == 2 => {
             add(form, first)?;
-            add(form, Item::Operand(Operand::Name))?;
-            add(form, Item::Operand(Operand::Value))
+            add_operands(form, &[Operand::Name, Operand::Value])
         }
         _ => add(form, Item::Choice(table)),
     }
@@ -98,29 +99,24 @@ fn add_statement(
 ) -> Result<(), AllocError> {
     match word {
         LineWord::Call => {
-            add(form, Item::Operand(PROCESS))?;
+            add_operands(form, &[PROCESS])?;
             add_command(version, words, 2, form)
         }
-        LineWord::Step => {
-            add(form, Item::Operand(PROCESS))?;
-            add(form, Item::Operand(COUNT))
-        }
+        LineWord::Step => add_operands(form, &[PROCESS, COUNT]),
         LineWord::Go => {
-            add(form, Item::Operand(PROCESS))?;
+            add_operands(form, &[PROCESS])?;
             add(form, key(&TARGETS, words, 2, Table::Targets))
         }
-        LineWord::Fail | LineWord::Withdraw | LineWord::Restart => {
-            add(form, Item::Operand(PROCESS))
-        }
+        LineWord::Fail | LineWord::Withdraw | LineWord::Restart => add_operands(form, &[PROCESS]),
         LineWord::Flick => {
             let mode = key(&FLICKS, words, 1, Table::Flicks);
             add(form, mode)?;
             if mode == Item::Key("pcg") {
-                add(form, number("n", u64::MAX))?;
+                add_operands(form, &[number("n", u64::MAX)])?;
             }
             Ok(())
         }
-        LineWord::Wander => add(form, Item::Operand(COUNT)),
+        LineWord::Wander => add_operands(form, &[COUNT]),
         LineWord::Show => Ok(()),
     }
 }
@@ -139,20 +135,10 @@ fn add_command(
     };
     add(form, key)?;
     match verb {
-        Some(Verb::Read) => add(form, Item::Operand(Operand::Name)),
-        Some(Verb::Write) => {
-            add(form, Item::Operand(Operand::Name))?;
-            add(form, Item::Operand(Operand::Value))
-        }
-        Some(Verb::Add) => {
-            add(form, Item::Operand(Operand::Name))?;
-            add(form, Item::Operand(Operand::Integer))
-        }
-        Some(Verb::Cas) => {
-            add(form, Item::Operand(Operand::Name))?;
-            add(form, Item::Operand(Operand::Value))?;
-            add(form, Item::Operand(Operand::Value))
-        }
+        Some(Verb::Read) => add_operands(form, &[Operand::Name]),
+        Some(Verb::Write) => add_operands(form, &[Operand::Name, Operand::Value]),
+        Some(Verb::Add) => add_operands(form, &[Operand::Name, Operand::Integer]),
+        Some(Verb::Cas) => add_operands(form, &[Operand::Name, Operand::Value, Operand::Value]),
         Some(Verb::Ask) | None => Ok(()),
     }
 }
@@ -162,7 +148,7 @@ pub(crate) fn bits_form(alloc: Global, words: &[&[u8]]) -> Result<Form, AllocErr
     let mut form = Vec::new(alloc);
     add(&mut form, key(&BIT_WORDS, words, 0, Table::BitWords))?;
     if has_value(words.first().and_then(|word| BitWord::of(word))) {
-        add(&mut form, Item::Operand(Operand::Bit))?;
+        add_operands(&mut form, &[Operand::Bit])?;
     }
     Ok(form)
 }
@@ -178,20 +164,14 @@ fn has_value(word: Option<BitWord>) -> bool {
 /// The form of the words of an entry before its marks.
 pub(crate) fn access_form(alloc: Global, words: &[&[u8]]) -> Result<Form, AllocError> {
     let mut form = Vec::new(alloc);
-    add(
-        &mut form,
-        Item::Operand(Operand::Number {
-            letter: "process",
-            most: 255,
-        }),
-    )?;
+    add_operands(&mut form, &[number("process", 255)])?;
     if words.len() < 2 {
         return Ok(form);
     }
     add(&mut form, Item::Bit)?;
     add(&mut form, key(&MOVES, words, 2, Table::Moves))?;
     if has_value(words.get(2).and_then(|word| BitWord::of(word))) {
-        add(&mut form, Item::Operand(Operand::Bit))?;
+        add_operands(&mut form, &[Operand::Bit])?;
     }
     Ok(form)
 }
@@ -202,14 +182,14 @@ pub(crate) fn mark_form(alloc: Global, words: &[&[u8]]) -> Result<Form, AllocErr
     add(&mut form, key(&MARK_WORDS, words, 0, Table::Marks))?;
     match words.first().and_then(|word| MarkWord::of(word)) {
         Some(MarkWord::Call) => add_command(2, words, 1, &mut form)?,
-        Some(MarkWord::Wait) => add(&mut form, number("n", 4_294_967_295))?,
+        Some(MarkWord::Wait) => add_operands(&mut form, &[number("n", 4_294_967_295)])?,
         Some(MarkWord::Taken) => {
-            add(&mut form, number("k", u64::MAX))?;
+            add_operands(&mut form, &[number("k", u64::MAX)])?;
             add(&mut form, key(&REPLY_WORDS, words, 2, Table::Replies))?;
             add_reply(words.get(2).and_then(|word| ReplyWord::of(word)), &mut form)?;
         }
         Some(MarkWord::Answer) => add_answer(words, &mut form)?,
-        Some(MarkWord::Settled) => add(&mut form, Item::Operand(Operand::Bit))?,
+        Some(MarkWord::Settled) => add_operands(&mut form, &[Operand::Bit])?,
         _ => {}
     }
     Ok(form)
@@ -221,7 +201,7 @@ fn add_answer(words: &[&[u8]], form: &mut Form) -> Result<(), AllocError> {
         Item::Key(own) => {
             add(form, Item::Key(own))?;
             if own == "tickets-full" {
-                add(form, Item::Operand(PROCESS))?;
+                add_operands(form, &[PROCESS])?;
             }
             Ok(())
         }
@@ -235,9 +215,9 @@ fn add_answer(words: &[&[u8]], form: &mut Form) -> Result<(), AllocError> {
 /// Adds what stands behind the first word of a reply.
 fn add_reply(name: Option<ReplyWord>, form: &mut Form) -> Result<(), AllocError> {
     match name {
-        Some(ReplyWord::Value | ReplyWord::Kept) => add(form, Item::Operand(Operand::Value)),
-        Some(ReplyWord::Sum) => add(form, Item::Operand(Operand::Integer)),
-        Some(ReplyWord::Last) => add(form, number("n", 65_535)),
+        Some(ReplyWord::Value | ReplyWord::Kept) => add_operands(form, &[Operand::Value]),
+        Some(ReplyWord::Sum) => add_operands(form, &[Operand::Integer]),
+        Some(ReplyWord::Last) => add_operands(form, &[number("n", 65_535)]),
         _ => Ok(()),
     }
 }
@@ -270,7 +250,15 @@ fn add(form: &mut Form, item: Item) -> Result<(), AllocError> {
     Ok(())
 }
 
+/// Adds operands, in their order.
+fn add_operands(form: &mut Form, operands: &[Operand]) -> Result<(), AllocError> {
+    for operand in operands {
+        form.push(Item::Operand(*operand))?;
+    }
+    Ok(())
+}
+
 /// A number up to `most`.
-fn number(letter: &'static str, most: u64) -> Item {
-    Item::Operand(Operand::Number { letter, most })
+fn number(letter: &'static str, most: u64) -> Operand {
+    Operand::Number { letter, most }
 }

@@ -1,7 +1,7 @@
 //! Where in a line a fault is, by its kind.
 use crate::expected::{add_choice, add_form, add_operand};
 use crate::forms::{
-    Form, Item, access_form, bits_form, head_form, line_form, mark_form, refused_operand,
+    Item, access_form, bits_form, head_form, key_word, line_form, mark_form, refused_operand,
 };
 use crate::lines::{Line, Span};
 use crate::near::add_near;
@@ -13,6 +13,40 @@ use record_file::LineKind;
 use scenario::keywords::{OPENERS, Opener};
 use scenario::operands::name;
 use std::alloc::{AllocError, Global};
+
+/// Where in a line a fault is, if it is there.
+type Found = Result<Option<Span>, AllocError>;
+
+/// A place, of which this was expected.
+fn found(place: Span, expected: &str, what: &mut String) -> Found {
+    what.push_str(expected)?;
+    Ok(Some(place))
+}
+
+/// Words of a line that follow one another, and the form that they should have.
+#[derive(Clone, Copy)]
+struct Part<'l, 'w> {
+    line: &'l Line<'w>,
+    /// How many words stand before them.
+    at: usize,
+    words: &'l [&'w [u8]],
+    form: &'l [Item],
+}
+
+impl<'l, 'w> Part<'l, 'w> {
+    /// Where the word of this place stands.
+    fn word(&self, place: usize) -> Span {
+        self.line.word(self.at.saturating_add(place))
+    }
+
+    /// The word of its bit, where an entry has one.
+    fn bit(&self) -> Option<&'w [u8]> {
+        if self.form.get(1) != Some(&Item::Bit) {
+            return None;
+        }
+        self.words.get(1).copied()
+    }
+}
 
 /// A file that has a fault.
 #[derive(Clone, Copy)]
@@ -34,12 +68,7 @@ impl Faulty {
     }
 
     /// Where in the line of this number the fault is; adds what was expected there.
-    pub fn place(
-        &self,
-        line: &Line<'_>,
-        number: u64,
-        what: &mut String,
-    ) -> Result<Option<Span>, AllocError> {
+    pub fn place(&self, line: &Line<'_>, number: u64, what: &mut String) -> Found {
         match self.fault {
             FaultKind::TooLong => self.too_long(line, number, what),
             FaultKind::NotFirst if self.setup.is_none() => self.not_first(line, what),
@@ -52,26 +81,21 @@ impl Faulty {
     }
 
     /// Of a line that is too long, or one too many.
-    fn too_long(
-        &self,
-        line: &Line<'_>,
-        number: u64,
-        what: &mut String,
-    ) -> Result<Option<Span>, AllocError> {
+    fn too_long(&self, line: &Line<'_>, number: u64, what: &mut String) -> Found {
         if line.len() > 128 {
-            what.push_str("at most 128 bytes in a line")?;
-            return Ok(Some(Span { from: 128, to: 129 }));
+            let place = Span { from: 128, to: 129 };
+            return found(place, "at most 128 bytes in a line", what);
         }
-        what.push_str(match self.kind {
+        let most = match self.kind {
             FileKind::Scenario | FileKind::Bits if number > 4096 => "at most 4096 lines",
             FileKind::Scenario => "at most 4000 lines behind headings and open lines",
             FileKind::Bits | FileKind::Record => "at most 4000 lines behind the first",
-        })?;
-        Ok(Some(line.word(0)))
+        };
+        found(line.word(0), most, what)
     }
 
     /// Of the first line: the word that differs, or those too many.
-    fn not_first(&self, line: &Line<'_>, what: &mut String) -> Result<Option<Span>, AllocError> {
+    fn not_first(&self, line: &Line<'_>, what: &mut String) -> Found {
         let words = line.words.as_slice();
         what.push_str(self.kind.first_lines())?;
         what.push_str(" as the first line")?;
@@ -82,12 +106,11 @@ impl Faulty {
             self.add_other_kind(first, what)?;
             return Ok(Some(line.word(0)));
         }
+        let has_two = self.kind != FileKind::Bits;
         Ok(Some(match words.get(1) {
             None => line.behind(0),
             Some(version) if *version == b"1".as_slice() => line.from(2),
-            Some(version) if *version == b"2".as_slice() && self.kind != FileKind::Bits => {
-                line.from(2)
-            }
+            Some(version) if *version == b"2".as_slice() && has_two => line.from(2),
             Some(_) => line.word(1),
         }))
     }
@@ -109,33 +132,21 @@ impl Faulty {
     }
 
     /// Of a line that stands too late.
-    fn too_late(&self, line: &Line<'_>, what: &mut String) -> Result<Option<Span>, AllocError> {
+    fn too_late(&self, line: &Line<'_>, what: &mut String) -> Found {
         let Some(first) = line.words.first() else {
             return Ok(None);
         };
-        for row in &OPENERS {
-            if *first == row.0.as_bytes() {
-                match row.1 {
-                    Opener::Heading(_) => {
-                        what.push_str(row.0)?;
-                        what.push_str(" once, and before other lines")?;
-                        return Ok(Some(line.word(0)));
-                    }
-                    Opener::Open => {
-                        what.push_str("open before other lines")?;
-                        return Ok(Some(line.word(0)));
-                    }
-                    Opener::Bakery | Opener::Line(_) => {}
-                }
-            }
-        }
-        what.push_str(self.kind.first_lines())?;
-        what.push_str(" in the first line alone")?;
-        Ok(Some(line.word(0)))
+        let (name, only) = match (Opener::of(first), key_word(&OPENERS, first)) {
+            (Some(Opener::Heading(_)), Some(heading)) => (heading, " once, and before other lines"),
+            (Some(Opener::Open), _) => ("open", " before other lines"),
+            _ => (self.kind.first_lines(), " in the first line alone"),
+        };
+        what.push_str(name)?;
+        found(line.word(0), only, what)
     }
 
     /// Of an opening pair that the store has no place for, or another one of its name.
-    fn not_opened(&self, line: &Line<'_>, what: &mut String) -> Result<Option<Span>, AllocError> {
+    fn not_opened(&self, line: &Line<'_>, what: &mut String) -> Found {
         let Some(setup) = &self.setup else {
             return Ok(None);
         };
@@ -143,8 +154,7 @@ impl Faulty {
         if let Some(word) = line.words.get(1) {
             if let Ok(name) = name(word) {
                 if opening.add(name, Value::Count(0)) == Err(OpenFault::Double) {
-                    what.push_str("each name opened once")?;
-                    return Ok(Some(line.word(1)));
+                    return found(line.word(1), "each name opened once", what);
                 }
             }
         }
@@ -154,7 +164,7 @@ impl Faulty {
     }
 
     /// Of a line whose words are at fault.
-    fn in_line(&self, line: &Line<'_>, what: &mut String) -> Result<Option<Span>, AllocError> {
+    fn in_line(&self, line: &Line<'_>, what: &mut String) -> Found {
         let words = line.words.as_slice();
         let form = match self.kind {
             FileKind::Scenario => line_form(self.alloc, self.version(), words)?,
@@ -164,11 +174,21 @@ impl Faulty {
                 _ => head_form(self.alloc, self.version(), words)?,
             },
         };
-        self.in_form(line, 0, words, &form, what)
+        let form = form.as_slice();
+        let at = 0;
+        self.in_part(
+            &Part {
+                line,
+                at,
+                words,
+                form,
+            },
+            what,
+        )
     }
 
     /// Of an entry: the first part between signs that has the fault.
-    fn in_entry(&self, line: &Line<'_>, what: &mut String) -> Result<Option<Span>, AllocError> {
+    fn in_entry(&self, line: &Line<'_>, what: &mut String) -> Found {
         let words = line.words.as_slice();
         let (mut at, mut marks) = (0_usize, 0_usize);
         for place in 0..=words.len() {
@@ -177,18 +197,24 @@ impl Faulty {
                     continue;
                 }
             }
-            let part = words.get(at..place).unwrap_or(&[]);
+            let words = words.get(at..place).unwrap_or(&[]);
             let form = if marks == 0 {
-                access_form(self.alloc, part)?
+                access_form(self.alloc, words)?
             } else {
-                mark_form(self.alloc, part)?
+                mark_form(self.alloc, words)?
             };
-            if let Some(span) = self.in_form(line, at, part, &form, what)? {
+            let form = form.as_slice();
+            let part = Part {
+                line,
+                at,
+                words,
+                form,
+            };
+            if let Some(span) = self.in_part(&part, what)? {
                 return Ok(Some(span));
             }
             if marks > 3 && self.fault == FaultKind::Words {
-                what.push_str("at most three marks")?;
-                return Ok(Some(line.word(at.saturating_sub(1))));
+                return found(line.word(at.saturating_sub(1)), "at most three marks", what);
             }
             marks = marks.saturating_add(1);
             at = place.saturating_add(1);
@@ -196,135 +222,92 @@ impl Faulty {
         Ok(None)
     }
 
-    /// Of words, of which the first has this place in the line, and which should have this form.
-    fn in_form(
-        &self,
-        line: &Line<'_>,
-        at: usize,
-        words: &[&[u8]],
-        form: &Form,
-        what: &mut String,
-    ) -> Result<Option<Span>, AllocError> {
+    /// Of words that should have a form.
+    fn in_part(&self, part: &Part<'_, '_>, what: &mut String) -> Found {
         match self.fault {
-            FaultKind::Unknown => self.unknown(line, at, words, form, what),
-            FaultKind::Words => self.wrong_number(line, at, words, form, what),
-            _ => self.refused(line, at, words, form, what),
+            FaultKind::Unknown => self.unknown(part, what),
+            FaultKind::Words => self.wrong_number(part, what),
+            _ => self.refused(part, what),
         }
     }
 
     /// A key word that is none.
-    fn unknown(
-        &self,
-        line: &Line<'_>,
-        at: usize,
-        words: &[&[u8]],
-        form: &Form,
-        what: &mut String,
-    ) -> Result<Option<Span>, AllocError> {
-        if form.get(1) == Some(&Item::Bit) {
-            if let Some(span) = self.no_bit(line, words, what)? {
-                return Ok(Some(span));
-            }
+    fn unknown(&self, part: &Part<'_, '_>, what: &mut String) -> Found {
+        if let Some(span) = self.no_bit(part, what)? {
+            return Ok(Some(span));
         }
-        if let Some(Item::Choice(table)) = form.last() {
-            let place = form.len().saturating_sub(1);
-            if let Some(word) = words.get(place) {
-                add_choice(self.alloc, *table, word, what)?;
-                return Ok(Some(line.word(at.saturating_add(place))));
-            }
-        }
-        Ok(None)
+        let place = part.form.len().saturating_sub(1);
+        let (Some(Item::Choice(table)), Some(word)) = (part.form.last(), part.words.get(place))
+        else {
+            return Ok(None);
+        };
+        add_choice(self.alloc, *table, word, what)?;
+        Ok(Some(part.word(place)))
     }
 
     /// The word of a bit that is none, or its part that names no register.
-    fn no_bit(
-        &self,
-        line: &Line<'_>,
-        words: &[&[u8]],
-        what: &mut String,
-    ) -> Result<Option<Span>, AllocError> {
-        let Some(word) = words.get(1) else {
+    fn no_bit(&self, part: &Part<'_, '_>, what: &mut String) -> Found {
+        let Some(bit) = part.bit() else {
             return Ok(None);
         };
-        if word.split(|byte| *byte == b'.').count() != 4 {
-            what.push_str("a bit as owner.field.bit.reader")?;
-            return Ok(Some(line.word(1)));
+        if bit.split(|byte| *byte == b'.').count() != 4 {
+            return found(part.word(1), "a bit as owner.field.bit.reader", what);
         }
-        match word.split(|byte| *byte == b'.').nth(1) {
+        match bit.split(|byte| *byte == b'.').nth(1) {
             Some(field) if record_file::keywords::field(field).is_none() => {
                 add_choice(self.alloc, Table::Fields, field, what)?;
-                Ok(Some(line.part(1, 1)))
+                Ok(Some(part.line.part(1, 1)))
             }
             _ => Ok(None),
         }
     }
 
     /// The words that are too many, or the column where one is missing.
-    fn wrong_number(
-        &self,
-        line: &Line<'_>,
-        at: usize,
-        words: &[&[u8]],
-        form: &Form,
-        what: &mut String,
-    ) -> Result<Option<Span>, AllocError> {
-        if words.len() == form.len() {
+    fn wrong_number(&self, part: &Part<'_, '_>, what: &mut String) -> Found {
+        let (has, wants) = (part.words.len(), part.form.len());
+        if has == wants {
             return Ok(None);
         }
-        add_form(self.alloc, form, what)?;
-        let last = at.saturating_add(words.len());
-        Ok(Some(if words.len() < form.len() {
-            line.behind(last.saturating_sub(1))
+        add_form(self.alloc, part.form, what)?;
+        let last = part.at.saturating_add(has).saturating_sub(1);
+        Ok(Some(if has < wants {
+            part.line.behind(last)
         } else {
             Span {
-                from: line.word(at.saturating_add(form.len())).from,
-                to: line.word(last.saturating_sub(1)).to,
+                from: part.word(wants).from,
+                to: part.line.word(last).to,
             }
         }))
     }
 
     /// The first operand that has the fault.
-    fn refused(
-        &self,
-        line: &Line<'_>,
-        at: usize,
-        words: &[&[u8]],
-        form: &Form,
-        what: &mut String,
-    ) -> Result<Option<Span>, AllocError> {
-        if form.get(1) == Some(&Item::Bit) {
-            if let Some(span) = self.refused_part(line, words, what)? {
-                return Ok(Some(span));
-            }
+    fn refused(&self, part: &Part<'_, '_>, what: &mut String) -> Found {
+        if let Some(span) = self.refused_number(part, what)? {
+            return Ok(Some(span));
         }
-        let Some((place, operand)) = refused_operand(form.as_slice(), words, self.fault) else {
+        let Some((place, operand)) = refused_operand(part.form, part.words, self.fault) else {
             return Ok(None);
         };
         add_operand(operand, self.kind, self.version(), what)?;
-        Ok(Some(line.word(at.saturating_add(place))))
+        Ok(Some(part.word(place)))
     }
 
     /// The first part of a bit that is no number of an owner, a bit or a reader.
-    fn refused_part(
-        &self,
-        line: &Line<'_>,
-        words: &[&[u8]],
-        what: &mut String,
-    ) -> Result<Option<Span>, AllocError> {
-        let (Some(process), Some(word)) = (words.first(), words.get(1)) else {
+    fn refused_number(&self, part: &Part<'_, '_>, what: &mut String) -> Found {
+        let (Some(process), Some(bit)) = (part.words.first(), part.bit()) else {
             return Ok(None);
         };
         if PROCESS.fault(process) == Some(self.fault) {
             return Ok(None);
         }
-        for (place, part) in word.split(|byte| *byte == b'.').enumerate() {
+        for (place, number) in bit.split(|byte| *byte == b'.').enumerate() {
             let operand = Operand::Number {
                 letter: "n",
                 most: if place == 2 { 65_535 } else { 255 },
             };
-            if place != 1 && operand.fault(part) == Some(self.fault) {
+            if place != 1 && operand.fault(number) == Some(self.fault) {
                 add_operand(operand, self.kind, self.version(), what)?;
-                return Ok(Some(line.part(1, place)));
+                return Ok(Some(part.line.part(1, place)));
             }
         }
         Ok(None)
