@@ -19,7 +19,7 @@ use Rattle.judge.specs.auditor.Verdicts as own
 use Rattle.judge.specs.auditor.declared.verdicts.Law.TheVariants as law
 use Rattle.judge.proofs.auditor.Recovers.{recovers}
 use Rattle.judge.proofs.auditor.Whole.{of_events}
-use Rattle.any_lock.specs.declared.verdicts.Law.{Law}
+use Rattle.any_lock.specs.declared.verdicts.Law.TheVariants as any
 use Rattle.any_lock.specs.declared.verdicts.Verdict.{Verdict}
 use Rattle.any_lock.specs.declared.verdicts.Verdict.TheVariants.{Good, Bad}
 use Rattle.any_lock.specs.Laws.{breaks_overtaken, breaks_safe, broken_later, first_broken}
@@ -64,14 +64,14 @@ all_keep s good (e ∷ past) all = let before : AllKeep s past = all_keep s good
 -- so it breaks none
 breaks_none : (s : Setup) (past : Past) (e : Entry) → breaks_safe s past e ≡ false → Keeps s past e → first_broken s past e ≡ None
 breaks_none s past e safe kept =
-    ap (λ b. if b then Some _ else broken_later s past e) safe ∙ at_inside s past e kept.access kept.marks ∙ inside_is s past e false false false kept.together kept.overtaken kept.history
+    ap (λ b. if b then Some any.Safe else broken_later s past e) safe ∙ at_inside s past e kept.access kept.marks ∙ inside_is s past e false false false kept.together kept.overtaken kept.history
 
 good_past : (s : Setup) → checked s ≡ Ok tt → (past : Past) → own.AllKeep s past → verdict_after s past ≡ Good
 good_past s good [] all = refl
 good_past s good (e ∷ past) all =
-    let any : AllKeep s (e ∷ past) = all_keep s good (e ∷ past) all in
+    let kept : AllKeep s (e ∷ past) = all_keep s good (e ∷ past) all in
     ap (λ v. elim v as (λ _. Verdict) [ Good ↦ verdict_with (length past) (first_broken s past e) | Bad k l ↦ Bad k l ]) (good_past s good past all.1)
-    ∙ ap (verdict_with (length past)) (breaks_none s past e (broken_by s past e (all.0 law.Safe)) any.0)
+    ∙ ap (verdict_with (length past)) (breaks_none s past e (broken_by s past e (all.0 law.Safe)) kept.0)
 
 pub good_is_good : GoodIsGood
 good_is_good s good entries kept = good_past s good (reverse entries) kept

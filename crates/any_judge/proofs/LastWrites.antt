@@ -47,7 +47,7 @@ use Rattle.any_lock.proofs.Markings.{ArePlain, no_failure, none_of}
 use Rattle.any_lock.proofs.Steps.{standing-other, torn-mine}
 use Rattle.any_judge.proofs.OpenDoings.{opened_access, opened_marked}
 use Rattle.any_judge.proofs.Opened.{open_by, same_copy}
-use Rattle.any_judge.proofs.Plain.{plain_closing, plain_step}
+use Rattle.any_judge.proofs.StepMarks.{plain_closing, plain_step}
 
 -- the last access of a write that p made, if it is a begin
 abbrev pub Unended : Option Access → Access → Type 0

@@ -8,7 +8,7 @@ pub mod Texts
 -- Reasons
 pub mod Explained
 -- What a process has open, and what of it is torn
-pub mod Plain
+pub mod StepMarks
 pub mod Opened
 pub mod OpenDoings
 pub mod LastWrites

@@ -51,7 +51,7 @@ use Rattle.any_lock.proofs.Took.{CallTakes}
 use Rattle.any_lock.proofs.Whole.{refused}
 use Rattle.any_judge.proofs.OpenDoings.{opened_access, opens}
 use Rattle.any_judge.proofs.Opened.{FitsNext}
-use Rattle.any_judge.proofs.Plain.{plain_closing, plain_step}
+use Rattle.any_judge.proofs.StepMarks.{plain_closing, plain_step}
 use Rattle.any_judge.proofs.PlainMarks.{Fine}
 use Rattle.any_judge.proofs.PlaceMarks.{AtClosing, AtPart, closing_fine_at, is_done, is_settler, part_fine}
 use Rattle.any_judge.proofs.Torn.{TornIn}

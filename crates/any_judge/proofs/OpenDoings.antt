@@ -47,7 +47,7 @@ use Rattle.any_lock.specs.Standings.{begun_by, left_open, opened, write_of}
 use Rattle.any_lock.proofs.Markings.{ArePlain}
 use Rattle.any_lock.proofs.Steps.{opened-mine, standing-other}
 use Rattle.any_judge.proofs.Opened.{Fits, FitsNext, LeadsOn, open_by, same_copy, write_leads}
-use Rattle.any_judge.proofs.Plain.{plain_closing, plain_step}
+use Rattle.any_judge.proofs.StepMarks.{plain_closing, plain_step}
 
 -- At a place.
 

@@ -38,7 +38,7 @@ use Rattle.any_lock.proofs.Markings.{ArePlain, no_failure, none_of}
 use Rattle.any_lock.proofs.Steps.{standing-other, torn-mine}
 use Rattle.any_judge.proofs.LastWrites.{IsLast, LastIsOpen, LastIsOpenIn, OpenIsLast, access_last, begun_open, finished, marked_last}
 use Rattle.any_judge.proofs.OpenDoings.{opened_access}
-use Rattle.any_judge.proofs.Plain.{plain_closing, plain_step}
+use Rattle.any_judge.proofs.StepMarks.{plain_closing, plain_step}
 use Rattle.any_judge.proofs.Torn.{TornAt, TornBy, TornIn, closing_torn, comes, never_torn, runs_none, settled}
 
 -- what is known of a process

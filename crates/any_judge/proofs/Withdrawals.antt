@@ -30,7 +30,7 @@ use Rattle.any_lock.specs.declared.standings.Standing.{Standing}
 use Rattle.any_lock.specs.Standings.{is_withdrawal, its_call, standing}
 use Rattle.any_lock.proofs.Markings.{withdrawn-plain}
 use Rattle.any_lock.proofs.Steps.{own-mine, standing-other}
-use Rattle.any_judge.proofs.Plain.{plain_closing, plain_step}
+use Rattle.any_judge.proofs.StepMarks.{plain_closing, plain_step}
 
 -- A call that was not withdrawn is not answered so.
 
