@@ -1,5 +1,5 @@
 -- No access of this project's lock is refused by any lock's table.
-use Rattle.std.proofs.Common.{◌≡◌, ◌≢◌, ℕ, ◌<◌, ◌≤◌, ◌+◌, ◌*◌, ◌%◌, ◌==◌, ◌&&◌, ◌||◌, not, nat_lt, Bool, true, false, cond, List, [], ◌∷◌, Option, Some, None, refl, sym, ap, subst, ◌∙◌, arith, true≢false, eqb-true, eq-eqb, ne_eqb}
+use Rattle.std.proofs.Common.{◌≡◌, ◌≢◌, ℕ, ◌<◌, ◌+◌, ◌*◌, ◌%◌, ◌==◌, ◌&&◌, ◌||◌, not, nat_lt, Bool, true, false, cond, List, [], ◌∷◌, Option, Some, None, refl, sym, ap, subst, ◌∙◌, arith, true≢false, eqb-true, eq-eqb, ne_eqb}
 use Rattle.std.proofs.lemmas.Bool.{eqb-false}
 use Rattle.std.proofs.lemmas.Bool.Decides.{nat_tests}
 use Rattle.std.specs.Option.{is_some}
@@ -19,7 +19,7 @@ use Rattle.record.specs.declared.events.Event.{Event}
 use Rattle.record.specs.Accesses.{access_of}
 use Rattle.record.specs.Closings.{Closing, Withdraws, Settles, Frees, Lowers, Quit, Ended, closing_next, closing_stage, no_ticket}
 use Rattle.record.specs.Entries.{Entry, Past}
-use Rattle.record.specs.Moves.{ended, ended_with, field_number, moves_of, same_bit}
+use Rattle.record.specs.Moves.{ended, ended_with, field_number, moves_of}
 use Rattle.record.specs.Parts.{Part, Clears, Over, is_over, stage_of, written_at}
 use Rattle.record.specs.Places.{Place, Run, Writing, Reading, access_at, bit_written, is_fresh}
 use Rattle.record.specs.Records.{entry_of, past_of}
@@ -30,7 +30,7 @@ use Rattle.record.proofs.PlaceTurns.{access_in}
 use Rattle.record.proofs.Singles.{is_write}
 use Rattle.record.proofs.Turns.{and_false}
 use Rattle.record.proofs.Width.{IsGood}
-use Rattle.any_lock.specs.watch.laws.Doings.{Doing, Rests, Lies, Runs, Closes, call, doing}
+use Rattle.any_lock.specs.watch.laws.Doings.{Doing, Runs, Closes, call, doing}
 use Rattle.any_lock.specs.watch.laws.Held.{IsThere}
 use Rattle.any_lock.specs.watch.laws.Steps.{next_of}
 use Rattle.any_lock.proofs.watch.laws.Doings as laws
@@ -44,10 +44,10 @@ use Rattle.any_lock.specs.declared.refusals.AccessRefusal.{AccessRefusal}
 use Rattle.any_lock.specs.declared.refusals.AccessRefusal.TheVariants as access
 use Rattle.any_lock.specs.declared.standings.Begun.{Begun}
 use Rattle.any_lock.specs.declared.standings.Standing.{Standing}
-use Rattle.any_lock.specs.Refusals.{access_refusal, begins_write, ends, first_that, is_end_of, is_of_bit, is_running, is_settling, is_there, may_move, reads, refusal_of_access}
+use Rattle.any_lock.specs.Refusals.{access_refusal, begins_write, ends, first_that, is_end_of, is_of_bit, is_running, is_settling, may_move, reads, refusal_of_access}
 use Rattle.any_lock.specs.Standings.{opened, settles, standing, torn}
 use Rattle.any_judge.proofs.OpenDoings.{opens}
-use Rattle.any_judge.proofs.Opened.{Fits, FitsNext, same_copy}
+use Rattle.any_judge.proofs.Opened.{Fits, FitsNext}
 use Rattle.any_judge.proofs.Torn.{TornAt, TornBy, TornIn, comes, settled}
 use Rattle.any_judge.proofs.TornDoings.{made_by, torn_is}
 

@@ -1,13 +1,11 @@
 -- What is good for this project's lock is good for any lock.
-use Rattle.std.proofs.Common.{◌≡◌, ◌≢◌, ℕ, zero, suc, ◌==◌, not, ◌&&◌, Bool, true, false, List, [], ◌∷◌, Contains, None, length, refl, sym, ap, ◌∙◌, subst, arith, ◌⊎◌, inl, inr}
+use Rattle.std.proofs.Common.{◌≡◌, ◌≢◌, ℕ, zero, suc, ◌==◌, not, ◌&&◌, Bool, true, false, List, [], ◌∷◌, Contains, length, refl, ap, ◌∙◌, subst, arith, ◌⊎◌, inl, inr}
 use Rattle.std.proofs.lemmas.Bool.Decides.{nat_tests}
 use Rattle.std.specs.List.{list_all}
 use Rattle.std.specs.Option.{is_some}
 use Rattle.std.proofs.lemmas.Bool.{cases_eq}
 use Rattle.plain_store.specs.declared.Reply.{Reply}
-use Rattle.plain_store.specs.declared.Reply.TheVariants as reply
 use Rattle.plain_store.specs.declared.Setup.{Setup}
-use Rattle.plain_store.proofs.Changes.{same_value-Decides}
 use Rattle.record.specs.Entries.{Entry, Past, has, is_entered}
 use Rattle.record.specs.Headline.{TakesItsPlace}
 use Rattle.record.specs.Histories.{history}

@@ -1,10 +1,10 @@
 -- The verdict of any lock's judge on what is good for this project's lock.
-use Rattle.std.proofs.Common.{◌≡◌, ℕ, Bool, true, false, List, [], ◌∷◌, Some, None, Ok, length, reverse, refl, sym, ap, subst, ◌∙◌, true≢false}
+use Rattle.std.proofs.Common.{◌≡◌, true, false, List, [], ◌∷◌, Some, None, Ok, length, reverse, refl, sym, ap, subst, ◌∙◌, true≢false}
 use Rattle.std.specs.Prelude.{if◌then◌else◌}
 use Rattle.plain_store.specs.declared.Setup.{Setup}
 use Rattle.plain_store.specs.Setups.{checked}
 use Rattle.record.specs.declared.events.Event.{Event}
-use Rattle.record.specs.Closings.{Closing, Withdraws, Settles, Frees, Lowers, Quit, Ended}
+use Rattle.record.specs.Closings.{Withdraws, Settles, Frees, Lowers, Quit, Ended}
 use Rattle.record.specs.Doorways.{doorway_begin, number_in_call}
 use Rattle.record.specs.Entries.{Entry, Past}
 use Rattle.record.specs.Places.{is_running}

@@ -1,53 +1,25 @@
 -- The write that a process has open, as any lock's look-back finds it, is its last one, and its last one is open, if that is a begin.
-use Rattle.std.proofs.Common.{◌≡◌, ◌≢◌, ℕ, ◌<◌, ◌≤◌, ◌+◌, ◌*◌, ◌==◌, ◌&&◌, ◌||◌, not, Bool, true, false, cond, List, [], ◌∷◌, Option, Some, None, length, refl, sym, ap, subst, ◌∙◌, arith, true≢false, eqb-true, eq-eqb, ne_eqb}
-use Rattle.std.proofs.lemmas.Bool.{eqb-false}
-use Rattle.std.specs.List.{list_any}
-use Rattle.record.specs.reader_copies.Runs as copies
+use Rattle.std.proofs.Common.{◌≡◌, ℕ, ◌<◌, ◌+◌, ◌==◌, ◌&&◌, not, Bool, true, false, cond, [], ◌∷◌, Option, Some, None, length, refl, sym, ap, subst, ◌∙◌, true≢false}
 use Rattle.record.specs.safe_bit.declared.Move.{Move}
 use Rattle.record.specs.safe_bit.declared.Move.TheVariants.{BeginWrite, EndWrite, BeginRead, EndRead, Settle}
-use Rattle.record.specs.safe_number.Runs.{NumberWrite, new_write}
 use Rattle.record.specs.declared.access.Access.{Access}
-use Rattle.record.specs.declared.access.Field.{Field}
-use Rattle.plain_store.specs.declared.Command.{Command}
-use Rattle.plain_store.specs.declared.Reply.{Reply}
 use Rattle.plain_store.specs.declared.Setup.{Setup}
-use Rattle.record.specs.declared.events.Event.{Event}
 use Rattle.record.specs.declared.marks.Mark.{Mark}
 use Rattle.record.specs.declared.marks.Mark.TheVariants as mark
-use Rattle.record.specs.Accesses.{access_of}
-use Rattle.record.specs.Closings.{Closing, Withdraws, Settles, Frees, Lowers, Quit, Ended, closing_after, closing_next, freeing, is_last_settled, is_last_written, no_ticket, settling_from}
-use Rattle.record.specs.Entries.{Entry, Past, has, is_failed, own}
-use Rattle.record.specs.Histories.{history}
-use Rattle.record.specs.Moves.{field_number, same_bit}
-use Rattle.record.specs.Parts.{Part, Waits, is_over}
-use Rattle.record.specs.Places.{Place, Run, Writing, Reading, access_at, place_after, value_of, write_moved}
-use Rattle.record.specs.Program.{Wait}
-use Rattle.record.specs.Records.{entry_of, past_of}
-use Rattle.record.specs.Scripts.{Call, Next}
-use Rattle.record.specs.Unit.{is_begin, is_finished, last_write, made_with, unfinished}
-use Rattle.record.proofs.PlaceTurns.{access_in}
+use Rattle.record.specs.Closings.{Withdraws}
+use Rattle.record.specs.Entries.{Entry, Past, own}
+use Rattle.record.specs.Unit.{is_begin, last_write, unfinished}
 use Rattle.record.proofs.Opens.{last-none}
 use Rattle.record.proofs.Singles.{is_write}
-use Rattle.record.proofs.Width.{IsGood}
-use Rattle.any_lock.specs.watch.laws.Doings.{Doing, Rests, Lies, Runs, Closes, call, closes, doing, runs}
-use Rattle.any_lock.specs.watch.laws.Held.{IsThere}
-use Rattle.any_lock.proofs.watch.laws.AtPlaces.{own-induction}
-use Rattle.any_lock.proofs.watch.laws.Frame.{Happens, a_call, a_withdrawal, a_failure, a_restart, a_step, a_closing, doing-other, may_fail, own-other, own-own}
-use Rattle.any_lock.proofs.watch.laws.FrameCells.{ByProcess, EntryBy, makes, marks_only}
-use Rattle.any_lock.proofs.watch.laws.FrameCuts.{LeftClosing, LeftIn, LeftRun, last-made, left}
-use Rattle.any_lock.proofs.watch.laws.FrameEvents.{accepted}
-use Rattle.any_lock.proofs.watch.laws.FrameSteps.{closing-writes, entry-by, left-is}
-use Rattle.any_lock.proofs.watch.laws.HeldReads.{place-writes}
-use Rattle.any_lock.proofs.watch.laws.HeldThere.{access_there}
+use Rattle.any_lock.specs.watch.laws.Doings.{Doing, Runs, Closes}
+use Rattle.any_lock.proofs.watch.laws.Frame.{own-own}
+use Rattle.any_lock.proofs.watch.laws.FrameCells.{ByProcess}
+use Rattle.any_lock.proofs.watch.laws.FrameCuts.{last-made}
 use Rattle.any_lock.specs.declared.standings.Begun.{Begun}
-use Rattle.any_lock.specs.declared.standings.Standing.{Standing}
-use Rattle.any_lock.specs.Refusals.{is_of_bit}
-use Rattle.any_lock.specs.Standings.{begins, left_open, opened, settles, torn, torn_after, write_of}
-use Rattle.any_lock.proofs.Markings.{ArePlain, no_failure, none_of}
-use Rattle.any_lock.proofs.Steps.{standing-other, torn-mine}
+use Rattle.any_lock.specs.Standings.{begins, left_open, opened, write_of}
+use Rattle.any_lock.proofs.Markings.{ArePlain}
 use Rattle.any_judge.proofs.OpenDoings.{opened_access, opened_marked}
-use Rattle.any_judge.proofs.Opened.{open_by, same_copy}
-use Rattle.any_judge.proofs.StepMarks.{plain_closing, plain_step}
+use Rattle.any_judge.proofs.Opened.{open_by}
 
 -- the last access of a write that p made, if it is a begin
 abbrev pub Unended : Option Access → Access → Type 0
@@ -174,4 +146,3 @@ marked_last s past e m none marks before b is_open =
     left_write o (mark.Settled v) b h = h
     left_write o mark.Down b h = h
     left_write o mark.Restarted b h = h
-

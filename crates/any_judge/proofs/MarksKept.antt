@@ -1,7 +1,6 @@
 -- The entry of an event keeps the law `Marks` of any lock.
 use Rattle.std.proofs.Common.{◌≡◌, ℕ, ◌==◌, ◌&&◌, ◌||◌, not, nat_le, nat_lt, Bool, true, false, cond, List, [], ◌∷◌, Option, Some, None, length, map, refl, sym, ap, subst, ◌∙◌, true≢false}
 use Rattle.std.specs.List.{list_any}
-use Rattle.std.specs.Prelude.{option_map}
 use Rattle.record.specs.declared.access.Access.{Access}
 use Rattle.plain_store.specs.declared.Command.{Command}
 use Rattle.plain_store.specs.declared.Setup.{Setup}
@@ -11,17 +10,16 @@ use Rattle.record.specs.declared.marks.Mark.{Mark}
 use Rattle.record.specs.declared.marks.Mark.TheVariants as mark
 use Rattle.record.specs.declared.refusals.Refusal.{Refusal}
 use Rattle.record.specs.declared.refusals.Refusal.TheVariants as refused_by
-use Rattle.record.specs.declared.stages.Stage.{Stage}
 use Rattle.record.specs.declared.stages.Stage.TheVariants as stages
 use Rattle.record.specs.Calls.{calls_in}
-use Rattle.record.specs.Closings.{Closing, Withdraws, Settles, Frees, Lowers, Quit, Ended, closing_after, closing_next, closing_stage}
+use Rattle.record.specs.Closings.{Closing, Withdraws, Settles, Frees, Lowers, Quit, Ended, closing_after}
 use Rattle.record.specs.Doorways.{is_waiting_stage}
-use Rattle.record.specs.Entries.{Entry, Past, has, is_failed, own, starts}
+use Rattle.record.specs.Entries.{Entry, Past, is_failed, own, starts}
 use Rattle.record.specs.Histories.{history}
 use Rattle.record.specs.Parts.{Part, Clears, is_over, part_after, stage_of}
 use Rattle.record.specs.Places.{Place, bits_with, enter, is_fresh, is_last, marks_of, place_after, run_after, value_of}
 use Rattle.record.specs.Records.{added, calls_full, entry_of, is_call, past_of, placed, process_of, refused_at}
-use Rattle.record.specs.Scripts.{Call, Next}
+use Rattle.record.specs.Scripts.{Call}
 use Rattle.record.specs.Spans.{all_takings}
 use Rattle.record.specs.Stages.{inside, stage}
 use Rattle.record.proofs.Turns.{and_false}
@@ -42,7 +40,7 @@ use Rattle.any_lock.specs.declared.refusals.MarkRefusal.{MarkRefusal}
 use Rattle.any_lock.specs.declared.refusals.MarkRefusal.TheVariants as refusal
 use Rattle.any_lock.specs.declared.standings.Begun.{Begun}
 use Rattle.any_lock.specs.declared.standings.Standing.{Standing}
-use Rattle.any_lock.specs.Keeping.{accessed, accessed_by, refusal_on}
+use Rattle.any_lock.specs.Keeping.{accessed, refusal_on}
 use Rattle.any_lock.specs.Refusals.{first_that, has_one_mark, is_down, is_running, is_settling, mark_refusal, refusal_of_marks, stands_alone}
 use Rattle.any_lock.specs.Standings.{its_call, opened, standing, torn, torn_after}
 use Rattle.any_lock.proofs.Markings.{ArePlain, no_failure, none_of, with_marks}
@@ -53,7 +51,7 @@ use Rattle.any_judge.proofs.OpenDoings.{opened_access, opens}
 use Rattle.any_judge.proofs.Opened.{FitsNext}
 use Rattle.any_judge.proofs.StepMarks.{plain_closing, plain_step}
 use Rattle.any_judge.proofs.PlainMarks.{Fine}
-use Rattle.any_judge.proofs.PlaceMarks.{AtClosing, AtPart, closing_fine_at, is_done, is_settler, part_fine}
+use Rattle.any_judge.proofs.PlaceMarks.{closing_fine_at, is_done, is_settler, part_fine}
 use Rattle.any_judge.proofs.Torn.{TornIn}
 use Rattle.any_judge.proofs.TornDoings.{torn_is}
 use Rattle.any_judge.proofs.Withdrawals.{WithdrawnIn, answers_withdrawn, never_withdrawn, withdrawn_is}

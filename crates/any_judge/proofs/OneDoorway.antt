@@ -1,16 +1,15 @@
 -- Nobody is overtaken: of a process that runs its call, the doorway of any lock is that of this project's lock.
-use Rattle.std.proofs.Common.{◌≡◌, ◌≢◌, ℕ, ◌==◌, not, ◌&&◌, Bool, true, false, cond, List, [], ◌∷◌, Option, Some, None, length, map, refl, sym, ap, subst, ◌∙◌, ne_eqb, true≢false}
+use Rattle.std.proofs.Common.{◌≡◌, ◌≢◌, ℕ, ◌==◌, not, ◌&&◌, Bool, true, false, cond, List, [], ◌∷◌, Option, Some, None, length, refl, sym, ap, subst, ◌∙◌, ne_eqb, true≢false}
 use Rattle.std.specs.List.{list_any}
 use Rattle.std.specs.Option.{is_some}
 use Rattle.record.specs.declared.access.Access.{Access}
 use Rattle.plain_store.specs.declared.Command.{Command}
 use Rattle.plain_store.specs.declared.Setup.{Setup}
 use Rattle.record.specs.declared.events.Event.{Event}
-use Rattle.record.specs.declared.marks.Mark.TheVariants.{Called, Withdrew, Failed, Restarted}
 use Rattle.record.specs.reader_copies.Runs as copies
 use Rattle.record.specs.safe_number.Runs.{new_write}
 use Rattle.record.specs.Closings.{Closing, Withdraws, Settles, Frees, Lowers, Quit, Ended, closing_after, freeing, is_last_settled, is_last_written, no_ticket, settling_from}
-use Rattle.record.specs.Doorways.{begins_doorway, doorway_begin, doorway_end, first_of, is_ahead, is_before, is_waiting_stage, number_in_call}
+use Rattle.record.specs.Doorways.{begins_doorway, doorway_begin, doorway_end, first_of, is_before, is_waiting_stage, number_in_call}
 use Rattle.record.specs.Entries.{Entry, Past, has, is_called, is_entered, own}
 use Rattle.record.specs.Headline.{OvertakesNobody}
 use Rattle.record.specs.Histories.{history}

@@ -1,9 +1,9 @@
 -- What a process has open, as any lock's look-back finds it, is the begin of its next access, if that is an end; and else nothing is open.
-use Rattle.std.proofs.Common.{◌≡◌, ◌≢◌, ℕ, ◌+◌, ◌*◌, ◌/◌, ◌%◌, ◌<◌, ◌==◌, ◌&&◌, Bool, true, false, cond, List, [], ◌∷◌, ◌++◌, Option, Some, None, length, map, refl, sym, ap, subst, ◌∙◌, arith, true≢false, eqb-true, eq-eqb, ne_eqb}
+use Rattle.std.proofs.Common.{◌≡◌, ◌≢◌, ℕ, ◌+◌, ◌*◌, ◌/◌, ◌%◌, ◌<◌, ◌==◌, ◌&&◌, Bool, true, false, cond, List, Option, Some, None, refl, sym, ap, arith, true≢false, eqb-true, eq-eqb, ne_eqb}
 use Rattle.std.proofs.lemmas.Bool.{eqb-false}
 use Rattle.record.specs.reader_copies.Runs as copies
 use Rattle.record.specs.safe_bit.declared.Move.{Move}
-use Rattle.record.specs.safe_bit.declared.Move.TheVariants.{BeginWrite, EndWrite, BeginRead, EndRead, Settle}
+use Rattle.record.specs.safe_bit.declared.Move.TheVariants.{BeginWrite, EndWrite}
 use Rattle.record.specs.safe_number.Runs.{NumberWrite, write_on}
 use Rattle.record.specs.declared.access.Access.{Access}
 use Rattle.record.specs.declared.access.Field.{Field}
@@ -11,8 +11,8 @@ use Rattle.record.specs.Accesses.{access_of}
 use Rattle.record.specs.Moves.{ended_with, field_number, same_bit}
 use Rattle.record.specs.Places.{bit_written, next_written, write_moved}
 use Rattle.any_lock.specs.declared.standings.Begun.{Begun}
-use Rattle.any_lock.specs.Refusals.{ends, is_end_of, reads, same_truth}
-use Rattle.any_lock.specs.Standings.{begins, begun_by}
+use Rattle.any_lock.specs.Refusals.{ends, is_end_of}
+use Rattle.any_lock.specs.Standings.{begun_by}
 
 -- what is open fits an access that comes next
 abbrev pub Fits : Option Begun → Access → Type 0

@@ -1,10 +1,9 @@
 -- No mark of a step is refused by any lock's tables.
-use Rattle.std.proofs.Common.{◌≡◌, ℕ, ◌<◌, ◌&&◌, ◌||◌, not, Bool, true, false, cond, List, [], ◌∷◌, ◌++◌, Option, Some, None, map, refl, sym, ap, subst, ◌∙◌, true≢false}
+use Rattle.std.proofs.Common.{◌≡◌, ℕ, ◌&&◌, ◌||◌, not, Bool, true, false, cond, List, [], ◌∷◌, ◌++◌, Option, Some, None, refl, sym, ap, subst, ◌∙◌, true≢false}
 use Rattle.std.specs.Prelude.{if◌then◌else◌}
 use Rattle.record.specs.reader_copies.Runs as copies
 use Rattle.record.specs.declared.access.Field.{Field}
-use Rattle.record.specs.declared.access.Field.TheVariants.{Choosing, Ticket, Commit}
-use Rattle.record.specs.safe_number.Runs.{NumberWrite, new_write}
+use Rattle.record.specs.declared.access.Field.TheVariants.{Commit}
 use Rattle.plain_store.specs.declared.Answer.{Answer}
 use Rattle.plain_store.specs.declared.Answer.TheVariants as answer
 use Rattle.plain_store.specs.declared.Command.{Command}
@@ -12,8 +11,7 @@ use Rattle.plain_store.specs.declared.Reply.{Reply}
 use Rattle.plain_store.specs.declared.Setup.{Setup}
 use Rattle.plain_store.specs.Store.{changes}
 use Rattle.record.specs.declared.marks.Mark.{Mark}
-use Rattle.record.specs.declared.marks.Mark.TheVariants.{Waiting, Entered, Taken, Left, Answered, Settled, Down}
-use Rattle.record.specs.declared.stages.Stage.TheVariants as stages
+use Rattle.record.specs.declared.marks.Mark.TheVariants.{Waiting, Taken, Left, Answered, Settled, Down}
 use Rattle.record.specs.Closings.{Closing, Withdraws, Settles, Frees, Lowers, Quit, Ended, closing_after, closing_next, closing_stage, freeing, is_last_settled, is_last_written, is_unwritten, no_ticket, settled_marks}
 use Rattle.record.specs.Headline.{IsAnswerTo, is_version}
 use Rattle.record.specs.Parts.{Part, Raises, Asks, TakesTicket, Refuses, Waits, AsksCommit, AsksStamp, AsksImage, WritesImage, WritesStamp, WritesCommit, Clears, Over, first_marks, is_over, last_marks, part_after, stage_of}
@@ -30,7 +28,7 @@ use Rattle.any_lock.specs.declared.standings.Standing.{Standing}
 use Rattle.any_lock.specs.Keeping.{marked}
 use Rattle.any_lock.specs.Refusals.{is_in_doorway, is_leaving, is_withdrawn}
 use Rattle.any_lock.proofs.Took.{Takes}
-use Rattle.any_judge.proofs.PlainMarks.{Fine, MayAnswer, answers, enters, fine_entered, fine_more, fine_one, fits_answer, leaves, lies_down, no_reply, settles, takes, waits}
+use Rattle.any_judge.proofs.PlainMarks.{Fine, MayAnswer, answers, fine_entered, fine_more, fine_one, fits_answer, leaves, lies_down, no_reply, settles, takes, waits}
 use Rattle.any_judge.proofs.Withdrawals.{WithdrawnIn, answers_withdrawn}
 
 -- At a place.

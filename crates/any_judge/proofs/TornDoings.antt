@@ -1,5 +1,5 @@
 -- What of each process is torn, and its last write, in the record of every list of events.
-use Rattle.std.proofs.Common.{◌≡◌, ◌≢◌, ℕ, ◌<◌, ◌≤◌, ◌+◌, ◌*◌, ◌==◌, ◌&&◌, not, Bool, true, false, cond, List, [], ◌∷◌, Option, Some, None, length, refl, sym, ap, subst, ◌∙◌, arith, true≢false, ne_eqb}
+use Rattle.std.proofs.Common.{◌≡◌, ◌≢◌, ℕ, ◌+◌, ◌*◌, ◌==◌, ◌&&◌, not, Bool, true, false, cond, List, ◌∷◌, Option, Some, None, length, refl, sym, ap, subst, ◌∙◌, arith, true≢false, ne_eqb}
 use Rattle.std.specs.List.{list_any}
 use Rattle.record.specs.declared.access.Access.{Access}
 use Rattle.plain_store.specs.declared.Command.{Command}
@@ -7,17 +7,17 @@ use Rattle.plain_store.specs.declared.Setup.{Setup}
 use Rattle.record.specs.declared.events.Event.{Event}
 use Rattle.record.specs.declared.marks.Mark.TheVariants as mark
 use Rattle.record.specs.safe_bit.SafeRule.{read_value}
-use Rattle.record.specs.Closings.{Closing, Withdraws, Settles, Frees, Lowers, Quit, Ended, closing_after, closing_next, failing, settling_from}
+use Rattle.record.specs.Closings.{Closing, Withdraws, Settles, Frees, Lowers, Quit, Ended, closing_after, failing, settling_from}
 use Rattle.record.specs.Entries.{Entry, Past, has, is_failed, own}
 use Rattle.record.specs.Histories.{history}
 use Rattle.record.specs.Moves.{moves_of}
 use Rattle.record.specs.Parts.{Part, Waits, is_over, written_at}
-use Rattle.record.specs.Places.{Place, Run, Writing, Reading, access_at, place_after, value_of, write_moved}
+use Rattle.record.specs.Places.{Place, Run, Writing, Reading, access_at, place_after, value_of}
 use Rattle.record.specs.Program.{Wait}
-use Rattle.record.specs.Records.{entry_of, past_of}
+use Rattle.record.specs.Records.{past_of}
 use Rattle.record.specs.safe_bit.declared.Move.TheVariants.{BeginRead, EndRead}
 use Rattle.record.specs.Registers.{opening_bit}
-use Rattle.record.specs.Scripts.{Call, Next}
+use Rattle.record.specs.Scripts.{Call}
 use Rattle.record.specs.Unit.{is_begin, is_finished, last_write, made_with, unfinished}
 use Rattle.record.proofs.Opens.{last-none}
 use Rattle.record.proofs.Singles.{is_write}
@@ -39,7 +39,7 @@ use Rattle.any_lock.proofs.Steps.{standing-other, torn-mine}
 use Rattle.any_judge.proofs.LastWrites.{IsLast, LastIsOpen, LastIsOpenIn, OpenIsLast, access_last, begun_open, finished, marked_last}
 use Rattle.any_judge.proofs.OpenDoings.{opened_access}
 use Rattle.any_judge.proofs.StepMarks.{plain_closing, plain_step}
-use Rattle.any_judge.proofs.Torn.{TornAt, TornBy, TornIn, closing_torn, comes, never_torn, runs_none, settled}
+use Rattle.any_judge.proofs.Torn.{TornIn, closing_torn, comes, never_torn, runs_none, settled}
 
 -- what is known of a process
 pub record IsTorn (s : Setup) (past : Past) (p : ℕ) (d : Doing) : Type 0 where

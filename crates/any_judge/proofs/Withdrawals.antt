@@ -1,5 +1,5 @@
 -- Who withdrew, and who answers that.
-use Rattle.std.proofs.Common.{◌≡◌, ◌≢◌, ℕ, ◌+◌, ◌==◌, ◌||◌, Bool, true, false, cond, List, [], ◌∷◌, ◌++◌, length, Option, Some, None, refl, sym, ap, subst, ◌∙◌, true≢false, ne_eqb}
+use Rattle.std.proofs.Common.{◌≡◌, ℕ, ◌+◌, ◌==◌, ◌||◌, Bool, true, false, cond, List, [], ◌∷◌, length, Option, Some, None, refl, sym, ap, subst, ◌∙◌, ne_eqb}
 use Rattle.std.specs.List.{list_any}
 use Rattle.record.specs.declared.access.Access.{Access}
 use Rattle.plain_store.specs.declared.Answer.TheVariants as answer
@@ -7,7 +7,6 @@ use Rattle.plain_store.specs.declared.Command.{Command}
 use Rattle.plain_store.specs.declared.Setup.{Setup}
 use Rattle.plain_store.specs.Store.{changes}
 use Rattle.record.specs.declared.events.Event.{Event}
-use Rattle.record.specs.declared.marks.Mark.TheVariants as mark
 use Rattle.record.specs.reader_copies.Runs as copies
 use Rattle.record.specs.safe_number.Runs.{new_write}
 use Rattle.record.specs.Closings.{Closing, Withdraws, Settles, Frees, Lowers, Quit, Ended, closing_after, freeing, is_last_settled, is_last_written, no_ticket, settling_from}
@@ -15,19 +14,19 @@ use Rattle.record.specs.Entries.{Entry, Past, has, is_called, own, since}
 use Rattle.record.specs.Histories.{history}
 use Rattle.record.specs.Parts.{Part, Raises, Asks, TakesTicket, Refuses, Waits, AsksCommit, AsksStamp, AsksImage, WritesImage, WritesStamp, WritesCommit, Clears, Over, is_over, part_after, to_b, to_c, to_d, to_e}
 use Rattle.record.specs.Parts as part
-use Rattle.record.specs.Places.{Place, Run, bits_with, enter, is_last, place_after, run_after, value_of, write_moved}
+use Rattle.record.specs.Places.{Place, bits_with, enter, is_last, place_after, run_after, value_of, write_moved}
 use Rattle.record.specs.Program.{Version, Wait, first_full, greatest, lets_by, max_of, newest_stamp, reply, store_read, waits_of}
-use Rattle.record.specs.Records.{entry_of, past_of}
+use Rattle.record.specs.Records.{past_of}
 use Rattle.record.specs.Registers.{others, processes}
 use Rattle.record.specs.Scripts.{Call}
 use Rattle.record.specs.Unit.{last_write, unfinished}
 use Rattle.record.proofs.Width.{IsGood}
-use Rattle.any_lock.specs.watch.laws.Doings.{Doing, Rests, Lies, Runs, Closes, call, closes, doing, runs}
+use Rattle.any_lock.specs.watch.laws.Doings.{Doing, Rests, Runs, Closes, call, closes, doing, runs}
 use Rattle.any_lock.proofs.watch.laws.AtPlaces.{AtPlace, own-induction, place-induction}
 use Rattle.any_lock.proofs.watch.laws.Frame.{Happens, a_call, a_withdrawal, a_failure, a_restart, a_step, a_closing, doing-other}
 use Rattle.any_lock.proofs.watch.laws.FrameEvents.{accepted}
 use Rattle.any_lock.specs.declared.standings.Standing.{Standing}
-use Rattle.any_lock.specs.Standings.{is_withdrawal, its_call, standing}
+use Rattle.any_lock.specs.Standings.{is_withdrawal, its_call}
 use Rattle.any_lock.proofs.Markings.{withdrawn-plain}
 use Rattle.any_lock.proofs.Steps.{own-mine, standing-other}
 use Rattle.any_judge.proofs.StepMarks.{plain_closing, plain_step}

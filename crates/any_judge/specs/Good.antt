@@ -1,5 +1,5 @@
 -- What is good for this project's lock is good for any lock.
-use Rattle.std.specs.Prelude.{◌≡◌, ℕ, List, ◌∷◌, false, true, None, Ok}
+use Rattle.std.specs.Prelude.{◌≡◌, ℕ, List, ◌∷◌, false, true, Ok}
 use Rattle.plain_store.specs.declared.setups.Setup.{Setup}
 use Rattle.plain_store.specs.Setups.{checked}
 use Rattle.record.specs.Doorways.{doorway_begin, number_in_call}
