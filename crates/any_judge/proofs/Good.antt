@@ -1,13 +1,11 @@
 -- What is good for this project's lock is good for any lock.
-use Rattle.std.proofs.Common.{◌≡◌, ◌≢◌, ℕ, zero, suc, ◌==◌, not, ◌&&◌, Bool, true, false, List, [], ◌∷◌, Contains, None, length, refl, sym, ap, ◌∙◌, subst, arith, add-one, ◌⊎◌, inl, inr}
+use Rattle.std.proofs.Common.{◌≡◌, ◌≢◌, ℕ, zero, suc, ◌==◌, not, ◌&&◌, Bool, true, false, List, [], ◌∷◌, Contains, length, refl, ap, ◌∙◌, subst, arith, ◌⊎◌, inl, inr}
 use Rattle.std.proofs.lemmas.Bool.Decides.{nat_tests}
 use Rattle.std.specs.List.{list_all}
 use Rattle.std.specs.Option.{is_some}
 use Rattle.std.proofs.lemmas.Bool.{cases_eq}
 use Rattle.plain_store.specs.declared.Reply.{Reply}
-use Rattle.plain_store.specs.declared.Reply.TheVariants as reply
 use Rattle.plain_store.specs.declared.Setup.{Setup}
-use Rattle.plain_store.proofs.Changes.{same_value-Decides}
 use Rattle.record.specs.Entries.{Entry, Past, has, is_entered}
 use Rattle.record.specs.Headline.{TakesItsPlace}
 use Rattle.record.specs.Histories.{history}
@@ -15,19 +13,15 @@ use Rattle.record.specs.Spans.{takings}
 use Rattle.record.specs.Stages.{inside}
 use Rattle.judge.specs.auditor.Verdicts.{KeepsTogether}
 use Rattle.judge.specs.auditor.declared.verdicts.Law.TheVariants as law
-use Rattle.any_lock.specs.Laws.{breaks_history, breaks_together, is_that, lowest_below, lowest_other, right_reply}
+use Rattle.any_lock.specs.Laws.{breaks_history, breaks_together, is_that, lowest_other, right_reply}
 use Rattle.any_lock.specs.Refusals.{same_reply}
 use Rattle.any_lock.specs.Standings.{standing}
 use Rattle.any_lock.proofs.Breaks.{broken_by}
-use Rattle.any_lock.proofs.Lowest.{lowest_none}
 use Rattle.any_judge.specs.Good.{GoodKeepsOfAny}
+use Rattle.any_judge.proofs.NoneBelow.{none_below}
+use Rattle.any_judge.proofs.SameReply.{same_as_itself}
 
--- none is the lowest where there is none
-none_below : (n : ℕ) (test : ℕ → Bool) → ((k : ℕ) → test k ≡ false) → lowest_below n test ≡ None
-none_below zero test never = refl
-none_below (suc n) test never = ap (λ k. lowest_below k test) (sym (add-one n)) ∙ lowest_none n test (none_below n test never) (never n)
-
-keeps_together : (s : Setup) (past : Past) (e : Entry) → KeepsTogether past e → breaks_together s past e ≡ false
+pub keeps_together : (s : Setup) (past : Past) (e : Entry) → KeepsTogether past e → breaks_together s past e ≡ false
 keeps_together s past e kept = by (has is_entered e) refl
   where
     other : has is_entered e ≡ true → (q : ℕ) → (not (q == e.process) && (standing s q past).inside) ≡ false
@@ -48,26 +42,13 @@ keeps_together s past e kept = by (has is_entered e) refl
         ap (λ b. b && is_some (lowest_other s e.process (λ q. (standing s q past).inside))) enters
         ∙ ap is_some (none_below s.processes (λ q. not (q == e.process) && (standing s q past).inside) (other enters))
 
--- a reply is the same as itself
-same_as_itself : (r : Reply) → same_reply r r ≡ true
-same_as_itself (reply.Value x) = (same_value-Decides x x).1 refl
-same_as_itself reply.Done = refl
-same_as_itself (reply.Sum n) = grind arith
-same_as_itself reply.Swapped = refl
-same_as_itself (reply.Kept x) = (same_value-Decides x x).1 refl
-same_as_itself reply.NoName = refl
-same_as_itself reply.NotCounter = refl
-same_as_itself reply.Overflow = refl
-same_as_itself reply.StoreFull = refl
-same_as_itself (reply.Last n) = grind (arith, nat_tests)
-
 all_true : {A : Type 0} (test : A → Bool) (xs : List A) → ((x : A) → Contains xs x → test x ≡ true) → list_all test xs ≡ true
 all_true test [] each = refl
 all_true test (x ∷ xs) each =
     let later = all_true test xs (λ y among. each y (suc among.0, omega (arith, among.1), among.2)) in
     ap (λ b. b && list_all test xs) (each x (zero, omega arith, refl)) ∙ later
 
-keeps_history : (s : Setup) (past : Past) (e : Entry) → TakesItsPlace s past e → breaks_history s past e ≡ false
+pub keeps_history : (s : Setup) (past : Past) (e : Entry) → TakesItsPlace s past e → breaks_history s past e ≡ false
 keeps_history s past e kept = ap not (all_true (is_that (length (history s past)) (right_reply s past e.process)) (takings e.marks) each)
   where
     each : (t : ℕ × Reply) → Contains (takings e.marks) t → is_that (length (history s past)) (right_reply s past e.process) t ≡ true

@@ -7,5 +7,21 @@ pub mod Lines
 pub mod Texts
 -- Reasons
 pub mod Explained
--- Laws
+-- What a process has open, and what of it is torn
+pub mod StepMarks
+pub mod Opened
+pub mod OpenDoings
+pub mod LastWrites
+pub mod Torn
+pub mod TornDoings
+-- What is good for this project's lock is good for any lock
+pub mod NoneBelow
+pub mod SameReply
+pub mod OneDoorway
+pub mod Accesses
+pub mod Withdrawals
+pub mod PlainMarks
+pub mod PlaceMarks
+pub mod MarksKept
 pub mod Good
+pub mod GoodIsGood

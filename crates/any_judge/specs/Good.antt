@@ -1,9 +1,17 @@
 -- What is good for this project's lock is good for any lock.
-use Rattle.std.specs.Prelude.{◌≡◌, ◌∷◌, false}
+use Rattle.std.specs.Prelude.{◌≡◌, ℕ, List, ◌∷◌, false, true, Ok}
 use Rattle.plain_store.specs.declared.setups.Setup.{Setup}
+use Rattle.plain_store.specs.Setups.{checked}
+use Rattle.record.specs.Doorways.{doorway_begin, number_in_call}
 use Rattle.record.specs.Entries.{Entry, Past}
-use Rattle.judge.specs.auditor.Verdicts.{AllKeep}
+use Rattle.record.specs.Places.{is_running}
+use Rattle.record.specs.Stages.{stage}
+use Rattle.judge.specs.auditor.Verdicts.{AllKeep, IsVerdict}
+use Rattle.judge.specs.auditor.declared.verdicts.Verdict.TheVariants as own
+use Rattle.any_lock.specs.declared.verdicts.Verdict.TheVariants as any
 use Rattle.any_lock.specs.Laws.{breaks_history, breaks_safe, breaks_together}
+use Rattle.any_lock.specs.Standings.{has_access}
+use Rattle.any_lock.specs.Verdicts.{verdict_of}
 
 -- the laws `Safe`, `Together` and `History` of any lock are kept
 pub record KeepsOfAny (s : Setup) (past : Past) (e : Entry) : Type 0 where
@@ -14,3 +22,11 @@ pub record KeepsOfAny (s : Setup) (past : Past) (e : Entry) : Type 0 where
 -- Where each entry keeps all laws of this project's lock, it keeps these laws of any lock.
 abbrev pub GoodKeepsOfAny : Type 0
 GoodKeepsOfAny = (s : Setup) (past : Past) (e : Entry) → AllKeep s (e ∷ past) → KeepsOfAny s past e
+
+-- Good is good: where this project's lock is what a record is judged by, and the verdict is good, it is good by what any lock keeps.
+abbrev pub GoodIsGood : Type 0
+GoodIsGood = (s : Setup) → checked s ≡ Ok tt → (entries : List Entry) → IsVerdict s entries own.Good → verdict_of s entries ≡ any.Good
+
+-- There the doorway of a process that runs its call began, by what any lock keeps, where it begins for this project's lock.
+abbrev pub DoorwaysAreOne : Type 0
+DoorwaysAreOne = (s : Setup) → checked s ≡ Ok tt → (past : Past) → AllKeep s past → (p : ℕ) → is_running (stage p past) ≡ true → number_in_call p has_access past ≡ doorway_begin p past

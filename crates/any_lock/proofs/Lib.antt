@@ -6,6 +6,7 @@ pub mod Lowest
 pub mod Breaks
 pub mod Loops
 pub mod Going
+pub mod Unmarked
 pub mod Told
 pub mod Alone
 pub mod Cuts

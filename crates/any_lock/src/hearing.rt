@@ -1,5 +1,5 @@
 //! What a judge makes of one entry: whether it keeps the laws after `Safe`, and what is kept then.
-ghost use Rattle.std.specs.Prelude.{◌≡◌, ◌+◌, ◌-◌, ◌^◌, ◌<◌, ◌≤◌, not, ◌∷◌, IfOk, length, MatchResult, None, Some};
+ghost use Rattle.std.specs.Prelude.{◌≡◌, ◌+◌, ◌-◌, ◌^◌, ◌<◌, ◌≤◌, not, [], ◌∷◌, IfOk, length, MatchResult, None, Some};
 ghost use Rattle.std.specs.List.{list_all, list_any};
 ghost use Rattle.record.specs.Entries.{Entry as Noted, Past, is_entered};
 ghost use Rattle.record.specs.Histories.{history};
@@ -108,6 +108,29 @@ impl Kept {
         if !is_safe {
             return Some(Law::Safe);
         }
+        match marks {
+            [] => self.hear_unmarked(process, access),
+            _ => self.hear_marked(process, access, marks),
+        }
+    }
+
+    /// An entry that keeps the law `Safe`, whatever its marks: where its process stands is worked out beside what is kept,
+    /// since a mark may be refused behind others.
+    #[inline(never)]
+    fn hear_marked(
+        &mut self,
+        process: u8,
+        access: &Option<Access>,
+        marks: &[Mark],
+    ) -> Option<Law>
+        requires { self.old.entries < 2 ^ 64 - 1 }
+        ensures setup { self.new.setup ≡ self.old.setup }
+        ensures entries { self.new.entries ≤ self.old.entries + 1 }
+        ensures same { (l : Named) → result ≡ Some l → self.new ≡ self.old }
+        ensures law { (past : Past) (e : Noted) → e.process ≡ process → e.access ≡ access.now → e.marks ≡ marks.now → Knows self.old past → result ≡ broken_later self.old.setup past e }
+        ensures knows { (past : Past) (e : Noted) → e.process ≡ process → e.access ≡ access.now → e.marks ≡ marks.now → result ≡ None → Knows self.old past → Knows self.new (e ∷ past) }
+    {
+        let _nested: NestedTypes = None;
         match self.after(process, access, marks) {
             Ok(standing) => {
                 self.go_on(process, &standing, marks);
@@ -115,6 +138,29 @@ impl Kept {
             }
             Err(law) => Some(law),
         }
+    }
+
+    /// The same of an entry with no mark, as nearly all are: where its process stands is changed in its place.
+    #[inline]
+    fn hear_unmarked(&mut self, process: u8, access: &Option<Access>) -> Option<Law>
+        requires { self.old.entries < 2 ^ 64 - 1 }
+        ensures setup { self.new.setup ≡ self.old.setup }
+        ensures entries { self.new.entries ≤ self.old.entries + 1 }
+        ensures same { (l : Named) → result ≡ Some l → self.new ≡ self.old }
+        ensures law { (past : Past) (e : Noted) → e.process ≡ process → e.access ≡ access.now → e.marks ≡ [] → Knows self.old past → result ≡ broken_later self.old.setup past e }
+        ensures knows { (past : Past) (e : Noted) → e.process ≡ process → e.access ≡ access.now → e.marks ≡ [] → result ≡ None → Knows self.old past → Knows self.new (e ∷ past) }
+    {
+        if let Some(_refusal) = self.refusal_of_access(process, access) {
+            return Some(Law::Access);
+        }
+        if process >= self.processes() {
+            return Some(Law::Access);
+        }
+        let Some(access) = access else {
+            return Some(Law::Marks);
+        };
+        self.make(process, *access);
+        None
     }
 }
 

@@ -212,6 +212,20 @@ impl Kept {
         (self.taken, reply)
     }
 
+    /// One more entry, with this access of a process, which breaks no law and has no mark.
+    #[inline]
+    pub fn make(&mut self, process: u8, access: Access)
+        requires process { process < self.old.setup.processes }
+        requires few { self.old.entries < 2 ^ 64 - 1 }
+        ensures setup { self.new.setup ≡ self.old.setup }
+        ensures entries { self.new.entries ≡ self.old.entries + 1 }
+        ensures knows { (past : Past) (e : Noted) → e.process ≡ process → e.access ≡ Some access → e.marks ≡ [] → Knows self.old past → Knows self.new (e ∷ past) }
+    {
+        let entry = self.entries;
+        self.standings[usize::from(process)].make(entry, access);
+        self.entries += 1;
+    }
+
     /// One more entry, with these marks, which breaks no law and after which its process stands so.
     pub fn go_on(&mut self, process: u8, standing: &Standing, marks: &[Mark])
         requires process { process < self.old.setup.processes }

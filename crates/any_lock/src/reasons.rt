@@ -57,6 +57,7 @@ pub struct Reasons {
 
 impl Kept {
     /// The reasons of an entry that breaks this law first, if it breaks one.
+    #[inline]
     pub(crate) fn reasons_of(
         &self,
         law: Option<Law>,
@@ -74,6 +75,7 @@ impl Kept {
     }
 
     /// The reasons of an entry that breaks this law first.
+    #[inline(never)]
     fn reasons(&self, law: Law, process: u8, access: &Option<Access>, marks: &[Mark]) -> Reasons
         ensures { (past : Past) (e : Noted) → e.process ≡ process → e.access ≡ access.now → e.marks ≡ marks.now → Knows self.now past → AreReasons self.now.setup past e law result }
     {

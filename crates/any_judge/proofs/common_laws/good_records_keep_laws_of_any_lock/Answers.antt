@@ -1,5 +1,12 @@
 use Rattle.any_judge.proofs.Good.{good_keeps}
+use Rattle.any_judge.proofs.GoodIsGood.{doorways_are_one, good_is_good}
 use Rattle.any_judge.proofs.common_laws.good_records_keep_laws_of_any_lock.Goals as goal
 
-pub returns : goal.returns
-returns c = good_keeps
+pub returns-clause-good : goal.returns-clause-good
+returns-clause-good c = good_is_good
+
+pub returns-clause-doorways : goal.returns-clause-doorways
+returns-clause-doorways c = doorways_are_one
+
+pub returns-clause-laws : goal.returns-clause-laws
+returns-clause-laws c = good_keeps

@@ -1,0 +1,8 @@
+-- None is the lowest where there is none.
+use Rattle.std.proofs.Common.{◌≡◌, ℕ, zero, suc, Bool, false, None, refl, sym, ap, ◌∙◌, add-one}
+use Rattle.any_lock.specs.Laws.{lowest_below}
+use Rattle.any_lock.proofs.Lowest.{lowest_none}
+
+pub none_below : (n : ℕ) (test : ℕ → Bool) → ((k : ℕ) → test k ≡ false) → lowest_below n test ≡ None
+none_below zero test never = refl
+none_below (suc n) test never = ap (λ k. lowest_below k test) (sym (add-one n)) ∙ lowest_none n test (none_below n test never) (never n)

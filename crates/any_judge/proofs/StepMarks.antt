@@ -1,0 +1,59 @@
+-- The marks of a step need not stand alone.
+use Rattle.std.specs.Prelude.{◌&&◌}
+use Rattle.std.proofs.Common.{◌≡◌, ℕ, Bool, true, false, cond, List, [], ◌∷◌, Some, map, refl, ap, ◌∙◌}
+use Rattle.std.specs.List.{list_any}
+use Rattle.plain_store.specs.declared.Reply.{Reply}
+use Rattle.plain_store.specs.Store.{changes}
+use Rattle.record.specs.declared.marks.Mark.{Mark}
+use Rattle.record.specs.declared.marks.Mark.TheVariants.{Taken}
+use Rattle.record.specs.Closings.{Closing, closing_next}
+use Rattle.record.specs.Parts.{Part, Raises, Asks, TakesTicket, Lowers, Refuses, Waits, AsksCommit, AsksStamp, AsksImage, WritesImage, WritesStamp, WritesCommit, Clears, Over, last_marks}
+use Rattle.record.specs.Places.{Place, bits_with, is_last, marks_of}
+use Rattle.record.specs.Program.{Wait, entered_if_none, lets_by, reply, store_read, waits_of}
+use Rattle.record.specs.Records.{placed}
+use Rattle.record.specs.Scripts.{Call, Next}
+use Rattle.record.proofs.Turns.{and_false}
+use Rattle.any_lock.specs.Refusals.{stands_alone}
+use Rattle.any_lock.proofs.watch.laws.AtPlaces.{IsOfLock, any-closing, any-marks, any-placed}
+use Rattle.any_lock.proofs.Markings.{ArePlain}
+
+of_plain : IsOfLock stands_alone
+of_plain = record { taken = λ k r. refl; left = refl; settled = λ v. refl; down = refl; withdrawn = refl }
+
+entered_plain : (ws : List Wait) → ArePlain (entered_if_none ws)
+entered_plain [] = refl
+entered_plain (w ∷ ws) = refl
+
+waited_plain : (b : Bool) (ws : List Wait) → ArePlain (cond b (entered_if_none ws) [])
+waited_plain true ws = entered_plain ws
+waited_plain false ws = refl
+
+taken_plain : (b : Bool) (r : Reply) → ArePlain (cond b [] (Taken 0 r ∷ []))
+taken_plain true r = refl
+taken_plain false r = refl
+
+last_plain : (c : Call) (part : Part) (bits : List Bool) → ArePlain (last_marks c part bits)
+last_plain c (Lowers t) bits = entered_plain (waits_of c)
+last_plain c (Waits t w ws) bits = waited_plain (lets_by c t w bits) ws
+last_plain c (AsksImage vs) bits = taken_plain (changes (store_read c bits) c.command) (reply c (store_read c bits))
+last_plain c (Refuses f) bits = refl
+last_plain c (WritesCommit vs st) bits = refl
+last_plain c (Clears a) bits = refl
+last_plain c Raises bits = refl
+last_plain c (Asks j js ts) bits = refl
+last_plain c (TakesTicket t) bits = refl
+last_plain c (AsksCommit k ks vs) bits = refl
+last_plain c (AsksStamp k ks vs b) bits = refl
+last_plain c (WritesImage vs st) bits = refl
+last_plain c (WritesStamp vs st) bits = refl
+last_plain c Over bits = refl
+
+-- at a place
+pub plain_step : (c : Call) (at : Place) (v : Bool) (place : ℕ) (ms : List Mark) → ms ≡ map (placed place) (marks_of c at v) → ArePlain ms
+plain_step c at v place ms is =
+    ap (list_any stands_alone) is ∙ any-placed stands_alone of_plain place (marks_of c at v) ∙ any-marks stands_alone refl c at v
+    ∙ ap (λ b. is_last c at.part at.run && b) (last_plain c at.part (bits_with at.run v)) ∙ and_false (is_last c at.part at.run)
+
+-- in a closing
+pub plain_closing : (c : Call) (at : Closing) (flick : Bool) (n : Next) → closing_next c at flick ≡ Some n → (place : ℕ) (ms : List Mark) → ms ≡ map (placed place) n.marks → ArePlain ms
+plain_closing c at flick n next place ms is = ap (list_any stands_alone) is ∙ any-placed stands_alone of_plain place n.marks ∙ any-closing stands_alone of_plain c at flick n next

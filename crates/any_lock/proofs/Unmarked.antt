@@ -1,0 +1,55 @@
+-- An entry with an access and no mark.
+use Rattle.std.proofs.Common.{◌≡◌, ℕ, ◌<◌, false, List, [], ◌∷◌, Option, None, Some, length, get_or, slice_get, refl, sym, ap, subst, ◌∙◌, arith}
+use Rattle.std.proofs.lemmas.Option.{slice_get-get_or, slice_get_within}
+use Rattle.std.specs.List.{list_any}
+use Rattle.plain_store.specs.declared.Setup.{Setup}
+use Rattle.record.specs.declared.access.Access.{Access}
+use Rattle.record.specs.declared.marks.Mark.{Mark}
+use Rattle.record.specs.Entries.{Entry, Past}
+use Rattle.any_lock.specs.declared.refusals.MarkRefusal.TheVariants as refusal
+use Rattle.any_lock.specs.declared.standings.Standing.{Standing}
+use Rattle.any_lock.specs.declared.verdicts.Law.TheVariants as law
+use Rattle.any_lock.specs.Keeping.{KeptState, Knows, accessed, accessed_by, is_taken}
+use Rattle.any_lock.specs.Laws.{breaks_history, breaks_overtaken, breaks_together, broken_later}
+use Rattle.any_lock.specs.Refusals.{refusal_of_access, refusal_of_marks}
+use Rattle.any_lock.specs.Standings.{standing}
+use Rattle.any_lock.proofs.Breaks.{at_inside, at_marks, inside_is}
+use Rattle.any_lock.proofs.Going.{kept_with, knows_on}
+use Rattle.any_lock.proofs.Steps.{bare, standing-access}
+
+-- it breaks no law, where its access is not refused
+pub unmarked_keeps : (s : Setup) (past : Past) (e : Entry) (a : Access) → e.access ≡ Some a → e.marks ≡ [] → refusal_of_access s past e ≡ None → broken_later s past e ≡ None
+unmarked_keeps s past e a acc none allowed =
+    let is : e ≡ bare e.process (Some a) = λ i. record { process = e.process; access = acc i; marks = none i } in
+    at_inside s past e allowed (ap (refusal_of_marks s past) is)
+    ∙ inside_is s past e false false false (ap (λ (x : Entry). breaks_together s past x) is) (ap (λ (x : Entry). breaks_overtaken s past x) is) (ap (λ (x : Entry). breaks_history s past x) is)
+
+-- one without an access has nothing
+pub nothing_marks : (s : Setup) (past : Past) (e : Entry) → e.access ≡ None → e.marks ≡ [] → refusal_of_access s past e ≡ None → broken_later s past e ≡ Some law.Marks
+nothing_marks s past e acc none allowed =
+    let is : e ≡ bare e.process None = λ i. record { process = e.process; access = acc i; marks = none i } in
+    at_marks s past e refusal.Nothing allowed (ap (refusal_of_marks s past) is)
+
+-- with an access the standing of its process alone goes on, by that access
+pub unmarked_on : (k : KeptState) (past : Past) (e : Entry) (a : Access) (before : Standing) → e.process < k.setup.processes → e.access ≡ Some a → e.marks ≡ [] → slice_get k.standings e.process ≡ Some before → Knows k past →
+    Knows (kept_with k e.process before (accessed k.entries before a) false) (e ∷ past)
+unmarked_on k past e a before below acc none there knows =
+    knows_on k past e before (accessed k.entries before a) false below there (ap (list_any is_taken) none) stands knows
+  where
+    is : e ≡ bare e.process (Some a)
+    is = λ i. record { process = e.process; access = acc i; marks = none i }
+
+    was : before ≡ standing k.setup e.process past
+    was = let both : Some before ≡ Some (standing k.setup e.process past) = sym there ∙ knows.standings e.process below in cc
+
+    stands : accessed k.entries before a ≡ standing k.setup e.process (e ∷ past)
+    stands = (λ i. accessed (knows.entries i) (was i) a) ∙ sym (standing-access k.setup e.process (Some a) past) ∙ ap (λ (x : Entry). standing k.setup e.process (x ∷ past)) (sym is)
+
+-- a list of fewer than one
+pub no_marks : (ms : List Mark) → length ms < 1 → ms ≡ []
+no_marks [] few = refl
+no_marks (m ∷ ms) few = absurd (omega (arith, few))
+
+-- what stands at an index, looked up in two ways
+pub given_at : (xs : List Standing) (i : ℕ) (x k : Standing) → slice_get xs i ≡ Some k → get_or xs i x ≡ k
+given_at xs i x k is = let both : Some (get_or xs i x) ≡ Some k = sym (slice_get-get_or xs i x (slice_get_within xs i k is)) ∙ is in cc
