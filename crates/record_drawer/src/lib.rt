@@ -1,0 +1,22 @@
+//! The pictures of records: what an entry after the other says, as a page for a browser and as one picture. A record may be
+//! good or bad, and of any lock; what it says is drawn.
+//!
+//! ```rust
+//! Engine::Draw => ended(draw_record(alloc, reads, input, output)),
+//! Engine::DrawSvg => ended(draw_record_svg(alloc, reads, input, output)),
+//! ```
+#![tactic(auto)]
+
+mod changes;
+mod drawing;
+mod engines;
+mod held;
+mod opened;
+mod overlaps;
+mod sheet;
+mod writing;
+
+pub use engines::{draw_record, draw_record_svg};
+pub use files;
+pub use opened::Opened;
+pub use picture::Reads;
