@@ -1,7 +1,7 @@
 //! Runs the files of a world of processes. Without words it is `plain -`.
 #![tactic(auto)]
 
-ghost use Rattle.std.specs.Prelude.{◌-◌, ◌<◌, ◌^◌};
+ghost use Rattle.std.specs.Prelude.{◌≡◌, ◌-◌, ◌<◌, ◌^◌, IfOk};
 
 use any_judge::judge_any_lock;
 use command_line::{
@@ -12,7 +12,9 @@ use drawer::progress::Onlooker;
 use drawer::{Reads, draw, draw_svg};
 use engines::{replay, run_audit, run_bits, run_judge, run_plain, run_record, run_sweep};
 use race::{RunFault, run_fault_status, run_race};
-use scenario::{Fault, FromRead, IntoWrite, Sink, Source, ended};
+use record_drawer::files::{Fault, FromRead, IntoWrite, Sink, Source, ended};
+use record_drawer::{Opened, draw_record, draw_record_svg};
+use std::alloc::Global;
 use std::env::Env;
 use std::fs::{File, Files};
 use std::io;
@@ -83,17 +85,13 @@ fn run_on<T: Print + Eprint + Clock + AllocGlobal + Threads + Wait + Sync, R: Re
         return Err(Fault::Memory.into());
     };
     let shows = terminals.error && !terminals.output && !request.quiet;
-    let from_input = request.command.intake == Intake::Streamed;
-    let mut input = WatchedInput::new(FromRead::new(reader), rt, shows && from_input);
+    let source = opened(rt.alloc(), request.command.engine, FromRead::new(reader))?;
+    let wanted = wanted_by(request, source.is_record());
+    let from_input = request.command.intake == Intake::Streamed || wanted.is_record;
+    let mut input = WatchedInput::new(source, rt, shows && from_input);
     let mut output = IntoWrite::new(&mut writer);
     let mut watcher = Watcher::new(rt, rt.alloc(), shows && !from_input);
-    let ran = run_engine(
-        rt,
-        wanted_by(request),
-        &mut input,
-        &mut output,
-        &mut watcher,
-    );
+    let ran = run_engine(rt, wanted, &mut input, &mut output, &mut watcher);
     input.end();
     watcher.end();
     // After a fault too: what the engine has written is a front of its text.
@@ -112,10 +110,23 @@ struct Wanted {
     reads: Reads,
     any_lock: bool,
     why: bool,
+    /// Whether the file is a record, where the engine takes scenarios too.
+    is_record: bool,
+}
+
+/// Opens a source: an engine that draws takes scenarios and records, and the file tells which it is.
+fn opened<R: Source + Drop>(alloc: Global, engine: Engine, source: R) -> Result<Opened<R>, Fault>
+    requires { R.failures source < 2 ^ 64 - 1 }
+    ensures { IfOk result (λ opened. ⟦<Opened<R> as Source>⟧.failures opened ≡ R.failures source) }
+{
+    match engine {
+        Engine::Draw | Engine::DrawSvg => Opened::new(alloc, source),
+        _ => Ok(Opened::unseen(alloc, source)),
+    }
 }
 
 /// What a request asks of its engine.
-fn wanted_by(request: &Request<'_>) -> Wanted {
+fn wanted_by(request: &Request<'_>, is_record: bool) -> Wanted {
     Wanted {
         engine: request.command.engine,
         reads: if request.reads {
@@ -125,6 +136,7 @@ fn wanted_by(request: &Request<'_>) -> Wanted {
         },
         any_lock: request.any_lock,
         why: request.why,
+        is_record,
     }
 }
 
@@ -151,6 +163,8 @@ fn run_engine<T: AllocGlobal + Threads + Wait + Sync, R: Source, W: Sink, L: Onl
         Engine::Judge if wanted.any_lock => judge_any_lock(alloc, input, output, wanted.why),
         Engine::Judge => run_judge(alloc, input, output),
         Engine::Race => return run_race(rt, alloc, input, output),
+        Engine::Draw if wanted.is_record => ended(draw_record(alloc, reads, input, output)),
+        Engine::DrawSvg if wanted.is_record => ended(draw_record_svg(alloc, reads, input, output)),
         Engine::Draw => ended(draw(alloc, reads, input, output, onlooker)),
         Engine::DrawSvg => ended(draw_svg(alloc, reads, input, output, onlooker)),
     };

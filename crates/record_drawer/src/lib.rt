@@ -1,5 +1,10 @@
 //! The pictures of records: what an entry after the other says, as a page for a browser and as one picture. A record may be
 //! good or bad, and of any lock; what it says is drawn.
+//!
+//! ```rust
+//! Engine::Draw if wanted.is_record => ended(draw_record(alloc, reads, input, output)),
+//! Engine::DrawSvg if wanted.is_record => ended(draw_record_svg(alloc, reads, input, output)),
+//! ```
 #![tactic(auto)]
 
 mod changes;
