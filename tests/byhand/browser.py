@@ -87,11 +87,11 @@ SAID = {
         ("(end)", "a=c:8", "nobody"),
     ],
 }
-# an event of each, and the place of the first line of this event or a later one
+# an event of each, the place of its first line, or of the last one before it, and what is said beside that of one without a line
 EVENTS = {
-    "failure-commit-settled-new": (1157, 4),
-    "withdrawal-show-while-inside": (44, 5),
-    "two-processes-wander": (2451, 7),
+    "failure-commit-settled-new": (1157, 4, ""),
+    "withdrawal-show-while-inside": (44, 4, "event44 has no mark: it is behind that line\n"),
+    "two-processes-wander": (2451, 7, ""),
 }
 
 
@@ -119,7 +119,8 @@ def wanted(name):
         f"told{line}\nby line{source}\nstore{store}\nin line{queue}\n"
         for line, (source, store, queue) in zip(lines, SAID[name], strict=True)
     ]
-    return [[[text, 1, line] for text, line in zip(texts, lines)], texts[EVENTS[name][1]]]
+    _, place, beside = EVENTS[name]
+    return [[[text, 1, line] for text, line in zip(texts, lines)], texts[place] + beside]
 
 
 def main():
