@@ -7,7 +7,7 @@ of `turns` and of `show`, and how many events were refused. Where it has none of
 
 Each record of examples/other-locks is drawn, good or bad. A parser of XML reads the picture, and one of HTML the page; the
 titles of their marks are the marks of the record, which are read here once more from its words. A record with a fault has the
-same fault in `draw`, `draw-svg` and `judge`, of which the page alone may have begun.
+same fault, told alike with its place, in `draw`, `draw-svg` and `judge`, of which the page alone may have begun.
 """
 
 import pathlib
@@ -20,7 +20,7 @@ sys.path.insert(0, str(pathlib.Path(__file__).resolve().parents[1]))
 
 from lib.counting import Counter
 from lib.places import OTHER_LOCKS, PROGRAM, TOP, WORKED
-from pictures import SVG, Groups, Run, overlapped_in, read_faults, title, words_of
+from pictures import SVG, Groups, overlapped_in, read_faults, title, words_of
 
 # lines of a run that its record doesn't say
 UNSAID = re.compile(r"- \d+ (refused|turns)|show ")
@@ -114,11 +114,11 @@ def spoiled(record):
         yield b"\n".join([*lines[:at], line, *lines[at:]]) + b"\n"
 
 
-def spoil_faults(file):
+def spoil_faults(file, *options):
     """What is wrong with the ends of drawing a file that is no record."""
-    judged = run(file, "judge")
+    judged = run(file, "judge", *options)
     for command in ("draw", "draw-svg"):
-        status, output, errors = run(file, command)
+        status, output, errors = run(file, command, *options)
         if (status, errors) != (judged[0], judged[2]):
             yield f"{command} ends with {status}, {errors!r}, judge with {judged[0]}, {judged[2]!r}"
         if output and (command == "draw-svg" or b"</html>" in output):
@@ -143,7 +143,7 @@ def main():
         counter.count(not faults, f"{file.parent.name}: {faults[:5]}")
     record = (OTHER_LOCKS / "one-bit-good" / "record").read_bytes()
     for file in spoiled(record):
-        faults = list(spoil_faults(file))
+        faults = [*spoil_faults(file), *spoil_faults(file, "--explain")]
         counter.count(not faults, f"{file[-200:]!r}: {faults}")
     counter.end()
 

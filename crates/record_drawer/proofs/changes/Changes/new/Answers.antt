@@ -10,6 +10,6 @@ returns c =
     record {
       version = refl;
       many = ap length c.loop-process.invariant.calls ∙ length-replicate c.loop-process._process no_call ∙ all;
-      store = c.in_ok-opened.ensures;
+      store = c.in_ok-opening_store.ensures;
       calls = λ p below. ap (λ (l : List Called). get_or l p no_call) c.loop-process.invariant.calls ∙ get_or-replicate c.loop-process._process p no_call no_call (omega (arith, below, all));
     }
