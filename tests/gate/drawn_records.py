@@ -143,7 +143,9 @@ def main():
         counter.count(not faults, f"{file.parent.name}: {faults[:5]}")
     record = (OTHER_LOCKS / "one-bit-good" / "record").read_bytes()
     for file in spoiled(record):
-        faults = [*spoil_faults(file), *spoil_faults(file, "--explain")]
+        # what begins as a scenario is explained as one
+        explained = spoil_faults(file, "--explain") if file.startswith(b"record") else []
+        faults = [*spoil_faults(file), *explained]
         counter.count(not faults, f"{file[-200:]!r}: {faults}")
     counter.end()
 
