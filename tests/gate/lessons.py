@@ -4,8 +4,8 @@
 A lesson of lessons/README.md names its file behind `File: `, and the words that run it, if these are not `replay` or `bits`;
 `python3` runs a lock, by the writer of examples/other-locks/. A block without a language quotes lines of the run, in their order.
 The lesson on races quotes texts beside one another in its block of `text`: they are those of all orders of the calls, and each race
-prints one of them. A lesson whose file is replayed shows its picture, which is the one that the program draws. The commands of the
-`console` blocks are followed by readme.py.
+prints one of them. A lesson whose file is replayed, or is the record of another lock, or prints one, shows its picture, which is the
+one that the program draws. The commands of the `console` blocks are followed by readme.py.
 """
 
 import os
@@ -68,8 +68,15 @@ def fault_of_text(printed, stem, text):
     return None
 
 
+def drawn(file, stem, words):
+    """The file of the picture that a lesson shows: its own, or the record that it prints; none, if it shows no picture."""
+    if words == "python3":
+        return f"expected/{stem}.txt"
+    return file if words == "replay" or "--any-lock" in words else None
+
+
 def fault_of_picture(file, stem, text):
-    """What is wrong with the picture of a run."""
+    """What is wrong with the picture of a run or of a record."""
     if text.count(f"](pictures/{stem}.svg)") != 1:
         return "does not show its picture"
     if ran("draw-svg", file) != (LESSONS / "pictures" / f"{stem}.svg").read_text():
@@ -97,8 +104,8 @@ def fault_of(text):
     file, stem, words = found[0]["file"], found[0]["stem"], words_of(found[0])
     if words == "race":
         return fault_of_race(file, text)
-    fault = fault_of_text(ran(words, file), stem, text)
-    return fault_of_picture(file, stem, text) if fault is None and words == "replay" else fault
+    fault, shown = fault_of_text(ran(words, file), stem, text), drawn(file, stem, words)
+    return fault_of_picture(shown, stem, text) if fault is None and shown else fault
 
 
 def words_of(found):

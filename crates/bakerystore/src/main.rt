@@ -1,9 +1,8 @@
 //! Runs the files of a world of processes. Without words it is `plain -`.
 #![tactic(auto)]
 
-ghost use Rattle.std.specs.Prelude.{◌-◌, ◌<◌, ◌^◌};
+ghost use Rattle.std.specs.Prelude.{◌≡◌, ◌-◌, ◌<◌, ◌^◌, IfOk};
 
-use any_judge::{judge_any_lock, run_judge_with_reasons};
 use command_line::{
     Asked, Engine, Fault, FromRead, Intake, IntoWrite, LineFault, Output, Request, Sink, Source,
     Terminals, Uninterrupted, WatchedInput, Watcher, all_words, ended, read_words,
@@ -13,6 +12,10 @@ use drawer::{Reads, draw, draw_svg};
 use engines::{replay, run_audit, run_bits, run_judge, run_plain, run_record, run_sweep};
 use inspect::{FileKind, Kept, KeptInput, explanation, run_calls};
 use race::{RunFault, run_fault_status, run_race};
+use record_drawer::{
+    Opened, draw_record, draw_record_svg, judge_any_lock, run_judge_with_reasons,
+};
+use std::alloc::Global;
 use std::env::Env;
 use std::fs::{File, Files};
 use std::io;
@@ -84,19 +87,15 @@ fn run_on<T: Print + Eprint + Clock + AllocGlobal + Threads + Wait + Sync, R: Re
         return Err(Fault::Memory.into());
     };
     let shows = terminals.error && !terminals.output && !request.quiet;
-    let from_input = request.command.intake == Intake::Streamed;
+    let source = opened(rt.alloc(), request.command.engine, FromRead::new(reader))?;
+    let wanted = wanted_by(request, source.is_record());
+    let from_input = request.command.intake == Intake::Streamed || wanted.is_record;
     let explains = terminals.error || request.explain;
-    let watched = WatchedInput::new(FromRead::new(reader), rt, shows && from_input);
+    let watched = WatchedInput::new(source, rt, shows && from_input);
     let mut input = KeptInput::new(rt.alloc(), watched, explains);
     let mut output = IntoWrite::new(&mut writer);
     let mut watcher = Watcher::new(rt, rt.alloc(), shows && !from_input);
-    let ran = run_engine(
-        rt,
-        wanted_by(request),
-        &mut input,
-        &mut output,
-        &mut watcher,
-    );
+    let ran = run_engine(rt, wanted, &mut input, &mut output, &mut watcher);
     let (kept, mut watched) = input.into_parts();
     watched.end();
     watcher.end();
@@ -104,7 +103,7 @@ fn run_on<T: Print + Eprint + Clock + AllocGlobal + Threads + Wait + Sync, R: Re
     let flushed = writer.flush();
     match ran {
         Err(RunFault::File(Fault::Line(fault))) if explains => {
-            Ok(told_with_place(rt, request.command.engine, &kept, fault))
+            Ok(told_with_place(rt, wanted, &kept, fault))
         }
         Err(fault) => Err(fault),
         Ok(status) => match flushed {
@@ -117,22 +116,23 @@ fn run_on<T: Print + Eprint + Clock + AllocGlobal + Threads + Wait + Sync, R: Re
 /// Tells a fault of a line, as without `--explain`, and then its place; answers the exit status.
 fn told_with_place<T: Eprint + AllocGlobal>(
     rt: &T,
-    engine: Engine,
+    wanted: Wanted,
     kept: &Kept,
     fault: LineFault,
 ) -> u8 {
     let status = told(rt, Err(Fault::Line(fault).into()));
-    if let Ok(text) = explanation(rt.alloc(), file_kind(engine), kept, &fault) {
+    if let Ok(text) = explanation(rt.alloc(), file_kind(wanted), kept, &fault) {
         let _ = rt.eprint(&text);
     }
     status
 }
 
 /// What kind of file an engine reads.
-fn file_kind(engine: Engine) -> FileKind {
-    match engine {
+fn file_kind(wanted: Wanted) -> FileKind {
+    match wanted.engine {
         Engine::Bits => FileKind::Bits,
         Engine::Judge => FileKind::Record,
+        _ if wanted.is_record => FileKind::Record,
         _ => FileKind::Scenario,
     }
 }
@@ -144,10 +144,23 @@ struct Wanted {
     reads: Reads,
     any_lock: bool,
     why: bool,
+    /// Whether the file is a record, where the engine takes scenarios too.
+    is_record: bool,
+}
+
+/// Opens a source: an engine that draws takes scenarios and records, and the file tells which it is.
+fn opened<R: Source + Drop>(alloc: Global, engine: Engine, source: R) -> Result<Opened<R>, Fault>
+    requires { R.failures source < 2 ^ 64 - 1 }
+    ensures { IfOk result (λ opened. ⟦<Opened<R> as Source>⟧.failures opened ≡ R.failures source) }
+{
+    match engine {
+        Engine::Draw | Engine::DrawSvg => Opened::new(alloc, source),
+        _ => Ok(Opened::unseen(alloc, source)),
+    }
 }
 
 /// What a request asks of its engine.
-fn wanted_by(request: &Request<'_>) -> Wanted {
+fn wanted_by(request: &Request<'_>, is_record: bool) -> Wanted {
     Wanted {
         engine: request.command.engine,
         reads: if request.reads {
@@ -157,6 +170,7 @@ fn wanted_by(request: &Request<'_>) -> Wanted {
         },
         any_lock: request.any_lock,
         why: request.why,
+        is_record,
     }
 }
 
@@ -185,6 +199,8 @@ fn run_engine<T: AllocGlobal + Threads + Wait + Sync, R: Source, W: Sink, L: Onl
         Engine::Judge if wanted.why => run_judge_with_reasons(alloc, input, output),
         Engine::Judge => run_judge(alloc, input, output),
         Engine::Race => return run_race(rt, alloc, input, output),
+        Engine::Draw if wanted.is_record => ended(draw_record(alloc, reads, input, output)),
+        Engine::DrawSvg if wanted.is_record => ended(draw_record_svg(alloc, reads, input, output)),
         Engine::Draw => ended(draw(alloc, reads, input, output, onlooker)),
         Engine::DrawSvg => ended(draw_svg(alloc, reads, input, output, onlooker)),
     };

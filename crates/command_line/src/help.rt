@@ -256,6 +256,7 @@ a browser, which needs nothing else: a lane for each process, its marks and what
 is doing, above the one history; the lines that replay prints can be read off it.
 With --reads it shows the reads too that writes overlapped: from when to when, whose
 bit, and what each gave; of those between two lines of the run the first three.
+FILE may be a record too, good or bad, and of any lock: its first word tells which.
 What a picture shows: docs/PICTURE.md
 The lines of a scenario: bakerystore help replay
 
@@ -267,8 +268,9 @@ The lines of a scenario: bakerystore help replay
 
 /// The page of `draw-svg`.
 pub const DRAW_SVG: &str = r"
-Writes the picture of the run of a scenario as one picture, without a page round it.
-With --reads it shows the reads too that writes overlapped, as draw does.
+Writes the picture of the run of a scenario, or of a record, as one picture, without
+a page round it. With --reads it shows the reads too that writes overlapped, as draw
+does.
 What a picture shows: docs/PICTURE.md
 The lines of a scenario: bakerystore help replay
 

@@ -1,0 +1,13 @@
+//! What goes along with a picture while it is drawn, be it of a run or of a record: the one-thread store that the commands
+//! taken change, and a watch that tells which reads writes overlap.
+#![tactic(auto)]
+
+mod overlaps;
+mod store_changes;
+
+pub use overlaps::{Overlaps, hear, take_ended};
+pub use picture::{
+    Change, FIRST_BAND, Form, Line, Markup, OverlappedRead, Page, Reads, Saying, page_end, page_head,
+    picture_end, picture_head,
+};
+pub use store_changes::{apply, opening_store, store_words, words_by_pairs, words_shown};

@@ -1,0 +1,223 @@
+//! The reads of a record that writes overlap: a watch beside the record, which hears the access of each entry.
+ghost use Rattle.std.specs.Prelude.{◌≡◌, ◌<◌, ◌&&◌, ℕ, cond, [], ◌∷◌, ◌++◌, List, get_or, length, nat_lt, set, IfOk, IfSome, None, Ok, OnOk, Some};
+ghost use Rattle.std.specs.Option.{option_to_list};
+ghost use Rattle.record.specs.safe_bit.declared.Move.TheVariants.{EndRead};
+ghost use Rattle.plain_store.specs.Setups.{checked};
+ghost use Rattle.plain_store.specs.declared.setups.Setup.{Setup as Given};
+ghost use Rattle.record.specs.Entries.{Entry, Past};
+ghost use Rattle.record.specs.Moves.{same_bit as same};
+ghost use Rattle.record.specs.Registers.{width};
+ghost use Rattle.picture.specs.columns.declared.reads.OverlappedRead.{OverlappedRead as Ended};
+ghost use Rattle.picture.specs.declared.reads.Reads.{Reads as Mode};
+ghost use Rattle.companions.specs.Overlaps.{Hears, Overhears, ended_of, first_three, overlapped_by, overlapped_with, read_begun, read_ended, shown_of};
+
+use picture::{OverlappedRead, Reads};
+use plain_store::{NestedTypes, Setup};
+use record::{Access, Field, Move};
+use std::alloc::{AllocError, Global};
+use watch::Watch;
+
+/// How many reads are shown between two lines of the picture.
+const MOST_SHOWN: usize = 3;
+
+/// A read that has begun: with which entry, and by which access.
+#[derive(Clone, Copy)]
+pub struct Begun {
+    pub entry: u64,
+    pub access: Access,
+}
+
+/// What tells which reads are overlapped.
+#[derive(Drop)]
+pub struct Overlaps {
+    setup: Setup,
+    watch: Watch,
+    /// The last read of each process that has begun.
+    begun: [Option<Begun>; 16],
+    /// The overlapped reads since the last line, of which so many are shown.
+    ended: Vec<OverlappedRead>,
+}
+
+impl Overlaps {
+    /// One that has heard nothing, if reads are shown.
+    pub fn new(alloc: Global, setup: &Setup, reads: Reads) -> Result<Option<Overlaps>, AllocError>
+        requires { checked setup.now ≡ Ok tt }
+        ensures { IfOk result (Overhears reads setup.now [] []) }
+    {
+        let _nested: NestedTypes = None;
+        if reads == Reads::Hidden {
+            return Ok(None);
+        }
+        Ok(Some(Overlaps {
+            setup: *setup,
+            watch: Watch::new(alloc, setup)?,
+            begun: [None; 16],
+            ended: Vec::new(alloc),
+        }))
+    }
+
+    /// Hears an entry with this number by its access, if it has one.
+    #[inline]
+    fn hear(&mut self, number: u64, access: Option<Access>) -> Result<(), AllocError>
+        ensures { OnOk result ((s : Given) (past : Past) (reads : List Ended) (e : Entry) → e.access ≡ access → Hears s past reads self.old → number ≡ length past → Hears s (e ∷ past) (reads ++ overlapped_by s past e) self.new) }
+    {
+        let Some(access) = access else {
+            return Ok(());
+        };
+        self.keep(number, access)?;
+        self.watch.hear_access(access);
+        Ok(())
+    }
+
+    /// Keeps that a read begins, and that an overlapped one ends.
+    #[tactic(auto, using(crate::proofs::Overhearing::begun_still, crate::proofs::Overhearing::ends_no_read))]
+    fn keep(&mut self, number: u64, access: Access) -> Result<(), AllocError>
+        ensures setup { self.new.setup ≡ self.old.setup }
+        ensures watch { self.new.watch ≡ self.old.watch }
+        ensures room { OnOk result (length self.old.begun ≡ 16 → length self.new.begun ≡ 16) }
+        ensures begun { OnOk result ((s : Given) (past : Past) (reads : List Ended) (e : Entry) (p : ℕ) → e.access ≡ Some access → number ≡ length past → Hears s past reads self.old → p < 16 → get_or self.new.begun p None ≡ read_begun p (e ∷ past)) }
+        ensures ended { OnOk result ((s : Given) (past : Past) (reads : List Ended) (e : Entry) → e.access ≡ Some access → number ≡ length past → Hears s past reads self.old → self.new.ended.items ≡ first_three (reads ++ overlapped_by s past e)) }
+    {
+        match access.how {
+            Move::BeginRead => {
+                self.begin(number, access);
+                Ok(())
+            }
+            Move::EndRead(value) => match self.ended_by(number, &access, value) {
+                Some(read) => self.add(read),
+                None => Ok(()),
+            },
+            Move::BeginWrite(_) | Move::EndWrite | Move::Settle(_) => Ok(()),
+        }
+    }
+
+    /// A read of a process begins.
+    fn begin(&mut self, entry: u64, access: Access)
+        ensures { self.new ≡ record self.old { begun = set self.old.begun access.reader (Some (record { entry = entry; access = access })) } }
+    {
+        let place = usize::from(access.reader);
+        if place < self.begun.len() {
+            self.begun[place] = Some(Begun { entry, access });
+        }
+    }
+
+    /// The last read of a process that has begun.
+    fn begun_last(&self, reader: u8) -> Option<Begun>
+        ensures { result ≡ get_or self.now.begun reader None }
+    {
+        match self.begun.get(usize::from(reader)) {
+            Some(begun) => *begun,
+            None => None,
+        }
+    }
+
+    /// The overlapped read that an access ends with this value, if it ends one.
+    fn ended_by(&self, number: u64, access: &Access, value: bool) -> Option<OverlappedRead>
+        ensures reads { (s : Given) (past : Past) (reads : List Ended) → Hears s past reads self.now → number ≡ length past → access.now.how ≡ EndRead value → option_to_list result ≡ overlapped_with s past (Some access.now) }
+        ensures alone { IfSome result (λ read. read.more ≡ 0) }
+    {
+        let over = self.watch.overlaps(access);
+        self.ended_if(over, number, access, value)
+    }
+
+    /// The read that an access ends with this value, if it is overlapped, and the last one of its process that has begun.
+    fn ended_if(
+        &self,
+        is_overlapped: bool,
+        number: u64,
+        access: &Access,
+        value: bool,
+    ) -> Option<OverlappedRead>
+        ensures reads { checked self.now.setup ≡ Ok tt → access.now.how ≡ EndRead value → option_to_list result ≡ cond is_overlapped (ended_of self.now.setup number access.now (get_or self.now.begun access.now.reader None)) [] }
+        ensures alone { IfSome result (λ read. read.more ≡ 0) }
+    {
+        if !is_overlapped {
+            return None;
+        }
+        let begun = self.begun_last(access.reader)?;
+        if !same_bit(access, &begun.access) {
+            return None;
+        }
+        Some(self.read_of(begun.entry, number, access, value))
+    }
+
+    /// The read that an access ends with this value, which began with that entry.
+    fn read_of(&self, begin: u64, end: u64, access: &Access, value: bool) -> OverlappedRead
+        ensures read { checked self.now.setup ≡ Ok tt → access.now.how ≡ EndRead value → result ≡ read_ended self.now.setup begin end access.now }
+        ensures alone { result.more ≡ 0 }
+    {
+        OverlappedRead {
+            reader: access.reader,
+            owner: access.owner,
+            field: access.field,
+            bit: access.bit,
+            is_wide: is_wide(&self.setup, access.field),
+            begin,
+            end,
+            value,
+            more: 0,
+        }
+    }
+
+    /// Adds a read to those that are shown, or counts it.
+    fn add(&mut self, read: OverlappedRead) -> Result<(), AllocError>
+        ensures setup { self.new.setup ≡ self.old.setup }
+        ensures watch { self.new.watch ≡ self.old.watch }
+        ensures begun { self.new.begun ≡ self.old.begun }
+        ensures ended { OnOk result ((reads : List Ended) → self.old.ended.items ≡ first_three reads → read.more ≡ 0 → self.new.ended.items ≡ first_three (reads ++ read ∷ [])) }
+    {
+        if let Some(last) = self.ended.get_mut(MOST_SHOWN - 1) {
+            last.more = last.more.saturating_add(1);
+            return Ok(());
+        }
+        Ok(self.ended.push(read)?)
+    }
+}
+
+/// Hears an entry with this number by its access, if reads are shown.
+#[inline]
+pub fn hear(
+    overlaps: &mut Option<Overlaps>,
+    number: u64,
+    access: Option<Access>,
+) -> Result<(), AllocError>
+    ensures { OnOk result ((mode : Mode) (s : Given) (past : Past) (reads : List Ended) (e : Entry) → e.access ≡ access → Overhears mode s past reads overlaps.old → number ≡ length past → Overhears mode s (e ∷ past) (reads ++ overlapped_by s past e) overlaps.new) }
+{
+    match overlaps {
+        Some(overlaps) => overlaps.hear(number, access),
+        None => Ok(()),
+    }
+}
+
+/// The overlapped reads since the last line; then there are none.
+pub fn take_ended(alloc: Global, overlaps: &mut Option<Overlaps>) -> Vec<OverlappedRead>
+    ensures reads { (mode : Mode) (s : Given) (past : Past) (reads : List Ended) → Overhears mode s past reads overlaps.old → result.items ≡ shown_of mode reads }
+    ensures none { (mode : Mode) (s : Given) (past : Past) (reads : List Ended) → Overhears mode s past reads overlaps.old → Overhears mode s past [] overlaps.new }
+{
+    match overlaps {
+        Some(overlaps) => std::mem::replace(&mut overlaps.ended, Vec::new(alloc)),
+        None => Vec::new(alloc),
+    }
+}
+
+/// Whether both are accesses of one bit.
+fn same_bit(access: &Access, other: &Access) -> bool
+    ensures { result ≡ same access.now other.now }
+{
+    access.bit == other.bit
+        && access.reader == other.reader
+        && access.owner == other.owner
+        && access.field == other.field
+}
+
+/// Whether a register has more than one bit.
+fn is_wide(setup: &Setup, field: Field) -> bool
+    ensures { checked setup.now ≡ Ok tt → result ≡ nat_lt 1 (width setup.now field) }
+{
+    match field {
+        Field::Choosing | Field::Commit => false,
+        Field::Ticket => setup.ticket_bits > 1,
+        Field::Stamp0 | Field::Stamp1 => setup.stamp_bits > 1,
+        Field::Image0 | Field::Image1 => true,
+    }
+}

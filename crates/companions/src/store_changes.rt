@@ -1,0 +1,118 @@
+//! What the commands taken change in the one-thread store beside a picture, and how that is shown.
+ghost use Rattle.std.specs.Prelude.{◌≡◌, ◌++◌, List, codes, Ok, IfOk, OnOk, option_map, ℕ};
+ghost use Rattle.std.specs.String.{string_bytes};
+ghost use Rattle.plain_store.specs.Commands.{name_of};
+ghost use Rattle.plain_store.specs.Setups.{checked, opening_store as store_at_first};
+ghost use Rattle.plain_store.specs.Shown.{value_text};
+ghost use Rattle.plain_store.specs.Store.{after, changes, value_at};
+ghost use Rattle.companions.specs.StoreChanges.{change_by, changed, pair_words, shown_words, store_words as words_of_store, words_by};
+
+use picture::Change;
+use plain_store::{
+    Caller, Command, Name, NestedTypes, PlainStore, Setup, Store, Value, opened, show_line,
+};
+use std::alloc::{AllocError, Global};
+
+/// The opening store of a setup.
+pub fn opening_store(alloc: Global, setup: &Setup) -> Result<PlainStore, AllocError>
+    requires { checked setup.now ≡ Ok tt }
+    ensures { IfOk result (λ store. store ≡ store_at_first setup.now) }
+{
+    let empty = PlainStore::new(alloc, setup.slots, setup.callers());
+    opened(empty, setup)
+}
+
+/// Applies a command of a caller; answers what it changed, if it changed something.
+pub fn apply(
+    alloc: Global,
+    store: &mut PlainStore,
+    command: &Command,
+    caller: Caller,
+) -> Result<Option<Change>, AllocError>
+    ensures change { IfOk result (λ change. option_map changed change ≡ change_by store.old command.now caller) }
+    ensures store { OnOk result (store.new ≡ after store.old command.now caller) }
+{
+    let _nested: NestedTypes = None;
+    let changes = would_change(store, command);
+    store.apply(command, caller)?;
+    if !changes {
+        return Ok(None);
+    }
+    let pair = pair(alloc, store, command)?;
+    let store = store_words(alloc, store)?;
+    Ok(Some(Change { pair, store }))
+}
+
+/// Whether the command would change the store.
+#[tactic(auto, using(plain_store::proofs::Changes::changes_differs))]
+fn would_change(store: &PlainStore, command: &Command) -> bool
+    ensures { result ≡ changes store.now command.now }
+{
+    store.would_change(command)
+}
+
+/// The pair of the command's name, as `NAME=VALUE`; nothing where the name has no value.
+fn pair(alloc: Global, store: &PlainStore, command: &Command) -> Result<String, AllocError>
+    ensures { IfOk result (λ words. string_bytes words ≡ pair_words store.now.pairs (name_of command.now)) }
+{
+    let _nested: NestedTypes = None;
+    if let Some(name) = command.name()
+        && let Some(value) = value_of(store, &name)
+    {
+        return shown_pair(alloc, &name, &value);
+    }
+    Ok(String::new(alloc))
+}
+
+/// The value of a name, if it has one.
+fn value_of(store: &PlainStore, name: &Name) -> Option<Value>
+    ensures { result ≡ value_at store.now.pairs name.now }
+{
+    for place in 0..store.len() {
+        let (other, value) = store.entry(place).unwrap();
+        if *name == other {
+            return Some(value);
+        }
+    }
+    None
+}
+
+/// The store's pairs, with single spaces between them, or that it is empty.
+pub fn store_words(alloc: Global, store: &PlainStore) -> Result<Vec<u8>, AllocError>
+    ensures { IfOk result (λ words. words.items ≡ words_of_store store.now) }
+{
+    let line = show_line(alloc, store)?;
+    words_shown(alloc, line.as_bytes())
+}
+
+/// The same, and nothing where it is empty.
+#[tactic(auto, using(crate::proofs::Shown::words_none, crate::proofs::Shown::words_some))]
+pub fn words_by_pairs(alloc: Global, store: &PlainStore) -> Result<Vec<u8>, AllocError>
+    ensures { IfOk result (λ words. words.items ≡ words_by store.now.pairs) }
+{
+    if store.len() == 0 {
+        return Ok(Vec::new(alloc));
+    }
+    store_words(alloc, store)
+}
+
+/// The pair as `NAME=VALUE`.
+#[tactic(auto, using(crate::proofs::Changing::pair_said))]
+fn shown_pair(alloc: Global, name: &Name, value: &Value) -> Result<String, AllocError>
+    ensures { IfOk result (λ words. string_bytes words ≡ name.now ++ codes "=" ++ value_text value.now) }
+{
+    format!(in alloc; "{name}={value}")
+}
+
+/// The words of a `show` line behind its first, without the line's end.
+#[tactic(auto, using(crate::proofs::Shown::words_of_shown, crate::proofs::Shown::short_shown))]
+pub fn words_shown(alloc: Global, line: &[u8]) -> Result<Vec<u8>, AllocError>
+    ensures shown { IfOk result (λ shown. shown.items ≡ shown_words line.now) }
+    ensures words { IfOk result (λ shown. (words : List ℕ) → line.now ≡ codes "show " ++ words ++ codes "\n" → shown.items ≡ words) }
+{
+    let mut shown = Vec::new(alloc);
+    if line.len() >= 6 {
+        shown.extend_from_slice(&line[5..line.len() - 1])?;
+    }
+    Ok(shown)
+}

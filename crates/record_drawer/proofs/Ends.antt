@@ -1,0 +1,179 @@
+-- What is read of a whole file, line by line, and how that ends.
+use Rattle.std.proofs.Common.{◌≡◌, ℕ, ◌+◌, ◌≤◌, Bool, true, false, List, [], ◌∷◌, ◌++◌, length, reverse, Option, Some, None, Result, Ok, Err, IfErr, IsErrAnd, IfSome, IsSome, refl, ap, sym, subst, ◌∙◌, arith}
+use Rattle.std.proofs.lemmas.List.{length-append, reverse-reverse}
+use Rattle.std.specs.Io.KnownBytes.{IsAtEnd, prepend_known}
+use Rattle.plain_store.specs.declared.setups.Setup.{Setup}
+use Rattle.files.specs.Checks.{◌>>=◌}
+use Rattle.files.specs.Files.{at_line}
+use Rattle.files.specs.Reads.{UnlessMemory}
+use Rattle.files.specs.Words.{lines}
+use Rattle.files.specs.declared.faults.Fault.{Fault}
+use Rattle.files.specs.declared.faults.Fault.TheVariants as fault
+use Rattle.files.specs.declared.faults.FaultKind.{FaultKind}
+use Rattle.files.specs.declared.faults.FaultKind.TheVariants.{NotFirst, TooLong}
+use Rattle.companions.specs.picture.declared.page.Form.{Form}
+use Rattle.companions.specs.picture.declared.reads.Reads.{Reads as Mode}
+use Rattle.record.specs.Entries.{Entry, Past}
+use Rattle.record_file.specs.RecordFiles.{Progress, cleared, entry_in, line_read, lines_read, record_of, rest_read, said_by}
+use Rattle.files.specs.Lines.{IsTooLong, TakesLine}
+use Rattle.files.specs.Streams.{failed_reading}
+use Rattle.files.specs.declared.faults.LineFault.{LineFault}
+use Rattle.files.specs.SourceLines.{EndHolds, Given, GoesToNext, LineState, TakesNext, Told, coming, unless_ended}
+use Rattle.record_drawer.specs.Sheets.{DrawsAt, DrawsBandsOf, EndsAt, GoesOn, IsDrawFault, LineStops, Stands, entries_of}
+use Rattle.record_drawer.specs.declared.drawing.Drawing.{Drawing}
+use Rattle.record_drawer.specs.declared.sheet.Drawn.{Drawn}
+use Rattle.record_drawer.specs.declared.sheet.Sheet.{Sheet}
+use Rattle.record_drawer.proofs.Lines.{few_in, long_read, reverse_in, unless_then}
+
+-- One line.
+
+-- the line is read, and then the rest
+line_then : (n : ℕ) (text line rest : List ℕ) (before now : Option Progress) (entries : List Entry) → TakesLine text line rest → line_read line before ≡ Ok now → rest_read n text before entries ≡ rest_read (n + 1) rest (cleared now) (entries ++ entry_in now)
+line_then n text line rest before now entries takes read =
+    ap (λ ls. lines_read n ls before entries >>= said_by (n + length ls)) takes
+    ∙ ap (λ r. (at_line n r >>= λ now. lines_read (n + 1) (lines rest) (cleared now) (entries ++ entry_in now)) >>= said_by (n + length (line ∷ lines rest))) read
+    ∙ ap (λ m. lines_read (n + 1) (lines rest) (cleared now) (entries ++ entry_in now) >>= said_by m) {y = n + 1 + length (lines rest)} (omega arith)
+
+-- or it has a fault
+line_fault : (n : ℕ) (text line : List ℕ) (others : List (List ℕ)) (before : Option Progress) (entries : List Entry) (kind : FaultKind) → lines text ≡ line ∷ others → line_read line before ≡ Err kind → rest_read n text before entries ≡ Err (record { line = n; kind = kind })
+line_fault n text line others before entries kind is fault =
+    ap (λ ls. lines_read n ls before entries >>= said_by (n + length ls)) is
+    ∙ ap (λ r. (at_line n r >>= λ now. lines_read (n + 1) others (cleared now) (entries ++ entry_in now)) >>= said_by (n + length (line ∷ others))) fault
+
+-- All lines so far.
+
+-- reading what is left, behind so many lines, gives what reading all gives
+abbrev pub GoesOnTo : Option Progress → List Entry → ℕ → List ℕ → List ℕ → Type 0
+GoesOnTo before entries taken text left = rest_read (taken + 1) left before entries ≡ record_of text
+
+-- what was read and drawn, and that reading the rest gives what reading all gives
+pub record Onwards (to_come rest : Option (List ℕ)) (taken : ℕ) (t : Sheet) (old new : Option (List ℕ)) : Type 0 where
+  pub before : Option Progress
+  pub past : Past
+  pub stands : Stands t before past old new
+  pub few : length past ≤ taken
+  pub goes_on : Told to_come rest (GoesOnTo before (reverse past) taken)
+
+-- as many entries were drawn as were said
+drawn_count : (reads : Mode) (form : Form) (d : Option Drawing) (before : Option Progress) (past : Past) (old new : Option (List ℕ)) → DrawsAt reads form d before past old new → entries_of d ≡ length past
+drawn_count reads form None before past old new drawn = sym (ap length drawn.0)
+drawn_count reads form (Some d) None past old new drawn = absurd drawn
+drawn_count reads form (Some d) (Some p) past old new drawn = drawn.1.recalls.entries
+
+pub onwards_few : (to_come rest : Option (List ℕ)) (taken : ℕ) (t : Sheet) (old new : Option (List ℕ)) → Onwards to_come rest taken t old new → entries_of t.drawing ≤ taken
+onwards_few to_come rest taken t old new u =
+    let few : length u.past ≤ taken = u.few in let count = drawn_count t.reads t.form t.drawing u.before u.past old new u.stands.draws in omega (arith, few, count)
+
+-- before the first line, where no bytes have come yet
+pub onwards_start : (to_come : Option (List ℕ)) (ahead : Given) (taken : ℕ) (t : Sheet) (old : Option (List ℕ)) → ahead.bytes ≡ [] → ahead.ended ≡ false → taken ≡ 0 → Stands t None [] old old → Onwards to_come (coming ahead to_come) taken t old old
+onwards_start to_come ahead taken t old fresh open_yet none stands =
+    subst (λ (l : List ℕ). Onwards to_come (prepend_known l (unless_ended ahead.ended to_come)) taken t old old) (sym fresh)
+    (subst (λ (b : Bool). Onwards to_come (prepend_known [] (unless_ended b to_come)) taken t old old) (sym open_yet)
+    (record { before = None; past = []; stands = stands; few = omega arith; goes_on = by to_come }))
+  where
+    by : (to_come : Option (List ℕ)) → Told to_come (prepend_known [] to_come) (GoesOnTo None [] taken)
+    by None = tt
+    by (Some text) = ap (λ n. rest_read (n + 1) text None []) none
+
+-- and no end was told
+pub none_told : (ahead : Given) (to_come : Option (List ℕ)) → ahead.ended ≡ false → EndHolds ahead to_come
+none_told ahead to_come open_yet told = let both : false ≡ true = sym open_yet ∙ told in absurd (cc)
+
+-- what is told of three moments
+told_on : (a b c : Option (List ℕ)) (P Q R : List ℕ → List ℕ → Type 0) → ((x y z : List ℕ) → P x y → Q y z → R x z) → Told a b P → Told b c Q → Told a c R
+told_on None b c P Q R then first next = tt
+told_on (Some x) None c P Q R then first next = absurd first
+told_on (Some x) (Some y) None P Q R then first next = absurd next
+told_on (Some x) (Some y) (Some z) P Q R then first next = then x y z first next
+
+-- a line more
+pub onwards_on : (to_come mid rest : Option (List ℕ)) (l l' : LineState) (t t' : Sheet) (old new then : Option (List ℕ)) (u : Onwards to_come mid l.taken t old new) → TakesNext l l' mid rest → GoesOn (line_read l'.line u.before) t' u.past old then → Onwards to_come rest l'.taken t' old then
+onwards_on to_come mid rest l l' t t' old new then u takes on = record {
+  before = cleared on.now;
+  past = entry_in on.now ++ u.past;
+  stands = on.stands;
+  few = let had : length u.past ≤ l.taken = u.few in let one = few_in on.now in let taken : l'.taken ≡ l.taken + 1 = takes.taken in omega (arith, had, one, taken, length-append (entry_in on.now) u.past);
+  goes_on = told_on to_come mid rest (GoesOnTo u.before (reverse u.past) l.taken) (λ text left. TakesLine text l'.line left) (GoesOnTo (cleared on.now) (reverse (entry_in on.now ++ u.past)) l'.taken)
+      (λ x y z before takes_line. ap (rest_read (l'.taken + 1) z (cleared on.now)) (reverse_in on.now u.past) ∙ ap (λ n. rest_read (n + 1) z (cleared on.now) (reverse u.past ++ entry_in on.now)) takes.taken ∙ sym (line_then (l.taken + 1) y l'.line z u.before on.now (reverse u.past) takes_line on.says) ∙ before) u.goes_on takes.line;
+}
+
+-- The end.
+
+-- a fact of the whole input, by what is left of it
+of_input : (to_come rest : Option (List ℕ)) (P : List ℕ → List ℕ → Type 0) (Q R : List ℕ → Type 0) → ((x y : List ℕ) → P x y → Q y → R x) → Told to_come rest P → IfSome rest Q → IfSome to_come R
+of_input None rest P Q R then told is = tt
+of_input (Some x) None P Q R then told is = absurd told
+of_input (Some x) (Some y) P Q R then told is = then x y told is
+
+-- a line with a fault
+pub onwards_fault : (to_come mid rest : Option (List ℕ)) (l l' : LineState) (t : Sheet) (old new : Option (List ℕ)) (e : Fault) (u : Onwards to_come mid l.taken t old new) → TakesNext l l' mid rest → LineStops e l'.taken (λ kind. (before : Option Progress) → t.reader ≡ before → line_read l'.line before ≡ Err kind) → IsDrawFault e to_come
+onwards_fault to_come mid rest l l' t old new fault.Read u takes stops = tt
+onwards_fault to_come mid rest l l' t old new fault.Write u takes stops = tt
+onwards_fault to_come mid rest l l' t old new fault.Memory u takes stops = tt
+onwards_fault to_come mid rest l l' t old new (fault.Line f) u takes stops =
+    of_input to_come mid (GoesOnTo u.before (reverse u.past) l.taken) (λ y. (z : List ℕ) × TakesLine y l'.line z) (λ text. UnlessMemory f.kind (record_of text ≡ Err f)) (λ x y before line. unless_then f.kind
+    (λ (is : (before : Option Progress) → t.reader ≡ before → line_read l'.line before ≡ Err f.kind). sym before ∙ line_fault (l.taken + 1) y l'.line (lines line.0) u.before (reverse u.past) f.kind line.1 (is u.before u.stands.reader) ∙ ap (λ n. Err (record { line = n; kind = f.kind })) (sym takes.taken ∙ sym stops.0)) stops.1)
+    u.goes_on (some_rest mid rest takes.line)
+  where
+    some_rest : (mid rest : Option (List ℕ)) → Told mid rest (λ text left. TakesLine text l'.line left) → IfSome mid (λ y. (z : List ℕ) × TakesLine y l'.line z)
+    some_rest None rest told = tt
+    some_rest (Some y) None told = absurd told
+    some_rest (Some y) (Some z) told = (z, told)
+
+-- a line that is too long
+pub onwards_long : (to_come mid : Option (List ℕ)) (taken : ℕ) (t : Sheet) (old new : Option (List ℕ)) (u : Onwards to_come mid taken t old new) → IfSome mid IsTooLong → IfSome to_come (λ text. record_of text ≡ Err (record { line = taken + 1; kind = TooLong }))
+onwards_long to_come mid taken t old new u long =
+    of_input to_come mid (GoesOnTo u.before (reverse u.past) taken) IsTooLong (λ text. record_of text ≡ Err (record { line = taken + 1; kind = TooLong })) (λ x y before is. sym before ∙ line_fault (taken + 1) y is.line is.others u.before (reverse u.past) TooLong is.is (long_read is.line u.before is.long)) u.goes_on long
+
+-- nothing is left
+at_end : (mid : Option (List ℕ)) → IsAtEnd mid → IfSome mid (λ y. y ≡ [])
+at_end None is = tt
+at_end (Some y) is = is
+
+-- all lines were skipped
+pub onwards_none : (to_come mid : Option (List ℕ)) (taken : ℕ) (t : Sheet) (old new : Option (List ℕ)) (u : Onwards to_come mid taken t old new) → t.reader ≡ None → IsAtEnd mid → IfSome to_come (λ text. record_of text ≡ Err (record { line = taken + 1; kind = NotFirst }))
+onwards_none to_come mid taken t old new u none end =
+    of_input to_come mid (GoesOnTo u.before (reverse u.past) taken) (λ y. y ≡ []) (λ text. record_of text ≡ Err (record { line = taken + 1; kind = NotFirst })) (λ x y before is. sym before ∙ ap (λ (l : List ℕ). rest_read (taken + 1) l u.before (reverse u.past)) is ∙ ap (λ b. rest_read (taken + 1) [] b (reverse u.past)) (sym u.stands.reader ∙ none) ∙ ap (λ n. Err (record { line = n; kind = NotFirst })) {y = taken + 1} (omega arith)) u.goes_on (at_end mid end)
+
+-- the picture of the whole
+pub onwards_drawn : (to_come mid : Option (List ℕ)) (taken : ℕ) (t : Sheet) (old new then : Option (List ℕ)) (u : Onwards to_come mid taken t old new) (p : Progress) (drawn : Drawn) → t.reader ≡ Some p → IsAtEnd mid →
+    ((p : Progress) (past : Past) (first : Option (List ℕ)) → t.reader ≡ Some p → Stands t (Some p) past first new → (drawn.setup ≡ p.head.setup) × EndsAt t.reads t.form p.head.setup past drawn.height first then) →
+    IfSome to_come (λ text. DrawsBandsOf t.reads t.form text drawn old then)
+onwards_drawn to_come mid taken t old new then u p drawn some end ends =
+    of_input to_come mid (GoesOnTo u.before (reverse u.past) taken) (λ y. y ≡ []) (λ text. DrawsBandsOf t.reads t.form text drawn old then) (λ x y before is. record {
+      said = record { setup = p.head.setup; entries = reverse u.past };
+      says = sym before ∙ ap (λ (l : List ℕ). rest_read (taken + 1) l u.before (reverse u.past)) is ∙ ap (λ b. rest_read (taken + 1) [] b (reverse u.past)) (sym u.stands.reader ∙ some);
+      setup = both.0;
+      ends = subst (λ (past : Past). EndsAt t.reads t.form p.head.setup past drawn.height old then) (sym (reverse-reverse u.past)) both.1;
+    }) u.goes_on (at_end mid end)
+  where
+    both : (drawn.setup ≡ p.head.setup) × EndsAt t.reads t.form p.head.setup u.past drawn.height old then
+    both = ends p u.past old some (subst (λ (o : Option Progress). Stands t o u.past old new) (sym u.stands.reader ∙ some) u.stands)
+
+-- what was read, where something was
+pub read_some : (o : Option Progress) → IsSome o → (p : Progress) × (o ≡ Some p)
+read_some None some = absurd (cc)
+read_some (Some p) some = (p, refl)
+
+-- no next line
+pub onwards_stop : (to_come mid rest : Option (List ℕ)) (l l' : LineState) (t : Sheet) (old new : Option (List ℕ)) (e : Fault) (u : Onwards to_come mid l.taken t old new) → GoesToNext (Err e) l l' mid rest → IsDrawFault e to_come
+onwards_stop to_come mid rest l l' t old new fault.Read u next = tt
+onwards_stop to_come mid rest l l' t old new fault.Memory u next = tt
+onwards_stop to_come mid rest l l' t old new fault.Write u next = absurd next
+onwards_stop to_come mid rest l l' t old new (fault.Line f) u next =
+    subst (λ (f : LineFault). IfSome to_come (λ text. UnlessMemory f.kind (record_of text ≡ Err f))) (sym next.0) (onwards_long to_come mid l.taken t old new u next.1)
+
+-- a fault that is handed on
+pub fault_on : {A : Type 0} (r : Result A Fault) (e : Fault) (to_come : Option (List ℕ)) → IsErrAnd r (λ x. x ≡ e) → IsDrawFault e to_come → IfErr r (λ x. IsDrawFault x to_come)
+fault_on (Ok done) e to_come same is = tt
+fault_on (Err x) e to_come same is = subst (λ x. IsDrawFault x to_come) (sym same) is
+
+pub reading_same : {A : Type 0} (r : Result A Fault) (e : Fault) → IsErrAnd r (λ x. x ≡ e) → failed_reading r ≡ failed_reading {A = Unit {0}} (Err e)
+reading_same (Ok done) e same = absurd same
+reading_same {A} (Err f) e same = kind f ∙ ap (λ f. failed_reading {A = Unit {0}} (Err f)) same
+  where
+    kind : (f : Fault) → failed_reading {A = A} (Err f) ≡ failed_reading {A = Unit {0}} (Err f)
+    kind fault.Write = refl
+    kind fault.Memory = refl
+    kind fault.Read = refl
+    kind (fault.Line f) = refl

@@ -1,0 +1,19 @@
+pub use Rattle.companions.proofs as companions
+pub use Rattle.companions.proofs.picture as picture
+pub use Rattle.record_file.proofs as record_file
+pub use Rattle.companions.proofs.watch as watch
+-- Markup that is written piece by piece
+mod Written
+pub mod Drawn
+-- What items are told
+mod Giving
+mod Takings
+mod Hearing
+-- A source that was looked at
+pub mod Opening
+-- A file, line by line
+mod Lines
+mod Sheeted
+-- The engines
+mod Ends
+mod Whole

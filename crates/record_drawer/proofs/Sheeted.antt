@@ -1,0 +1,97 @@
+-- The picture of a record goes on, entry by entry.
+use Rattle.std.proofs.Common.{◌≡◌, ℕ, ◌+◌, ◌-◌, List, [], ◌∷◌, ◌++◌, codes, flat_map, length, is_some, false, true≢false, Option, None, Some, refl, ap, sym, subst, ◌∙◌, append-nil, arith}
+use Rattle.plain_store.specs.declared.setups.Setup.{Setup}
+use Rattle.record.specs.Entries.{Entry, Past}
+use Rattle.record.specs.declared.access.Access.{Access}
+use Rattle.record_file.specs.Printing.{head_words, step_entry}
+use Rattle.record_file.specs.RecordFiles.{Progress}
+use Rattle.record_file.specs.scenario.Printing.{printed_line}
+use Rattle.companions.specs.picture.Sheets.{page_front}
+use Rattle.companions.specs.picture.Pages.{page_names, seen_page}
+use Rattle.companions.specs.picture.declared.page.Form.{Form}
+use Rattle.companions.specs.picture.declared.page.Form.TheVariants as form
+use Rattle.companions.specs.picture.declared.page.Page.{Page}
+use Rattle.companions.specs.picture.declared.reads.Reads.{Reads as Mode}
+use Rattle.companions.specs.picture.shapes.Elements.{opens_in}
+use Rattle.companions.specs.picture.shapes.Titles.{lines_in}
+use Rattle.record_drawer.specs.Drawings.{DrawsOn, DrawsRest, Kept, Recalls, Writes, kept, kept_at_first, plan_of}
+use Rattle.record_drawer.specs.Items.{SaysEnd, given_at_end, given_by, given_of, lines_given, marks_back, reads_since, source_of, taken_by}
+use Rattle.record_drawer.specs.Sheets.{Draws, DrawsAt, EndsAt, Heads, HeadsPage, IsDrawn, listed}
+use Rattle.record_drawer.specs.declared.drawing.Drawing.{Drawing}
+use Rattle.record_drawer.proofs.Drawn.{draws_bands, draws_on_both, draws_on_none}
+
+module _ (reads : Mode) (form : Form) (s : Setup) where
+  -- the line that stands for the entries
+  source : (d : Drawing) → d.last ≡ source_of s + 1 → d.last - 1 ≡ source_of s
+  source d is = omega (arith, is)
+
+  -- one entry more
+  pub drawn_entry : (past : Past) (e : Entry) (d d' : Drawing) (old mid new : Option (List ℕ)) → IsDrawn reads form s past d old mid → DrawsOn (kept d.page) (kept d'.page) mid new (given_of reads s (d.last - 1) past e) → Recalls reads s (e ∷ past) d' → d'.last ≡ d.last → IsDrawn reads form s (e ∷ past) d' old new
+  drawn_entry past e d d' old mid new drawn on recalls last = record {
+    last = last ∙ drawn.last;
+    recalls = recalls;
+    mid = drawn.mid;
+    heads = drawn.heads;
+    draws = draws_on_both (kept_at_first (plan_of form s)) (kept d.page) (kept d'.page) drawn.mid mid new (given_by reads s (source_of s) past) (given_of reads s (source_of s) past e) drawn.draws
+        (subst (λ n. DrawsOn (kept d.page) (kept d'.page) mid new (given_of reads s n past e)) (source d drawn.last) on);
+  }
+
+  -- one without a mark, of which nothing is drawn
+  pub drawn_step : (past : Past) (p : ℕ) (a : Access) (d d' : Drawing) (old new : Option (List ℕ)) → d'.page ≡ d.page → Recalls reads s (step_entry p a ∷ past) d' → d'.last ≡ d.last → IsDrawn reads form s past d old new → IsDrawn reads form s (step_entry p a ∷ past) d' old new
+  drawn_step past p a d d' old new page recalls last drawn = record {
+    last = last ∙ drawn.last;
+    recalls = recalls;
+    mid = drawn.mid;
+    heads = drawn.heads;
+    draws = subst (λ gives. DrawsOn (kept_at_first (plan_of form s)) (kept d'.page) drawn.mid new gives) (sym (append-nil (given_by reads s (source_of s) past)))
+        (subst (λ (page : Page). DrawsOn (kept_at_first (plan_of form s)) (kept page) drawn.mid new (given_by reads s (source_of s) past)) (sym page) drawn.draws);
+  }
+
+  -- none yet
+  pub drawn_none : (d : Drawing) (old new : Option (List ℕ)) → d.last ≡ source_of s + 1 → Recalls reads s [] d → kept d.page ≡ kept_at_first (plan_of form s) → Heads reads form s old new → IsDrawn reads form s [] d old new
+  drawn_none d old new last recalls page heads = record {
+    last = last;
+    recalls = recalls;
+    mid = new;
+    heads = heads;
+    draws = subst (λ (k : Kept). DrawsOn (kept_at_first (plan_of form s)) k new new []) (sym page) (draws_on_none (kept_at_first (plan_of form s)) new);
+  }
+
+  -- a picture that begins where there was none
+  pub drawn_begun : (d d' : Option Drawing) (past : Past) (old mid new : Option (List ℕ)) → is_some d ≡ false → Draws reads form d s past old mid → Draws reads form d' s [] mid new → Draws reads form d' s past old new
+  drawn_begun None d' past old mid new none drawn begun = subst (λ (l : Past). Draws reads form d' s l old new) (sym drawn.0) (subst (λ (w : Option (List ℕ)). Draws reads form d' s [] w new) drawn.1 begun)
+  drawn_begun (Some d) d' past old mid new none drawn begun = absurd (true≢false none)
+
+  -- all
+  pub drawn_end : (past : Past) (d : Drawing) (old mid new : Option (List ℕ)) (height : ℕ) → IsDrawn reads form s past d old mid → DrawsRest (kept d.page) mid new (lines_given reads d.last d.entries (reads_since s past) (SaysEnd d.entries d.taken ∷ [])) height → EndsAt reads form s past height old new
+  drawn_end past d old mid new height drawn rest = record {
+    mid = drawn.mid;
+    heads = drawn.heads;
+    bands = draws_bands (plan_of form s) (kept_at_first (plan_of form s)) (kept d.page) drawn.mid mid new (given_by reads s (source_of s) past) (given_at_end reads s (source_of s) past) height refl refl drawn.draws
+        (subst (λ gives. DrawsRest (kept d.page) mid new gives height) same rest);
+  }
+    where
+      same : lines_given reads d.last d.entries (reads_since s past) (SaysEnd d.entries d.taken ∷ []) ≡ given_at_end reads s (source_of s) past
+      same = λ i. lines_given reads (drawn.last i) (drawn.recalls.entries i) (reads_since s past) (SaysEnd (drawn.recalls.entries i) (drawn.recalls.among.taken i) ∷ [])
+
+-- a page's front
+pub heads_page : (reads : Mode) (s : Setup) (old new : Option (List ℕ)) (head : List ℕ) → head ≡ page_front s (listed s) reads → lines_in head ≡ [] → opens_in head (Some []) ≡ Some page_names → Writes old new head → Heads reads form.Page s old new
+heads_page reads s old new head is lines opens writes = record { head = head; is = is; lines = lines; opens = opens; writes = writes }
+
+-- one picture has none yet
+pub heads_picture : (reads : Mode) (f : Form) (s : Setup) (old : Option (List ℕ)) → (f ≡ form.Page → ⊥) → Heads reads f s old old
+heads_picture reads form.Page s old other = absurd (other refl)
+heads_picture reads (form.Picture top) s old other = refl
+
+-- the lines that a page lists
+pub front_listed : (s : Setup) (reads : Mode) (text printed markup : List ℕ) → text ≡ flat_map printed_line (head_words s) → printed ≡ text ++ codes "(entries)\n" → markup ≡ page_front s printed reads → markup ≡ page_front s (listed s) reads
+front_listed s reads text printed markup prints more is = is ∙ ap (λ l. page_front s l reads) (more ∙ ap (λ l. l ++ codes "(entries)\n") prints)
+
+-- what is drawn, by the setup that was read
+pub draws_of : (reads : Mode) (f : Form) (d : Option Drawing) (p : Progress) (past : Past) (old new : Option (List ℕ)) → DrawsAt reads f d (Some p) past old new → Draws reads f d p.head.setup past old new
+draws_of reads f None p past old new drawn = drawn
+draws_of reads f (Some d) p past old new drawn = drawn.1
+
+-- what was found in it
+pub same_some : (o : Option Progress) (p q : Progress) → o ≡ Some p → o ≡ Some q → p ≡ q
+same_some o p q is other = let both : Some p ≡ Some q = sym is ∙ other in cc

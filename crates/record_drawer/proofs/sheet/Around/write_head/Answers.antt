@@ -1,0 +1,14 @@
+use Rattle.std.proofs.Common.{◌≡◌, refl, subst, sym}
+use Rattle.std.specs.Result.{OnOk}
+use Rattle.companions.specs.picture.declared.page.Form.{Form}
+use Rattle.record_drawer.specs.Sheets.{Heads}
+use Rattle.record_drawer.proofs.Sheeted.{heads_page}
+use Rattle.record_drawer.proofs.Written.{ok_then}
+use Rattle.record_drawer.proofs.sheet.Around.write_head.Goals as goal
+
+pub returns-in_ok-head-in-Page-clause-heads : goal.returns-in_ok-head-in-Page-clause-heads
+returns-in_ok-head-in-Page-clause-heads g c =
+    ok_then c.write_markup.result
+    (λ written. subst (λ (f : Form). Heads c.args.self.reads f c.args.setup.now (g.W.Sink.taken c.args.output.now) (g.W.Sink.taken c.write_markup.new.output)) (sym c.in-Page.is)
+    (heads_page c.args.self.reads c.args.setup.now (g.W.Sink.taken c.args.output.now) (g.W.Sink.taken c.write_markup.new.output) c.in_ok-head-in-Page.head c.in_ok-head-in-Page.ensures.draws c.in_ok-head-in-Page.ensures.lines c.in_ok-head-in-Page.ensures.elements written))
+    c.write_markup.ensures.written

@@ -1,0 +1,9 @@
+pub use Rattle.companions.specs as companions
+pub use Rattle.companions.specs.picture as picture
+pub use Rattle.record_file.specs as record_file
+pub use Rattle.companions.specs.watch as watch
+pub mod Drawings
+pub mod Items
+pub mod Sheets
+pub mod Takings
+pub mod Writing

@@ -1,0 +1,150 @@
+-- What stands while a record is read and drawn line by line, and how that ends.
+use Rattle.std.specs.Prelude.{◌≡◌, ◌<◌, ◌+◌, ℕ, true, List, [], ◌++◌, codes, flat_map, reverse, Option, None, Some, IfSome, Result, Ok, Err}
+use Rattle.std.specs.Io.KnownBytes.{Appends, IsAtEnd, Keeps}
+use Rattle.files.specs.Engines.{Streams}
+use Rattle.files.specs.Reads.{UnlessMemory}
+use Rattle.files.specs.declared.faults.Fault.{Fault}
+use Rattle.files.specs.declared.faults.Fault.TheVariants as fault
+use Rattle.files.specs.declared.faults.FaultKind.{FaultKind}
+use Rattle.plain_store.specs.Setups.{opening_store}
+use Rattle.plain_store.specs.declared.setups.Setup.{Setup}
+use Rattle.record.specs.Entries.{Past}
+use Rattle.record_file.specs.Printing.{head_words}
+use Rattle.record_file.specs.scenario.Printing.{printed_line}
+use Rattle.record_file.specs.RecordFiles.{Progress, Said, cleared, entry_in, record_of}
+use Rattle.companions.specs.picture.Bandings.{Item, bands_told, heights_told}
+use Rattle.companions.specs.picture.Pages.{page_names}
+use Rattle.companions.specs.picture.Sheets.{page_back, page_front, picture_back, picture_front}
+use Rattle.companions.specs.picture.Standings.{sayings}
+use Rattle.companions.specs.picture.columns.Stages.{marks_in, marks_said}
+use Rattle.companions.specs.picture.declared.page.Form.{Form}
+use Rattle.companions.specs.picture.declared.page.Form.TheVariants as form
+use Rattle.companions.specs.picture.declared.reads.Reads.{Reads as Mode}
+use Rattle.companions.specs.picture.shapes.Elements.{opens_in}
+use Rattle.companions.specs.picture.shapes.Titles.{lines_in}
+use Rattle.record_drawer.specs.Drawings.{DrawsBands, DrawsOn, Recalls, Writes, kept, kept_at_first, plan_of}
+use Rattle.record_drawer.specs.Items.{given, given_at_end, given_by, record_gives, record_lines, source_of}
+use Rattle.companions.specs.StoreChanges.{store_words}
+use Rattle.record_drawer.specs.declared.drawing.Drawing.{Drawing}
+use Rattle.record_drawer.specs.declared.sheet.Drawn.{Drawn}
+use Rattle.record_drawer.specs.declared.sheet.Sheet.{Sheet}
+
+-- the lines that a page lists: the headings and the opening pairs of the record, and one that stands for its entries
+abbrev pub listed : Setup → List ℕ
+listed s = flat_map printed_line (head_words s) ++ codes "(entries)\n"
+
+-- A record's picture, as bytes: what items are told, between a front and a back.
+abbrev pub picture_of : Mode → Form → Setup → List Item → List ℕ
+picture_of reads form.Page s items = (page_front s (listed s) reads ++ bands_told (plan_of form.Page s) items) ++ page_back (store_words (opening_store s))
+picture_of reads (form.Picture top) s items =
+    (picture_front s (heights_told (plan_of (form.Picture top) s) items) reads ++ bands_told (plan_of (form.Picture top) s) items) ++ picture_back (heights_told (plan_of (form.Picture top) s) items) reads
+
+-- Markup is the picture of a record, and nothing else: that of items which are what the record gives, one by one. So they say its marks.
+pub record IsPictureOf (reads : Mode) (form : Form) (said : Said) (markup : List ℕ) : Type 0 where
+  pub items : List Item
+  pub are : given items ≡ record_gives reads said
+  pub marks : flat_map marks_said (sayings items) ≡ marks_in (reverse said.entries)
+  pub is : markup ≡ picture_of reads form said.setup items
+
+-- A whole picture was written: it is the picture of the record that the text says, and nothing else; its tags fit, and no element is open at its end; and the titles of its marks, read back, are the marks of the record, in their order, and a last line.
+pub record DrawsRecord (reads : Mode) (form : Form) (text : List ℕ) (old new : Option (List ℕ)) : Type 0 where
+  pub said : Said
+  pub says : record_of text ≡ Ok said
+  pub markup : List ℕ
+  pub picture : IsPictureOf reads form said markup
+  pub elements : opens_in markup (Some []) ≡ Some []
+  pub read_back : lines_in markup ≡ record_lines said
+  pub writes : Writes old new markup
+
+-- what a page has before its bands was written; one picture has it later, once its height is known
+pub record HeadsPage (reads : Mode) (s : Setup) (old new : Option (List ℕ)) : Type 0 where
+  pub head : List ℕ
+  pub is : head ≡ page_front s (listed s) reads
+  pub lines : lines_in head ≡ []
+  pub opens : opens_in head (Some []) ≡ Some page_names
+  pub writes : Writes old new head
+
+abbrev pub Heads : Mode → Form → Setup → Option (List ℕ) → Option (List ℕ) → Type 0
+Heads reads form.Page s old new = HeadsPage reads s old new
+Heads reads (form.Picture top) s old new = new ≡ old
+
+-- these entries of a record with this setup are drawn, but for what is held back
+pub record IsDrawn (reads : Mode) (form : Form) (s : Setup) (past : Past) (d : Drawing) (old new : Option (List ℕ)) : Type 0 where
+  pub last : d.last ≡ source_of s + 1
+  pub recalls : Recalls reads s past d
+  pub mid : Option (List ℕ)
+  pub heads : Heads reads form s old mid
+  pub draws : DrawsOn (kept_at_first (plan_of form s)) (kept d.page) mid new (given_by reads s (source_of s) past)
+
+-- the same by what there is: before the first entry nothing was written
+abbrev pub Draws : Mode → Form → Option Drawing → Setup → Past → Option (List ℕ) → Option (List ℕ) → Type 0
+Draws reads form None s past old new = (past ≡ []) × (new ≡ old)
+Draws reads form (Some d) s past old new = IsDrawn reads form s past d old new
+
+-- the same by what was read: behind an entry the setup stays
+abbrev pub DrawsAt : Mode → Form → Option Drawing → Option Progress → Past → Option (List ℕ) → Option (List ℕ) → Type 0
+DrawsAt reads form None before past old new = (past ≡ []) × (new ≡ old)
+DrawsAt reads form (Some d) None past old new = ⊥
+DrawsAt reads form (Some d) (Some p) past old new = (p.ended ≡ true) × IsDrawn reads form p.head.setup past d old new
+
+-- this was read, these entries were said, the newest first, each was taken, and they were drawn
+pub record Stands (t : Sheet) (before : Option Progress) (past : Past) (old new : Option (List ℕ)) : Type 0 where
+  pub reader : t.reader ≡ before
+  pub clear : cleared before ≡ before
+  pub draws : DrawsAt t.reads t.form t.drawing before past old new
+
+-- what a line says was read, and drawn if it is an entry
+pub record GoesOn (line : Result (Option Progress) FaultKind) (t : Sheet) (past : Past) (old new : Option (List ℕ)) : Type 0 where
+  pub now : Option Progress
+  pub says : line ≡ Ok now
+  pub stands : Stands t (cleared now) (entry_in now ++ past) old new
+
+-- why a line is not drawn: its fault, a call that failed, or want of memory
+abbrev pub LineStops : Fault → ℕ → (FaultKind → Type 0) → Type 0
+LineStops (fault.Line f) number says = (f.line ≡ number) × UnlessMemory f.kind (says f.kind)
+LineStops fault.Write number says = Unit {0}
+LineStops fault.Memory number says = Unit {0}
+LineStops fault.Read number says = ⊥
+
+-- how many entries were drawn
+abbrev pub entries_of : Option Drawing → ℕ
+entries_of None = 0
+entries_of (Some d) = d.entries
+
+-- all bands of these entries were written, and a page's front before them
+pub record EndsAt (reads : Mode) (form : Form) (s : Setup) (past : Past) (height : ℕ) (old new : Option (List ℕ)) : Type 0 where
+  pub mid : Option (List ℕ)
+  pub heads : Heads reads form s old mid
+  pub bands : DrawsBands (plan_of form s) mid new (given_by reads s (source_of s) past ++ given_at_end reads s (source_of s) past) height
+
+-- all bands of the record that a text says were written, and a page's front before them
+pub record DrawsBandsOf (reads : Mode) (form : Form) (text : List ℕ) (drawn : Drawn) (old new : Option (List ℕ)) : Type 0 where
+  pub said : Said
+  pub says : record_of text ≡ Ok said
+  pub setup : drawn.setup ≡ said.setup
+  pub ends : EndsAt reads form said.setup (reverse said.entries) drawn.height old new
+
+-- why drawing ends early: a fault of what the input says, a call that failed, or want of memory
+abbrev pub IsDrawFault : Fault → Option (List ℕ) → Type 0
+IsDrawFault (fault.Line f) to_come = IfSome to_come (λ text. UnlessMemory f.kind (record_of text ≡ Err f))
+IsDrawFault fault.Read to_come = Unit {0}
+IsDrawFault fault.Write to_come = Unit {0}
+IsDrawFault fault.Memory to_come = Unit {0}
+
+-- nothing was written of one picture; of a page what stood before the fault may have been
+abbrev pub LeavesNone : Form → Option (List ℕ) → Option (List ℕ) → Type 0
+LeavesNone form.Page old new = Unit {0}
+LeavesNone (form.Picture top) old new = Keeps old new
+
+-- How drawing a record ends: with the picture of the record that the whole input says, or with its fault, which is the one that judging it has; each fault has its cause.
+abbrev pub Drew : Mode → Form → Result (Unit {0}) Fault → Streams → Streams → Type 0
+Drew reads form (Ok done) old new = IfSome old.to_come (λ text. DrawsRecord reads form text old.taken new.taken) × IsAtEnd new.to_come
+Drew reads form (Err (fault.Line f)) old new = IfSome old.to_come (λ text. UnlessMemory f.kind (record_of text ≡ Err f)) × LeavesNone form old.taken new.taken
+Drew reads form (Err fault.Read) old new = (old.read_failures < new.read_failures) × LeavesNone form old.taken new.taken
+Drew reads form (Err fault.Write) old new = old.write_failures < new.write_failures
+Drew reads form (Err fault.Memory) old new = Unit {0}
+
+-- where bytes are held, a write that fails wants memory
+abbrev pub without_write : Fault → Fault
+without_write fault.Write = fault.Memory
+without_write other = other

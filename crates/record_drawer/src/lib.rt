@@ -1,0 +1,20 @@
+//! The pictures of records: what an entry after the other says, as a page for a browser and as one picture. A record may be
+//! good or bad, and of any lock; what it says is drawn.
+//!
+//! ```rust
+//! Engine::Draw if wanted.is_record => ended(draw_record(alloc, reads, input, output)),
+//! Engine::DrawSvg if wanted.is_record => ended(draw_record_svg(alloc, reads, input, output)),
+//! ```
+#![tactic(auto)]
+
+mod changes;
+mod drawing;
+mod engines;
+mod held;
+mod opened;
+mod sheet;
+mod writing;
+
+pub use any_judge::{judge_any_lock, run_judge_with_reasons};
+pub use engines::{draw_record, draw_record_svg};
+pub use opened::Opened;

@@ -1,0 +1,36 @@
+//! How markup is written.
+ghost use Rattle.std.specs.Prelude.{◌≡◌, ◌+◌, ◌-◌, ◌^◌, ◌<◌, IfErr, IfSome, OnOk};
+ghost use Rattle.companions.specs.picture.shapes.Elements.{EndsAll};
+ghost use Rattle.companions.specs.picture.shapes.Titles.{lines_in};
+ghost use Rattle.companions.specs.picture.Pages.{band_text, lines_of_band};
+ghost use Rattle.record_drawer.specs.Drawings.{Draws, Writes};
+ghost use Rattle.record_drawer.specs.Writing.{IsWriteFault, failed_write};
+
+use files::{Fault, Sink, write_all};
+use companions::Markup;
+
+/// Writes markup.
+#[tactic(auto, using(crate::proofs::Drawn::draws_bytes, crate::proofs::Drawn::writes_bytes))]
+pub(crate) fn write_markup<W: Sink>(markup: &Markup, output: &mut W) -> Result<(), Fault>
+    requires { W.failures output.old < 2 ^ 64 - 1 }
+    ensures written { OnOk result (Writes (W.taken output.old) (W.taken output.new) markup.now) }
+    ensures ok { OnOk result (EndsAll markup.now → Draws (W.taken output.old) (W.taken output.new) markup.now (lines_in markup.now)) }
+    ensures fault { IfErr result IsWriteFault }
+    ensures failures { W.failures output.new ≡ W.failures output.old + failed_write result }
+{
+    write_all(output, markup.as_slice())
+}
+
+/// Writes a band, if there is one.
+#[tactic(auto, using(crate::proofs::Drawn::draws_no_band))]
+pub(crate) fn write_band<W: Sink>(band: &Option<Markup>, output: &mut W) -> Result<(), Fault>
+    requires { W.failures output.old < 2 ^ 64 - 1 }
+    ensures ok { OnOk result (IfSome band.now EndsAll → Draws (W.taken output.old) (W.taken output.new) (band_text band.now) (lines_of_band band.now)) }
+    ensures fault { IfErr result IsWriteFault }
+    ensures failures { W.failures output.new ≡ W.failures output.old + failed_write result }
+{
+    match band {
+        Some(band) => write_markup(band, output),
+        None => Ok(()),
+    }
+}

@@ -1,0 +1,154 @@
+#!/usr/bin/env python3
+"""Draws records by the proved program, and reads them back.
+
+The record of each worked scenario is drawn beside the scenario itself. The two differ only in what a record doesn't say: the
+list of the scenario's lines, with the number of the line that made a mark; and where the run has them, the lines of refusals,
+of `turns` and of `show`, and how many events were refused. Where it has none of these, the bands are the same to the byte.
+
+Each record of examples/other-locks is drawn, good or bad. A parser of XML reads the picture, and one of HTML the page; the
+titles of their marks are the marks of the record, which are read here once more from its words. A record with a fault has the
+same fault, told alike with its place, in `draw`, `draw-svg` and `judge`, of which the page alone may have begun.
+"""
+
+import pathlib
+import re
+import subprocess
+import sys
+import xml.etree.ElementTree as tree
+
+sys.path.insert(0, str(pathlib.Path(__file__).resolve().parents[1]))
+
+from lib.counting import Counter
+from lib.places import OTHER_LOCKS, PROGRAM, TOP, WORKED
+from pictures import SVG, Groups, overlapped_in, read_faults, title, words_of
+
+# lines of a run that its record doesn't say
+UNSAID = re.compile(r"- \d+ (refused|turns)|show ")
+# what each picture has of the file that it was drawn from: the list of its lines, and which of these made a mark
+LIST = re.compile(r"<details open>.*?</details>\n", re.DOTALL)
+BY_LINE = re.compile(r' data-l="\d+"')
+END = re.compile(r"(end events \d+ taken \d+ refused )\d+")
+# what spoils a record: where a line is put, and that line
+SPOILS = [(0, b"bakery 3"), (1, b"slots 9999"), (-1, b"0 0.ticket.0"), (-1, b"x"), (-1, b"#" * 129), (-1, b"slots 2")]
+
+
+def run(file, command, *options):
+    """How a run ended: its status, what it wrote, and what it told."""
+    ran = subprocess.run([PROGRAM, command, *options, "-"], input=file, capture_output=True)
+    return ran.returncode, ran.stdout, ran.stderr
+
+
+def written(file, command, *options):
+    status, output, errors = run(file, command, *options)
+    assert status == 0 and not errors, (command, status, errors)
+    return output.decode()
+
+
+def bands_of(picture):
+    """What a picture shows, without what it has of its file."""
+    return BY_LINE.sub("", LIST.sub("", picture))
+
+
+def heard(picture):
+    """The groups of a picture or a page, as a parser of HTML reads them."""
+    parser = Groups()
+    parser.feed(picture)
+    return parser.groups
+
+
+def said_lines(groups):
+    """The titles of the marks that a record says too."""
+    titles = [group.title[0] for group in groups if group.style == "m"]
+    return [END.sub(r"\g<1>0", line) for line in titles if not UNSAID.match(line)]
+
+
+def run_faults(scenario, record, command, *options):
+    """What is otherwise in the picture of a record than in that of its run, beside what a record doesn't say."""
+    of_run, of_record = written(scenario, command, *options), written(record, command, *options)
+    lines = written(scenario, "replay").splitlines()
+    if said_lines(heard(of_run)) != said_lines(heard(of_record)):
+        yield "other marks"
+    says_all = not any(UNSAID.match(line) for line in lines)
+    if says_all and bands_of(of_run) != bands_of(of_record):
+        yield "other bands"
+
+
+def lines_of(record):
+    """The lines that a picture of a record has, by the record's words: a line for each mark, and a last one."""
+    said = [line.split() for line in record.decode().splitlines()]
+    entries = [words for words in said if words and words[0][0].isdigit()]
+    taken = 0
+    for number, words in enumerate(entries):
+        for mark in " ".join(words).split(" : ")[1:]:
+            taken += mark.startswith("taken ")
+            yield f"{number} {words[0]} {mark}"
+    yield f"end events {len(entries)} taken {taken} refused 0"
+
+
+def stray_words(root):
+    """Words that stand outside of a picture."""
+    return [word for word in words_of(root, 0) if word[0] < 0 or word[2] > int(root.get("width")) or word[3] > int(root.get("height"))]
+
+
+def record_faults(record):
+    """What is wrong with the pictures of a record, whatever lock it is of."""
+    wanted = list(lines_of(record))
+    root = tree.fromstring(written(record, "draw-svg"))
+    if [title(mark) for mark in root.iter(SVG + "g") if mark.get("class") == "m"] != wanted:
+        yield "draw-svg has other lines"
+    if stray_words(root):
+        yield f"words stand outside: {stray_words(root)[:3]}"
+    if [group.title[0] for group in heard(written(record, "draw")) if group.style == "m"] != wanted:
+        yield "draw has other lines"
+    tree.fromstring(written(record, "draw-svg", "--reads"))
+    if run(record, "judge", "--any-lock")[0] == 0:
+        reads = list(overlapped_in(record.decode().splitlines()))
+        yield from read_faults(heard(written(record, "draw", "--reads")), reads)
+
+
+def spoiled(record):
+    """The record with a line more at each of some places."""
+    lines = record.splitlines()
+    for place, line in SPOILS:
+        at = place % (len(lines) + 1)
+        yield b"\n".join([*lines[:at], line, *lines[at:]]) + b"\n"
+
+
+def spoil_faults(file, *options):
+    """What is wrong with the ends of drawing a file that is no record."""
+    judged = run(file, "judge", *options)
+    for command in ("draw", "draw-svg"):
+        status, output, errors = run(file, command, *options)
+        if (status, errors) != (judged[0], judged[2]):
+            yield f"{command} ends with {status}, {errors!r}, judge with {judged[0]}, {judged[2]!r}"
+        if output and (command == "draw-svg" or b"</html>" in output):
+            yield f"{command} has written {len(output)} bytes"
+
+
+def main():
+    counter = Counter()
+    for folder in sorted(WORKED.iterdir()):
+        if (folder / "draw").exists():
+            scenario = (folder / "scenario").read_bytes()
+            record = written(scenario, "record").encode()
+            for command in ("draw", "draw-svg"):
+                for options in ([], ["--reads"]):
+                    faults = list(run_faults(scenario, record, command, *options))
+                    counter.count(not faults, f"{command} {options} of {folder.name} and its record: {faults}")
+    for file in [*sorted(OTHER_LOCKS.glob("*/record")), TOP / "examples" / "failed-read.record"]:
+        record = file.read_bytes()
+        if run(record, "judge", "--any-lock")[0] == 1:
+            continue
+        faults = list(record_faults(record))
+        counter.count(not faults, f"{file.parent.name}: {faults[:5]}")
+    record = (OTHER_LOCKS / "one-bit-good" / "record").read_bytes()
+    for file in spoiled(record):
+        # what begins as a scenario is explained as one
+        explained = spoil_faults(file, "--explain") if file.startswith(b"record") else []
+        faults = [*spoil_faults(file), *explained]
+        counter.count(not faults, f"{file[-200:]!r}: {faults}")
+    counter.end()
+
+
+if __name__ == "__main__":
+    main()
