@@ -9,7 +9,11 @@ use Rattle.scenario.specs.files.Streams.{WritesFront}
 use Rattle.scenario.specs.files.declared.faults.Fault.{Fault}
 use Rattle.scenario.specs.files.declared.faults.Fault.TheVariants as fault
 use Rattle.course.specs.Writing.{failed_write}
-pub use Rattle.course.specs.Growing.{appends_both, appends_none, front_after, front_longer, front_none, take_after}
+pub use Rattle.course.specs.Growing.{appends_both, appends_none, front_after, front_longer, take_after}
+
+-- nothing is a front of every text
+pub front_none : (a b : Option (List ℕ)) (text : List ℕ) → b ≡ a → WritesFront a b text
+front_none a b text same = record { count = 0; front = subst (λ b. Appends a b []) (sym same) (appends_none a) }
 
 -- a whole text is a front of a longer one
 pub front_whole : (a b : Option (List ℕ)) (text more : List ℕ) → Appends a b text → WritesFront a b (text ++ more)

@@ -30,10 +30,6 @@ pub take_after : (xs ys : List ℕ) (n : ℕ) → take (length xs + n) (xs ++ ys
 take_after [] ys n = ap (λ k. take k ys) {y = n} (omega arith)
 take_after (x ∷ xs) ys n = ap (λ k. take k (x ∷ (xs ++ ys))) {y = suc (length xs + n)} (omega arith) ∙ ap (λ l. x ∷ l) (take_after xs ys n)
 
--- nothing is a front of every text
-pub front_none : (a b : Option (List ℕ)) (text : List ℕ) → b ≡ a → WritesFront a b text
-front_none a b text same = record { count = 0; front = subst (λ b. Appends a b []) (sym same) (appends_none a) }
-
 -- a front of a text is one of a longer text
 pub front_longer : (a b : Option (List ℕ)) (text more : List ℕ) → WritesFront a b text → WritesFront a b (text ++ more)
 front_longer a b text more front = record { count = length (take front.count text); front = subst (λ l. Appends a b l) (sym (take_front front.count text more)) front.front }
@@ -56,7 +52,7 @@ writes_both t u v a b c first next = record {
 
 -- of which only a front was written, or of a longer one
 pub part_none : (t u : List ℕ) (a : Option (List ℕ)) → ((more : List ℕ) × (u ≡ t ++ more)) → WritesPart t u a a
-part_none t u a (more, is) = record { text = more; is = is; front = front_none a a more refl }
+part_none t u a (more, is) = record { text = more; is = is; front = record { count = 0; front = appends_none a } }
 
 pub part_longer : (t u v : List ℕ) (a b : Option (List ℕ)) → WritesPart t u a b → ((more : List ℕ) × (v ≡ u ++ more)) → WritesPart t v a b
 part_longer t u v a b part (more, is) = record {

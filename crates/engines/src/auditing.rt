@@ -4,7 +4,6 @@ ghost use Rattle.std.specs.Prelude.{◌≡◌, ◌+◌, ◌-◌, ◌^◌, ◌<�
 ghost use Rattle.std.specs.Io.KnownBytes.{Appends};
 ghost use Rattle.judge.specs.auditor.declared.verdicts.Verdict.TheVariants.{Good};
 ghost use Rattle.judge.specs.auditor.Verdicts.{IsVerdict};
-ghost use Rattle.scenario.specs.files.declared.faults.Fault.TheVariants.{Memory};
 ghost use Rattle.scenario.specs.files.Engines.{Ran};
 ghost use Rattle.scenario.specs.files.Streams.{ReadsFront, WritesFront};
 ghost use Rattle.scenario.specs.Reads.{script};
@@ -17,7 +16,7 @@ use crate::writing::write_line;
 use course::{Audit, Course, Judged, Summary};
 use judge::{Audited, status_of, verdict_line};
 use scenario::{Fault, Scenario, Sink, Source, read_input, read_scenario};
-use std::alloc::Global;
+use std::alloc::{AllocError, Global};
 use sweeper::progress::{Onlooker, Place};
 
 /// Reads a whole file, makes its run, of which an auditor hears each entry, and then writes the verdict on its
@@ -69,11 +68,10 @@ fn audit_run<L: Onlooker>(
     file: &[u8],
     scenario: &Scenario,
     onlooker: &mut L,
-) -> Result<Audited, Fault>
+) -> Result<Audited, AllocError>
     ensures verdict { IfOk result (λ audited. IsVerdict scenario.now.setup (run_record (script scenario.now)) audited.verdict) }
     ensures good { IfOk result (λ audited. audited.verdict ≡ Good) }
     ensures entries { IfOk result (λ audited. audited.entries ≡ length (run_record (script scenario.now))) }
-    ensures fault { IfErr result (λ fault. fault ≡ Memory) }
 {
     let mut course = Course::new(alloc, &scenario.setup)?;
     let audit = Audit::new(alloc, &scenario.setup)?;
@@ -82,7 +80,9 @@ fn audit_run<L: Onlooker>(
     let mut place = Place::before(file, scenario.lines.len());
     for line in &scenario.lines {
         onlooker.reached(place.begin_line(judged.listener.events));
-        course.play(line, &mut judged)?;
+        let Ok(()) = course.play(line, &mut judged) else {
+            return Err(AllocError);
+        };
     }
     Ok(Audited {
         verdict: judged.audit.verdict(),

@@ -198,7 +198,7 @@ fn write_entry<W: Sink>(
 }
 
 /// Writes the line of an entry, by a text that is cleared for it, unless there was no memory for the line.
-#[tactic(auto, using(crate::proofs::Written::front_none))]
+#[tactic(auto, using(course::proofs::Written::front_none))]
 fn write_entry_line<W: Sink>(
     alloc: Global,
     entry: &Entry,

@@ -100,7 +100,7 @@ fn end_line(alloc: Global, summary: &Summary) -> Result<String, AllocError>
 }
 
 /// Writes the last line of a replay.
-#[tactic(auto, using(crate::proofs::Written::line_whole, crate::proofs::Written::line_front))]
+#[tactic(auto, using(course::proofs::Written::line_whole, course::proofs::Written::line_front))]
 pub(crate) fn write_end<W: Sink>(
     alloc: Global,
     summary: &Summary,

@@ -201,13 +201,7 @@ fn drawn(flicks: &mut Flicks, movers: &[u8]) -> (u8, bool)
 /// A Step of a process within a number access, which has no mark; none, if it is not within one, or each Step is to be
 /// told. `within`: so many bits at least each process has before its last one, of which the Step takes one.
 #[inline(always)]
-fn stride(
-    world: &mut World,
-    within: &mut [u16; 256],
-    process: u8,
-    flick: bool,
-    all: bool,
-) -> bool
+fn stride(world: &mut World, within: &mut [u16; 256], process: u8, flick: bool, all: bool) -> bool
     requires counted { IsCounted within.old world.old.seats }
     requires unknown { all ≡ true → slice_index within.old process ≡ 0 }
     ensures made { result ≡ true → StepsQuietly world.old process flick world.new }

@@ -29,7 +29,8 @@ loop-line-init g c =
 pub play-requires : goal.play-requires
 play-requires g c =
     let k : ℕ = c.loop-line.line-index in
-    let few : k < 4000 = omega (arith, c.loop-line-test.true, c.args.scenario.now.few) in
+    let within : k < length c.args.scenario.now.lines.items = omega arith in
+    let few : k < 4000 = omega (arith, within, c.args.scenario.now.few) in
     let room = c.loop-line.invariant.room in
     (omega (arith, room.0, few), omega (arith, room.1, few))
 
@@ -38,7 +39,8 @@ loop-line-preserved g c =
     let s : Setup = c.args.scenario.now.setup in
     let lines : List Line = c.args.scenario.now.lines.items in
     let k : ℕ = c.loop-line.line-index in
-    let few : k < 4000 = omega (arith, c.loop-line-test.true, c.args.scenario.now.few) in
+    let within : k < length c.args.scenario.now.lines.items = omega arith in
+    let few : k < 4000 = omega (arith, within, c.args.scenario.now.few) in
     let here : Line = c.line-item.result in
     let next : drop k lines ≡ here ∷ drop (k + 1) lines = drop_in lines k here (omega arith) (rw c.deref-line-items.ensures.value at c.line-item.is) in
     let was = c.loop-line.judged in
@@ -46,8 +48,8 @@ loop-line-preserved g c =
     let room = c.loop-line.invariant.room in
     record {
       between = between_on s lines (drop (k + 1) lines) here c.loop-line.course c.play.new.self (Counted s was.listener was.audit) (Counted s is.listener is.audit) was is
-          (subst (λ (rest : List Line). Between s lines rest c.loop-line.course (Counted s was.listener was.audit)) next c.loop-line.invariant.between) c.in_ok-play.ensures.ok (λ x y heard so_far. (heard.0 so_far.0, heard.1 so_far.1));
-      room = c.in_ok-play.ensures.room ((4000 - (k + 1)) * 2 ^ 32) (omega (arith, room.0, few), omega (arith, room.1, few));
+          (subst (λ (rest : List Line). Between s lines rest c.loop-line.course (Counted s was.listener was.audit)) next c.loop-line.invariant.between) c.in-Ok.ensures.ok (λ x y heard so_far. (heard.0 so_far.0, heard.1 so_far.1));
+      room = c.in-Ok.ensures.room ((4000 - (k + 1)) * 2 ^ 32) (omega (arith, room.0, few), omega (arith, room.1, few));
     }
 
 pub returns-clause-verdict : goal.returns-clause-verdict

@@ -17,9 +17,9 @@ returns-in_err-turn_drawn-clause-cut g c =
     let draws : Draws c.steps.self l c.steps.steppers-1 c.draw-drawn.result c.draw-drawn.new.self = c.draw-drawn.ensures.drawn l in
     on_fault c.from_residual.result Memory (λ fault. (run : Run) → Follows c.args.self.now run → g.L.Listener.Stops c.args.listener.now s run.happened (rest_of s l c.args.self.now.left run).happened fault c.steps.listener) c.from_residual.ensures.1
     (λ run follows.
-        let u = c.steps.invariant.stepping run follows in
-        stepping_torn g.L.Listener.Hears s l c.args.self.now.left run c.args.listener.now c.steps.listener c.steps.self c.draw-drawn.new.self c.draw-drawn.new.self c.steps.steppers-1 c.draw-drawn.result draws u
-        g.L.Listener.Stops laws.stops_on laws.stops_before c.requires.few Memory (laws.stops_unheard c.steps.listener s u.now.happened))
+    let u = c.steps.invariant.stepping run follows in
+    stepping_torn g.L.Listener.Hears s l c.args.self.now.left run c.args.listener.now c.steps.listener c.steps.self c.draw-drawn.new.self c.draw-drawn.new.self c.steps.steppers-1 c.draw-drawn.result draws u
+    g.L.Listener.Stops laws.stops_on laws.stops_before c.requires.few Memory (laws.stops_unheard c.steps.listener s u.now.happened))
 
 pub returns-in_default-clause-left : goal.returns-in_default-clause-left
 returns-in_default-clause-left g c =
