@@ -21,6 +21,8 @@ pub mod Images
 pub mod Listeners
 -- From line to line of a run to its end
 pub mod Underways
+pub mod Played
+pub mod Counting
 pub mod Onwards
 pub mod Written
 pub mod ReplayEnds

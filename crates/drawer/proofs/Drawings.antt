@@ -41,7 +41,7 @@ pub record Going (mode : Mode) (s : Setup) (n : ℕ) (line : Line) (start : Run)
   pub marking : Marking mode s n line start course.left now summary store overlaps text marks gives
 
 -- before its first turn
-pub going_start : (mode : Mode) (s : Setup) (n : ℕ) (line : Line) (start : Run) (course : CourseState) (summary : Summary) (store : Contents) (overlaps : Option Overlaps) (had : Kept) (a : Option (List ℕ)) → course.world.setup ≡ s → course.left ≡ turns_in line → Follows course start → Counts s start summary →
+pub going_start : (mode : Mode) (s : Setup) (n : ℕ) (line : Line) (start : Run) (course : CourseState) (summary : Summary) (store : Contents) (overlaps : Option Overlaps) (had : Kept) (a : Option (List ℕ)) → course.world.setup ≡ s → course.left ≡ turns_in line → Follows course start → Counts s start.happened summary →
     Recalls mode s start.happened store overlaps → Going mode s n line start course summary store overlaps had had a a start
 going_start mode s n line start course summary store overlaps had a setup left follows counts recalls = record {
   follows = follows;
@@ -169,7 +169,7 @@ pub drawn_on : (plan : Plan) (mode : Mode) (s : Setup) (lines rest : List Line) 
     Drawn plan mode s lines (line ∷ rest) source course summary store overlaps has a b → DrawsLine line (source + 1) course course' summary summary' store stores overlaps overlapping has now b c → Drawn plan mode s lines rest (source + 1) course' summary' stores overlapping now a c
 drawn_on plan mode s lines rest line source course course' summary summary' store stores overlaps overlapping has now a b c d draws =
     let u = d.onward in
-    let family : Setup → Type 0 = λ s. Counts s u.now summary → Recalls mode s u.now.happened store overlaps → Advances mode s (source + 1) u.now (run_after s line u.now) course' summary' stores overlapping has now b c in
+    let family : Setup → Type 0 = λ s. Counts s u.now.happened summary → Recalls mode s u.now.happened store overlaps → Advances mode s (source + 1) u.now (run_after s line u.now) course' summary' stores overlapping has now b c in
     let more : Advances mode s (source + 1) u.now (run_after s line u.now) course' summary' stores overlapping has now b c = subst family u.setup (draws mode u.now u.follows) u.counts d.recalls in
     let m : Moves s u.now (run_after s line u.now) course' summary' (Some []) (Some more.text) = more.moves in
     let given : List Gives = given_from mode s (source + 1) u.now.happened (run_after s line u.now).happened in

@@ -56,12 +56,12 @@ pub hearing_step : (mode : Mode) (s : Setup) (n : ℕ) (line : Line) (start : Ru
     Hearing mode s n line start course' steppers (with_events 1 summary) store overlapping had has a b
 hearing_step mode s n line start course then course' steppers drawn made summary store overlaps overlapping had has a b h draws steps hears =
     let m : MakesStep course line h.now made course' = steps h.now h.going.follows (ready mode s n line start course then steppers drawn summary store overlaps had has a b h draws) in
-    let accepted : Accepted = record { event = event.Step made.process m.flick; place = 0; access = Some made.access; effect = Steps step.Nothing } in
-    let drew : DrawsTold mode n course' summary.events store store overlaps overlapping (told_unmarked made m.flick) has has b b = λ before this d.
+    let accepted : Accepted = record { event = event.Step made.process made.flick; place = 0; access = Some made.access; effect = Steps step.Nothing } in
+    let drew : DrawsTold mode n course' summary.events store store overlaps overlapping (told_unmarked made) has has b b = λ before this d.
     heard_step mode course' n summary.events store overlaps overlapping before this accepted has b refl d (λ mode s past reads. hears mode s past reads (entry_made accepted) refl) in
     record {
       now = (turn_of s line course.left h.now).run;
-      going = going_turn mode s n line start course course' summary store store overlaps overlapping (told_unmarked made m.flick) had has has a b b h.now h.going m.makes drew;
+      going = going_turn mode s n line start course course' summary store store overlaps overlapping (told_unmarked made) had has has a b b h.now h.going m.makes drew;
       next = subst (λ (s : Setup). AreNext s line (turn_of s line course.left h.now).run steppers) h.going.setup (m.next steppers (subst (λ (s : Setup). AreNext s line h.now steppers) (sym h.going.setup) h.next));
     }
 

@@ -15,7 +15,7 @@ use Rattle.course.specs.Runs.{Run, past_in, run_after}
 use Rattle.course.specs.Replays.{Moves}
 use Rattle.course.specs.Telling.{TellsOf, entry_made, told_text}
 use Rattle.course.specs.Texts.{text_at, text_of}
-use Rattle.course.specs.Turns.{Turn, turn_of, turns_in}
+use Rattle.course.specs.Turns.{Turn, turn_of, turns_in, rest_of}
 use Rattle.course.specs.Summaries.{counted}
 use Rattle.course.specs.Writing.{Counts}
 use Rattle.course.specs.declared.summaries.Summary.{Summary}
@@ -24,7 +24,7 @@ use Rattle.course.specs.declared.told.Told.TheVariants as told
 use Rattle.course.specs.declared.told.Turns.{Turns}
 use Rattle.course.proofs.Refusals.{past_kept}
 use Rattle.course.proofs.Tellings.{Quietly, counts_more, quiet_counts, told_is}
-use Rattle.course.proofs.TurnLaw.{rest_of, rest_none, rest_whole, turn_less, turn_on}
+use Rattle.course.proofs.TurnLaw.{rest_none, rest_whole, turn_less, turn_on}
 use Rattle.course.proofs.Underways.{Nothing, One, Said, SaidTurns, Turned, silent_one, told_none, told_one, turned, with_events}
 use Rattle.picture.specs.columns.declared.reads.OverlappedRead.{OverlappedRead}
 use Rattle.picture.specs.declared.reads.Reads.{Reads as Mode}
@@ -164,7 +164,7 @@ turns_said s line now turns course course' setup made =
 -- a line under way, from a run on, that has told this text and these marks and given these items: so many of its turns are left after this run
 pub record Marking (mode : Mode) (s : Setup) (n : ℕ) (line : Line) (start : Run) (left : ℕ) (now : Run) (summary : Summary) (store : Contents) (overlaps : Option Overlaps) (text : List ℕ) (marks : List (ℕ × Mark)) (gives : List Gives) : Type 0 where
   pub few : left ≤ turns_in line
-  pub counts : Counts s now summary
+  pub counts : Counts s now.happened summary
   pub tells : text_of s now.happened ≡ text_of s start.happened ++ text
   pub says : marks_in (past_in s now) ≡ marks_in (past_in s start) ++ marks
   pub k : ℕ
@@ -174,7 +174,7 @@ pub record Marking (mode : Mode) (s : Setup) (n : ℕ) (line : Line) (start : Ru
   pub rest : rest_of s line left now ≡ run_after s line start
 
 -- before its first turn
-pub marking_start : (mode : Mode) (s : Setup) (n : ℕ) (line : Line) (start : Run) (left : ℕ) (summary : Summary) (store : Contents) (overlaps : Option Overlaps) → left ≡ turns_in line → Counts s start summary → Recalls mode s start.happened store overlaps →
+pub marking_start : (mode : Mode) (s : Setup) (n : ℕ) (line : Line) (start : Run) (left : ℕ) (summary : Summary) (store : Contents) (overlaps : Option Overlaps) → left ≡ turns_in line → Counts s start.happened summary → Recalls mode s start.happened store overlaps →
     Marking mode s n line start left start summary store overlaps [] [] []
 marking_start mode s n line start left summary store overlaps all counts recalls = record {
   few = omega (arith, all);

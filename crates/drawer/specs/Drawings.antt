@@ -161,7 +161,7 @@ pub record Advances (mode : Mode) (s : Setup) (source : ℕ) (before after : Run
 -- a line of a scenario has made all its turns, whatever has happened before
 abbrev pub DrawsLine : Line → ℕ → CourseState → CourseState → Summary → Summary → Contents → Contents → Option Overlaps → Option Overlaps → Kept → Kept → Option (List ℕ) → Option (List ℕ) → Type 0
 DrawsLine line source old new counted counts store stores overlaps overlapping had has taken then =
-    (mode : Mode) (run : Run) → Follows old run → Counts old.world.setup run counted → Recalls mode old.world.setup run.happened store overlaps →
+    (mode : Mode) (run : Run) → Follows old run → Counts old.world.setup run.happened counted → Recalls mode old.world.setup run.happened store overlaps →
     Advances mode old.world.setup source run (run_after old.world.setup line run) new counts stores overlapping had has taken then
 
 -- How `draw` ends: where it ends well, what was written is a picture of the whole run; after a fault of the input nothing was written.

@@ -96,7 +96,7 @@ impl Drawing {
         let changes = Changes::new(alloc, setup)?;
         let opening = changes.words_by_pairs()?;
         let page = Page::new(alloc, form, setup.processes, opening.as_slice())?;
-        let course = Course::new(alloc, setup, false)?;
+        let course = Course::new(alloc, setup)?;
         let overlaps = Overlaps::new(alloc, setup, reads)?;
         Ok(Drawing {
             alloc,

@@ -7,3 +7,4 @@ pub mod Plain
 pub mod RecordedRuns
 pub mod Recordings
 pub mod Sweepings
+pub mod Takings

@@ -11,7 +11,7 @@ use Rattle.drawer.proofs.drawing.Drawing.draw_turns.Given as goal
 -- what has happened of the line is drawn but for what is held back, and what is left of it follows
 abbrev pub invariant-turns : goal.invariant-turns
 invariant-turns g l = record {
-  going : (mode : Mode) (run : Run) → Follows l.fn.self.course run → Counts l.fn.self.course.world.setup run l.fn.self.summary → Recalls mode l.fn.self.course.world.setup run.happened l.fn.self.changes.store l.fn.self.overlaps →
+  going : (mode : Mode) (run : Run) → Follows l.fn.self.course run → Counts l.fn.self.course.world.setup run.happened l.fn.self.summary → Recalls mode l.fn.self.course.world.setup run.happened l.fn.self.changes.store l.fn.self.overlaps →
       (now : Run) × Going mode l.fn.self.course.world.setup l.fn.self.source l.line run l.self.course l.self.summary l.self.changes.store l.self.overlaps (kept l.fn.self.page) (kept l.self.page) (g.W.Sink.taken l.fn.output) (g.W.Sink.taken l.output) now;
   source : l.self.source ≡ l.fn.self.source;
   whole : g.W.Sink.failures l.output ≡ g.W.Sink.failures l.fn.output;
