@@ -93,8 +93,7 @@ impl Table {
         if place >= self.standings.len() {
             return None;
         }
-        let setup = self.setup;
-        self.standings[place].hear(&setup, number, overlapped, access, marks)
+        self.standings[place].hear(&self.setup, number, overlapped, access, marks)
     }
 
     /// How many entries there were.

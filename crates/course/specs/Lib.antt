@@ -15,6 +15,7 @@ pub mod RunRecords
 pub mod Runs
 pub mod Steppers
 pub mod Summaries
+pub mod Takings
 pub mod Telling
 pub mod Texts
 pub mod Turns

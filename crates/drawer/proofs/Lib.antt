@@ -2,7 +2,6 @@ pub mod Drawn
 pub mod Giving
 mod Changing
 mod Overhearing
-pub mod InTurn
 mod Marked
 pub mod Shown
 pub mod Drawings

@@ -37,7 +37,7 @@ use Rattle.drawer.specs.declared.overlaps.Overlaps.{Overlaps}
 use Rattle.drawer.proofs.Chains.{few_taken}
 use Rattle.drawer.proofs.Drawn.{draws_on_none}
 use Rattle.drawer.proofs.Giving.{are_next, as_many, waiting_map}
-use Rattle.drawer.proofs.InTurn.{entry_in_turn}
+use Rattle.course.proofs.InTurn.{access_in_turn}
 
 -- what happens says one line, ends no read that a write overlapped, and adds no entry
 pub record Speaks (s : Setup) (before : List Happening) (this : Happening) (line : Says) : Type 0 where
@@ -186,7 +186,7 @@ begins_marks mode course source events store overlaps overlapping before this ma
       among = record {
         follows = d.follows;
         store_is = d.recalls.store_is ∙ ap (store_after s) (sym longer.front) ∙ ap (λ (p : Past). store_after s (take n (history s p))) (sym now);
-        waits = subst (λ (p : Past). Overhears mode s p reads overlapping) (sym now) (hears mode s past (reads_since s before) d.recalls.waits d.number (entry_in_turn s good (tried before) m.event e m.entry));
+        waits = subst (λ (p : Past). Overhears mode s p reads overlapping) (sym now) (hears mode s past (reads_since s before) d.recalls.waits d.number (access_in_turn s good (tried before) m.event e m.entry));
       };
       next = subst (λ (p : Past). AreNext n (history s p) (marks_made made)) (sym now) longer.next;
       gives = ap (λ (k : ℕ). lines_given mode source k reads (map (says_mark s (history s (past_in s d.now)) (process_of made.event)) (marks_made made))) d.number

@@ -7,4 +7,3 @@ pub mod Plain
 pub mod RecordedRuns
 pub mod Recordings
 pub mod Sweepings
-pub mod Takings

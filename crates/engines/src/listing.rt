@@ -1,5 +1,5 @@
 //! The events of a run, and the record of events.
-ghost use Rattle.std.specs.Prelude.{◌≡◌, ◌++◌, ⊤, true, Ok, IfOk, OnOk, reverse};
+ghost use Rattle.std.specs.Prelude.{◌≡◌, ◌++◌, [], ◌∷◌, ⊤, true, Ok, IfOk, OnOk, reverse};
 ghost use Rattle.plain_store.specs.Setups.{checked};
 ghost use Rattle.course.specs.«record».declared.Refusal.TheVariants.{Memory};
 ghost use Rattle.course.specs.«record».Given.{AreGiven, is_event};
@@ -54,15 +54,15 @@ impl Listener for Lister {
 
     #[tactic(auto, using(crate::proofs::Listed::told_listed))]
     fn hear(&mut self, told: &Told, _taken: &[Taken]) -> Result<(), Fault> {
-        list(told, &mut self.events)?;
-        Ok(())
+        Ok(list(told, &mut self.events)?)
     }
 
     #[tactic(auto, using(crate::proofs::Listed::step_listed))]
     fn step(&mut self, made: Stepped) -> Result<(), Fault> {
-        let _nested: NestedTypes = None;
-        self.events.push(Event::Step(made.process, made.flick))?;
-        Ok(())
+        Ok(add(
+            Event::Step(made.process, made.flick),
+            &mut self.events,
+        )?)
     }
 
     fn pass(&mut self, _steps: u32) {}
@@ -86,9 +86,17 @@ fn list(told: &Told, events: &mut Vec<Event>) -> Result<(), AllocError>
 {
     let _nested: NestedTypes = None;
     if let Told::Accepted(made) = told {
-        events.push(made.event)?;
+        return add(made.event, events);
     }
     Ok(())
+}
+
+/// Adds an event.
+fn add(event: Event, events: &mut Vec<Event>) -> Result<(), AllocError>
+    ensures { OnOk result (events.new.items ≡ events.old.items ++ event ∷ []) }
+{
+    let _nested: NestedTypes = None;
+    Ok(events.push(event)?)
 }
 
 /// The record of a list of events: an entry for each that is accepted. The one fault is want of memory. Names,

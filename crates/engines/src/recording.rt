@@ -10,7 +10,7 @@ ghost use Rattle.judge.specs.record_file.ReadAgain.{RecordsAreReadAgain, Records
 ghost use Rattle.scenario.specs.Reads.{script};
 ghost use Rattle.engines.specs.RecordedRuns.{InputWritesRecord, RecordedRunsAreReadAgain};
 ghost use Rattle.engines.specs.Recordings.{CopiesLine, CutsCopy, entries_longer, entries_text, entry_told, recorded, recording_text};
-ghost use Rattle.engines.specs.Takings.{Took, TookPart, part_before, part_on, part_unheard, took_none, took_on};
+ghost use Rattle.course.specs.Takings.{Took, TookPart, part_before, part_on, part_unheard, took_none, took_on};
 ghost use Rattle.course.specs.Replays.{ended};
 ghost use Rattle.course.specs.Writing.{IsWriteFault, failed_write};
 

@@ -11,7 +11,7 @@ ghost use Rattle.course.specs.Growing.{text_longer};
 ghost use Rattle.course.specs.Summaries.{CanCount, can_count_less, summary_of};
 ghost use Rattle.course.specs.Texts.{replay_text, replayed, text_of};
 ghost use Rattle.course.specs.Writing.{Counts, IsWriteFault, failed_write};
-ghost use Rattle.engines.specs.Takings.{Took, TookPart, part_before, part_on, part_unheard, took_none, took_on};
+ghost use Rattle.course.specs.Takings.{Took, TookPart, part_before, part_on, part_unheard, took_none, took_on};
 
 use crate::writing::{tell, write_end};
 use course::{Course, Listener, Stepped, Summary, Taken, Told};

@@ -1,5 +1,5 @@
 use Rattle.course.proofs.Written.{ok_then}
-use Rattle.engines.proofs.Replayings.{failures_by, if_err, on_err_if}
+use Rattle.course.proofs.Endings.{failures_by, if_err, on_err_if}
 use Rattle.engines.proofs.recording.record_line.Goals as goal
 
 pub returns-clause-ok : goal.returns-clause-ok

@@ -1,6 +1,7 @@
 use Rattle.std.proofs.Common.{refl}
 use Rattle.course.proofs.Counting.{counts_heard}
-use Rattle.engines.proofs.Replayings.{err_both, ok_both, told_cut, told_written}
+use Rattle.course.proofs.Endings.{err_both, ok_both}
+use Rattle.engines.proofs.Replayings.{told_cut, told_written}
 use Rattle.engines.proofs.replaying.PrinterListener.hear.Goals as goal
 
 pub returns-clause-ok : goal.returns-clause-ok

@@ -2,7 +2,7 @@ use Rattle.std.proofs.Common.{refl, subst, sym}
 use Rattle.course.specs.Texts.{text_of}
 use Rattle.course.specs.Writing.{Counts}
 use Rattle.course.proofs.Counting.{counts_passed, text_passed, with_events}
-use Rattle.engines.proofs.Replayings.{took_same}
+use Rattle.course.proofs.Endings.{took_same}
 use Rattle.engines.proofs.replaying.PrinterListener.pass.Goals as goal
 
 pub returns-clause-ok : goal.returns-clause-ok

@@ -4,7 +4,7 @@ use Rattle.course.specs.Happenings.{Tries}
 use Rattle.course.specs.Texts.{text_of}
 use Rattle.course.specs.Writing.{Counts}
 use Rattle.course.proofs.Counting.{counts_stepped, step_passes, text_passed}
-use Rattle.engines.proofs.Replayings.{took_same}
+use Rattle.course.proofs.Endings.{took_same}
 use Rattle.engines.proofs.replaying.PrinterListener.step.Goals as goal
 
 pub returns-clause-ok : goal.returns-clause-ok

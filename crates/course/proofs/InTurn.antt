@@ -1,4 +1,4 @@
--- Each entry of a run may come next: its process is there, its access is of a bit that is there, and a read that ends has begun.
+-- Each entry of a run comes in its turn: its process is there, its access is of a bit that is there, and a read that ends has begun.
 use Rattle.std.proofs.Common.{◌≡◌, ◌<◌, ◌==◌, ◌&&◌, nat_lt, Bool, true, false, cond, List, [], ◌∷◌, ◌++◌, Option, None, Some, Ok, refl, sym, ap, subst, ◌∙◌, arith, true≢false}
 use Rattle.std.proofs.lemmas.Bool.Decides.{nat_tests}
 use Rattle.record.specs.safe_bit.Cell.{Cell, MayMove, cell_after, without_read}
@@ -13,11 +13,10 @@ use Rattle.record.specs.Moves.{begins_read, moves_of, same_bit}
 use Rattle.record.specs.Records.{entry_of, past_of, process_of}
 use Rattle.record.proofs.Width.{is_good}
 use Rattle.record.proofs.World.{entry-accepted}
-use Rattle.course.specs.laws.Held.{cell_held, drops}
-use Rattle.course.proofs.laws.HeldCells.{held-entry, held-marks}
-use Rattle.course.proofs.laws.HeldThere.{access_there}
-use Rattle.course.proofs.laws.HeldTurns.{comes_in_turn}
-use Rattle.calls.specs.Hearing.{ComesInTurn}
+use Rattle.world.specs.laws.Held.{IsThere, cell_held, drops}
+use Rattle.auditor.proofs.laws.HeldCells.{held-entry, held-marks}
+use Rattle.auditor.proofs.laws.HeldThere.{access_there}
+use Rattle.auditor.proofs.laws.HeldTurns.{comes_in_turn}
 
 -- where a read is open after a move, it began with that move or was open before
 begun-moved : (c : Cell) (m : Move) (moves : List Move) → (c.reading ≡ true → begins_read moves ≡ true) → (cell_after c m).reading ≡ true → begins_read (m ∷ moves) ≡ true
@@ -52,16 +51,17 @@ open_has_begun : (s : Setup) (past : Past) (a : Access) → (cell_held s past a)
 open_has_begun s [] a open_now = absurd (true≢false (sym open_now))
 open_has_begun s (e ∷ past) a open_now = begun-entry s past e a (open_has_begun s past a) e.access refl open_now
 
-pub entry_in_turn : (s : Setup) → checked s ≡ Ok tt → (events : List Event) (event : Event) (e : Entry) → e.process ≡ process_of event → entry_of s (past_of s events) event ≡ Some e →
-    ComesInTurn s (past_of s events) e
-entry_in_turn s good events event e mine is =
-    let past : Past = past_of s events in
-    let accepted = entry-accepted s past event e is in
-    let there : nat_lt (process_of event) s.processes ≡ true = accepted.0 in
+-- the process of an entry
+pub process_there : (s : Setup) (events : List Event) (event : Event) (e : Entry) → e.process ≡ process_of event → entry_of s (past_of s events) event ≡ Some e → e.process < s.processes
+process_there s events event e mine is =
+    let there : nat_lt (process_of event) s.processes ≡ true = (entry-accepted s (past_of s events) event e is).0 in
     let inside : process_of event < s.processes = grind (arith, nat_tests, there) in
-    let turn : (a : Access) → e.access ≡ Some a → MayMove (cell_held s past a) a.how = comes_in_turn s (is_good s good) events event e is in
-    record {
-      process = subst (λ n. n < s.processes) (sym mine) inside;
-      there = access_there s (is_good s good) events event e is;
-      begun = λ a v made ends. open_has_begun s past a (subst (MayMove (cell_held s past a)) ends (turn a made)).0;
-    }
+    subst (λ n. n < s.processes) (sym mine) inside
+
+-- its access
+pub access_in_turn : (s : Setup) → checked s ≡ Ok tt → (events : List Event) (event : Event) (e : Entry) → entry_of s (past_of s events) event ≡ Some e → (a : Access) → e.access ≡ Some a →
+    IsThere s a × ((v : Bool) → a.how ≡ EndRead v → begins_read (moves_of a (past_of s events)) ≡ true)
+access_in_turn s good events event e is a made =
+    let past : Past = past_of s events in
+    let turn : MayMove (cell_held s past a) a.how = comes_in_turn s (is_good s good) events event e is a made in
+    (access_there s (is_good s good) events event e is a made, λ v ends. open_has_begun s past a (subst (MayMove (cell_held s past a)) ends turn).0)
