@@ -6,6 +6,10 @@ use Rattle.course.specs.Takings.{Took, took_none}
 use Rattle.course.specs.Writing.{IsWriteFault, failed_write}
 
 -- where it went well no call failed
+pub ok_whole : {A P R : Type 0} (r : Result A Fault) (m n : ℕ) → (P → n ≡ m → R) → OnOk r P → n ≡ m + failed_write r → OnOk r R
+ok_whole (Ok done) m n then p e = then p (e ∙ add-zero m)
+ok_whole (Err f) m n then p e = tt
+
 pub ok_both : {A P Q R : Type 0} (r : Result A Fault) (m n : ℕ) → (P → Q → n ≡ m → R) → OnOk r P → OnOk r Q → n ≡ m + failed_write r → OnOk r R
 ok_both (Ok done) m n then p q e = then p q (e ∙ add-zero m)
 ok_both (Err f) m n then p q e = tt

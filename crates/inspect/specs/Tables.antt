@@ -1,6 +1,6 @@
 -- The table of the calls of a scenario's run, and what is written of it as the run goes on.
-use Rattle.std.specs.Prelude.{◌≡◌, ℕ, List, [], ◌∷◌, ◌++◌, Option, None, Some, Result, length, refl}
-use Rattle.std.proofs.Common.{ap, sym, ◌∙◌, append-nil, append_assoc}
+use Rattle.std.specs.Prelude.{◌≡◌, ◌+◌, ◌^◌, ◌<◌, ◌≤◌, ℕ, List, [], ◌∷◌, ◌++◌, Option, None, Some, Result, length, refl}
+use Rattle.std.proofs.Common.{ap, sym, ◌∙◌, arith, append-nil, append_assoc}
 use Rattle.std.specs.Io.KnownBytes.{Appends}
 use Rattle.plain_store.specs.declared.setups.Setup.{Setup}
 use Rattle.record.specs.Entries.{Entry, Past}
@@ -102,3 +102,7 @@ lines_longer s before (this ∷ more) =
     let u = lines_longer s before more in
     let v = one_longer s (more ++ before) this in
     (u.0 ++ v.0, v.1 ∙ ap (λ l. l ++ v.0) u.1 ∙ append_assoc (lines_after s before) u.0 v.0)
+
+-- where there is room for so many entries, there is for fewer
+pub fewer : (n k more : ℕ) → k ≤ more → n + more < 2 ^ 64 → n + k < 2 ^ 64
+fewer n k more less room = omega (arith, less, room)
