@@ -7,7 +7,7 @@ use Rattle.course.specs.Happenings.{Happening, Tries, past_after, refusals}
 use Rattle.course.specs.Listening.{Happens, PassQuietly, StepsOn}
 use Rattle.course.specs.Summaries.{counted}
 use Rattle.course.specs.Telling.{told_text}
-use Rattle.course.specs.Texts.{text_at, text_of}
+use Rattle.course.specs.Texts.{text_of}
 use Rattle.course.specs.Writing.{Counts}
 use Rattle.course.specs.declared.summaries.Summary.{Summary}
 use Rattle.course.specs.declared.told.Stepped.{Stepped}

@@ -14,6 +14,11 @@ pub ok_both : {A P Q R : Type 0} (r : Result A Fault) (m n : ℕ) → (P → Q �
 ok_both (Ok done) m n then p q e = then p q (e ∙ add-zero m)
 ok_both (Err f) m n then p q e = tt
 
+-- two facts of an end that is well
+pub ok_with : {A E : Type 0} (r : Result A E) (P Q : Type 0) → OnOk r P → OnOk r Q → OnOk r (P × Q)
+ok_with (Ok done) P Q p q = (p, q)
+ok_with (Err f) P Q p q = tt
+
 -- else it ended by this fault
 pub err_both : {A : Type 0} (r : Result A Fault) (R : Fault → Type 0) (m n : ℕ) → ((f : Fault) → IsWriteFault f → n ≡ m + failed_write {A = Unit {0}} (Err f) → R f) → IfErr r IsWriteFault → n ≡ m + failed_write r → IfErr r R
 err_both (Ok done) R m n then is e = tt

@@ -1,11 +1,11 @@
 -- A run only adds to what has happened, and so to its text.
-use Rattle.std.proofs.Common.{◌≡◌, ℕ, zero, suc, Bool, true, false, nat_lt, List, [], ◌∷◌, ◌++◌, refl, ap, sym, subst, ◌∙◌, append-nil, append_assoc}
+use Rattle.std.proofs.Common.{◌≡◌, ℕ, zero, suc, Bool, true, false, nat_lt, List, [], ◌∷◌, ◌++◌, refl, ap, sym, ◌∙◌, append_assoc}
 use Rattle.plain_store.specs.declared.setups.Setup.{Setup}
 use Rattle.record.specs.Stages.{stage}
 use Rattle.scenario.specs.declared.lines.Line.{Line}
 use Rattle.scenario.specs.declared.lines.Line.TheVariants as line
 use Rattle.scenario.specs.declared.lines.Target.{Target}
-use Rattle.course.specs.Happenings.{Happening, Lacks, Tires, past_after}
+use Rattle.course.specs.Happenings.{Happening, Lacks, Tires}
 use Rattle.course.specs.Runs.{Run, goes, is_there, may_step, movers, past_in, picked, run_after, runs, stepped, steps, wanders, with_happening}
 use Rattle.course.specs.Growing.{text_longer}
 use Rattle.course.specs.Texts.{text_of}

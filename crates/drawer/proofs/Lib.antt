@@ -5,7 +5,6 @@ mod Overhearing
 mod Marked
 pub mod Shown
 pub mod Drawings
-mod HeardTurns
 pub mod Ends
 pub mod Pictured
 pub mod Chains

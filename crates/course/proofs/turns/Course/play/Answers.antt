@@ -1,5 +1,5 @@
 use Rattle.std.proofs.Common.{◌+◌, ◌^◌, ap, arith, refl, subst}
-use Rattle.std.specs.Prelude.{Option, Some, None}
+use Rattle.std.specs.Prelude.{Option}
 use Rattle.course.specs.Courses.{CourseState, Follows}
 use Rattle.course.specs.Listening.{ComesTo}
 use Rattle.course.specs.Runs.{Run, run_after}

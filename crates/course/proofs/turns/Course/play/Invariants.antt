@@ -1,4 +1,4 @@
-use Rattle.std.proofs.Common.{◌+◌, ◌^◌, ◌<◌, ◌≤◌, ℕ}
+use Rattle.std.proofs.Common.{◌+◌, ◌^◌, ◌≤◌, ℕ}
 use Rattle.course.specs.Courses.{Follows}
 use Rattle.course.specs.Runs.{Run}
 use Rattle.course.specs.Turns.{turns_in}
