@@ -17,7 +17,7 @@ returns-clause-ok g c =
       λ mode start had from d.
           let draws : IsToDraw mode s taken old.drawing.now.summary.events old.drawing.now.changes.store old.drawing.now.overlaps before this told = record { happens = happens; number = d.counts.events; recalls = d.recalls } in
           told_drawn mode s start had from before this told taken old.drawing.now c.tell.new.self _ _ happens (drew mode s before this draws) (both.0 mode s before this draws) both.1 c.tell.ensures.source d,
-    )) c.tell.ensures.ok (ok_with c.tell.result c.tell.ensures.recalls c.tell.ensures.count) c.tell.ensures.failures
+    )) c.tell.ensures.ok (ok_with c.tell.result _ _ c.tell.ensures.recalls c.tell.ensures.count) c.tell.ensures.failures
 
 pub returns-clause-cut : goal.returns-clause-cut
 returns-clause-cut g c =
