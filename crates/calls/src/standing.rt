@@ -39,6 +39,7 @@ impl Standing {
 
     /// One more entry, with this number; `overlapped`: it ends a read that a write overlapped. The call that ends with it, if
     /// one does.
+    #[inline(always)]
     pub fn hear(
         &mut self,
         setup: &Setup,
@@ -61,6 +62,7 @@ impl Standing {
     }
 
     /// The same without an answer.
+    #[inline(always)]
     fn go_on(
         &mut self,
         setup: &Setup,
@@ -112,6 +114,7 @@ impl Standing {
     }
 
     /// The marks of the entry with this number.
+    #[inline]
     fn mark_all(&mut self, number: u64, marks: &[Mark])
         ensures { self.new ≡ marked_all number self.old marks.now }
     {
@@ -334,6 +337,7 @@ fn is_below(ticket: u64, process: u8, other: u64, other_process: u8) -> bool
 }
 
 /// The command with which marks begin a call, if they do.
+#[inline]
 pub(crate) fn called_in(marks: &[Mark]) -> Option<Command>
     ensures { result ≡ command_in marks.now }
 {

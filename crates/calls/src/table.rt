@@ -60,7 +60,9 @@ impl Table {
         })
     }
 
-    /// One more entry of a run: the call that ends with it, if one does.
+    /// One more entry of a run: the call that ends with it, if one does. It is built into its caller, so that of an entry
+    /// without a mark, as nearly all are, no call is looked for.
+    #[inline(always)]
     pub fn hear(&mut self, process: u8, access: &Option<Access>, marks: &[Mark]) -> Option<Called>
         requires { self.old.entries < 2 ^ 64 - 1 }
         ensures setup { self.new.setup ≡ self.old.setup }
@@ -73,6 +75,7 @@ impl Table {
     }
 
     /// The same, but for the watch; `overlapped`: the entry ends a read that a write overlapped.
+    #[inline(always)]
     fn go_on(
         &mut self,
         process: u8,
@@ -93,8 +96,7 @@ impl Table {
         if place >= self.standings.len() {
             return None;
         }
-        let setup = self.setup;
-        self.standings[place].hear(&setup, number, overlapped, access, marks)
+        self.standings[place].hear(&self.setup, number, overlapped, access, marks)
     }
 
     /// How many entries there were.

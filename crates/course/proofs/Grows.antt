@@ -1,14 +1,15 @@
 -- A run only adds to what has happened, and so to its text.
-use Rattle.std.proofs.Common.{◌≡◌, ℕ, zero, suc, Bool, true, false, nat_lt, List, [], ◌∷◌, ◌++◌, refl, ap, sym, subst, ◌∙◌, append-nil, append_assoc}
+use Rattle.std.proofs.Common.{◌≡◌, ℕ, zero, suc, Bool, true, false, nat_lt, List, [], ◌∷◌, ◌++◌, refl, ap, sym, ◌∙◌, append_assoc}
 use Rattle.plain_store.specs.declared.setups.Setup.{Setup}
 use Rattle.record.specs.Stages.{stage}
 use Rattle.scenario.specs.declared.lines.Line.{Line}
 use Rattle.scenario.specs.declared.lines.Line.TheVariants as line
 use Rattle.scenario.specs.declared.lines.Target.{Target}
-use Rattle.course.specs.Happenings.{Happening, Lacks, Tires, past_after}
+use Rattle.course.specs.Happenings.{Happening, Lacks, Tires}
 use Rattle.course.specs.Runs.{Run, goes, is_there, may_step, movers, past_in, picked, run_after, runs, stepped, steps, wanders, with_happening}
-use Rattle.course.specs.Texts.{text_at, text_of}
-use Rattle.course.proofs.TurnLaw.{go_rest, once, rest_of}
+use Rattle.course.specs.Growing.{text_longer}
+use Rattle.course.specs.Texts.{text_of}
+use Rattle.course.specs.Turns.{go_rest, once, rest_of}
 
 -- what has happened after is what had happened before, and more
 pub record Grows (before after : List Happening) : Type 0 where
@@ -32,15 +33,10 @@ pub record TextGrows (s : Setup) (before after : List Happening) : Type 0 where
   pub text : List ℕ
   pub is : text_of s after ≡ text_of s before ++ text
 
-text_longer : (s : Setup) (before more : List Happening) → TextGrows s before (more ++ before)
-text_longer s before [] = record { text = []; is = sym (append-nil (text_of s before)) }
-text_longer s before (this ∷ more) =
-    let u : TextGrows s before (more ++ before) = text_longer s before more in
-    let last : List ℕ = text_at s (past_after s (more ++ before)) this in
-    record { text = u.text ++ last; is = ap (λ l. l ++ last) u.is ∙ append_assoc (text_of s before) u.text last }
-
 pub text_grows : (s : Setup) (before after : List Happening) → Grows before after → TextGrows s before after
-text_grows s before after grows = subst (λ (l : List Happening). TextGrows s before l) (sym grows.is) (text_longer s before grows.more)
+text_grows s before after grows =
+    let (text, is) = text_longer s before grows.more in
+    record { text = text; is = ap (text_of s) grows.is ∙ is }
 
 steps_grow : (s : Setup) (p n : ℕ) (run : Run) → Grows run.happened (steps s p n run).happened
 steps_grow s p zero run = grows_none run.happened

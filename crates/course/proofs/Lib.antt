@@ -13,6 +13,7 @@ pub mod Counted
 pub mod Nexts
 pub mod Refusals
 pub mod Steppings
+pub mod InTurn
 -- What happens in a run, and its text
 pub mod Grows
 pub mod Tellings
@@ -21,6 +22,9 @@ pub mod Images
 pub mod Listeners
 -- From line to line of a run to its end
 pub mod Underways
+pub mod Played
+pub mod Counting
 pub mod Onwards
 pub mod Written
+pub mod Endings
 pub mod ReplayEnds

@@ -1,5 +1,5 @@
 -- What the auditor of a run has heard: no entry breaks a law.
-use Rattle.std.proofs.Common.{◌≡◌, ℕ, ◌+◌, Bool, add-one, map, List, [], ◌∷◌, length, reverse, Option, None, Some, Ok, refl, ap, sym, subst, ◌∙◌}
+use Rattle.std.proofs.Common.{◌≡◌, List, [], ◌∷◌, length, reverse, Option, None, Some, Ok, refl, ap, sym, subst, ◌∙◌}
 use Rattle.std.proofs.lemmas.List.{length-reverse, reverse-reverse}
 use Rattle.plain_store.specs.declared.setups.Setup.{Setup}
 use Rattle.plain_store.specs.Setups.{checked}
@@ -9,29 +9,25 @@ use Rattle.record.specs.declared.history.Taken.{Taken}
 use Rattle.record.specs.declared.refusals.Refusal.{Refusal}
 use Rattle.record.specs.Entries.{Entry, Past}
 use Rattle.record.specs.Given.{AreGiven}
-use Rattle.record.specs.Histories.{history}
-use Rattle.record.specs.Records.{entry_of, past_of, placed, refused, with_event}
-use Rattle.record.specs.declared.access.Access.{Access}
-use Rattle.world.specs.process.declared.told.Effect.{Effect}
-use Rattle.world.specs.process.Telling.{act_of, marks_of}
-use Rattle.world.specs.Events.{Adds, GoesOn, entry_with}
-use Rattle.world.specs.Cores.{CoreState, core_of, with_history}
-use Rattle.world.specs.Shows.{Shows, WorldState, world_of}
-use Rattle.world.specs.Walks.{StepsQuietly, Walks}
-use Rattle.world.specs.flicks.Flicks.{FlickState, after_flick, flick_of}
+use Rattle.record.specs.Records.{entry_of, past_of, refused, with_event}
 use Rattle.world.proofs.WorldShows.{past-after}
-use Rattle.auditor.specs.Hearing.{AuditorState, HasHeard, IsCount, IsHeard}
+use Rattle.auditor.specs.Hearing.{AuditorState, HasHeard, IsHeard}
 use Rattle.auditor.specs.Verdicts.{AllKeep, IsVerdict, KeepsAll}
 use Rattle.auditor.specs.declared.verdicts.Law.{Law}
 use Rattle.auditor.specs.declared.verdicts.Verdict.TheVariants.{Good}
 use Rattle.auditor.proofs.Obeys.{obeys}
 use Rattle.auditor.proofs.Whole.{good_of}
 use Rattle.scenario.specs.Reading.{Script}
-use Rattle.course.specs.Happenings.{accepted, past_after, tried}
-use Rattle.course.specs.Hearing.{AddsEntry, Agrees}
+use Rattle.course.specs.Happenings.{Happening, Tries, Lacks, Tires, Looks, accepted, past_after, tried}
+use Rattle.course.specs.Listening.{Happens, StepsOn}
+use Rattle.course.specs.Telling.{TellsOf, entry_made}
+use Rattle.course.specs.declared.told.Accepted.{Accepted}
+use Rattle.course.specs.declared.told.Stepped.{Stepped}
+use Rattle.course.specs.declared.told.Told.{Told}
+use Rattle.course.specs.declared.told.Told.TheVariants as told
+use Rattle.course.specs.Judging.{Audits}
+use Rattle.course.specs.declared.judging.Audit.{Audit}
 use Rattle.course.specs.Runs.{happenings}
-use Rattle.course.specs.declared.heard.Listener.{Listener}
-use Rattle.course.proofs.CourseTurns.{place_is}
 use Rattle.course.proofs.Refusals.{past_kept}
 use Rattle.course.specs.RunRecords.{run_record}
 
@@ -68,105 +64,39 @@ kept_heard : (s : Setup) (past : Past) (e : Entry) (then : AuditorState) (law : 
 kept_heard s past e then None keeps is = (refl, is.1)
 kept_heard s past e then (Some l) keeps is = absurd (is.broken (keeps l))
 
--- an auditor that agrees with a world has heard each record that it shows
-heard_by : (w : WorldState) (events : List Event) → Shows w events → (a : AuditorState) → a.core ≡ core_of w → IsCount a.taken (length w.history) → HasHeard a (past_of w.setup events)
-heard_by w events shows a core taken = subst (λ (c : CoreState). HasHeard (record { core = c; taken = a.taken }) (past_of w.setup events)) (sym core) (record {
-  events = events;
-  past_is = refl;
-  shows = subst (λ (h : List Taken). Shows (with_history (core_of w) h) events) are shows;
-  counted = subst (λ (h : List Taken). IsCount a.taken (length h)) are taken;
-})
-  where
-    are : w.history ≡ history w.setup (past_of w.setup events)
-    are = ap (λ (w : WorldState). w.history) shows.shown
-
--- and one that has heard one of them agrees with it
-core_is : (w : WorldState) (events : List Event) → Shows w events → (a : AuditorState) → a.core.setup ≡ w.setup → HasHeard a (past_of w.setup events) → a.core ≡ core_of w
-core_is w events shows a same heard =
-    ap core_of (heard.shows.shown ∙ ap (world_of a.core.setup) heard.past_is ∙ ap (λ (s : Setup). world_of s (past_of w.setup events)) same ∙ sym shows.shown)
-
-taken_is : (w : WorldState) (events : List Event) → Shows w events → (a : AuditorState) → a.core.setup ≡ w.setup → HasHeard a (past_of w.setup events) → IsCount a.taken (length w.history)
-taken_is w events shows a same heard =
-    subst (λ (h : List Taken). IsCount a.taken (length h)) (ap (λ (s : Setup). history s (past_of w.setup events)) same ∙ sym (ap (λ (w : WorldState). w.history) shows.shown)) heard.counted
-
--- before the first entry
-pub agrees_at_start : (w : WorldState) (a : AuditorState) (l : Listener) → Shows w [] → a.core.setup ≡ w.setup → HasHeard a [] → l.auditor ≡ a → l.verdict ≡ Good → Agrees w l
-agrees_at_start w a l shows same heard is good = record {
-  core = ap (λ (a : AuditorState). a.core) is ∙ core_is w [] shows a same heard;
-  taken = subst (λ (a : AuditorState). IsCount a.taken (length w.history)) (sym is) (taken_is w [] shows a same heard);
-  kept = good;
-}
-
 -- an entry more, which breaks no law
-pub record Heard (new : WorldState) (a : AuditorState) (law : Option Law) : Type 0 where
-  pub core : a.core ≡ core_of new
-  pub taken : IsCount a.taken (length new.history)
-  pub none : law ≡ None
+pub audits_more : (s : Setup) (past : Past) (e : Entry) (old new : Audit) (a : AuditorState) (law : Option Law) → KeepsAll s past e → Audits s past old → ((past : Past) → HasHeard old.auditor past → IsHeard old.auditor.core.setup past e a law) →
+    (law ≡ None → a.core.setup ≡ old.auditor.core.setup) → new.auditor ≡ a → (law ≡ None → new.verdict ≡ old.verdict) → Audits s (e ∷ past) new
+audits_more s past e old new a law keeps audits hears setup is kept =
+    let answer : IsHeard s past e a law = subst (λ (s : Setup). IsHeard s past e a law) audits.setup (hears past audits.heard) in
+    let both : (law ≡ None) × HasHeard a (e ∷ past) = kept_heard s past e a law keeps answer in
+    record {
+      setup = ap (λ (a : AuditorState). a.core.setup) is ∙ setup both.0 ∙ audits.setup;
+      heard = subst (λ (a : AuditorState). HasHeard a (e ∷ past)) (sym is) both.1;
+      kept = kept both.0 ∙ audits.kept;
+    }
 
-pub entry_heard : (old new : WorldState) (e : Entry) (l : Listener) (a : AuditorState) (law : Option Law) → AddsEntry old e new → Agrees old l → ((past : Past) → HasHeard l.auditor past → IsHeard l.auditor.core.setup past e a law) →
-    (law ≡ None → a.core.setup ≡ l.auditor.core.setup) → Heard new a law
-entry_heard old new e l a law adds agrees hears setup = record { core = core_is new (adds.event ∷ adds.events) adds.goes a still now; taken = taken_is new (adds.event ∷ adds.events) adds.goes a still now; none = both.0 }
+-- the entry of an event keeps all laws, and is added to the past
+pub keeps_more : (s : Setup) (before : List Happening) (event : Event) (e : Entry) → checked s ≡ Ok tt → AreGiven s (event ∷ tried before) → entry_of s (past_after s before) event ≡ Some e → KeepsAll s (past_after s before) e × (past_after s (Tries event ∷ before) ≡ e ∷ past_after s before)
+keeps_more s before event e good given adds = (obeys s good (tried before) event e given adds, past-after s (tried before) event e adds)
+
+-- what is told is heard, if it is an entry
+pub told_audited : (s : Setup) (before : List Happening) (this : Happening) (made : Accepted) (answer : Told) (taken : List Taken) (old new : Audit) → answer ≡ told.Accepted made → Happens s before this answer taken →
+    ((s : Setup) (past : Past) → KeepsAll s past (entry_made made) → Audits s past old → Audits s (entry_made made ∷ past) new) → Audits s (past_after s before) old → Audits s (past_after s (this ∷ before)) new
+told_audited s before this made answer taken old new is h heard audits = by this (subst (λ answer. TellsOf s (past_after s before) this answer) is h.tells) h.given
   where
-    s : Setup
-    s = old.setup
+    by : (this : Happening) → TellsOf s (past_after s before) this (told.Accepted made) → AreGiven s (tried (this ∷ before)) → Audits s (past_after s (this ∷ before)) new
+    by (Tries event) tells given =
+        let more = keeps_more s before event (entry_made made) h.good given tells.1 in
+        subst (λ past. Audits s past new) (sym more.1) (heard s (past_after s before) more.0 audits)
+    by (Lacks p) tells given = absurd tells
+    by (Tires p) tells given = absurd tells
+    by Looks tells given = absurd tells
 
-    past : Past
-    past = past_of s adds.events
-
-    same : l.auditor.core.setup ≡ s
-    same = ap (λ (c : CoreState). c.setup) agrees.core
-
-    answer : IsHeard s past e a law
-    answer = subst (λ (s : Setup). IsHeard s past e a law) same (hears past (heard_by old adds.events adds.shows l.auditor agrees.core agrees.taken))
-
-    given : AreGiven s (adds.event ∷ adds.events)
-    given = subst (λ (s : Setup). AreGiven s (adds.event ∷ adds.events)) adds.setup adds.goes.given
-
-    both : (law ≡ None) × HasHeard a (e ∷ past)
-    both = kept_heard s past e a law (obeys s adds.shows.good adds.events adds.event e given adds.adds) answer
-
-    after : e ∷ past ≡ past_of new.setup (adds.event ∷ adds.events)
-    after = sym (past-after s adds.events adds.event e adds.adds) ∙ ap (λ (s : Setup). past_of s (adds.event ∷ adds.events)) (sym adds.setup)
-
-    now : HasHeard a (past_of new.setup (adds.event ∷ adds.events))
-    now = subst (HasHeard a) after both.1
-
-    still : a.core.setup ≡ new.setup
-    still = setup both.0 ∙ same ∙ sym adds.setup
-
--- so whoever listens agrees with the world still
-pub heard_agrees : (new : WorldState) (a : AuditorState) (law : Option Law) (l : Listener) → Heard new a law → l.auditor ≡ a → l.verdict ≡ Good → Agrees new l
-heard_agrees new a law l h is good = record {
-  core = ap (λ (a : AuditorState). a.core) is ∙ h.core;
-  taken = subst (λ (a : AuditorState). IsCount a.taken (length new.history)) (sym is) h.taken;
-  kept = good;
-}
-
--- what a world adds that goes on by an event, where a command that it takes gets the place after those taken before
-pub adds_entry : (old new : WorldState) (event : Event) (p : ℕ) (access : Option Access) (effect : Effect) (taken : List Taken) → ((events : List Event) × Shows old events) → ((events : List Event) → Shows old events → taken ≡ history old.setup (past_of old.setup events)) →
-    Adds old event p (act_of (length old.history) (record { access = access; effect = effect })) → GoesOn old event new → new.setup ≡ old.setup → AddsEntry old (record { process = p; access = access; marks = map (placed (length taken)) (marks_of effect) }) new
-adds_entry old new event p access effect taken (events, shows) are adds goes setup = record {
-  events = events;
-  event = event;
-  shows = shows;
-  adds = subst (λ (n : ℕ). entry_of old.setup (past_of old.setup events) event ≡ Some (entry_with p (act_of n (record { access = access; effect = effect })))) (place_is old events taken (length taken) shows (are events shows) refl) (adds events shows);
-  goes = goes events shows;
-  setup = setup;
-}
-
--- and by a step within a number access
-pub adds_access : (old new : WorldState) (p : ℕ) (flick : Bool) (access : Access) → ((events : List Event) × Shows old events) → StepsQuietly old p flick new → Adds old (Step p flick) p (record { access = Some access; marks = [] }) →
-    AddsEntry old (record { process = p; access = Some access; marks = [] }) new
-adds_access old new p flick access (events, shows) steps adds = record {
-  events = events;
-  event = Step p flick;
-  shows = shows;
-  adds = adds events shows;
-  goes = steps.shows events shows;
-  setup = steps.setup;
-}
-
--- one such step more
-pub walks_on : (old mid new : WorldState) (f g h : FlickState) (p made : ℕ) (flick : Bool) → Walks old f p made mid g → StepsQuietly mid p flick new → flick ≡ flick_of g → h ≡ after_flick g → Walks old f p (made + 1) new h
-walks_on old mid new f g h p made flick first step is after =
-    subst (λ n. Walks old f p n new h) (sym (add-one made)) (mid, g, first, subst (λ flick. StepsQuietly mid p flick new) is step, after)
+-- and so is a Step without a mark
+pub stepped_audited : (s : Setup) (before : List Happening) (made : Stepped) (old new : Audit) → StepsOn s before made →
+    ((s : Setup) (past : Past) → KeepsAll s past (record { process = made.process; access = Some made.access; marks = [] }) → Audits s past old → Audits s (record { process = made.process; access = Some made.access; marks = [] } ∷ past) new) →
+    Audits s (past_after s before) old → Audits s (past_after s (Tries (Step made.process made.flick) ∷ before)) new
+stepped_audited s before made old new on heard audits =
+    let more = keeps_more s before (Step made.process made.flick) (record { process = made.process; access = Some made.access; marks = [] }) on.good on.given on.adds in
+    subst (λ past. Audits s past new) (sym more.1) (heard s (past_after s before) more.0 audits)

@@ -93,7 +93,7 @@ drawn_follows w flicks left drawn old l run follows d = record { shows = subst (
 
 -- within a number access
 pub within_made : (w w' : WorldState) (flicks : FlickState) (left : ℕ) (drawn : Drawn) (access : Access) → StepsQuietly w drawn.process drawn.flick w' → Adds w (event.Step drawn.process drawn.flick) drawn.process (record { access = Some access; marks = [] }) →
-    (old : CourseState) (l : Line) (run : Run) → Follows old run → IsDrawn old l run drawn (course w flicks left) → MakesStep old l run (record { process = drawn.process; access = access }) (course w' flicks left)
+    (old : CourseState) (l : Line) (run : Run) → Follows old run → IsDrawn old l run drawn (course w flicks left) → MakesStep old l run (record { process = drawn.process; flick = drawn.flick; access = access }) (course w' flicks left)
 within_made w w' flicks left drawn access quietly adds old l run follows d =
     let s : Setup = old.world.setup in
     let p : ℕ = drawn.process in
@@ -106,8 +106,7 @@ within_made w w' flicks left drawn access quietly adds old l run follows d =
     let on : Follows (course w' (after_flick d.source) left) (stepped p then) = step_follows w w' d.source left left p drawn.flick then d.flick quietly.shows here in
     let turn : turn_of s l old.left run ≡ made_turn p (old.left - 1) then = d.turn ∙ drawn_made drawn.alone s p (old.left - 1) then (Some access, entry) in
     record {
-      flick = drawn.flick;
-      makes = subst (λ (t : Turn). Makes old run t (Some (told_unmarked (record { process = p; access = access }) drawn.flick)) (course w' flicks left)) (sym turn)
+      makes = subst (λ (t : Turn). Makes old run t (Some (told_unmarked (record { process = p; flick = drawn.flick; access = access }))) (course w' flicks left)) (sym turn)
           (record {
             tells = (ap (event.Step p) d.flick, entry);
             follows = record { shows = on.shows; flicks = d.flicks };

@@ -23,7 +23,7 @@ pub record Onward (s : Setup) (lines rest : List Line) (course : CourseState) (s
   pub now : Run
   pub follows : Follows course now
   pub setup : course.world.setup ≡ s
-  pub counts : Counts s now summary
+  pub counts : Counts s now.happened summary
   pub text : List ℕ
   pub is : text_of s now.happened ≡ text
   pub taken : Appends old new text
@@ -46,7 +46,7 @@ onward_start s lines course summary taken setup follows none = record {
 pub onward_on : (s : Setup) (lines rest : List Line) (line : Line) (course course' : CourseState) (summary summary' : Summary) (old mid new : Option (List ℕ)) →
     Onward s lines (line ∷ rest) course summary old mid → MakesLine line course course' summary summary' mid new → Onward s lines rest course' summary' old new
 onward_on s lines rest line course course' summary summary' old mid new u makes =
-    let family : Setup → Type 0 = λ s. Counts s u.now summary → Moves s u.now (run_after s line u.now) course' summary' mid new in
+    let family : Setup → Type 0 = λ s. Counts s u.now.happened summary → Moves s u.now (run_after s line u.now) course' summary' mid new in
     let m : Moves s u.now (run_after s line u.now) course' summary' mid new = subst family u.setup (makes u.now u.follows) u.counts in
     record {
       now = run_after s line u.now;
@@ -79,8 +79,8 @@ onward_cut s lines rest course summary old new ending u =
 pub onward_torn : (s : Setup) (lines rest : List Line) (line : Line) (course : CourseState) (summary : Summary) (old mid new : Option (List ℕ)) (ending : List ℕ) →
     Onward s lines (line ∷ rest) course summary old mid → CutsLine line course summary mid new → WritesFront old new (text_of s (runs s lines run_at_start).happened ++ ending)
 onward_torn s lines rest line course summary old mid new ending u cuts =
-    let family : Setup → Type 0 = λ s. Counts s u.now summary → WritesPart s u.now.happened (run_after s line u.now).happened mid new in
-    let part : WritesPart s u.now.happened (run_after s line u.now).happened mid new = subst family u.setup (cuts u.now u.follows) u.counts in
+    let family : Setup → Type 0 = λ s. Counts s u.now.happened summary → WritesPart (text_of s u.now.happened) (text_of s (run_after s line u.now).happened) mid new in
+    let part : WritesPart (text_of s u.now.happened) (text_of s (run_after s line u.now).happened) mid new = subst family u.setup (cuts u.now u.follows) u.counts in
     let (more, all) = whole_text s lines rest (run_after s line u.now) (u.text ++ part.text) ending (part.is ∙ ap (λ l. l ++ part.text) u.is) u.whole in
     subst (λ l. WritesFront old new l) (sym (all ∙ append_assoc u.text part.text more))
     (front_after old mid new u.text (part.text ++ more) u.taken (front_longer mid new part.text more part.front))

@@ -7,29 +7,7 @@ use Rattle.scenario.specs.declared.lines.Line.TheVariants as line
 use Rattle.scenario.specs.declared.lines.Target.{Target}
 use Rattle.course.specs.Happenings.{Lacks, Tires}
 use Rattle.course.specs.Runs.{Run, goes, is_there, may_step, movers, past_in, picked, run_after, stepped, steps, wanders, with_happening}
-use Rattle.course.specs.Turns.{Turn, ends, go_turn, happens, on_turn, step_turn, turn_of, turns_in, wander_turn}
-
--- what a line with one turn or none left does
-abbrev pub once : ℕ → Run → Run → Run
-once zero run after = run
-once (suc left) run after = after
-
--- what a `go` does that has so many turns left
-abbrev pub go_rest : Setup → ℕ → Target → ℕ → Run → Run
-go_rest s p target zero run = run
-go_rest s p target (suc left) run = elim (nat_lt p s.processes) [ true ↦ goes s p target left run | false ↦ with_happening (Lacks p) run ]
-
--- what a line does that has so many turns left
-abbrev pub rest_of : Setup → Line → ℕ → Run → Run
-rest_of s (line.Call p command) left run = once left run (run_after s (line.Call p command) run)
-rest_of s (line.Step p n) left run = steps s p left run
-rest_of s (line.Go p target) left run = go_rest s p target left run
-rest_of s (line.Fail p) left run = once left run (run_after s (line.Fail p) run)
-rest_of s (line.Withdraw p) left run = once left run (run_after s (line.Withdraw p) run)
-rest_of s (line.Restart p) left run = once left run (run_after s (line.Restart p) run)
-rest_of s (line.Flick flick) left run = once left run (run_after s (line.Flick flick) run)
-rest_of s (line.Wander n) left run = wanders s left run
-rest_of s line.Show left run = once left run (run_after s line.Show run)
+use Rattle.course.specs.Turns.{Turn, ends, go_rest, go_turn, happens, on_turn, once, rest_of, step_turn, turn_of, turns_in, wander_turn}
 
 -- with all its turns it does all
 pub rest_whole : (s : Setup) (line : Line) (run : Run) → rest_of s line (turns_in line) run ≡ run_after s line run

@@ -230,7 +230,7 @@ step_turn_left s p left place flick run (Ok made) tells = step_turn_made s p lef
 step_turn_left s p left place flick run (Err r) tells = step_turn_refused s p left run r tells.1
 
 -- turns without a mark after turns without a mark
-turns_then : (s : Setup) (line : Line) (quiet more left : ℕ) (run : Run) (mid : ℕ) (run_mid : Run) (left' : ℕ) (run' : Run) → QuietTurns s line quiet left run mid run_mid → QuietTurns s line more mid run_mid left' run' →
+pub turns_then : (s : Setup) (line : Line) (quiet more left : ℕ) (run : Run) (mid : ℕ) (run_mid : Run) (left' : ℕ) (run' : Run) → QuietTurns s line quiet left run mid run_mid → QuietTurns s line more mid run_mid left' run' →
     QuietTurns s line (quiet + more) left run left' run'
 turns_then s line zero more left run mid run_mid left' run' (same, at) rest =
     let all : more ≡ zero + more = omega arith in

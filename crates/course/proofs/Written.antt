@@ -1,5 +1,5 @@
 -- Pieces that are written one after the other, and fronts of them.
-use Rattle.std.proofs.Common.{◌≡◌, ℕ, zero, suc, ◌+◌, ◌<◌, Result, Ok, Err, IfOk, OnErr, OnOk, IsOk, IsErrAnd, flat_map, drop, get_or, List, [], ◌∷◌, ◌++◌, length, take, Option, Some, None, refl, ap, sym, subst, ◌∙◌, arith, append-nil, append_assoc}
+use Rattle.std.proofs.Common.{◌≡◌, ℕ, zero, suc, ◌+◌, ◌<◌, Result, Ok, Err, IfOk, OnErr, OnOk, IsOk, IsErrAnd, flat_map, drop, get_or, List, [], ◌∷◌, ◌++◌, length, take, Option, refl, ap, sym, subst, ◌∙◌, append-nil}
 use Rattle.std.proofs.lemmas.Grind.{flat_map-append}
 use Rattle.std.proofs.lemmas.List.{take_more}
 use Rattle.std.specs.Io.KnownBytes.{Appends}
@@ -9,47 +9,18 @@ use Rattle.scenario.specs.files.Streams.{WritesFront}
 use Rattle.scenario.specs.files.declared.faults.Fault.{Fault}
 use Rattle.scenario.specs.files.declared.faults.Fault.TheVariants as fault
 use Rattle.course.specs.Writing.{failed_write}
-
--- one piece, and then the next
-pub appends_both : (a b c : Option (List ℕ)) (front more : List ℕ) → Appends a b front → Appends b c more → Appends a c (front ++ more)
-appends_both None b c front more first next = tt
-appends_both (Some xs) (Some ys) (Some zs) front more first next = next ∙ ap (λ l. l ++ more) first ∙ append_assoc xs front more
-appends_both (Some xs) (Some ys) None front more first next = next
-appends_both (Some xs) None c front more first next = elim first [ ]
-
--- nothing
-pub appends_none : (a : Option (List ℕ)) → Appends a a []
-appends_none None = tt
-appends_none (Some xs) = sym (append-nil xs)
-
--- the front of a list that is longer
-take_front : (n : ℕ) (xs ys : List ℕ) → take (length (take n xs)) (xs ++ ys) ≡ take n xs
-take_front zero xs ys = refl
-take_front (suc n) [] ys = refl
-take_front (suc n) (x ∷ xs) ys = ap (λ l. x ∷ l) (take_front n xs ys)
-
-take_after : (xs ys : List ℕ) (n : ℕ) → take (length xs + n) (xs ++ ys) ≡ xs ++ take n ys
-take_after [] ys n = ap (λ k. take k ys) {y = n} (omega arith)
-take_after (x ∷ xs) ys n = ap (λ k. take k (x ∷ (xs ++ ys))) {y = suc (length xs + n)} (omega arith) ∙ ap (λ l. x ∷ l) (take_after xs ys n)
+pub use Rattle.course.specs.Growing.{appends_both, appends_none, front_after, front_longer, take_after}
 
 -- nothing is a front of every text
 pub front_none : (a b : Option (List ℕ)) (text : List ℕ) → b ≡ a → WritesFront a b text
 front_none a b text same = record { count = 0; front = subst (λ b. Appends a b []) (sym same) (appends_none a) }
 
--- a front of a text is one of a longer text
-pub front_longer : (a b : Option (List ℕ)) (text more : List ℕ) → WritesFront a b text → WritesFront a b (text ++ more)
-front_longer a b text more front = record { count = length (take front.count text); front = subst (λ l. Appends a b l) (sym (take_front front.count text more)) front.front }
-
--- and so is a whole text
+-- a whole text is a front of a longer one
 pub front_whole : (a b : Option (List ℕ)) (text more : List ℕ) → Appends a b text → WritesFront a b (text ++ more)
 front_whole a b text more whole = record { count = length text + 0; front = subst (λ l. Appends a b l) (sym (take_after text more 0 ∙ append-nil text)) whole }
 
 pub front_all : (a b : Option (List ℕ)) (text : List ℕ) → Appends a b text → WritesFront a b text
 front_all a b text whole = subst (λ l. WritesFront a b l) (append-nil text) (front_whole a b text [] whole)
-
--- a text, and then a front of the next
-pub front_after : (a b c : Option (List ℕ)) (text more : List ℕ) → Appends a b text → WritesFront b c more → WritesFront a c (text ++ more)
-front_after a b c text more whole front = record { count = length text + front.count; front = subst (λ l. Appends a c l) (sym (take_after text more front.count)) (appends_both a b c text (take front.count more) whole front.front) }
 
 module _ {X : Type 0} (bytes : X → List ℕ) where
   -- a line that was written, where there was memory for it

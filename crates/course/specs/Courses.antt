@@ -39,10 +39,6 @@ pub record Makes (old : CourseState) (run : Run) (turn : Turn) (answer : Option 
   pub left : new.left ≡ turn.left
   pub setup : new.world.setup ≡ old.world.setup
 
--- it makes the next turn of a line, whatever has happened before
-abbrev pub MakesTurn : CourseState → Line → Option Told → CourseState → Type 0
-MakesTurn old line answer new = (run : Run) → Follows old run → Makes old run (turn_of old.world.setup line old.left run) answer new
-
 -- an event is made that has no mark
 abbrev pub IsQuiet : Setup → Past → Option Happening → Type 0
 IsQuiet s past (Some (Tries event)) = AddsMarks s past event []

@@ -6,13 +6,16 @@ pub use Rattle.record.specs as «record»
 pub use Rattle.auditor.specs.watch as watch
 pub mod Counts
 pub mod Courses
+pub mod Growing
 pub mod Happenings
-pub mod Hearing
+pub mod Judging
+pub mod Listening
 pub mod Replays
 pub mod RunRecords
 pub mod Runs
 pub mod Steppers
 pub mod Summaries
+pub mod Takings
 pub mod Telling
 pub mod Texts
 pub mod Turns

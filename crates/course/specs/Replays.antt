@@ -11,6 +11,7 @@ use Rattle.course.specs.Courses.{CourseState, Follows}
 use Rattle.course.specs.Happenings.{past_after, tried}
 use Rattle.course.specs.Runs.{Run, happenings, run_after}
 use Rattle.course.specs.Summaries.{summary_of}
+use Rattle.course.specs.Texts.{text_of}
 use Rattle.course.specs.Writing.{Counts, Writes, WritesPart}
 use Rattle.course.specs.declared.summaries.Summary.{Summary}
 
@@ -18,18 +19,18 @@ use Rattle.course.specs.declared.summaries.Summary.{Summary}
 pub record Moves (s : Setup) (before after : Run) (course : CourseState) (summary : Summary) (old new : Option (List ℕ)) : Type 0 where
   pub follows : Follows course after
   pub setup : course.world.setup ≡ s
-  pub counts : Counts s after summary
-  pub writes : Writes s before.happened after.happened old new
+  pub counts : Counts s after.happened summary
+  pub writes : Writes (text_of s before.happened) (text_of s after.happened) old new
 
 -- a line has made all its turns
 abbrev pub MakesLine : Line → CourseState → CourseState → Summary → Summary → Option (List ℕ) → Option (List ℕ) → Type 0
 MakesLine line old new had has taken then =
-    (run : Run) → Follows old run → Counts old.world.setup run had → Moves old.world.setup run (run_after old.world.setup line run) new has taken then
+    (run : Run) → Follows old run → Counts old.world.setup run.happened had → Moves old.world.setup run (run_after old.world.setup line run) new has taken then
 
 -- or was cut short
 abbrev pub CutsLine : Line → CourseState → Summary → Option (List ℕ) → Option (List ℕ) → Type 0
 CutsLine line old had taken then =
-    (run : Run) → Follows old run → Counts old.world.setup run had → WritesPart old.world.setup run.happened (run_after old.world.setup line run).happened taken then
+    (run : Run) → Follows old run → Counts old.world.setup run.happened had → WritesPart (text_of old.world.setup run.happened) (text_of old.world.setup (run_after old.world.setup line run).happened) taken then
 
 -- how an engine ended, without what it answers
 abbrev pub ended : {A : Type 0} → Result A Fault → Result (Unit {0}) Fault

@@ -60,6 +60,5 @@ drawn_turns (Some drawn) = 1
 
 -- the next turn of a line is made, this Step, which has no mark; those who make the next Steps go on to make them
 pub record MakesStep (old : CourseState) (l : Line) (run : Run) (made : Stepped) (new : CourseState) : Type 0 where
-  pub flick : Bool
-  pub makes : Makes old run (turn_of old.world.setup l old.left run) (Some (told_unmarked made flick)) new
+  pub makes : Makes old run (turn_of old.world.setup l old.left run) (Some (told_unmarked made)) new
   pub next : (steppers : Steppers) → AreNext old.world.setup l run steppers → AreNext old.world.setup l (turn_of old.world.setup l old.left run).run steppers

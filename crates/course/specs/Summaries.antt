@@ -1,5 +1,6 @@
 -- The three numbers of a run.
-use Rattle.std.specs.Prelude.{◌+◌, List, length}
+use Rattle.std.specs.Prelude.{◌+◌, ◌^◌, ◌<◌, ◌≤◌, ℕ, List, length}
+use Rattle.std.proofs.Common.{arith}
 use Rattle.plain_store.specs.declared.setups.Setup.{Setup}
 use Rattle.record.specs.Histories.{history}
 use Rattle.course.specs.Happenings.{Happening, past_after, refusals}
@@ -21,3 +22,10 @@ counted (told.Accepted made) summary = record summary { events = summary.events 
 counted (told.Refused p refusal) summary = record summary { refused = summary.refused + 1 }
 counted (told.Tired p) summary = summary
 counted (told.Shown line) summary = summary
+
+-- so many more may be counted
+abbrev pub CanCount : Summary → ℕ → Type 0
+CanCount summary more = (summary.events + more < 2 ^ 64) × (summary.refused + more < 2 ^ 64)
+
+pub can_count_less : (summary : Summary) (n k : ℕ) → n ≤ k → CanCount summary k → CanCount summary n
+can_count_less summary n k few (events, refused) = (omega (arith, few, events), omega (arith, few, refused))

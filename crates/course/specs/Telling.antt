@@ -68,9 +68,9 @@ abbrev pub told_step : ℕ → Bool → ℕ → Result Made Refusal → Told
 told_step p flick place (Ok made) = told.Accepted (record { event = event.Step p flick; place = place; access = made.access; effect = made.effect })
 told_step p flick place (Err refusal) = told.Refused p refusal
 
--- what a Step tells that has no mark, made by this flick; since it takes no command, its place does not matter
-abbrev pub told_unmarked : Stepped → Bool → Told
-told_unmarked made flick = told.Accepted (record { event = event.Step made.process flick; place = 0; access = Some made.access; effect = Steps step.Nothing })
+-- what a Step tells that has no mark; since it takes no command, its place does not matter
+abbrev pub told_unmarked : Stepped → Told
+told_unmarked made = told.Accepted (record { event = event.Step made.process made.flick; place = 0; access = Some made.access; effect = Steps step.Nothing })
 
 -- a Step leads to nothing
 abbrev pub is_nothing : Effect → Bool

@@ -8,7 +8,7 @@ use Rattle.scenario.specs.declared.lines.Line.TheVariants as line
 use Rattle.scenario.specs.declared.lines.Target.{Target}
 use Rattle.world.specs.flicks.Flicks.{after_set}
 use Rattle.course.specs.Happenings.{Happening, Tries, Lacks, Tires, Looks}
-use Rattle.course.specs.Runs.{Run, past_in, with_happening, next_step, stepped, may_step, is_there, movers, pick_among, after_pick_in, set_to, go_limit}
+use Rattle.course.specs.Runs.{Run, past_in, with_happening, next_step, stepped, steps, goes, wanders, run_after, may_step, is_there, movers, pick_among, after_pick_in, set_to, go_limit}
 
 -- how many turns a line may make; the last one of a `go` looks where the process is, and makes no Step
 abbrev pub turns_in : Line → ℕ
@@ -77,3 +77,25 @@ next_turn s line.Show left run = happens Looks left run
 abbrev pub turn_of : Setup → Line → ℕ → Run → Turn
 turn_of s line zero run = ends run
 turn_of s line (suc left) run = next_turn s line left run
+
+-- what a line with one turn or none left does
+abbrev pub once : ℕ → Run → Run → Run
+once zero run after = run
+once (suc left) run after = after
+
+-- what a `go` does that has so many turns left
+abbrev pub go_rest : Setup → ℕ → Target → ℕ → Run → Run
+go_rest s p target zero run = run
+go_rest s p target (suc left) run = elim (nat_lt p s.processes) [ true ↦ goes s p target left run | false ↦ with_happening (Lacks p) run ]
+
+-- what a line does that has so many turns left
+abbrev pub rest_of : Setup → Line → ℕ → Run → Run
+rest_of s (line.Call p command) left run = once left run (run_after s (line.Call p command) run)
+rest_of s (line.Step p n) left run = steps s p left run
+rest_of s (line.Go p target) left run = go_rest s p target left run
+rest_of s (line.Fail p) left run = once left run (run_after s (line.Fail p) run)
+rest_of s (line.Withdraw p) left run = once left run (run_after s (line.Withdraw p) run)
+rest_of s (line.Restart p) left run = once left run (run_after s (line.Restart p) run)
+rest_of s (line.Flick flick) left run = once left run (run_after s (line.Flick flick) run)
+rest_of s (line.Wander n) left run = wanders s left run
+rest_of s line.Show left run = once left run (run_after s line.Show run)

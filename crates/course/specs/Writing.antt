@@ -5,9 +5,7 @@ use Rattle.plain_store.specs.declared.setups.Setup.{Setup}
 use Rattle.scenario.specs.files.Streams.{WritesFront}
 use Rattle.scenario.specs.files.declared.faults.Fault.{Fault}
 use Rattle.scenario.specs.files.declared.faults.Fault.TheVariants.{Line, Read, Write, Memory}
-use Rattle.course.specs.Happenings.{Happening, refusals}
-use Rattle.course.specs.Runs.{Run, past_in}
-use Rattle.course.specs.Texts.{text_of}
+use Rattle.course.specs.Happenings.{Happening, past_after, refusals}
 use Rattle.course.specs.declared.summaries.Summary.{Summary}
 
 -- writing ends early only by a call that failed, or for want of memory
@@ -25,19 +23,19 @@ failed_write (Err Read) = 0
 failed_write (Err (Line fault)) = 0
 failed_write (Ok done) = 0
 
--- the text of what has happened between two moments was written
-pub record Writes (s : Setup) (before after : List Happening) (old new : Option (List ℕ)) : Type 0 where
+-- a text has grown from the one to the other, and what was added was written
+pub record Writes (before after : List ℕ) (old new : Option (List ℕ)) : Type 0 where
   pub text : List ℕ
-  pub is : text_of s after ≡ text_of s before ++ text
+  pub is : after ≡ before ++ text
   pub taken : Appends old new text
 
 -- a front of it was written
-pub record WritesPart (s : Setup) (before after : List Happening) (old new : Option (List ℕ)) : Type 0 where
+pub record WritesPart (before after : List ℕ) (old new : Option (List ℕ)) : Type 0 where
   pub text : List ℕ
-  pub is : text_of s after ≡ text_of s before ++ text
+  pub is : after ≡ before ++ text
   pub front : WritesFront old new text
 
 -- events and refusals are counted up to here
-pub record Counts (s : Setup) (run : Run) (summary : Summary) : Type 0 where
-  pub events : summary.events ≡ length (past_in s run)
-  pub refused : summary.refused ≡ refusals s run.happened
+pub record Counts (s : Setup) (happened : List Happening) (summary : Summary) : Type 0 where
+  pub events : summary.events ≡ length (past_after s happened)
+  pub refused : summary.refused ≡ refusals s happened

@@ -1,19 +1,22 @@
-//! One run of a scenario, turn by turn: what the next turns of a line do on the world, and what each tells. An auditor may
-//! hear each entry as it is made.
+//! One run of a scenario: a line is played on the world, turn by turn, and a listener hears what each turn tells before the
+//! next is made. An auditor may hear it too.
 //!
 //! ```rust
-//! let mut course = Course::new(alloc, &scenario.setup, false)?;
+//! let mut course = Course::new(alloc, &scenario.setup)?;
 //! ```
 #![tactic(auto)]
 
-mod heard;
+mod judging;
+mod listening;
 mod store_line;
 mod summaries;
 mod told;
 mod turns;
 
 pub use auditor::Watch;
-pub use record::{Access, Entry, Event, Mark, Record, Refusal, refusal_line};
+pub use judging::{Audit, Judged};
+pub use listening::Listener;
+pub use record::{Access, Entry, Event, Mark, Record, Refusal, Taken, refusal_line};
 pub use summaries::Summary;
 pub use told::{Accepted, Drawn, Stepped, Told, Turns};
 pub use turns::{Course, Steppers};

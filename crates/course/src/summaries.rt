@@ -1,8 +1,12 @@
-ghost use Rattle.std.specs.Prelude.{◌≡◌, ◌^◌, ◌-◌, ◌<◌};
-ghost use Rattle.course.specs.Summaries.{counted};
+ghost use Rattle.std.specs.Prelude.{◌≡◌, ◌^◌, ◌-◌, ◌<◌, false, refl};
+ghost use Rattle.scenario.specs.files.declared.faults.Fault.TheVariants.{Memory};
+ghost use Rattle.course.specs.Summaries.{CanCount, can_count_less, counted};
+ghost use Rattle.course.specs.Writing.{Counts};
 
-use crate::told::Told;
-use scenario::{DONE, Ending};
+use crate::listening::Listener;
+use crate::told::{Stepped, Told};
+use record::Taken;
+use scenario::{DONE, Ending, Fault};
 
 /// The three numbers that a replay ends with.
 #[derive(Clone, Copy, Debug, PartialEq, Eq)]
@@ -48,4 +52,49 @@ impl Ending for Summary {
     fn status(&self) -> u8 {
         DONE
     }
+}
+
+/// It counts what it hears. Steps without a mark may pass by it, many at once.
+impl Listener for Summary {
+    ghost hears_steps = { λ _. false };
+
+    #[inline(always)]
+    fn hears_steps(&self) -> bool {
+        false
+    }
+
+    ghost HasRoom = { λ summary more. CanCount summary more };
+
+    ghost Hears = { λ a s x y b. Counts s x a → Counts s y b };
+
+    ghost Stops = { λ a s x y fault b. fault ≡ Memory };
+
+    #[tactic(auto, using(crate::proofs::Counting::counts_heard))]
+    fn hear(&mut self, told: &Told, _taken: &[Taken]) -> Result<(), Fault> {
+        self.count(told);
+        Ok(())
+    }
+
+    #[tactic(auto, using(crate::proofs::Counting::counts_stepped))]
+    fn step(&mut self, _made: Stepped) -> Result<(), Fault> {
+        self.events += 1;
+        Ok(())
+    }
+
+    #[tactic(auto, using(crate::proofs::Counting::counts_passed))]
+    fn pass(&mut self, steps: u32) {
+        self.events += u64::from(steps);
+    }
+
+    ghost room_less = { λ a n k. can_count_less a n k };
+
+    ghost hears_nothing = { λ a s x counts. counts };
+
+    ghost hears_on = { λ a b c s x y z p q counts. q (p counts) };
+
+    ghost stops_unheard = { λ a s x. refl };
+
+    ghost stops_before = { λ a b s x y more fault p. p };
+
+    ghost stops_on = { λ a b c s x y z fault p q. q };
 }

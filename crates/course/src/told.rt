@@ -51,10 +51,11 @@ pub struct Drawn {
     pub alone: bool,
 }
 
-/// A Step that was made within a number access: whose it is, and its access. It has no mark.
+/// A Step that was made and has no mark: whose it is, its flick and its access.
 #[derive(Clone, Copy)]
 pub struct Stepped {
     pub process: u8,
+    pub flick: bool,
     pub access: Access,
 }
 

@@ -9,27 +9,25 @@ ghost use Rattle.record.specs.Histories.{history};
 ghost use Rattle.record.specs.Records.{past_of};
 ghost use Rattle.world.specs.flicks.Flicks.{constant_flicks};
 ghost use Rattle.world.specs.Shows.{Shows};
-ghost use Rattle.auditor.specs.declared.verdicts.Verdict.TheVariants.{Good};
 ghost use Rattle.course.specs.Courses.{Follows, Makes, MakesTurns, CourseState};
 ghost use Rattle.course.specs.Happenings.{Tries};
 ghost use Rattle.course.specs.Runs.{Run, is_there as is_target, past_in, run_at_start, set_to as seed_set};
 ghost use Rattle.course.specs.Texts.{newest_store, store_text};
 ghost use Rattle.course.specs.Turns.{happens, turn_of, turns_in as turns_of};
 
+mod playing;
 mod steps;
 mod walks;
 
-use crate::heard::HeardWorld;
 use crate::store_line::newest_line;
 use crate::told::{Accepted, Told, Turns};
-use auditor::Verdict;
 use plain_store::{NestedTypes, Setup};
 use record::{Event, Refusal, Taken};
 use scenario::{Flick, Line};
 use std::alloc::{AllocError, Global};
 use std::marker::Model;
 pub use steps::Steppers;
-use world::{Effect, Flicks, Image};
+use world::{Effect, Flicks, Image, World};
 
 /// The Steps that a `go` makes at most.
 const GO_LIMIT: u32 = 65_536;
@@ -40,7 +38,7 @@ const GO_LIMIT: u32 = 65_536;
 pub struct Course {
     alloc: Global,
     processes: u8,
-    world: HeardWorld,
+    world: World,
     flicks: Flicks,
     left: u32,
 }
@@ -56,8 +54,8 @@ impl Model for Course {
 }
 
 impl Course {
-    /// A run in which nothing has happened; `audited`: an auditor hears each entry.
-    pub fn new(alloc: Global, setup: &Setup, audited: bool) -> Result<Course, AllocError>
+    /// A run in which nothing has happened.
+    pub fn new(alloc: Global, setup: &Setup) -> Result<Course, AllocError>
         requires { checked setup.now ≡ Ok tt }
         ensures setup { IfOk result (λ course. course.world.setup ≡ setup.now) }
         ensures follows { IfOk result (λ course. Follows course run_at_start) }
@@ -65,17 +63,10 @@ impl Course {
         Ok(Course {
             alloc,
             processes: setup.processes,
-            world: HeardWorld::new(alloc, setup, audited)?,
+            world: World::new(alloc, setup)?,
             flicks: Flicks::constant(false),
             left: 0,
         })
-    }
-
-    /// The auditor's verdict on the entries so far; good, if there is none.
-    pub fn verdict(&self) -> Verdict
-        ensures { result ≡ Good }
-    {
-        self.world.verdict()
     }
 
     /// How many commands were taken.
@@ -101,7 +92,7 @@ impl Course {
     }
 
     /// The next turn of the line; none once the line has ended.
-    pub fn turn(&mut self, line: &Line) -> Result<Option<Told>, AllocError>
+    fn turn(&mut self, line: &Line) -> Result<Option<Told>, AllocError>
         requires { self.old.left ≤ turns_of line.now }
         ensures left { IfOk result (λ told. IfSome told (λ _. self.new.left < self.old.left)) }
         ensures made { IfOk result (λ told. (run : Run) → Follows self.old run → Makes self.old run (turn_of self.old.world.setup line.now self.old.left run) told self.new) }

@@ -1,126 +1,27 @@
--- A run that goes on while it is drawn: within a line, and from line to line.
-use Rattle.std.proofs.Common.{◌≡◌, ℕ, suc, ◌+◌, List, [], ◌∷◌, ◌++◌, length, Option, None, Some, refl, ap, sym, subst, ◌∙◌, append-nil, append_assoc, arith}
+-- A run that goes on from line to line while it is drawn.
+use Rattle.std.proofs.Common.{◌≡◌, ℕ, suc, ◌+◌, ◌-◌, List, [], ◌∷◌, ◌++◌, length, Option, Some, refl, ap, sym, subst, ◌∙◌, append-nil, append_assoc, arith}
 use Rattle.plain_store.specs.Store.{Contents}
 use Rattle.plain_store.specs.declared.setups.Setup.{Setup}
 use Rattle.record.specs.declared.marks.Mark.{Mark}
 use Rattle.scenario.specs.declared.lines.Line.{Line}
-use Rattle.course.specs.Courses.{CourseState, Follows, Makes, MakesTurns}
+use Rattle.course.specs.Courses.{CourseState, Follows}
 use Rattle.course.specs.Happenings.{Happening, past_after}
-use Rattle.course.specs.Replays.{Moves}
 use Rattle.course.specs.Runs.{Run, past_in, run_after, run_at_start, runs}
-use Rattle.course.specs.Summaries.{counted, summary_of}
-use Rattle.course.specs.Telling.{told_text}
+use Rattle.course.specs.Summaries.{summary_of}
 use Rattle.course.specs.Texts.{text_of}
-use Rattle.course.specs.Turns.{turn_of, turns_in}
 use Rattle.course.specs.Writing.{Counts}
 use Rattle.course.specs.declared.summaries.Summary.{Summary}
-use Rattle.course.specs.declared.told.Told.{Told}
-use Rattle.course.specs.declared.told.Turns.{Turns}
 use Rattle.course.proofs.Onwards.{Onward, onward_end}
-use Rattle.course.proofs.Underways.{Said, SaidTurns, said, with_events}
 use Rattle.course.proofs.Written.{appends_none}
 use Rattle.picture.specs.Bandings.{Plan}
 use Rattle.picture.specs.Pages.{page_of}
 use Rattle.picture.specs.columns.Stages.{marks_in}
 use Rattle.picture.specs.declared.reads.Reads.{Reads as Mode}
-use Rattle.drawer.specs.Drawings.{Advances, DrawsBands, DrawsLine, DrawsOn, DrawsRest, IsToDraw, Kept, Recalls, marks_told}
-use Rattle.drawer.specs.Items.{Gives, SaysEnd, first_line, given_at, given_at_end, given_by, given_from, lines_given, reads_since}
+use Rattle.drawer.specs.Drawings.{Advances, DrawsBands, DrawsLine, DrawsOn, DrawsRest, HasDrawn, Kept, Recalls, kept}
+use Rattle.drawer.specs.Items.{Gives, SaysEnd, first_line, given_at_end, given_by, given_from, given_last, lines_given, reads_since}
+use Rattle.drawer.specs.declared.drawing.Drawing.{Drawing}
 use Rattle.drawer.specs.declared.overlaps.Overlaps.{Overlaps}
 use Rattle.drawer.proofs.Drawn.{draws_bands, draws_on_both, draws_on_none}
-use Rattle.drawer.proofs.Marked.{Marking, MarksLine, TellsNext, marking_ended, marking_on, marking_quiet, marking_start, turns_said}
-use Rattle.drawer.proofs.Overhearing.{Passes}
-
--- within a line, after this run: what it has told is drawn, but for what is held back
-pub record Going (mode : Mode) (s : Setup) (n : ℕ) (line : Line) (start : Run) (course : CourseState) (summary : Summary) (store : Contents) (overlaps : Option Overlaps) (had has : Kept) (old new : Option (List ℕ)) (now : Run) : Type 0 where
-  pub follows : Follows course now
-  pub setup : course.world.setup ≡ s
-  pub text : List ℕ
-  pub marks : List (ℕ × Mark)
-  pub gives : List Gives
-  pub draws : DrawsOn had has old new text marks gives
-  pub marking : Marking mode s n line start course.left now summary store overlaps text marks gives
-
--- before its first turn
-pub going_start : (mode : Mode) (s : Setup) (n : ℕ) (line : Line) (start : Run) (course : CourseState) (summary : Summary) (store : Contents) (overlaps : Option Overlaps) (had : Kept) (a : Option (List ℕ)) → course.world.setup ≡ s → course.left ≡ turns_in line → Follows course start → Counts s start summary →
-    Recalls mode s start.happened store overlaps → Going mode s n line start course summary store overlaps had had a a start
-going_start mode s n line start course summary store overlaps had a setup left follows counts recalls = record {
-  follows = follows;
-  setup = setup;
-  text = [];
-  marks = [];
-  gives = [];
-  draws = draws_on_none had a;
-  marking = marking_start mode s n line start course.left summary store overlaps left counts recalls;
-}
-
--- what a turn tells was drawn, where so many events were accepted before it
-abbrev pub DrawsTold : Mode → ℕ → CourseState → ℕ → Contents → Contents → Option Overlaps → Option Overlaps → Told → Kept → Kept → Option (List ℕ) → Option (List ℕ) → Type 0
-DrawsTold mode n course events store stores overlaps overlapping answer had has old new =
-    (before : List Happening) (this : Happening) → IsToDraw mode course events store overlaps before this answer →
-    DrawsOn had has old new (told_text events answer) (marks_told answer) (given_at mode course.world.setup n before this) × Recalls mode course.world.setup (this ∷ before) stores overlapping
-
--- a turn that tells
-going_told : (mode : Mode) (s : Setup) (n : ℕ) (line : Line) (start : Run) (left : ℕ) (now : Run) (course : CourseState) (summary : Summary) (store stores : Contents) (overlaps overlapping : Option Overlaps) (answer : Told) (had has then : Kept) (a b c : Option (List ℕ)) (text : List ℕ) (marks : List (ℕ × Mark)) (gives : List Gives) →
-    DrawsOn had has a b text marks gives → Marking mode s n line start left now summary store overlaps text marks gives → Said s line left now (Some answer) course → DrawsTold mode n course summary.events store stores overlaps overlapping answer has then b c →
-    Going mode s n line start course (counted answer summary) stores overlapping had then a c (turn_of s line left now).run
-going_told mode s n line start left now course summary store stores overlaps overlapping answer had has then a b c text marks gives draws marking is drew =
-    let next : TellsNext mode s n line start now.happened course (turn_of s line left now).run summary store overlaps answer text marks gives = marking_on mode s n line start left now course summary store overlaps answer text marks gives marking is in
-    let more = drew now.happened next.this next.draws in
-    record {
-      follows = is.follows;
-      setup = is.setup;
-      text = text ++ told_text summary.events answer;
-      marks = marks ++ marks_told answer;
-      gives = gives ++ given_at mode course.world.setup n now.happened next.this;
-      draws = draws_on_both had has then a b c text (told_text summary.events answer) marks (marks_told answer) gives (given_at mode course.world.setup n now.happened next.this) draws more.0;
-      marking = next.then stores overlapping more.1;
-    }
-
--- its end
-going_over : (mode : Mode) (s : Setup) (n : ℕ) (line : Line) (start : Run) (left : ℕ) (now : Run) (course : CourseState) (summary : Summary) (store : Contents) (overlaps : Option Overlaps) (had has : Kept) (a b : Option (List ℕ)) (text : List ℕ) (marks : List (ℕ × Mark)) (gives : List Gives) →
-    DrawsOn had has a b text marks gives → Marking mode s n line start left now summary store overlaps text marks gives → Said s line left now None course → Advances mode s n start (run_after s line start) course summary store overlaps had has a b
-going_over mode s n line start left now course summary store overlaps had has a b text marks gives draws marking is =
-    let m : MarksLine mode s n line start course summary store overlaps text marks gives = marking_ended mode s n line start left now course summary store overlaps text marks gives marking is in
-    record {
-      text = text;
-      marks = marks;
-      draws = subst (λ l. DrawsOn had has a b text marks l) m.are draws;
-      says = m.says;
-      moves = m.moves;
-      recalls = m.recalls;
-    }
-
--- the turns up to one that tells
-pub going_on : (mode : Mode) (s : Setup) (n : ℕ) (line : Line) (start : Run) (course course' : CourseState) (summary : Summary) (store stores : Contents) (overlaps overlapping : Option Overlaps) (turns : Turns) (answer : Told) (had has then : Kept) (a b c : Option (List ℕ)) (now : Run) →
-    Going mode s n line start course summary store overlaps had has a b now → MakesTurns course line now turns course' → turns.told ≡ Some answer → Passes mode turns.quiet → DrawsTold mode n course' (summary.events + turns.quiet) store stores overlaps overlapping answer has then b c →
-    (next : Run) × Going mode s n line start course' (counted answer (with_events turns.quiet summary)) stores overlapping had then a c next
-going_on mode s n line start course course' summary store stores overlaps overlapping turns answer had has then a b c now g makes told each drew =
-    let t : SaidTurns s line course.left now turns course' = turns_said s line now turns course course' g.setup makes in (
-      (turn_of s line t.left t.then).run,
-      going_told mode s n line start t.left t.then course' (with_events turns.quiet summary) store stores overlaps overlapping answer had has then a b c g.text g.marks g.gives g.draws
-          (marking_quiet mode s n line start course.left now turns.quiet t.left t.then summary store overlaps g.text g.marks g.gives g.marking t.quiet each) (subst (λ o. Said s line t.left t.then o course') told t.said) drew,
-    )
-
--- the turns up to its end
-pub going_ended : (mode : Mode) (s : Setup) (n : ℕ) (line : Line) (start : Run) (course course' : CourseState) (summary : Summary) (store : Contents) (overlaps : Option Overlaps) (turns : Turns) (had has : Kept) (a b : Option (List ℕ)) (now : Run) →
-    Going mode s n line start course summary store overlaps had has a b now → MakesTurns course line now turns course' → turns.told ≡ None → Passes mode turns.quiet →
-    Advances mode s n start (run_after s line start) course' (with_events turns.quiet summary) store overlaps had has a b
-going_ended mode s n line start course course' summary store overlaps turns had has a b now g makes none each =
-    let t : SaidTurns s line course.left now turns course' = turns_said s line now turns course course' g.setup makes in
-    going_over mode s n line start t.left t.then course' (with_events turns.quiet summary) store overlaps had has a b g.text g.marks g.gives g.draws
-    (marking_quiet mode s n line start course.left now turns.quiet t.left t.then summary store overlaps g.text g.marks g.gives g.marking t.quiet each) (subst (λ o. Said s line t.left t.then o course') none t.said)
-
--- one turn by itself, and the end after it
-pub going_turn : (mode : Mode) (s : Setup) (n : ℕ) (line : Line) (start : Run) (course course' : CourseState) (summary : Summary) (store stores : Contents) (overlaps overlapping : Option Overlaps) (answer : Told) (had has then : Kept) (a b c : Option (List ℕ)) (now : Run) →
-    Going mode s n line start course summary store overlaps had has a b now → Makes course now (turn_of course.world.setup line course.left now) (Some answer) course' → DrawsTold mode n course' summary.events store stores overlaps overlapping answer has then b c →
-    Going mode s n line start course' (counted answer summary) stores overlapping had then a c (turn_of s line course.left now).run
-going_turn mode s n line start course course' summary store stores overlaps overlapping answer had has then a b c now g makes drew =
-    going_told mode s n line start course.left now course' summary store stores overlaps overlapping answer had has then a b c g.text g.marks g.gives g.draws g.marking (said s line now (Some answer) course course' g.setup makes) drew
-
-pub going_stopped : (mode : Mode) (s : Setup) (n : ℕ) (line : Line) (start : Run) (course course' : CourseState) (summary : Summary) (store : Contents) (overlaps : Option Overlaps) (had has : Kept) (a b : Option (List ℕ)) (now : Run) →
-    Going mode s n line start course summary store overlaps had has a b now → Makes course now (turn_of course.world.setup line course.left now) None course' → Advances mode s n start (run_after s line start) course' summary store overlaps had has a b
-going_stopped mode s n line start course course' summary store overlaps had has a b now g makes =
-    going_over mode s n line start course.left now course' summary store overlaps had has a b g.text g.marks g.gives g.draws g.marking (said s line now None course course' g.setup makes)
 
 -- from the start of a run on, between two lines, of which the last one has this number in the printed scenario
 pub record Drawn (plan : Plan) (mode : Mode) (s : Setup) (lines rest : List Line) (source : ℕ) (course : CourseState) (summary : Summary) (store : Contents) (overlaps : Option Overlaps) (has : Kept) (old new : Option (List ℕ)) : Type 0 where
@@ -165,38 +66,42 @@ drawn_start plan mode s lines source course summary store overlaps has a setup f
 }
 
 -- a line more
-pub drawn_on : (plan : Plan) (mode : Mode) (s : Setup) (lines rest : List Line) (line : Line) (source : ℕ) (course course' : CourseState) (summary summary' : Summary) (store stores : Contents) (overlaps overlapping : Option Overlaps) (has now : Kept) (a b c : Option (List ℕ)) →
-    Drawn plan mode s lines (line ∷ rest) source course summary store overlaps has a b → DrawsLine line (source + 1) course course' summary summary' store stores overlaps overlapping has now b c → Drawn plan mode s lines rest (source + 1) course' summary' stores overlapping now a c
-drawn_on plan mode s lines rest line source course course' summary summary' store stores overlaps overlapping has now a b c d draws =
+pub drawn_on : (plan : Plan) (mode : Mode) (s : Setup) (lines rest : List Line) (line : Line) (source : ℕ) (course course' : CourseState) (drawing drawings : Drawing) (a b c : Option (List ℕ)) →
+    Drawn plan mode s lines (line ∷ rest) source course drawing.summary drawing.changes.store drawing.overlaps (kept drawing.page) a b → DrawsLine line course course' drawing drawings b c → drawings.source ≡ source + 1 →
+    Drawn plan mode s lines rest (source + 1) course' drawings.summary drawings.changes.store drawings.overlaps (kept drawings.page) a c
+drawn_on plan mode s lines rest line source course course' drawing drawings a b c d draws here =
     let u = d.onward in
-    let family : Setup → Type 0 = λ s. Counts s u.now summary → Recalls mode s u.now.happened store overlaps → Advances mode s (source + 1) u.now (run_after s line u.now) course' summary' stores overlapping has now b c in
-    let more : Advances mode s (source + 1) u.now (run_after s line u.now) course' summary' stores overlapping has now b c = subst family u.setup (draws mode u.now u.follows) u.counts d.recalls in
-    let m : Moves s u.now (run_after s line u.now) course' summary' (Some []) (Some more.text) = more.moves in
-    let given : List Gives = given_from mode s (source + 1) u.now.happened (run_after s line u.now).happened in
+    let after : Run = run_after s line u.now in
+    let family : Setup → Type 0 = λ s. Counts s u.now.happened drawing.summary → Recalls mode s u.now.happened drawing.changes.store drawing.overlaps → Advances mode s u.now (run_after s line u.now) course' drawing drawings b c in
+    let more : Advances mode s u.now after course' drawing drawings b c = subst family u.setup (draws mode u.now u.follows) u.counts d.recalls in
+    let h : HasDrawn mode s u.now.happened (kept drawing.page) b after.happened drawings c = more.drawn in
+    let long : length after.happened - length u.now.happened ≡ h.more = omega (arith, h.long) in
+    let given : List Gives = given_from mode s (source + 1) u.now.happened after.happened in
+    let gives : h.gives ≡ given = sym h.are ∙ (λ i. given_last mode s (here i) (sym long i) after.happened) in
     let next : suc (source + 1) ≡ source + 1 + 1 = omega arith in
     record {
-      text = d.text ++ more.text;
-      marks = d.marks ++ more.marks;
+      text = d.text ++ h.text;
+      marks = d.marks ++ h.marks;
       gives = d.gives ++ given;
       first = d.first;
       no_lines = d.no_lines;
       page = d.page;
-      draws = draws_on_both d.first has now a b c d.text more.text d.marks more.marks d.gives given d.draws more.draws;
+      draws = draws_on_both d.first (kept drawing.page) (kept drawings.page) a b c d.text h.text d.marks h.marks d.gives given d.draws
+          (subst (λ l. DrawsOn (kept drawing.page) (kept drawings.page) b c h.text h.marks l) gives h.draws);
       onward = record {
-        now = run_after s line u.now;
-        follows = m.follows;
-        setup = m.setup;
-        counts = m.counts;
-        text = u.text ++ m.writes.text;
-        is = m.writes.is ∙ ap (λ l. l ++ m.writes.text) u.is;
-        taken = λ i. u.taken i ++ m.writes.taken i;
+        now = after;
+        follows = more.follows;
+        setup = more.setup;
+        counts = h.counts;
+        text = u.text ++ h.text;
+        is = h.tells ∙ ap (λ l. l ++ h.text) u.is;
+        taken = λ i. u.taken i ++ h.text;
         whole = u.whole;
       };
-      says = more.says ∙ ap (λ l. l ++ more.marks) d.says;
-      are = ap (λ n. (d.gives ++ given) ++ given_by mode s n rest (run_after s line u.now)) (sym next)
-          ∙ append_assoc d.gives given (given_by mode s (suc (source + 1)) rest (run_after s line u.now)) ∙ d.are;
+      says = h.says ∙ ap (λ l. l ++ h.marks) d.says;
+      are = ap (λ n. (d.gives ++ given) ++ given_by mode s n rest after) (sym next) ∙ append_assoc d.gives given (given_by mode s (suc (source + 1)) rest after) ∙ d.are;
       number = omega (arith, d.number);
-      recalls = more.recalls;
+      recalls = h.recalls;
     }
 
 -- the whole run, once the last line and what was held back are drawn

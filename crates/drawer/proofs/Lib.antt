@@ -2,11 +2,9 @@ pub mod Drawn
 pub mod Giving
 mod Changing
 mod Overhearing
-pub mod InTurn
 mod Marked
 pub mod Shown
 pub mod Drawings
-mod HeardTurns
 pub mod Ends
 pub mod Pictured
 pub mod Chains

@@ -1,39 +1,39 @@
--- The lines of a run are its text, the marks that they say are those of its record, and the items that it gives its picture are the run's.
-use Rattle.std.proofs.Common.{◌≡◌, ◌≤◌, ◌+◌, ◌-◌, ℕ, zero, suc, List, [], ◌∷◌, ◌++◌, length, map, Option, None, Some, refl, ap, sym, subst, ◌∙◌, add-zero, append-nil, append_assoc, arith}
+-- What a drawing has drawn once more has happened.
+use Rattle.std.proofs.Common.{◌≡◌, ◌+◌, ◌-◌, ℕ, zero, suc, Bool, true, false, List, [], ◌∷◌, ◌++◌, length, map, Option, None, Some, is_some, refl, ap, sym, subst, ◌∙◌, append-nil, append_assoc, arith, true≢false}
 use Rattle.plain_store.specs.Store.{Contents}
 use Rattle.plain_store.specs.declared.setups.Setup.{Setup}
 use Rattle.record.specs.declared.events.Event.{Event}
+use Rattle.record.specs.declared.events.Event.TheVariants.{Step}
+use Rattle.record.specs.declared.history.Taken.{Taken}
 use Rattle.record.specs.declared.marks.Mark.{Mark}
 use Rattle.record.specs.Entries.{Entry, Past}
 use Rattle.record.specs.Histories.{history, store_after}
 use Rattle.record.specs.Records.{entry_of, past_of, process_of, refused}
 use Rattle.picture.specs.columns.Stages.{marks_in}
-use Rattle.scenario.specs.declared.lines.Line.{Line}
-use Rattle.course.specs.Courses.{CourseState, Follows, IsQuiet, MakesTurns, QuietTurns}
-use Rattle.course.specs.Happenings.{Happening, Tries, Lacks, Tires, Looks, past_after, refusals, tried}
-use Rattle.course.specs.Runs.{Run, past_in, run_after}
-use Rattle.course.specs.Replays.{Moves}
-use Rattle.course.specs.Telling.{TellsOf, entry_made, told_text}
-use Rattle.course.specs.Texts.{text_at, text_of}
-use Rattle.course.specs.Turns.{Turn, turn_of, turns_in}
-use Rattle.course.specs.Summaries.{counted}
-use Rattle.course.specs.Writing.{Counts}
-use Rattle.course.specs.declared.summaries.Summary.{Summary}
-use Rattle.course.specs.declared.told.Told.{Told}
-use Rattle.course.specs.declared.told.Told.TheVariants as told
-use Rattle.course.specs.declared.told.Turns.{Turns}
-use Rattle.course.proofs.Refusals.{past_kept}
-use Rattle.course.proofs.Tellings.{Quietly, counts_more, quiet_counts, told_is}
-use Rattle.course.proofs.TurnLaw.{rest_of, rest_none, rest_whole, turn_less, turn_on}
-use Rattle.course.proofs.Underways.{Nothing, One, Said, SaidTurns, Turned, silent_one, told_none, told_one, turned, with_events}
 use Rattle.picture.specs.columns.declared.reads.OverlappedRead.{OverlappedRead}
+use Rattle.picture.specs.declared.page.Page.{Page}
 use Rattle.picture.specs.declared.reads.Reads.{Reads as Mode}
 use Rattle.picture.specs.declared.reads.Reads.TheVariants.{Hidden, Shown}
-use Rattle.drawer.specs.Drawings.{IsToDraw, Recalls, marks_told}
-use Rattle.drawer.specs.Items.{Gives, given_at, given_from, given_last, lines_given, reads_since, said_of_event}
-use Rattle.drawer.specs.Overlaps.{Overhears, overlapped_by}
+use Rattle.course.specs.Courses.{IsQuiet}
+use Rattle.course.specs.Happenings.{Happening, Tries, Lacks, Tires, Looks, past_after, tried}
+use Rattle.course.specs.Listening.{Happens, PassQuietly, StepsOn}
+use Rattle.course.specs.Summaries.{counted}
+use Rattle.course.specs.Telling.{TellsOf, entry_made, told_text}
+use Rattle.course.specs.Texts.{text_of}
+use Rattle.course.specs.Writing.{Counts}
+use Rattle.course.specs.declared.summaries.Summary.{Summary}
+use Rattle.course.specs.declared.told.Stepped.{Stepped}
+use Rattle.course.specs.declared.told.Told.{Told}
+use Rattle.course.specs.declared.told.Told.TheVariants as told
+use Rattle.course.proofs.Counting.{counts_heard, counts_passed, text_heard, text_passed, with_events}
+use Rattle.course.proofs.InTurn.{access_in_turn}
+use Rattle.course.proofs.Refusals.{past_kept}
+use Rattle.drawer.specs.Drawings.{DrawsOn, HasDrawn, Kept, Recalls, kept, marks_told}
+use Rattle.drawer.specs.Items.{Gives, given_at, given_last, lines_given, reads_since, said_of_event, waiting}
+use Rattle.drawer.specs.Overlaps.{ComesInTurn, Overhears, overlapped_by}
+use Rattle.drawer.specs.declared.drawing.Drawing.{Drawing}
 use Rattle.drawer.specs.declared.overlaps.Overlaps.{Overlaps}
-use Rattle.drawer.proofs.Overhearing.{Passes}
+use Rattle.drawer.proofs.Drawn.{draws_on_both, draws_on_none}
 
 -- an event that is made adds the marks of its entry
 made_marks : (s : Setup) (events : List Event) (event : Event) (e : Entry) → entry_of s (past_of s events) event ≡ Some e → marks_in (past_of s (event ∷ events)) ≡ marks_in (past_of s events) ++ map (λ (mark : Mark). (e.process, mark)) e.marks
@@ -82,210 +82,109 @@ quiet_takes s before (Lacks p) adds = absurd adds
 quiet_takes s before (Tires p) adds = absurd adds
 quiet_takes s before Looks adds = absurd adds
 
--- a run goes on without a mark: the marks stay, it gives nothing more, and no command was taken
-record Quietens (s : Setup) (quiet : ℕ) (before after : Run) : Type 0 where
-  marks : marks_in (past_in s after) ≡ marks_in (past_in s before)
-  taken : history s (past_in s after) ≡ history s (past_in s before)
-  events : length (past_in s after) ≡ length (past_in s before) + quiet
-  refused : refusals s after.happened ≡ refusals s before.happened
-  text : text_of s after.happened ≡ text_of s before.happened
-  long : length after.happened ≡ quiet + length before.happened
-  gives : (mode : Mode) (n k : ℕ) → given_last mode s n (quiet + k) after.happened ≡ given_last mode s n k before.happened
+-- So many of them: the marks stay, it gives nothing more, and no command was taken.
+marks_passed : (s : Setup) (n : ℕ) (before after : List Happening) → PassQuietly s n before after → marks_in (past_after s after) ≡ marks_in (past_after s before)
+marks_passed s zero before after same = ap (λ (l : List Happening). marks_in (past_after s l)) same
+marks_passed s (suc n) before after (this, quiet, more) = marks_passed s n (this ∷ before) after more ∙ quiet_marks s before this quiet
 
-quiet_turn : (s : Setup) (line : Line) (left : ℕ) (run : Run) → IsQuiet s (past_in s run) (turn_of s line left run).this → Quietens s 1 run (turn_of s line left run).run
-quiet_turn s line left run quiet = by (turned s line left run)
-  where
-    t : Turn
-    t = turn_of s line left run
+long_passed : (s : Setup) (n : ℕ) (before after : List Happening) → PassQuietly s n before after → length after ≡ n + length before
+long_passed s zero before after same = let is : length after ≡ length before = ap (λ (l : List Happening). length l) same in omega (arith, is)
+long_passed s (suc n) before after (this, quiet, more) = let is : length after ≡ n + suc (length before) = long_passed s n (this ∷ before) after more in omega (arith, is)
 
-    by : Turned t run.happened → Quietens s 1 run t.run
-    by (Nothing none ended same) = absurd (subst (λ o. IsQuiet s (past_in s run) o) none quiet)
-    by (One this some same) =
-        let is : IsQuiet s (past_in s run) (Some this) = subst (λ o. IsQuiet s (past_in s run) o) some quiet in
-        let counts : Quietly s run.happened this = quiet_counts s run.happened this is in
-        record {
-          marks = ap (λ (l : List Happening). marks_in (past_after s l)) same ∙ quiet_marks s run.happened this is;
-          taken = ap (λ (l : List Happening). history s (past_after s l)) same ∙ quiet_takes s run.happened this is;
-          events = ap (λ (l : List Happening). length (past_after s l)) same ∙ counts.events;
-          refused = ap (refusals s) same ∙ counts.refused;
-          text = ap (text_of s) same ∙ ap (λ l. text_of s run.happened ++ l) counts.text ∙ append-nil (text_of s run.happened);
-          long = let all : length t.run.happened ≡ suc (length run.happened) = ap (λ (l : List Happening). length l) same in omega (arith, all);
-          gives = λ mode n k. (let one : 1 + k ≡ suc k = omega arith in ap (λ m. given_last mode s n m t.run.happened) one) ∙ ap (given_last mode s n (suc k)) same ∙ ap (λ l. given_last mode s n k run.happened ++ l) (quiet_gives mode s n run.happened this is) ∙ append-nil (given_last mode s n k run.happened);
-        }
+gives_passed : (mode : Mode) (s : Setup) (m n k : ℕ) (before after : List Happening) → PassQuietly s n before after → given_last mode s m (n + k) after ≡ given_last mode s m k before
+gives_passed mode s m zero k before after same = let none : 0 + k ≡ k = omega arith in (λ i. given_last mode s m (none i) (same i))
+gives_passed mode s m (suc n) k before after (this, quiet, more) =
+    let same : suc n + k ≡ n + suc k = omega arith in
+    ap (λ j. given_last mode s m j after) same ∙ gives_passed mode s m n (suc k) (this ∷ before) after more
+    ∙ ap (λ l. given_last mode s m k before ++ l) (quiet_gives mode s m before this quiet) ∙ append-nil (given_last mode s m k before)
 
--- so many of them, and what the line comes to stays
-record Quieted (s : Setup) (line : Line) (quiet left : ℕ) (run : Run) (left' : ℕ) (run' : Run) : Type 0 where
-  few : left' ≤ turns_in line
-  quietens : Quietens s quiet run run'
-  rest : rest_of s line left' run' ≡ rest_of s line left run
+-- who hears no single events waits for nothing
+still_waits : (mode : Mode) (s : Setup) (past then : Past) (reads more : List OverlappedRead) (overlaps : Option Overlaps) → is_some overlaps ≡ false → Overhears mode s past reads overlaps → Overhears mode s then more overlaps
+still_waits Hidden s past then reads more None none waits = tt
+still_waits Hidden s past then reads more (Some overlaps) none waits = absurd waits
+still_waits Shown s past then reads more None none waits = absurd waits
+still_waits Shown s past then reads more (Some overlaps) none waits = absurd (true≢false none)
 
-quieted : (s : Setup) (line : Line) (quiet left : ℕ) (run : Run) (left' : ℕ) (run' : Run) → left ≤ turns_in line → QuietTurns s line quiet left run left' run' → Quieted s line quiet left run left' run'
-quieted s line zero left run left' run' few (same, at) =
-    subst (λ n. Quieted s line 0 left run n run') (sym same) (subst (λ (r : Run). Quieted s line 0 left run left r) (sym at)
-    (record { few = few; quietens = record { marks = refl; taken = refl; events = sym (add-zero (length (past_in s run))); refused = refl; text = refl; long = omega arith; gives = λ mode n k. (let none : 0 + k ≡ k = omega arith in ap (λ m. given_last mode s n m run.happened) none) }; rest = refl }))
-quieted s line (suc quiet) left run left' run' few (first, more) =
-    let less = turn_less s line left run in
-    let t : Turn = turn_of s line left run in
-    let one : Quietens s 1 run t.run = quiet_turn s line left run first in
-    let on : Quieted s line quiet t.left t.run left' run' = quieted s line quiet t.left t.run left' run' (omega (arith, less, few)) more in
-    let q : Quietens s quiet t.run run' = on.quietens in
+pub recalls_passed : (mode : Mode) (s : Setup) (n : ℕ) (before after : List Happening) (store : Contents) (overlaps : Option Overlaps) → is_some overlaps ≡ false → PassQuietly s n before after → Recalls mode s before store overlaps → Recalls mode s after store overlaps
+recalls_passed mode s zero before after store overlaps none same recalls = subst (λ (l : List Happening). Recalls mode s l store overlaps) (sym same) recalls
+recalls_passed mode s (suc n) before after store overlaps none (this, quiet, more) recalls = recalls_passed mode s n (this ∷ before) after store overlaps none more (record {
+  store_is = recalls.store_is ∙ ap (store_after s) (sym (quiet_takes s before this quiet));
+  waits = still_waits mode s (past_after s before) (past_after s (this ∷ before)) (reads_since s before) (reads_since s (this ∷ before)) overlaps none recalls.waits;
+})
+
+-- a Step without a mark that is heard by its access
+pub recalls_stepped : (mode : Mode) (s : Setup) (before : List Happening) (made : Stepped) (store : Contents) (overlaps overlapping : Option Overlaps) (events : ℕ) → StepsOn s before made → events ≡ length (past_after s before) →
+    ((mode : Mode) (s : Setup) (past : Past) (reads : List OverlappedRead) (e : Entry) → e.access ≡ Some made.access → Overhears mode s past reads overlaps → events ≡ length past → ComesInTurn s past e → Overhears mode s (e ∷ past) (reads ++ overlapped_by s past e) overlapping) →
+    Recalls mode s before store overlaps → Recalls mode s (Tries (Step made.process made.flick) ∷ before) store overlapping
+recalls_stepped mode s before made store overlaps overlapping events on number hears recalls =
+    let event : Event = Step made.process made.flick in
+    let e : Entry = record { process = made.process; access = Some made.access; marks = [] } in
+    let past : Past = past_after s before in
+    let here : past_after s (Tries event ∷ before) ≡ e ∷ past = ap (λ (o : Option Entry). elim o as (λ _. Past) [ None ↦ past | Some e ↦ e ∷ past ]) on.adds in
+    let since : reads_since s (Tries event ∷ before) ≡ reads_since s before ++ overlapped_by s past e =
+    ap (λ (o : Option Entry). waiting (said_of_event s past (process_of event) (refused s past event) o) (reads_since s before ++ elim o as (λ _. List OverlappedRead) [ None ↦ [] | Some e ↦ overlapped_by s past e ])) on.adds in
     record {
-      few = on.few;
-      quietens = record {
-        marks = q.marks ∙ one.marks;
-        taken = q.taken ∙ one.taken;
-        events = omega (arith, q.events, one.events);
-        refused = q.refused ∙ one.refused;
-        text = q.text ∙ one.text;
-        long = omega (arith, q.long, one.long);
-        gives = λ mode n k.
-            let same : suc quiet + k ≡ quiet + suc k = omega arith in
-            let next : suc k ≡ 1 + k = omega arith in
-            ap (λ m. given_last mode s n m run'.happened) same ∙ q.gives mode n (suc k) ∙ ap (λ m. given_last mode s n m t.run.happened) next ∙ one.gives mode n k;
-      };
-      rest = on.rest ∙ sym (turn_on s line left run few);
+      store_is = recalls.store_is ∙ ap (store_after s) (sym (quiet_takes s before (Tries event) (Some made.access, on.adds)));
+      waits = subst (λ (l : List OverlappedRead). Overhears mode s (past_after s (Tries event ∷ before)) l overlapping) (sym since)
+          (subst (λ (p : Past). Overhears mode s p (reads_since s before ++ overlapped_by s past e) overlapping) (sym here)
+          (hears mode s past (reads_since s before) e refl recalls.waits number (access_in_turn s on.good (tried before) event e on.adds)));
     }
 
--- who hears each event makes each turn by itself; who hears none may pass over so many
-still_waits : (mode : Mode) (s : Setup) (line : Line) (quiet left : ℕ) (run : Run) (left' : ℕ) (run' : Run) (overlaps : Option Overlaps) → Passes mode quiet → QuietTurns s line quiet left run left' run' →
-    Overhears mode s (past_in s run) (reads_since s run.happened) overlaps → Overhears mode s (past_in s run') (reads_since s run'.happened) overlaps
-still_waits Hidden s line quiet left run left' run' None each turns waits = tt
-still_waits Hidden s line quiet left run left' run' (Some overlaps) each turns waits = absurd waits
-still_waits Shown s line quiet left run left' run' overlaps each turns waits =
-    let none : QuietTurns s line 0 left run left' run' = subst (λ q. QuietTurns s line q left run left' run') each turns in
-    subst (λ (r : Run). Overhears Shown s (past_in s r) (reads_since s r.happened) overlaps) (sym none.1) waits
+-- A run that is being drawn.
 
--- turns as a course made them, said of the setup
-pub turns_said : (s : Setup) (line : Line) (now : Run) (turns : Turns) (course course' : CourseState) → course.world.setup ≡ s → MakesTurns course line now turns course' → SaidTurns s line course.left now turns course'
-turns_said s line now turns course course' setup made =
-    let family : Setup → Type 0 = λ s. SaidTurns s line course.left now turns course' in
-    subst family setup (record { left = made.left; then = made.now; quiet = made.quiet; said = record { tells = made.makes.tells; follows = made.makes.follows; left = made.makes.left; setup = made.makes.setup } })
-
--- a line under way, from a run on, that has told this text and these marks and given these items: so many of its turns are left after this run
-pub record Marking (mode : Mode) (s : Setup) (n : ℕ) (line : Line) (start : Run) (left : ℕ) (now : Run) (summary : Summary) (store : Contents) (overlaps : Option Overlaps) (text : List ℕ) (marks : List (ℕ × Mark)) (gives : List Gives) : Type 0 where
-  pub few : left ≤ turns_in line
-  pub counts : Counts s now summary
-  pub tells : text_of s now.happened ≡ text_of s start.happened ++ text
-  pub says : marks_in (past_in s now) ≡ marks_in (past_in s start) ++ marks
-  pub k : ℕ
-  pub long : length now.happened ≡ k + length start.happened
-  pub are : given_last mode s n k now.happened ≡ gives
-  pub recalls : Recalls mode s now.happened store overlaps
-  pub rest : rest_of s line left now ≡ run_after s line start
-
--- before its first turn
-pub marking_start : (mode : Mode) (s : Setup) (n : ℕ) (line : Line) (start : Run) (left : ℕ) (summary : Summary) (store : Contents) (overlaps : Option Overlaps) → left ≡ turns_in line → Counts s start summary → Recalls mode s start.happened store overlaps →
-    Marking mode s n line start left start summary store overlaps [] [] []
-marking_start mode s n line start left summary store overlaps all counts recalls = record {
-  few = omega (arith, all);
+-- from here on
+pub drawn_from : (mode : Mode) (s : Setup) (now : List Happening) (drawing : Drawing) (taken : Option (List ℕ)) → Counts s now drawing.summary → Recalls mode s now drawing.changes.store drawing.overlaps → HasDrawn mode s now (kept drawing.page) taken now drawing taken
+drawn_from mode s now drawing taken counts recalls = record {
   counts = counts;
-  tells = sym (append-nil (text_of s start.happened));
-  says = sym (append-nil (marks_in (past_in s start)));
-  k = 0;
+  recalls = recalls;
+  text = [];
+  marks = [];
+  gives = [];
+  draws = draws_on_none (kept drawing.page) taken;
+  tells = sym (append-nil (text_of s now));
+  says = sym (append-nil (marks_in (past_after s now)));
+  more = 0;
   long = omega arith;
   are = refl;
-  recalls = recalls;
-  rest = ap (λ n. rest_of s line n start) all ∙ rest_whole s line start;
 }
 
--- turns without a mark
-pub marking_quiet : (mode : Mode) (s : Setup) (n : ℕ) (line : Line) (start : Run) (left : ℕ) (now : Run) (quiet left' : ℕ) (now' : Run) (summary : Summary) (store : Contents) (overlaps : Option Overlaps) (text : List ℕ) (marks : List (ℕ × Mark)) (gives : List Gives) →
-    Marking mode s n line start left now summary store overlaps text marks gives → QuietTurns s line quiet left now left' now' → Passes mode quiet → Marking mode s n line start left' now' (with_events quiet summary) store overlaps text marks gives
-marking_quiet mode s n line start left now quiet left' now' summary store overlaps text marks gives m turns each =
-    let q : Quieted s line quiet left now left' now' = quieted s line quiet left now left' now' m.few turns in
+-- so many events without a mark
+pub quiet_drawn : (mode : Mode) (s : Setup) (start : List Happening) (had : Kept) (old : Option (List ℕ)) (n : ℕ) (before after : List Happening) (drawing drawings : Drawing) (new : Option (List ℕ)) → PassQuietly s n before after →
+    drawings.summary ≡ with_events n drawing.summary → drawings.page ≡ drawing.page → drawings.source ≡ drawing.source → Recalls mode s after drawings.changes.store drawings.overlaps →
+    HasDrawn mode s start had old before drawing new → HasDrawn mode s start had old after drawings new
+quiet_drawn mode s start had old n before after drawing drawings new passes summary page source recalls d =
+    let long : length after ≡ n + length before = long_passed s n before after passes in
     record {
-      few = q.few;
-      counts = record { events = ap (λ n. n + quiet) m.counts.events ∙ sym q.quietens.events; refused = m.counts.refused ∙ sym q.quietens.refused };
-      tells = q.quietens.text ∙ m.tells;
-      says = q.quietens.marks ∙ m.says;
-      k = quiet + m.k;
-      long = omega (arith, q.quietens.long, m.long);
-      are = q.quietens.gives mode n m.k ∙ m.are;
-      recalls = record {
-        store_is = m.recalls.store_is ∙ ap (store_after s) (sym q.quietens.taken);
-        waits = still_waits mode s line quiet left now left' now' overlaps each turns m.recalls.waits;
-      };
-      rest = q.rest ∙ m.rest;
+      counts = subst (λ (k : Summary). Counts s after k) (sym summary) (counts_passed s n before after drawing.summary passes d.counts);
+      recalls = recalls;
+      text = d.text;
+      marks = d.marks;
+      gives = d.gives;
+      draws = subst (λ (p : Page). DrawsOn had (kept p) old new d.text d.marks d.gives) (sym page) d.draws;
+      tells = text_passed s n before after passes ∙ d.tells;
+      says = marks_passed s n before after passes ∙ d.says;
+      more = n + d.more;
+      long = omega (arith, long, d.long);
+      are = ap (λ m. given_last mode s m (n + d.more) after) source ∙ gives_passed mode s drawing.source n d.more before after passes ∙ d.are;
     }
 
--- a turn that tells: what is to be drawn, and the line once it is drawn
-pub record TellsNext (mode : Mode) (s : Setup) (n : ℕ) (line : Line) (start : Run) (before : List Happening) (course : CourseState) (now : Run) (summary : Summary) (store : Contents) (overlaps : Option Overlaps) (answer : Told) (text : List ℕ) (marks : List (ℕ × Mark)) (gives : List Gives) : Type 0 where
-  pub this : Happening
-  pub draws : IsToDraw mode course summary.events store overlaps before this answer
-  pub then : (stores : Contents) (overlapping : Option Overlaps) → Recalls mode course.world.setup (this ∷ before) stores overlapping →
-      Marking mode s n line start course.left now (counted answer summary) stores overlapping (text ++ told_text summary.events answer) (marks ++ marks_told answer) (gives ++ given_at mode course.world.setup n before this)
-
--- what is to be drawn, said of the setup
-to_draw : (mode : Mode) (s : Setup) (course : CourseState) (events : ℕ) (store : Contents) (overlaps : Option Overlaps) (before : List Happening) (this : Happening) (answer : Told) (now : Run) → course.world.setup ≡ s → Follows course now → now.happened ≡ this ∷ before →
-    TellsOf s (past_after s before) this answer → events ≡ length (past_after s before) → Recalls mode s before store overlaps → IsToDraw mode course events store overlaps before this answer
-to_draw mode s course events store overlaps before this answer now setup follows made tells number recalls = record {
-  now = now;
-  follows = follows;
-  made = made;
-  tells = subst (λ (s : Setup). TellsOf s (past_after s before) this answer) (sym setup) tells;
-  number = number ∙ ap (λ (s : Setup). length (past_after s before)) (sym setup);
-  recalls = subst (λ (s : Setup). Recalls mode s before store overlaps) (sym setup) recalls;
-}
-
-pub marking_on : (mode : Mode) (s : Setup) (n : ℕ) (line : Line) (start : Run) (left : ℕ) (now : Run) (course : CourseState) (summary : Summary) (store : Contents) (overlaps : Option Overlaps) (answer : Told) (text : List ℕ) (marks : List (ℕ × Mark)) (gives : List Gives) →
-    Marking mode s n line start left now summary store overlaps text marks gives → Said s line left now (Some answer) course → TellsNext mode s n line start now.happened course (turn_of s line left now).run summary store overlaps answer text marks gives
-marking_on mode s n line start left now course summary store overlaps answer text marks gives m is = by (turned s line left now)
-  where
-    t : Turn
-    t = turn_of s line left now
-
-    by : Turned t now.happened → TellsNext mode s n line start now.happened course t.run summary store overlaps answer text marks gives
-    by (Nothing none ended same) = absurd (told_none s (past_in s now) t.this answer none is.tells)
-    by (One this some same) =
-        let says : TellsOf s (past_in s now) this answer = told_one s (past_in s now) t.this this answer some is.tells in
-        let more = counts_more s now.happened this answer summary says m.counts.events m.counts.refused in
-        let less = turn_less s line left now in
-        record {
-          this = this;
-          draws = to_draw mode s course summary.events store overlaps now.happened this answer t.run is.setup is.follows same says m.counts.events m.recalls;
-          then = λ stores overlapping recalls. record {
-            few = omega (arith, is.left, less, m.few);
-            counts = record { events = more.0 ∙ ap (λ (l : List Happening). length (past_after s l)) (sym same); refused = more.1 ∙ ap (refusals s) (sym same) };
-            tells = ap (text_of s) same ∙ ap (λ l. l ++ text_at s (past_in s now) this) m.tells ∙ append_assoc (text_of s start.happened) text (text_at s (past_in s now) this)
-                ∙ ap (λ l. text_of s start.happened ++ (text ++ l)) (sym (ap (λ n. told_text n answer) m.counts.events ∙ told_is s (past_in s now) this answer says));
-            says = ap (λ (l : List Happening). marks_in (past_after s l)) same ∙ told_marks s now.happened this answer says
-                ∙ ap (λ l. l ++ marks_told answer) m.says ∙ append_assoc (marks_in (past_in s start)) marks (marks_told answer);
-            k = suc m.k;
-            long = ap (λ (l : List Happening). length l) same ∙ omega (arith, m.long);
-            are = ap (given_last mode s n (suc m.k)) same ∙ (λ i. m.are i ++ given_at mode (sym is.setup i) n now.happened this);
-            recalls = subst (λ (l : List Happening). Recalls mode s l stores overlapping) (sym same) (subst (λ (s : Setup). Recalls mode s (this ∷ now.happened) stores overlapping) is.setup recalls);
-            rest = ap (λ n. rest_of s line n t.run) is.left ∙ sym (turn_on s line left now m.few) ∙ m.rest;
-          };
-        }
-
--- its end
-pub record MarksLine (mode : Mode) (s : Setup) (n : ℕ) (line : Line) (start : Run) (course : CourseState) (summary : Summary) (store : Contents) (overlaps : Option Overlaps) (text : List ℕ) (marks : List (ℕ × Mark)) (gives : List Gives) : Type 0 where
-  pub says : marks_in (past_in s (run_after s line start)) ≡ marks_in (past_in s start) ++ marks
-  pub are : gives ≡ given_from mode s n start.happened (run_after s line start).happened
-  pub moves : Moves s start (run_after s line start) course summary (Some []) (Some text)
-  pub recalls : Recalls mode s (run_after s line start).happened store overlaps
-
-pub marking_ended : (mode : Mode) (s : Setup) (n : ℕ) (line : Line) (start : Run) (left : ℕ) (now : Run) (course : CourseState) (summary : Summary) (store : Contents) (overlaps : Option Overlaps) (text : List ℕ) (marks : List (ℕ × Mark)) (gives : List Gives) →
-    Marking mode s n line start left now summary store overlaps text marks gives → Said s line left now None course → MarksLine mode s n line start course summary store overlaps text marks gives
-marking_ended mode s n line start left now course summary store overlaps text marks gives m is = by (turned s line left now)
-  where
-    t : Turn
-    t = turn_of s line left now
-
-    by : Turned t now.happened → MarksLine mode s n line start course summary store overlaps text marks gives
-    by (One this some same) = absurd (silent_one s (past_in s now) t.this this some is.tells)
-    by (Nothing none ended same) =
-        let all : t.run ≡ run_after s line start = sym (rest_none s line t.run) ∙ ap (λ n. rest_of s line n t.run) (sym ended) ∙ sym (turn_on s line left now m.few) ∙ m.rest in
-        let here : now.happened ≡ (run_after s line start).happened = sym same ∙ ap (λ (r : Run). r.happened) all in
-        let long : length now.happened - length start.happened ≡ m.k = omega (arith, m.long) in
-        record {
-          says = ap (λ (l : List Happening). marks_in (past_after s l)) (sym here) ∙ m.says;
-          are = sym m.are ∙ ap (λ k. given_last mode s n k now.happened) (sym long) ∙ ap (λ (l : List Happening). given_from mode s n start.happened l) here;
-          moves = record {
-            follows = subst (λ (r : Run). Follows course r) all is.follows;
-            setup = is.setup;
-            counts = record { events = m.counts.events ∙ ap (λ (l : List Happening). length (past_after s l)) here; refused = m.counts.refused ∙ ap (refusals s) here };
-            writes = record { text = text; is = ap (text_of s) (sym here) ∙ m.tells; taken = refl };
-          };
-          recalls = subst (λ (l : List Happening). Recalls mode s l store overlaps) here m.recalls;
-        }
+-- what is told
+pub told_drawn : (mode : Mode) (s : Setup) (start : List Happening) (had : Kept) (old : Option (List ℕ)) (before : List Happening) (this : Happening) (answer : Told) (taken : List Taken) (drawing drawings : Drawing) (mid new : Option (List ℕ)) → Happens s before this answer taken →
+    DrawsOn (kept drawing.page) (kept drawings.page) mid new (told_text drawing.summary.events answer) (marks_told answer) (given_at mode s drawing.source before this) → Recalls mode s (this ∷ before) drawings.changes.store drawings.overlaps →
+    drawings.summary ≡ counted answer drawing.summary → drawings.source ≡ drawing.source → HasDrawn mode s start had old before drawing mid → HasDrawn mode s start had old (this ∷ before) drawings new
+told_drawn mode s start had old before this answer taken drawing drawings mid new h drew recalls summary source d =
+    let text : List ℕ = told_text drawing.summary.events answer in
+    let gives : List Gives = given_at mode s drawing.source before this in
+    record {
+      counts = counts_heard s before this answer taken drawing.summary drawings.summary h summary d.counts;
+      recalls = recalls;
+      text = d.text ++ text;
+      marks = d.marks ++ marks_told answer;
+      gives = d.gives ++ gives;
+      draws = draws_on_both had (kept drawing.page) (kept drawings.page) old mid new d.text text d.marks (marks_told answer) d.gives gives d.draws drew;
+      tells = text_heard s before this answer taken drawing.summary h d.counts ∙ ap (λ l. l ++ text) d.tells ∙ append_assoc (text_of s start) d.text text;
+      says = told_marks s before this answer h.tells ∙ ap (λ l. l ++ marks_told answer) d.says ∙ append_assoc (marks_in (past_after s start)) d.marks (marks_told answer);
+      more = suc d.more;
+      long = let long = d.long in omega (arith, long);
+      are = ap (λ m. given_last mode s m (suc d.more) (this ∷ before)) source ∙ ap (λ l. l ++ gives) d.are;
+    }

@@ -1,5 +1,5 @@
 -- What is heard and not heard of a run whose reads are shown or hidden.
-use Rattle.std.proofs.Common.{◌≡◌, ℕ, ◌<◌, ◌==◌, ◌&&◌, Bool, false, cond, List, [], ◌∷◌, ◌++◌, length, Option, None, Some, is_some, true≢false, slice_index, ap, sym, ◌∙◌, append-nil, arith}
+use Rattle.std.proofs.Common.{◌≡◌, ℕ, ◌<◌, ◌==◌, ◌&&◌, Bool, false, cond, List, [], ◌∷◌, ◌++◌, length, Option, None, Some, slice_index, ap, sym, ◌∙◌, append-nil, arith}
 use Rattle.record.specs.declared.access.Access.{Access}
 use Rattle.plain_store.specs.declared.Setup.{Setup}
 use Rattle.plain_store.proofs.GoodSetups.{few-processes}
@@ -50,13 +50,3 @@ overhears_on Shown s past then reads more old new on h = on h
 pub overhears_nothing : (mode : Mode) (s : Setup) (past then : Past) (reads more : List OverlappedRead) → Overhears mode s past reads None → Overhears mode s then more None
 overhears_nothing Hidden s past then reads more h = tt
 overhears_nothing Shown s past then reads more h = absurd h
-
--- turns without a mark may be passed over where no reads are shown; else each is heard
-abbrev pub Passes : Mode → ℕ → Type 0
-Passes Hidden quiet = Unit {0}
-Passes Shown quiet = quiet ≡ 0
-
-pub passes : (mode : Mode) (s : Setup) (past : Past) (reads : List OverlappedRead) (overlaps : Option Overlaps) (quiet : ℕ) → is_some overlaps ≡ false → Overhears mode s past reads overlaps → Passes mode quiet
-passes Hidden s past reads overlaps quiet none waits = tt
-passes Shown s past reads None quiet none waits = absurd waits
-passes Shown s past reads (Some overlaps) quiet none waits = absurd (true≢false none)

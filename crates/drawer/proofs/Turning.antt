@@ -1,5 +1,5 @@
 -- What a turn tells gives the items of what happens.
-use Rattle.std.proofs.Common.{◌≡◌, ◌≤◌, ℕ, ◌+◌, List, [], ◌∷◌, ◌++◌, flat_map, length, map, take, Option, None, Some, Ok, refl, ap, sym, subst, ◌∙◌, add-zero, append-nil, arith}
+use Rattle.std.proofs.Common.{◌≡◌, ◌≤◌, ℕ, ◌+◌, List, [], ◌∷◌, ◌++◌, length, map, take, Option, None, Some, Ok, refl, ap, sym, subst, ◌∙◌, append-nil, arith}
 use Rattle.std.proofs.lemmas.List.{length-append, length-map, take_all}
 use Rattle.std.proofs.Math.Seq.{take-append_seam}
 use Rattle.std.specs.String.{string_bytes}
@@ -20,24 +20,20 @@ use Rattle.course.specs.history_laws.HistoryLaws.{taken_with}
 use Rattle.course.proofs.history_laws.Places.{at_its_place, grows_by_the_taken}
 use Rattle.picture.specs.columns.declared.reads.OverlappedRead.{OverlappedRead}
 use Rattle.picture.specs.declared.reads.Reads.{Reads as Mode}
-use Rattle.course.specs.Courses.{CourseState}
 use Rattle.course.specs.Happenings.{Happening, Tries, Lacks, Tires, Looks, past_after, tried}
-use Rattle.course.specs.Runs.{Run, past_in}
-use Rattle.course.specs.Telling.{TellsOf, entry_made, marks_made, told_text}
-use Rattle.course.specs.Texts.{mark_line}
+use Rattle.course.specs.Telling.{TellsOf, entry_made, marks_made}
 use Rattle.course.specs.declared.told.Accepted.{Accepted}
 use Rattle.course.specs.declared.told.Told.{Told}
 use Rattle.course.specs.declared.told.Told.TheVariants as told
 use Rattle.course.proofs.Refusals.{none_added, past_kept}
-use Rattle.drawer.specs.Drawings.{AreNext, DrawsOn, IsAmong, IsToDraw, Kept, Recalls, all_take, marks_told}
+use Rattle.drawer.specs.Drawings.{AreNext, IsAmong, IsToDraw, Recalls, all_take}
 use Rattle.drawer.specs.Items.{Says, SaysRefusal, SaysStore, SaysTired, given_at, lines_given, read_at, reads_since, said_at, said_of_event, says_mark, waiting}
 use Rattle.drawer.specs.Overlaps.{ComesInTurn, Overhears, overlapped_by}
 use Rattle.drawer.specs.Pictures.{shown_words}
 use Rattle.drawer.specs.declared.overlaps.Overlaps.{Overlaps}
 use Rattle.drawer.proofs.Chains.{few_taken}
-use Rattle.drawer.proofs.Drawn.{draws_on_none}
 use Rattle.drawer.proofs.Giving.{are_next, as_many, waiting_map}
-use Rattle.drawer.proofs.InTurn.{entry_in_turn}
+use Rattle.course.proofs.InTurn.{access_in_turn}
 
 -- what happens says one line, ends no read that a write overlapped, and adds no entry
 pub record Speaks (s : Setup) (before : List Happening) (this : Happening) (line : Says) : Type 0 where
@@ -154,64 +150,47 @@ lengthens s good events event e is =
     }
 
 -- an event that is to be drawn, once it is heard
-pub record BeginsMarks (mode : Mode) (course : CourseState) (source events : ℕ) (store : Contents) (overlapping : Option Overlaps) (before : List Happening) (this : Happening) (made : Accepted) : Type 0 where
-  pub now : Run
+pub record BeginsMarks (mode : Mode) (s : Setup) (taken : List Taken) (source events : ℕ) (store : Contents) (overlapping : Option Overlaps) (before : List Happening) (this : Happening) (made : Accepted) : Type 0 where
+  pub past : Past
   pub reads : List OverlappedRead
   pub n : ℕ
-  pub among : IsAmong mode course now reads n store overlapping
-  pub next : AreNext n (history course.world.setup (past_in course.world.setup now)) (marks_made made)
-  pub gives : lines_given mode source events reads (map (says_mark course.world.setup (history course.world.setup (past_in course.world.setup now)) (process_of made.event)) (marks_made made)) ≡ given_at mode course.world.setup source before this
-  pub ends : (stores : Contents) (overlaps : Option Overlaps) → IsAmong mode course now (waiting (marks_made made) reads) (n + all_take (marks_made made)) stores overlaps → Recalls mode course.world.setup (this ∷ before) stores overlaps
+  pub among : IsAmong mode s past taken reads n store overlapping
+  pub next : AreNext n taken (marks_made made)
+  pub gives : lines_given mode source events reads (map (says_mark s taken (process_of made.event)) (marks_made made)) ≡ given_at mode s source before this
+  pub ends : (stores : Contents) (overlaps : Option Overlaps) → IsAmong mode s past taken (waiting (marks_made made) reads) (n + all_take (marks_made made)) stores overlaps → Recalls mode s (this ∷ before) stores overlaps
 
-pub begins_marks : (mode : Mode) (course : CourseState) (source events : ℕ) (store : Contents) (overlaps overlapping : Option Overlaps) (before : List Happening) (this : Happening) (made : Accepted) →
-    IsToDraw mode course events store overlaps before this (told.Accepted made) →
+pub begins_marks : (mode : Mode) (s : Setup) (taken : List Taken) (source events : ℕ) (store : Contents) (overlaps overlapping : Option Overlaps) (before : List Happening) (this : Happening) (made : Accepted) →
+    IsToDraw mode s taken events store overlaps before this (told.Accepted made) →
     ((mode : Mode) (s : Setup) (past : Past) (reads : List OverlappedRead) → Overhears mode s past reads overlaps → events ≡ length past → ComesInTurn s past (entry_made made) → Overhears mode s (entry_made made ∷ past) (reads ++ overlapped_by s past (entry_made made)) overlapping) →
-    BeginsMarks mode course source events store overlapping before this made
-begins_marks mode course source events store overlaps overlapping before this made d hears =
-    let s : Setup = course.world.setup in
+    BeginsMarks mode s taken source events store overlapping before this made
+begins_marks mode s taken source events store overlaps overlapping before this made d hears =
     let past : Past = past_after s before in
     let e : Entry = entry_made made in
-    let m : Makes s before this made = makes_of s before this made d.tells in
-    let good = d.follows.shows.good in
-    let longer : Lengthens s past e = lengthens s good (tried before) m.event e m.entry in
+    let marks : List Mark = marks_made made in
+    let m : Makes s before this made = makes_of s before this made d.happens.tells in
+    let longer : Lengthens s past e = lengthens s d.happens.good (tried before) m.event e m.entry in
     let here : past_after s (this ∷ before) ≡ e ∷ past = ap (λ (h : Happening). past_after s (h ∷ before)) m.is ∙ past_of_made s before m.event made m.entry in
-    let now : past_in s d.now ≡ e ∷ past = ap (past_after s) d.made ∙ here in
+    let is : taken ≡ history s (e ∷ past) = d.happens.taken_are ∙ ap (history s) here in
     let reads : List OverlappedRead = reads_since s before ++ overlapped_by s past e in
     let n : ℕ = length (history s past) in
-    let since : reads_since s (this ∷ before) ≡ waiting (marks_made made) reads = ap (λ (h : Happening). reads_since s (h ∷ before)) m.is ∙ waiting_of s before m.event made m.entry in
+    let since : reads_since s (this ∷ before) ≡ waiting marks reads = ap (λ (h : Happening). reads_since s (h ∷ before)) m.is ∙ waiting_of s before m.event made m.entry in
     record {
-      now = d.now;
+      past = e ∷ past;
       reads = reads;
       n = n;
       among = record {
-        follows = d.follows;
-        store_is = d.recalls.store_is ∙ ap (store_after s) (sym longer.front) ∙ ap (λ (p : Past). store_after s (take n (history s p))) (sym now);
-        waits = subst (λ (p : Past). Overhears mode s p reads overlapping) (sym now) (hears mode s past (reads_since s before) d.recalls.waits d.number (entry_in_turn s good (tried before) m.event e m.entry));
+        store_is = d.recalls.store_is ∙ ap (store_after s) (sym longer.front) ∙ ap (λ (l : List Taken). store_after s (take n l)) (sym is);
+        waits = hears mode s past (reads_since s before) d.recalls.waits d.number (access_in_turn s d.happens.good (tried before) m.event e m.entry);
       };
-      next = subst (λ (p : Past). AreNext n (history s p) (marks_made made)) (sym now) longer.next;
-      gives = ap (λ (k : ℕ). lines_given mode source k reads (map (says_mark s (history s (past_in s d.now)) (process_of made.event)) (marks_made made))) d.number
-          ∙ ap (λ (p : Past). lines_given mode source (length past) reads (map (says_mark s (history s p) (process_of made.event)) (marks_made made))) now
+      next = subst (λ (l : List Taken). AreNext n l marks) (sym is) longer.next;
+      gives = ap (λ (k : ℕ). lines_given mode source k reads (map (says_mark s taken (process_of made.event)) marks)) d.number
+          ∙ ap (λ (l : List Taken). lines_given mode source (length past) reads (map (says_mark s l (process_of made.event)) marks)) is
           ∙ given_of mode s source before m.event made m.entry ∙ ap (given_at mode s source before) (sym m.is);
       ends = λ stores overlaps among.
-          let whole : take (n + all_take (marks_made made)) (history s (e ∷ past)) ≡ history s (e ∷ past) = take_all (n + all_take (marks_made made)) (history s (e ∷ past)) (omega (arith, longer.long)) in
+          let whole : take (n + all_take marks) (history s (e ∷ past)) ≡ history s (e ∷ past) = take_all (n + all_take marks) (history s (e ∷ past)) (omega (arith, longer.long)) in
           record {
-            store_is = among.store_is ∙ ap (λ (p : Past). store_after s (take (n + all_take (marks_made made)) (history s p))) now ∙ ap (store_after s) whole ∙ ap (λ (p : Past). store_after s (history s p)) (sym here);
+            store_is = among.store_is ∙ ap (λ (l : List Taken). store_after s (take (n + all_take marks) l)) is ∙ ap (store_after s) whole ∙ ap (λ (p : Past). store_after s (history s p)) (sym here);
             waits = subst (λ (l : List OverlappedRead). Overhears mode s (past_after s (this ∷ before)) l overlaps) (sym since)
-                (subst (λ (p : Past). Overhears mode s p (waiting (marks_made made) reads) overlaps) (now ∙ sym here) among.waits);
+                (subst (λ (p : Past). Overhears mode s p (waiting marks reads) overlaps) (sym here) among.waits);
           };
     }
-
--- an event without a mark that is heard: nothing is drawn of it
-pub heard_step : (mode : Mode) (course : CourseState) (source events : ℕ) (store : Contents) (overlaps overlapping : Option Overlaps) (before : List Happening) (this : Happening) (made : Accepted) (has : Kept) (taken : Option (List ℕ)) → marks_made made ≡ [] →
-    IsToDraw mode course events store overlaps before this (told.Accepted made) →
-    ((mode : Mode) (s : Setup) (past : Past) (reads : List OverlappedRead) → Overhears mode s past reads overlaps → events ≡ length past → ComesInTurn s past (entry_made made) → Overhears mode s (entry_made made ∷ past) (reads ++ overlapped_by s past (entry_made made)) overlapping) →
-    DrawsOn has has taken taken (told_text events (told.Accepted made)) (marks_told (told.Accepted made)) (given_at mode course.world.setup source before this) × Recalls mode course.world.setup (this ∷ before) store overlapping
-heard_step mode course source events store overlaps overlapping before this made has taken none d hears =
-    let s : Setup = course.world.setup in
-    let p : ℕ = process_of made.event in
-    let b : BeginsMarks mode course source events store overlapping before this made = begins_marks mode course source events store overlaps overlapping before this made d hears in
-    let drawn = λ (l : List Mark). DrawsOn has has taken taken (flat_map (mark_line events p) l) (map {B = ℕ × Mark} (λ (mark : Mark). (p, mark)) l) (lines_given mode source events b.reads (map (says_mark s (history s (past_in s b.now)) p) l)) in
-    let among = λ (l : List Mark). IsAmong mode course b.now (waiting l b.reads) (b.n + all_take l) store overlapping in (
-      subst (λ gives. DrawsOn has has taken taken (told_text events (told.Accepted made)) (marks_told (told.Accepted made)) gives) b.gives (subst drawn (sym none) (draws_on_none has taken)),
-      b.ends store overlapping (subst among (sym none) (subst (λ n. IsAmong mode course b.now b.reads n store overlapping) (sym (add-zero b.n)) b.among)),
-    )

@@ -5,6 +5,7 @@ use Rattle.picture.specs.shapes.Elements.{EndsAll, opens_in}
 use Rattle.picture.specs.shapes.Titles.{is_at_rest, lines_in, tags_of}
 use Rattle.plain_store.specs.Store.{Contents}
 use Rattle.plain_store.specs.declared.setups.Setup.{Setup}
+use Rattle.record.specs.Entries.{Past}
 use Rattle.record.specs.Histories.{history, store_after}
 use Rattle.record.specs.Records.{process_of}
 use Rattle.record.specs.declared.history.Taken.{Taken}
@@ -23,18 +24,18 @@ use Rattle.picture.specs.declared.page.Page.{Page}
 use Rattle.picture.specs.columns.declared.reads.OverlappedRead.{OverlappedRead}
 use Rattle.picture.specs.declared.reads.Reads.{Reads as Mode}
 use Rattle.drawer.specs.Changes.{IsNext, takes}
-use Rattle.drawer.specs.Items.{Gives, given, given_from, reads_since, run_given}
+use Rattle.drawer.specs.Items.{Gives, given, given_last, reads_since, run_given}
 use Rattle.drawer.specs.Overlaps.{Overhears}
 use Rattle.drawer.specs.Pictures.{ended_lines, lines_told, picture_of, plan_of}
+use Rattle.drawer.specs.declared.drawing.Drawing.{Drawing}
 use Rattle.drawer.specs.declared.overlaps.Overlaps.{Overlaps}
 use Rattle.course.specs.Courses.{CourseState, Follows}
 use Rattle.course.specs.Happenings.{Happening, past_after}
-use Rattle.course.specs.Replays.{Moves}
-use Rattle.course.specs.Runs.{Run, happenings, past_in, run_after}
-use Rattle.course.specs.Telling.{TellsOf, marks_made}
-use Rattle.course.specs.Texts.{replay_text, replayed}
+use Rattle.course.specs.Listening.{Happens}
+use Rattle.course.specs.Runs.{Run, happenings, run_after}
+use Rattle.course.specs.Telling.{marks_made}
+use Rattle.course.specs.Texts.{replay_text, replayed, text_of}
 use Rattle.course.specs.Writing.{Counts}
-use Rattle.course.specs.declared.summaries.Summary.{Summary}
 use Rattle.course.specs.declared.told.Told.{Told}
 use Rattle.course.specs.declared.told.Told.TheVariants as told
 
@@ -124,20 +125,16 @@ pub record Recalls (mode : Mode) (s : Setup) (happened : List Happening) (store 
   pub store_is : store ≡ store_after s (history s (past_after s happened))
   pub waits : Overhears mode s (past_after s happened) (reads_since s happened) overlaps
 
--- a turn that tells this was made, and what it tells is to be drawn, where so many events were accepted before it
-pub record IsToDraw (mode : Mode) (course : CourseState) (events : ℕ) (store : Contents) (overlaps : Option Overlaps) (before : List Happening) (this : Happening) (answer : Told) : Type 0 where
-  pub now : Run
-  pub follows : Follows course now
-  pub made : now.happened ≡ this ∷ before
-  pub tells : TellsOf course.world.setup (past_after course.world.setup before) this answer
-  pub number : events ≡ length (past_after course.world.setup before)
-  pub recalls : Recalls mode course.world.setup before store overlaps
+-- what a turn tells is to be drawn, where so many events were accepted before it, and these commands are taken
+pub record IsToDraw (mode : Mode) (s : Setup) (taken : List Taken) (events : ℕ) (store : Contents) (overlaps : Option Overlaps) (before : List Happening) (this : Happening) (answer : Told) : Type 0 where
+  pub happens : Happens s before this answer taken
+  pub number : events ≡ length (past_after s before)
+  pub recalls : Recalls mode s before store overlaps
 
--- an event was made, and its marks are being drawn: these reads wait for the next of them, and so many commands of the history were applied
-pub record IsAmong (mode : Mode) (course : CourseState) (now : Run) (reads : List OverlappedRead) (n : ℕ) (store : Contents) (overlaps : Option Overlaps) : Type 0 where
-  pub follows : Follows course now
-  pub store_is : store ≡ store_after course.world.setup (take n (history course.world.setup (past_in course.world.setup now)))
-  pub waits : Overhears mode course.world.setup (past_in course.world.setup now) reads overlaps
+-- an event was made, these commands are taken, and its marks are being drawn: these reads wait for the next of them, and so many of the commands were applied
+pub record IsAmong (mode : Mode) (s : Setup) (past : Past) (taken : List Taken) (reads : List OverlappedRead) (n : ℕ) (store : Contents) (overlaps : Option Overlaps) : Type 0 where
+  pub store_is : store ≡ store_after s (take n taken)
+  pub waits : Overhears mode s past reads overlaps
 
 -- where marks take a command, it is the last of the history, and so many were taken before it
 abbrev pub AreNext : ℕ → List Taken → List Mark → Type 0
@@ -149,20 +146,36 @@ abbrev pub all_take : List Mark → ℕ
 all_take [] = 0
 all_take (mark ∷ marks) = takes mark + all_take marks
 
--- a run went on, and what it tells was drawn
-pub record Advances (mode : Mode) (s : Setup) (source : ℕ) (before after : Run) (course : CourseState) (summary : Summary) (store : Contents) (overlaps : Option Overlaps) (had has : Kept) (old new : Option (List ℕ)) : Type 0 where
+-- a run that went on from `start`, where a page kept so much and so much was written: all that it has told since is drawn
+pub record HasDrawn (mode : Mode) (s : Setup) (start : List Happening) (had : Kept) (old : Option (List ℕ)) (now : List Happening) (drawing : Drawing) (new : Option (List ℕ)) : Type 0 where
+  pub counts : Counts s now drawing.summary
+  pub recalls : Recalls mode s now drawing.changes.store drawing.overlaps
   pub text : List ℕ
   pub marks : List (ℕ × Mark)
-  pub draws : DrawsOn had has old new text marks (given_from mode s source before.happened after.happened)
-  pub says : marks_in (past_in s after) ≡ marks_in (past_in s before) ++ marks
-  pub moves : Moves s before after course summary (Some []) (Some text)
-  pub recalls : Recalls mode s after.happened store overlaps
+  pub gives : List Gives
+  pub draws : DrawsOn had (kept drawing.page) old new text marks gives
+  pub tells : text_of s now ≡ text_of s start ++ text
+  pub says : marks_in (past_after s now) ≡ marks_in (past_after s start) ++ marks
+  pub more : ℕ
+  pub long : length now ≡ more + length start
+  pub are : given_last mode s drawing.source more now ≡ gives
+
+-- a drawing that stood after `before` stands after `after`, wherever the run began
+abbrev pub GoesOnDrawing : Setup → List Happening → List Happening → Drawing → Drawing → Option (List ℕ) → Option (List ℕ) → Type 0
+GoesOnDrawing s before after drawing drawings taken then =
+    (mode : Mode) (start : List Happening) (had : Kept) (old : Option (List ℕ)) → HasDrawn mode s start had old before drawing taken → HasDrawn mode s start had old after drawings then
+
+-- from one run to another: the cursor, and what was drawn
+pub record Advances (mode : Mode) (s : Setup) (before after : Run) (course : CourseState) (drawing drawings : Drawing) (old new : Option (List ℕ)) : Type 0 where
+  pub follows : Follows course after
+  pub setup : course.world.setup ≡ s
+  pub drawn : HasDrawn mode s before.happened (kept drawing.page) old after.happened drawings new
 
 -- a line of a scenario has made all its turns, whatever has happened before
-abbrev pub DrawsLine : Line → ℕ → CourseState → CourseState → Summary → Summary → Contents → Contents → Option Overlaps → Option Overlaps → Kept → Kept → Option (List ℕ) → Option (List ℕ) → Type 0
-DrawsLine line source old new counted counts store stores overlaps overlapping had has taken then =
-    (mode : Mode) (run : Run) → Follows old run → Counts old.world.setup run counted → Recalls mode old.world.setup run.happened store overlaps →
-    Advances mode old.world.setup source run (run_after old.world.setup line run) new counts stores overlapping had has taken then
+abbrev pub DrawsLine : Line → CourseState → CourseState → Drawing → Drawing → Option (List ℕ) → Option (List ℕ) → Type 0
+DrawsLine line old new drawing drawings taken then =
+    (mode : Mode) (run : Run) → Follows old run → Counts old.world.setup run.happened drawing.summary → Recalls mode old.world.setup run.happened drawing.changes.store drawing.overlaps →
+    Advances mode old.world.setup run (run_after old.world.setup line run) new drawing drawings taken then
 
 -- How `draw` ends: where it ends well, what was written is a picture of the whole run; after a fault of the input nothing was written.
 abbrev pub Drew : Mode → Form → Result (Unit {0}) Fault → Streams → Streams → Type 0

@@ -1,44 +1,44 @@
 //! A run told line by line to a picture, whose bands are written as they are full.
-ghost use Rattle.std.specs.Prelude.{◌≡◌, ◌+◌, ◌-◌, ◌^◌, ◌<◌, ◌≤◌, ℕ, false, List, [], ◌∷◌, ◌++◌, codes, flat_map, is_some, length, map, IfErr, IfOk, Ok, OnOk};
+ghost use Rattle.std.specs.Prelude.{◌≡◌, ◌+◌, ◌-◌, ◌^◌, ◌<◌, ℕ, List, [], ◌∷◌, ◌++◌, codes, flat_map, length, map, IfErr, IfOk, Ok, OnOk};
 ghost use Rattle.plain_store.specs.Setups.{checked};
 ghost use Rattle.plain_store.specs.declared.setups.Setup.{Setup as Given};
 ghost use Rattle.record.specs.Entries.{Past};
-ghost use Rattle.record.specs.Histories.{history};
 ghost use Rattle.picture.specs.columns.declared.reads.OverlappedRead.{OverlappedRead as Ended};
 ghost use Rattle.picture.specs.declared.reads.Reads.{Reads as Mode};
 ghost use Rattle.picture.specs.Pages.{held, page_of, seen_page};
 ghost use Rattle.picture.specs.columns.Stages.{marks_in, marks_said};
 ghost use Rattle.picture.specs.columns.Told.{saying_text};
 ghost use Rattle.scenario.specs.Reads.{script};
-ghost use Rattle.course.specs.Courses.{Follows};
 ghost use Rattle.course.specs.Happenings.{Happening, past_after};
-ghost use Rattle.course.specs.Runs.{Run, happenings, past_in, run_at_start};
+ghost use Rattle.course.specs.Runs.{happenings};
 ghost use Rattle.course.specs.Summaries.{counted, summary_of};
 ghost use Rattle.course.specs.Telling.{told_text};
 ghost use Rattle.course.specs.Texts.{end_line, mark_line, replayed};
 ghost use Rattle.course.specs.Writing.{IsWriteFault, failed_write};
 ghost use Rattle.drawer.specs.Changes.{IsNext, takes};
-ghost use Rattle.drawer.specs.Drawings.{AreNext, DrawsBands, DrawsLine, DrawsOn, DrawsRest, IsAmong, IsToDraw, Recalls, all_take, kept, marks_told};
+ghost use Rattle.drawer.specs.Drawings.{AreNext, DrawsBands, DrawsOn, DrawsRest, IsAmong, IsToDraw, Recalls, all_take, kept, marks_told};
 ghost use Rattle.drawer.specs.Items.{GivesRead, SaysEnd, given_at, lines_given, run_given, says_mark, says_of, waiting};
 ghost use Rattle.drawer.specs.Overlaps.{Overhears, shown_of};
 ghost use Rattle.drawer.specs.Pictures.{plan_of};
 
+mod listening;
+
 use crate::changes::{Changes, words_shown};
 use crate::overlaps::{Overlaps, hear, take_ended};
 use crate::writing::{write_band, write_markup};
-use course::{Course, Summary, Told};
+use course::{Course, Summary, Taken, Told};
 use files::progress::{Onlooker, Place};
+use listening::draw_line;
 use picture::{Form, Line, OverlappedRead, Page, Reads, Saying};
 use plain_store::{NestedTypes, Setup};
 use record::Mark;
 use scenario::{Fault, Scenario, Sink};
 use std::alloc::Global;
 
-/// A run and its picture, on their way.
+/// The picture of a run, on its way.
 #[derive(Drop)]
-struct Drawing {
+pub(crate) struct Drawing {
     alloc: Global,
-    course: Course,
     changes: Changes,
     /// What tells the reads that are overlapped, if they are shown.
     overlaps: Option<Overlaps>,
@@ -67,15 +67,16 @@ pub(crate) fn draw_bands<W: Sink, L: Onlooker>(
     ensures fault { IfErr result IsWriteFault }
     ensures failures { W.failures output.new ≡ W.failures output.old + failed_write result }
 {
+    let mut course = Course::new(alloc, &scenario.setup)?;
     let mut drawing = Drawing::new(alloc, &scenario.setup, form, reads)?;
     let mut place = Place::before(file, scenario.lines.len());
     for line in &scenario.lines {
         onlooker.reached(place.begin_line(drawing.summary.events));
         drawing.source += 1;
-        drawing.draw_line(line, output)?;
+        draw_line(&mut course, line, &mut drawing, output)?;
     }
     drawing.source += 1;
-    drawing.summary.taken = drawing.course.taken();
+    drawing.summary.taken = course.taken();
     drawing.end(output)?;
     Ok((drawing.summary, drawing.page.height()))
 }
@@ -83,8 +84,6 @@ pub(crate) fn draw_bands<W: Sink, L: Onlooker>(
 impl Drawing {
     fn new(alloc: Global, setup: &Setup, form: Form, reads: Reads) -> Result<Drawing, Fault>
         requires { checked setup.now ≡ Ok tt }
-        ensures setup { IfOk result (λ drawing. drawing.course.world.setup ≡ setup.now) }
-        ensures follows { IfOk result (λ drawing. Follows drawing.course run_at_start) }
         ensures summary { IfOk result (λ drawing. drawing.summary ≡ record { events = 0; taken = 0; refused = 0 }) }
         ensures held { IfOk result (λ drawing. held drawing.page ≡ []) }
         ensures page { IfOk result (λ drawing. seen_page drawing.page ≡ page_of (plan_of form setup.now) []) }
@@ -96,11 +95,9 @@ impl Drawing {
         let changes = Changes::new(alloc, setup)?;
         let opening = changes.words_by_pairs()?;
         let page = Page::new(alloc, form, setup.processes, opening.as_slice())?;
-        let course = Course::new(alloc, setup, false)?;
         let overlaps = Overlaps::new(alloc, setup, reads)?;
         Ok(Drawing {
             alloc,
-            course,
             changes,
             overlaps,
             summary: Summary::new(),
@@ -109,110 +106,40 @@ impl Drawing {
         })
     }
 
-    /// Makes the turns of a line, and draws what each tells.
-    fn draw_line<W: Sink>(&mut self, line: &scenario::Line, output: &mut W) -> Result<(), Fault>
-        requires writes { W.failures output.old < 2 ^ 64 - 1 }
-        requires events { self.old.summary.events < 2 ^ 63 }
-        requires refused { self.old.summary.refused < 2 ^ 63 }
-        ensures ok { OnOk result (DrawsLine line.now self.old.source self.old.course self.new.course self.old.summary self.new.summary self.old.changes.store self.new.changes.store self.old.overlaps self.new.overlaps (kept self.old.page) (kept self.new.page) (W.taken output.old) (W.taken output.new)) }
-        ensures source { OnOk result (self.new.source ≡ self.old.source) }
-        ensures events { OnOk result (self.new.summary.events < self.old.summary.events + 2 ^ 32) }
-        ensures refused { OnOk result (self.new.summary.refused < self.old.summary.refused + 2 ^ 32) }
-        ensures fault { IfErr result IsWriteFault }
-        ensures failures { W.failures output.new ≡ W.failures output.old + failed_write result }
-    {
-        if self.overlaps.is_some() {
-            self.draw_heard_turns(line, output)
-        } else {
-            self.draw_turns(line, output)
-        }
-    }
-
-    /// The same where no reads are shown: the turns up to the first that tells more than a Step without a mark are
-    /// made in a row.
-    fn draw_turns<W: Sink>(&mut self, line: &scenario::Line, output: &mut W) -> Result<(), Fault>
-        requires writes { W.failures output.old < 2 ^ 64 - 1 }
-        requires events { self.old.summary.events < 2 ^ 63 }
-        requires refused { self.old.summary.refused < 2 ^ 63 }
-        requires unheard { is_some self.old.overlaps ≡ false }
-        ensures ok { OnOk result (DrawsLine line.now self.old.source self.old.course self.new.course self.old.summary self.new.summary self.old.changes.store self.new.changes.store self.old.overlaps self.new.overlaps (kept self.old.page) (kept self.new.page) (W.taken output.old) (W.taken output.new)) }
-        ensures source { OnOk result (self.new.source ≡ self.old.source) }
-        ensures events { OnOk result (self.new.summary.events < self.old.summary.events + 2 ^ 32) }
-        ensures refused { OnOk result (self.new.summary.refused < self.old.summary.refused + 2 ^ 32) }
-        ensures fault { IfErr result IsWriteFault }
-        ensures failures { W.failures output.new ≡ W.failures output.old + failed_write result }
-    {
-        self.course.begin(line);
-        'turns: loop {
-            let turns = self.course.turns(line)?;
-            self.summary.events += u64::from(turns.quiet);
-            let Some(told) = turns.told else {
-                return Ok(());
-            };
-            self.tell(&told, output)?;
-        }
-    }
-
-    /// The same where reads are shown: each turn is heard, a Step within a number access by its access alone. Such a
-    /// Step has no mark, so nothing is drawn of it.
-    fn draw_heard_turns<W: Sink>(
+    /// Draws and counts what a turn tells, once these commands are taken.
+    pub fn tell<W: Sink>(
         &mut self,
-        line: &scenario::Line,
+        told: &Told,
+        taken: &[Taken],
         output: &mut W,
     ) -> Result<(), Fault>
         requires writes { W.failures output.old < 2 ^ 64 - 1 }
-        requires events { self.old.summary.events < 2 ^ 63 }
-        requires refused { self.old.summary.refused < 2 ^ 63 }
-        ensures ok { OnOk result (DrawsLine line.now self.old.source self.old.course self.new.course self.old.summary self.new.summary self.old.changes.store self.new.changes.store self.old.overlaps self.new.overlaps (kept self.old.page) (kept self.new.page) (W.taken output.old) (W.taken output.new)) }
-        ensures source { OnOk result (self.new.source ≡ self.old.source) }
-        ensures events { OnOk result (self.new.summary.events < self.old.summary.events + 2 ^ 32) }
-        ensures refused { OnOk result (self.new.summary.refused < self.old.summary.refused + 2 ^ 32) }
-        ensures fault { IfErr result IsWriteFault }
-        ensures failures { W.failures output.new ≡ W.failures output.old + failed_write result }
-    {
-        self.course.begin(line);
-        let mut steppers = self.course.steppers(line);
-        'turns: loop {
-            let drawn = self.course.draw(&steppers);
-            if let Some(made) = self.course.step_drawn(drawn) {
-                hear(&mut self.overlaps, self.summary.events, Some(made.access))?;
-                self.summary.events += 1;
-                continue 'turns;
-            }
-            let Some(told) = self.course.turn_drawn(line, drawn)? else {
-                return Ok(());
-            };
-            self.tell(&told, output)?;
-            steppers = self.course.steppers(line);
-        }
-    }
-
-    /// Draws and counts what a turn tells.
-    fn tell<W: Sink>(&mut self, told: &Told, output: &mut W) -> Result<(), Fault>
-        requires writes { W.failures output.old < 2 ^ 64 - 1 }
         requires events { self.old.summary.events < 2 ^ 64 - 1 }
         requires refused { self.old.summary.refused < 2 ^ 64 - 1 }
-        ensures ok { OnOk result ((mode : Mode) (before : List Happening) (this : Happening) → IsToDraw mode self.old.course self.old.summary.events self.old.changes.store self.old.overlaps before this told.now → DrawsOn (kept self.old.page) (kept self.new.page) (W.taken output.old) (W.taken output.new) (told_text self.old.summary.events told.now) (marks_told told.now) (given_at mode self.old.course.world.setup self.old.source before this)) }
-        ensures recalls { OnOk result ((mode : Mode) (before : List Happening) (this : Happening) → IsToDraw mode self.old.course self.old.summary.events self.old.changes.store self.old.overlaps before this told.now → Recalls mode self.old.course.world.setup (this ∷ before) self.new.changes.store self.new.overlaps) }
+        ensures ok { OnOk result ((mode : Mode) (s : Given) (before : List Happening) (this : Happening) → IsToDraw mode s taken.now self.old.summary.events self.old.changes.store self.old.overlaps before this told.now → DrawsOn (kept self.old.page) (kept self.new.page) (W.taken output.old) (W.taken output.new) (told_text self.old.summary.events told.now) (marks_told told.now) (given_at mode s self.old.source before this)) }
+        ensures recalls { OnOk result ((mode : Mode) (s : Given) (before : List Happening) (this : Happening) → IsToDraw mode s taken.now self.old.summary.events self.old.changes.store self.old.overlaps before this told.now → Recalls mode s (this ∷ before) self.new.changes.store self.new.overlaps) }
         ensures source { self.new.source ≡ self.old.source }
         ensures count { OnOk result (self.new.summary ≡ counted told.now self.old.summary) }
-        ensures course { self.new.course ≡ self.old.course }
         ensures fault { IfErr result IsWriteFault }
         ensures failures { W.failures output.new ≡ W.failures output.old + failed_write result }
     {
-        self.draw_told(told, output)?;
+        self.draw_told(told, taken, output)?;
         self.summary.count(told);
         Ok(())
     }
 
     /// Draws what a turn tells.
-    fn draw_told<W: Sink>(&mut self, told: &Told, output: &mut W) -> Result<(), Fault>
+    fn draw_told<W: Sink>(
+        &mut self,
+        told: &Told,
+        taken: &[Taken],
+        output: &mut W,
+    ) -> Result<(), Fault>
         requires { W.failures output.old < 2 ^ 64 - 1 }
-        ensures ok { OnOk result ((mode : Mode) (before : List Happening) (this : Happening) → IsToDraw mode self.old.course self.old.summary.events self.old.changes.store self.old.overlaps before this told.now → DrawsOn (kept self.old.page) (kept self.new.page) (W.taken output.old) (W.taken output.new) (told_text self.old.summary.events told.now) (marks_told told.now) (given_at mode self.old.course.world.setup self.old.source before this)) }
-        ensures recalls { OnOk result ((mode : Mode) (before : List Happening) (this : Happening) → IsToDraw mode self.old.course self.old.summary.events self.old.changes.store self.old.overlaps before this told.now → Recalls mode self.old.course.world.setup (this ∷ before) self.new.changes.store self.new.overlaps) }
+        ensures ok { OnOk result ((mode : Mode) (s : Given) (before : List Happening) (this : Happening) → IsToDraw mode s taken.now self.old.summary.events self.old.changes.store self.old.overlaps before this told.now → DrawsOn (kept self.old.page) (kept self.new.page) (W.taken output.old) (W.taken output.new) (told_text self.old.summary.events told.now) (marks_told told.now) (given_at mode s self.old.source before this)) }
+        ensures recalls { OnOk result ((mode : Mode) (s : Given) (before : List Happening) (this : Happening) → IsToDraw mode s taken.now self.old.summary.events self.old.changes.store self.old.overlaps before this told.now → Recalls mode s (this ∷ before) self.new.changes.store self.new.overlaps) }
         ensures source { self.new.source ≡ self.old.source }
         ensures summary { self.new.summary ≡ self.old.summary }
-        ensures course { self.new.course ≡ self.old.course }
         ensures fault { IfErr result IsWriteFault }
         ensures failures { W.failures output.new ≡ W.failures output.old + failed_write result }
     {
@@ -221,7 +148,7 @@ impl Drawing {
             Told::Accepted(made) => {
                 hear(&mut self.overlaps, self.summary.events, made.access)?;
                 let process = made.event.process();
-                self.draw_marks(process, made.marks(self.alloc).as_slice(), output)
+                self.draw_marks(process, made.marks(self.alloc).as_slice(), taken, output)
             }
             Told::Refused { process, refusal } => {
                 let saying = Saying::Refused {
@@ -243,36 +170,41 @@ impl Drawing {
         &mut self,
         process: u8,
         marks: &[Mark],
+        taken: &[Taken],
         output: &mut W,
     ) -> Result<(), Fault>
         requires { W.failures output.old < 2 ^ 64 - 1 }
-        ensures ok { OnOk result ((mode : Mode) (now : Run) (reads : List Ended) (n : ℕ) → IsAmong mode self.old.course now reads n self.old.changes.store self.old.overlaps → AreNext n (history self.old.course.world.setup (past_in self.old.course.world.setup now)) marks.now → DrawsOn (kept self.old.page) (kept self.new.page) (W.taken output.old) (W.taken output.new) (flat_map (mark_line self.old.summary.events process) marks.now) (map (λ mark. (process, mark)) marks.now) (lines_given mode self.old.source self.old.summary.events reads (map (says_mark self.old.course.world.setup (history self.old.course.world.setup (past_in self.old.course.world.setup now)) process) marks.now))) }
-        ensures among { OnOk result ((mode : Mode) (now : Run) (reads : List Ended) (n : ℕ) → IsAmong mode self.old.course now reads n self.old.changes.store self.old.overlaps → AreNext n (history self.old.course.world.setup (past_in self.old.course.world.setup now)) marks.now → IsAmong mode self.old.course now (waiting marks.now reads) (n + all_take marks.now) self.new.changes.store self.new.overlaps) }
+        ensures ok { OnOk result ((mode : Mode) (s : Given) (past : Past) (reads : List Ended) (n : ℕ) → IsAmong mode s past taken.now reads n self.old.changes.store self.old.overlaps → AreNext n taken.now marks.now → DrawsOn (kept self.old.page) (kept self.new.page) (W.taken output.old) (W.taken output.new) (flat_map (mark_line self.old.summary.events process) marks.now) (map (λ mark. (process, mark)) marks.now) (lines_given mode self.old.source self.old.summary.events reads (map (says_mark s taken.now process) marks.now))) }
+        ensures among { OnOk result ((mode : Mode) (s : Given) (past : Past) (reads : List Ended) (n : ℕ) → IsAmong mode s past taken.now reads n self.old.changes.store self.old.overlaps → AreNext n taken.now marks.now → IsAmong mode s past taken.now (waiting marks.now reads) (n + all_take marks.now) self.new.changes.store self.new.overlaps) }
         ensures source { self.new.source ≡ self.old.source }
         ensures summary { self.new.summary ≡ self.old.summary }
-        ensures course { self.new.course ≡ self.old.course }
         ensures fault { IfErr result IsWriteFault }
         ensures failures { W.failures output.new ≡ W.failures output.old + failed_write result }
     {
         for mark in marks {
-            self.draw_mark(process, mark, output)?;
+            self.draw_mark(process, mark, taken, output)?;
         }
         Ok(())
     }
 
     /// Draws a mark of an event.
-    fn draw_mark<W: Sink>(&mut self, process: u8, mark: &Mark, output: &mut W) -> Result<(), Fault>
+    fn draw_mark<W: Sink>(
+        &mut self,
+        process: u8,
+        mark: &Mark,
+        taken: &[Taken],
+        output: &mut W,
+    ) -> Result<(), Fault>
         requires { W.failures output.old < 2 ^ 64 - 1 }
-        ensures ok { OnOk result ((mode : Mode) (now : Run) (reads : List Ended) (n : ℕ) → IsAmong mode self.old.course now reads n self.old.changes.store self.old.overlaps → IsNext n (history self.old.course.world.setup (past_in self.old.course.world.setup now)) mark.now → DrawsOn (kept self.old.page) (kept self.new.page) (W.taken output.old) (W.taken output.new) (mark_line self.old.summary.events process mark.now) ((process, mark.now) ∷ []) (lines_given mode self.old.source self.old.summary.events reads (says_mark self.old.course.world.setup (history self.old.course.world.setup (past_in self.old.course.world.setup now)) process mark.now ∷ []))) }
-        ensures among { OnOk result ((mode : Mode) (now : Run) (reads : List Ended) (n : ℕ) → IsAmong mode self.old.course now reads n self.old.changes.store self.old.overlaps → IsNext n (history self.old.course.world.setup (past_in self.old.course.world.setup now)) mark.now → IsAmong mode self.old.course now [] (n + takes mark.now) self.new.changes.store self.new.overlaps) }
+        ensures ok { OnOk result ((mode : Mode) (s : Given) (past : Past) (reads : List Ended) (n : ℕ) → IsAmong mode s past taken.now reads n self.old.changes.store self.old.overlaps → IsNext n taken.now mark.now → DrawsOn (kept self.old.page) (kept self.new.page) (W.taken output.old) (W.taken output.new) (mark_line self.old.summary.events process mark.now) ((process, mark.now) ∷ []) (lines_given mode self.old.source self.old.summary.events reads (says_mark s taken.now process mark.now ∷ []))) }
+        ensures among { OnOk result ((mode : Mode) (s : Given) (past : Past) (reads : List Ended) (n : ℕ) → IsAmong mode s past taken.now reads n self.old.changes.store self.old.overlaps → IsNext n taken.now mark.now → IsAmong mode s past taken.now [] (n + takes mark.now) self.new.changes.store self.new.overlaps) }
         ensures source { self.new.source ≡ self.old.source }
         ensures summary { self.new.summary ≡ self.old.summary }
-        ensures course { self.new.course ≡ self.old.course }
         ensures fault { IfErr result IsWriteFault }
         ensures failures { W.failures output.new ≡ W.failures output.old + failed_write result }
     {
         let _nested: NestedTypes = None;
-        let change = self.changes.made_by(mark, self.course.history())?;
+        let change = self.changes.made_by(mark, taken)?;
         let saying = Saying::Marked {
             process,
             mark: *mark,
@@ -289,7 +221,6 @@ impl Drawing {
         ensures changes { self.new.changes ≡ self.old.changes }
         ensures source { self.new.source ≡ self.old.source }
         ensures summary { self.new.summary ≡ self.old.summary }
-        ensures course { self.new.course ≡ self.old.course }
         ensures fault { IfErr result IsWriteFault }
         ensures failures { W.failures output.new ≡ W.failures output.old + failed_write result }
     {
@@ -311,7 +242,6 @@ impl Drawing {
         ensures changes { self.new.changes ≡ self.old.changes }
         ensures source { self.new.source ≡ self.old.source }
         ensures summary { self.new.summary ≡ self.old.summary }
-        ensures course { self.new.course ≡ self.old.course }
         ensures fault { IfErr result IsWriteFault }
         ensures failures { W.failures output.new ≡ W.failures output.old + failed_write result }
     {
@@ -330,7 +260,6 @@ impl Drawing {
         ensures changes { self.new.changes ≡ self.old.changes }
         ensures source { self.new.source ≡ self.old.source }
         ensures summary { self.new.summary ≡ self.old.summary }
-        ensures course { self.new.course ≡ self.old.course }
         ensures fault { IfErr result IsWriteFault }
         ensures failures { W.failures output.new ≡ W.failures output.old + failed_write result }
     {

@@ -1,17 +1,21 @@
 -- The record of a scenario's run as text, and what is written of it as the run goes on.
-use Rattle.std.specs.Prelude.{◌≡◌, ℕ, List, [], ◌++◌, flat_map, reverse, Option, Result}
-use Rattle.std.specs.Io.KnownBytes.{Appends}
+use Rattle.std.specs.Prelude.{◌≡◌, ℕ, List, [], ◌∷◌, ◌++◌, flat_map, reverse, Option, None, Some, Result}
+use Rattle.std.proofs.Common.{ap, sym, ◌∙◌, append-nil, append_assoc}
+use Rattle.std.proofs.lemmas.Grind.{flat_map-append}
+use Rattle.std.proofs.lemmas.List.{reverse-append}
 use Rattle.plain_store.specs.declared.setups.Setup.{Setup}
 use Rattle.judge.specs.record_file.Printing.{entry_line, record_text}
 use Rattle.scenario.specs.files.Engines.{text_by}
-use Rattle.scenario.specs.files.Streams.{WritesFront}
 use Rattle.scenario.specs.files.declared.faults.LineFault.{LineFault}
 use Rattle.scenario.specs.Reading.{Script, scenario_of}
 use Rattle.scenario.specs.declared.lines.Line.{Line}
 use Rattle.course.specs.Courses.{CourseState, Follows}
-use Rattle.course.specs.Happenings.{Happening, past_after}
+use Rattle.course.specs.«record».Entries.{Entry, Past}
+use Rattle.course.specs.«record».Records.{entry_of}
+use Rattle.course.specs.Happenings.{Happening, Tries, Lacks, Tires, Looks, past_after}
 use Rattle.course.specs.Runs.{Run, run_after}
 use Rattle.course.specs.Telling.{entry_made}
+use Rattle.course.specs.Writing.{Writes, WritesPart}
 use Rattle.course.specs.declared.told.Told.{Told}
 use Rattle.course.specs.declared.told.Told.TheVariants as told
 use Rattle.course.specs.RunRecords.{run_record}
@@ -39,20 +43,35 @@ entry_told (told.Shown line) = []
 pub record Copies (s : Setup) (before after : Run) (course : CourseState) (old new : Option (List ℕ)) : Type 0 where
   pub follows : Follows course after
   pub setup : course.world.setup ≡ s
-  pub text : List ℕ
-  pub is : entries_text s after.happened ≡ entries_text s before.happened ++ text
-  pub taken : Appends old new text
+  pub writes : Writes (entries_text s before.happened) (entries_text s after.happened) old new
 
 -- a line has made all its turns
 abbrev pub CopiesLine : Line → CourseState → CourseState → Option (List ℕ) → Option (List ℕ) → Type 0
 CopiesLine line old new taken then = (run : Run) → Follows old run → Copies old.world.setup run (run_after old.world.setup line run) new taken then
 
--- from one run to another: a front of the lines of the entries between was written
-pub record CopiesPart (s : Setup) (before after : Run) (old new : Option (List ℕ)) : Type 0 where
-  pub text : List ℕ
-  pub is : entries_text s after.happened ≡ entries_text s before.happened ++ text
-  pub front : WritesFront old new text
-
 -- a line was cut short
 abbrev pub CutsCopy : Line → CourseState → Option (List ℕ) → Option (List ℕ) → Type 0
-CutsCopy line old taken then = (run : Run) → Follows old run → CopiesPart old.world.setup run (run_after old.world.setup line run) taken then
+CutsCopy line old taken then = (run : Run) → Follows old run → WritesPart (entries_text old.world.setup run.happened) (entries_text old.world.setup (run_after old.world.setup line run).happened) taken then
+
+-- the lines of one entry more, and of more that has happened
+pub lines_more : (e : Entry) (past : Past) → flat_map entry_line (reverse (e ∷ past)) ≡ flat_map entry_line (reverse past) ++ entry_line e
+lines_more e past =
+    ap (flat_map entry_line) (reverse-append (e ∷ []) past) ∙ flat_map-append entry_line (reverse past) (e ∷ [])
+    ∙ ap (λ l. flat_map entry_line (reverse past) ++ l) (append-nil (entry_line e))
+
+one_longer : (s : Setup) (before : List Happening) (this : Happening) → (text : List ℕ) × (entries_text s (this ∷ before) ≡ entries_text s before ++ text)
+one_longer s before (Tries event) = by (entry_of s (past_after s before) event)
+  where
+    by : (o : Option Entry) → (text : List ℕ) × (flat_map entry_line (reverse (elim o as (λ _. Past) [ None ↦ past_after s before | Some e ↦ e ∷ past_after s before ])) ≡ entries_text s before ++ text)
+    by None = ([], sym (append-nil (entries_text s before)))
+    by (Some e) = (entry_line e, lines_more e (past_after s before))
+one_longer s before (Lacks p) = ([], sym (append-nil (entries_text s before)))
+one_longer s before (Tires p) = ([], sym (append-nil (entries_text s before)))
+one_longer s before Looks = ([], sym (append-nil (entries_text s before)))
+
+pub entries_longer : (s : Setup) (before more : List Happening) → (text : List ℕ) × (entries_text s (more ++ before) ≡ entries_text s before ++ text)
+entries_longer s before [] = ([], sym (append-nil (entries_text s before)))
+entries_longer s before (this ∷ more) =
+    let u = entries_longer s before more in
+    let v = one_longer s (more ++ before) this in
+    (u.0 ++ v.0, v.1 ∙ ap (λ l. l ++ v.0) u.1 ∙ append_assoc (entries_text s before) u.0 v.0)

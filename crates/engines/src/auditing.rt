@@ -1,6 +1,6 @@
 //! The engine `audit`: the verdict on the record of a scenario's run, of which an auditor hears each entry as the
 //! run makes it. No record is held.
-ghost use Rattle.std.specs.Prelude.{◌≡◌, ◌+◌, ◌-◌, ◌^◌, ◌<◌, IfErr, IfOk, OnOk, None, length};
+ghost use Rattle.std.specs.Prelude.{◌≡◌, ◌+◌, ◌-◌, ◌^◌, ◌<◌, IfErr, IfOk, OnOk, length};
 ghost use Rattle.std.specs.Io.KnownBytes.{Appends};
 ghost use Rattle.judge.specs.auditor.declared.verdicts.Verdict.TheVariants.{Good};
 ghost use Rattle.judge.specs.auditor.Verdicts.{IsVerdict};
@@ -8,14 +8,14 @@ ghost use Rattle.scenario.specs.files.Engines.{Ran};
 ghost use Rattle.scenario.specs.files.Streams.{ReadsFront, WritesFront};
 ghost use Rattle.scenario.specs.Reads.{script};
 ghost use Rattle.engines.specs.Audits.{InputTellsVerdict, TellsVerdict, audit_text, audited};
-ghost use Rattle.course.specs.Replays.{MakesLine, ended};
+ghost use Rattle.course.specs.Replays.{ended};
 ghost use Rattle.course.specs.Writing.{IsWriteFault, failed_write};
 ghost use Rattle.course.specs.RunRecords.{run_record};
 
 use crate::writing::write_line;
-use course::{Course, Summary};
+use course::{Audit, Course, Judged, Summary};
 use judge::{Audited, status_of, verdict_line};
-use scenario::{Fault, Line, Scenario, Sink, Source, read_input, read_scenario};
+use scenario::{Fault, Scenario, Sink, Source, read_input, read_scenario};
 use std::alloc::{AllocError, Global};
 use sweeper::progress::{Onlooker, Place};
 
@@ -73,34 +73,19 @@ fn audit_run<L: Onlooker>(
     ensures good { IfOk result (λ audited. audited.verdict ≡ Good) }
     ensures entries { IfOk result (λ audited. audited.entries ≡ length (run_record (script scenario.now))) }
 {
-    let mut course = Course::new(alloc, &scenario.setup, true)?;
-    let mut summary = Summary::new();
+    let mut course = Course::new(alloc, &scenario.setup)?;
+    let audit = Audit::new(alloc, &scenario.setup)?;
+    let listener = Summary::new();
+    let mut judged = Judged { listener, audit };
     let mut place = Place::before(file, scenario.lines.len());
     for line in &scenario.lines {
-        onlooker.reached(place.begin_line(summary.events));
-        count_line(&mut course, line, &mut summary)?;
+        onlooker.reached(place.begin_line(judged.listener.events));
+        let Ok(()) = course.play(line, &mut judged) else {
+            return Err(AllocError);
+        };
     }
     Ok(Audited {
-        verdict: course.verdict(),
-        entries: summary.events,
+        verdict: judged.audit.verdict(),
+        entries: judged.listener.events,
     })
-}
-
-/// Makes the turns of a line, and counts them.
-fn count_line(course: &mut Course, line: &Line, summary: &mut Summary) -> Result<(), AllocError>
-    requires events { summary.old.events < 2 ^ 63 }
-    requires refused { summary.old.refused < 2 ^ 63 }
-    ensures ok { OnOk result (MakesLine line.now course.old course.new summary.old summary.new None None) }
-    ensures events { OnOk result (summary.new.events < summary.old.events + 2 ^ 32) }
-    ensures refused { OnOk result (summary.new.refused < summary.old.refused + 2 ^ 32) }
-{
-    course.begin(line);
-    'turns: loop {
-        let turns = course.turns(line)?;
-        summary.events += u64::from(turns.quiet);
-        let Some(told) = turns.told else {
-            return Ok(());
-        };
-        summary.count(&told);
-    }
 }

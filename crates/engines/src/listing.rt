@@ -1,5 +1,5 @@
 //! The events of a run, and the record of events.
-ghost use Rattle.std.specs.Prelude.{◌≡◌, ◌++◌, true, Ok, IfOk, OnOk, reverse};
+ghost use Rattle.std.specs.Prelude.{◌≡◌, ◌++◌, [], ◌∷◌, ⊤, true, Ok, IfOk, OnOk, reverse};
 ghost use Rattle.plain_store.specs.Setups.{checked};
 ghost use Rattle.course.specs.«record».declared.Refusal.TheVariants.{Memory};
 ghost use Rattle.course.specs.«record».Given.{AreGiven, is_event};
@@ -9,46 +9,94 @@ ghost use Rattle.judge.specs.record_file.Printing.{record_text};
 ghost use Rattle.judge.specs.record_file.ReadAgain.{FitLines};
 ghost use Rattle.judge.specs.record_file.RecordFiles.{record_of as record_read};
 ghost use Rattle.scenario.specs.Reads.{script};
-ghost use Rattle.engines.specs.Listings.{ListsLine, RecordsEvent, event_told};
-ghost use Rattle.course.specs.RunRecords.{accepted_events};
+ghost use Rattle.engines.specs.Listings.{RecordsEvent, event_told};
+ghost use Rattle.course.specs.RunRecords.{accepted_events, listed};
 
-use course::{Course, Entry, Event, Record, Refusal, Told, World};
+use course::{Course, Entry, Event, Listener, Record, Refusal, Stepped, Taken, Told, World};
 use plain_store::{NestedTypes, Setup};
-use scenario::{Line, Scenario};
+use scenario::{Fault, Scenario};
 use std::alloc::{AllocError, Global};
 
 /// The events of a scenario's run that are accepted, in order. The one fault is want of memory.
 pub fn events_of(alloc: Global, scenario: &Scenario) -> Result<Vec<Event>, AllocError>
     ensures { IfOk result (λ events. events.items ≡ accepted_events (script scenario.now)) }
 {
-    let mut course = Course::new(alloc, &scenario.setup, false)?;
-    let mut events = Vec::new(alloc);
+    let mut course = Course::new(alloc, &scenario.setup)?;
+    let events = Vec::new(alloc);
+    let mut lister = Lister { events };
     for line in &scenario.lines {
-        list_line(&mut course, line, &mut events)?;
+        let Ok(()) = course.play(line, &mut lister) else {
+            return Err(AllocError);
+        };
     }
-    Ok(events)
+    Ok(lister.events)
 }
 
-/// Makes the turns of a line, and lists the events that are accepted.
-fn list_line(course: &mut Course, line: &Line, events: &mut Vec<Event>) -> Result<(), AllocError>
-    ensures { OnOk result (ListsLine line.now course.old course.new events.old.items events.new.items) }
-{
-    course.begin(line);
-    'turns: while let Some(told) = course.turn(line)? {
-        list(told, events)?;
+/// Lists the accepted events of a run as it hears them.
+#[derive(Drop)]
+struct Lister {
+    events: Vec<Event>,
+}
+
+impl Listener for Lister {
+    ghost hears_steps = { λ _. true };
+
+    #[inline(always)]
+    fn hears_steps(&self) -> bool {
+        true
     }
-    Ok(())
+
+    ghost HasRoom = { λ lister more. ⊤ };
+
+    ghost Hears = { λ a s x y b. a.events.items ≡ listed s x → b.events.items ≡ listed s y };
+
+    ghost Stops = { λ a s x y fault b. ⊤ };
+
+    #[tactic(auto, using(crate::proofs::Listed::told_listed))]
+    fn hear(&mut self, told: &Told, _taken: &[Taken]) -> Result<(), Fault> {
+        Ok(list(told, &mut self.events)?)
+    }
+
+    #[tactic(auto, using(crate::proofs::Listed::step_listed))]
+    fn step(&mut self, made: Stepped) -> Result<(), Fault> {
+        Ok(add(
+            Event::Step(made.process, made.flick),
+            &mut self.events,
+        )?)
+    }
+
+    fn pass(&mut self, _steps: u32) {}
+
+    ghost room_less = { λ a n k few room. tt };
+
+    ghost hears_nothing = { λ a s x are. are };
+
+    ghost hears_on = { λ a b c s x y z p q are. q (p are) };
+
+    ghost stops_unheard = { λ a s x. tt };
+
+    ghost stops_before = { λ a b s x y more fault p. tt };
+
+    ghost stops_on = { λ a b c s x y z fault p q. tt };
 }
 
 /// Lists the event that is told, if one is.
-fn list(told: Told, events: &mut Vec<Event>) -> Result<(), AllocError>
-    ensures { OnOk result (events.new.items ≡ events.old.items ++ event_told told) }
+fn list(told: &Told, events: &mut Vec<Event>) -> Result<(), AllocError>
+    ensures { OnOk result (events.new.items ≡ events.old.items ++ event_told told.now) }
 {
     let _nested: NestedTypes = None;
-    if let Told::Accepted(made) = &told {
-        events.push(made.event)?;
+    if let Told::Accepted(made) = told {
+        return add(made.event, events);
     }
     Ok(())
+}
+
+/// Adds an event.
+fn add(event: Event, events: &mut Vec<Event>) -> Result<(), AllocError>
+    ensures { OnOk result (events.new.items ≡ events.old.items ++ event ∷ []) }
+{
+    let _nested: NestedTypes = None;
+    Ok(events.push(event)?)
 }
 
 /// The record of a list of events: an entry for each that is accepted. The one fault is want of memory. Names,

@@ -1,6 +1,7 @@
 //! The engine `record`: the record of a scenario's run as text, each entry written before the next event is made. No
 //! record is held.
-ghost use Rattle.std.specs.Prelude.{◌≡◌, ◌+◌, ◌-◌, ◌^◌, ◌<◌, IfErr, IfOk, IsOk, OnErr, OnOk};
+ghost use Rattle.std.specs.Prelude.{◌≡◌, ◌+◌, ◌-◌, ◌^◌, ◌<◌, IfErr, IfOk, IsOk, OnErr, OnOk, ⊤, false, true, refl};
+ghost use Rattle.std.proofs.Common.{◌∙◌};
 ghost use Rattle.std.specs.Io.KnownBytes.{Appends};
 ghost use Rattle.scenario.specs.files.Engines.{Ran};
 ghost use Rattle.scenario.specs.files.Streams.{ReadsFront, WritesFront};
@@ -8,11 +9,12 @@ ghost use Rattle.judge.specs.record_file.Printing.{entry_line, step_entry};
 ghost use Rattle.judge.specs.record_file.ReadAgain.{RecordsAreReadAgain, RecordsFitLines};
 ghost use Rattle.scenario.specs.Reads.{script};
 ghost use Rattle.engines.specs.RecordedRuns.{InputWritesRecord, RecordedRunsAreReadAgain};
-ghost use Rattle.engines.specs.Recordings.{CopiesLine, CutsCopy, entry_told, recorded, recording_text};
+ghost use Rattle.engines.specs.Recordings.{CopiesLine, CutsCopy, entries_longer, entries_text, entry_told, recorded, recording_text};
+ghost use Rattle.course.specs.Takings.{Took, TookPart, part_before, part_on, part_unheard, took_none, took_on};
 ghost use Rattle.course.specs.Replays.{ended};
 ghost use Rattle.course.specs.Writing.{IsWriteFault, failed_write};
 
-use course::{Course, Entry, Stepped, Told};
+use course::{Course, Entry, Listener, Stepped, Taken, Told};
 use judge::{StepLine, print_entry, print_setup};
 use scenario::{Fault, Line, Scenario, Sink, Source, read_input, read_scenario, write_all};
 use std::alloc::{AllocError, Global};
@@ -60,36 +62,27 @@ fn record_scenario<W: Sink, L: Onlooker>(
     ensures fault { IfErr result IsWriteFault }
     ensures failures { W.failures output.new ≡ W.failures output.old + failed_write result }
 {
-    let mut course = Course::new(alloc, &scenario.setup, false)?;
+    let mut course = Course::new(alloc, &scenario.setup)?;
     write_bytes(output, print_setup(alloc, &scenario.setup))?;
     let mut place = Place::before(file, scenario.lines.len());
-    let mut events = 0;
-    let mut text = Vec::new(alloc);
-    let mut printed = StepLine::new();
+    let mut room = Room {
+        events: 0,
+        text: Vec::new(alloc),
+        printed: StepLine::new(),
+    };
     for line in &scenario.lines {
-        onlooker.reached(place.begin_line(events));
-        record_line(
-            alloc,
-            &mut course,
-            line,
-            &mut events,
-            &mut text,
-            &mut printed,
-            output,
-        )?;
+        onlooker.reached(place.begin_line(room.events));
+        record_line(alloc, &mut course, line, &mut room, output)?;
     }
     Ok(())
 }
 
-/// Makes the turns of a line, and writes the entry of each before the next is made; `events` counts them. The text is
-/// room for one entry's line, which is kept from one to the next.
+/// Makes the turns of a line, and writes the entry of each before the next is made.
 fn record_line<W: Sink>(
     alloc: Global,
     course: &mut Course,
     line: &Line,
-    events: &mut u64,
-    text: &mut Vec<u8>,
-    printed: &mut StepLine,
+    room: &mut Room,
     output: &mut W,
 ) -> Result<(), Fault>
     requires { W.failures output.old < 2 ^ 64 - 1 }
@@ -98,22 +91,70 @@ fn record_line<W: Sink>(
     ensures fault { IfErr result IsWriteFault }
     ensures failures { W.failures output.new ≡ W.failures output.old + failed_write result }
 {
-    course.begin(line);
-    let mut steppers = course.steppers(line);
-    'turns: loop {
-        let drawn = course.draw(&steppers);
-        if let Some(made) = course.step_drawn(drawn) {
-            write_step(made, printed, output)?;
-            *events = events.saturating_add(1);
-            continue 'turns;
-        }
-        let Some(told) = course.turn_drawn(line, drawn)? else {
-            return Ok(());
-        };
-        write_entry(alloc, &told, text, output)?;
-        *events = events.saturating_add(accepted_by(&told));
-        steppers = course.steppers(line);
+    let mut copier = Copier {
+        alloc,
+        room,
+        output,
+    };
+    course.play(line, &mut copier)
+}
+
+/// What is kept from one entry to the next: how many there were, and room for a line.
+#[derive(Drop)]
+struct Room {
+    events: u64,
+    text: Vec<u8>,
+    printed: StepLine,
+}
+
+/// Writes the entries of a run as it hears them.
+#[derive(Drop)]
+struct Copier<'a, W: Sink> {
+    alloc: Global,
+    room: &'a mut Room,
+    output: &'a mut W,
+}
+
+impl<'a, W: Sink> Listener for Copier<'a, W> {
+    ghost hears_steps = { λ _. true };
+
+    #[inline(always)]
+    fn hears_steps(&self) -> bool {
+        true
     }
+
+    ghost HasRoom = { λ copier more. W.failures copier.output.now < 2 ^ 64 - 1 };
+
+    ghost Hears = { λ a s x y b. (b.output.ghost_name ≡ a.output.ghost_name) × Took ⊤ (entries_text s x) (entries_text s y) (W.taken a.output.now) (W.taken b.output.now) (W.failures a.output.now) (W.failures b.output.now) };
+
+    ghost Stops = { λ a s x y fault b. (b.output.ghost_name ≡ a.output.ghost_name) × TookPart ⊤ (entries_text s x) (entries_text s y) (W.taken a.output.now) (W.taken b.output.now) (W.failures a.output.now) (W.failures b.output.now) fault };
+
+    fn hear(&mut self, told: &Told, _taken: &[Taken]) -> Result<(), Fault> {
+        write_entry(self.alloc, told, &mut self.room.text, self.output)?;
+        self.room.events = self.room.events.saturating_add(accepted_by(told));
+        Ok(())
+    }
+
+    #[inline(always)]
+    fn step(&mut self, made: Stepped) -> Result<(), Fault> {
+        write_step(made, &mut self.room.printed, self.output)?;
+        self.room.events = self.room.events.saturating_add(1);
+        Ok(())
+    }
+
+    fn pass(&mut self, _steps: u32) {}
+
+    ghost room_less = { λ a n k few room. room };
+
+    ghost hears_nothing = { λ a s x. (refl, took_none ⊤ (entries_text s x) (W.taken a.output.now) (W.failures a.output.now)) };
+
+    ghost hears_on = { λ a b c s x y z p q. (q.0 ∙ p.0, took_on {P = ⊤} {Q = ⊤} (λ _. tt) p.1 q.1) };
+
+    ghost stops_unheard = { λ a s x. (refl, part_unheard ⊤ (entries_text s x) (W.taken a.output.now) (W.failures a.output.now)) };
+
+    ghost stops_before = { λ a b s x y more fault p. (p.0, part_before (entries_longer s y more) p.1) };
+
+    ghost stops_on = { λ a b c s x y z fault p q. (q.0 ∙ p.0, part_on {P = ⊤} {Q = ⊤} (λ _. tt) p.1 q.1) };
 }
 
 /// Writes the line of the entry of a Step.
@@ -157,7 +198,7 @@ fn write_entry<W: Sink>(
 }
 
 /// Writes the line of an entry, by a text that is cleared for it, unless there was no memory for the line.
-#[tactic(auto, using(crate::proofs::Written::front_none))]
+#[tactic(auto, using(course::proofs::Written::front_none))]
 fn write_entry_line<W: Sink>(
     alloc: Global,
     entry: &Entry,

@@ -1,17 +1,20 @@
 //! The engine `replay`: the marks of a scenario's run, each written before the next event is made.
-ghost use Rattle.std.specs.Prelude.{◌≡◌, ◌+◌, ◌-◌, ◌^◌, ◌<◌, IfErr, IfOk, OnErr, OnOk};
+ghost use Rattle.std.specs.Prelude.{◌≡◌, ◌+◌, ◌-◌, ◌^◌, ◌<◌, ℕ, IfErr, IfOk, OnErr, OnOk, false, refl};
+ghost use Rattle.std.proofs.Common.{◌∙◌};
 ghost use Rattle.std.specs.Io.KnownBytes.{Appends};
 ghost use Rattle.scenario.specs.files.Engines.{Ran};
 ghost use Rattle.scenario.specs.Reads.{script};
 ghost use Rattle.scenario.specs.files.Streams.{ReadsFront, WritesFront};
 ghost use Rattle.course.specs.Replays.{CutsLine, InputKeepsHeadline, IsSummaryOf, MakesLine, RunKeepsHeadline, ended};
 ghost use Rattle.course.specs.Runs.{happenings};
-ghost use Rattle.course.specs.Summaries.{summary_of};
-ghost use Rattle.course.specs.Texts.{replay_text, replayed};
-ghost use Rattle.course.specs.Writing.{IsWriteFault, failed_write};
+ghost use Rattle.course.specs.Growing.{text_longer};
+ghost use Rattle.course.specs.Summaries.{CanCount, can_count_less, summary_of};
+ghost use Rattle.course.specs.Texts.{replay_text, replayed, text_of};
+ghost use Rattle.course.specs.Writing.{Counts, IsWriteFault, failed_write};
+ghost use Rattle.course.specs.Takings.{Took, TookPart, part_before, part_on, part_unheard, took_none, took_on};
 
 use crate::writing::{tell, write_end};
-use course::{Course, Summary};
+use course::{Course, Listener, Stepped, Summary, Taken, Told};
 use scenario::{Fault, Line, Scenario, Sink, Source, read_input, read_scenario};
 use std::alloc::Global;
 use sweeper::progress::{Onlooker, Place};
@@ -59,7 +62,7 @@ fn replay_scenario<W: Sink, L: Onlooker>(
     ensures fault { IfErr result IsWriteFault }
     ensures failures { W.failures output.new ≡ W.failures output.old + failed_write result }
 {
-    let mut course = Course::new(alloc, &scenario.setup, false)?;
+    let mut course = Course::new(alloc, &scenario.setup)?;
     let mut summary = Summary::new();
     let mut place = Place::before(file, scenario.lines.len());
     for line in &scenario.lines {
@@ -81,22 +84,67 @@ fn replay_line<W: Sink>(
     output: &mut W,
 ) -> Result<(), Fault>
     requires writes { W.failures output.old < 2 ^ 64 - 1 }
-    requires events { summary.old.events < 2 ^ 63 }
-    requires refused { summary.old.refused < 2 ^ 63 }
+    requires room { CanCount summary.old (2 ^ 32) }
     ensures ok { OnOk result (MakesLine line.now course.old course.new summary.old summary.new (W.taken output.old) (W.taken output.new)) }
+    ensures room { OnOk result ((more : ℕ) → CanCount summary.old (more + 2 ^ 32) → CanCount summary.new more) }
     ensures cut { OnErr result (CutsLine line.now course.old summary.old (W.taken output.old) (W.taken output.new)) }
-    ensures events { OnOk result (summary.new.events < summary.old.events + 2 ^ 32) }
-    ensures refused { OnOk result (summary.new.refused < summary.old.refused + 2 ^ 32) }
     ensures fault { IfErr result IsWriteFault }
     ensures failures { W.failures output.new ≡ W.failures output.old + failed_write result }
 {
-    course.begin(line);
-    'turns: loop {
-        let turns = course.turns(line)?;
-        summary.events += u64::from(turns.quiet);
-        let Some(told) = turns.told else {
-            return Ok(());
-        };
-        tell(alloc, told, summary, output)?;
+    let mut printer = Printer {
+        alloc,
+        summary: *summary,
+        output,
+    };
+    course.play(line, &mut printer)?;
+    *summary = printer.summary;
+    Ok(())
+}
+
+/// Writes the marks of a run as it hears them, and counts.
+#[derive(Drop)]
+struct Printer<'a, W: Sink> {
+    alloc: Global,
+    summary: Summary,
+    output: &'a mut W,
+}
+
+impl<'a, W: Sink> Listener for Printer<'a, W> {
+    ghost hears_steps = { λ _. false };
+
+    #[inline(always)]
+    fn hears_steps(&self) -> bool {
+        false
     }
+
+    ghost HasRoom = { λ printer more. CanCount printer.summary more × (W.failures printer.output.now < 2 ^ 64 - 1) };
+
+    ghost Hears = { λ a s x y b. (b.output.ghost_name ≡ a.output.ghost_name) × (Counts s x a.summary → Counts s y b.summary) × Took (Counts s x a.summary) (text_of s x) (text_of s y) (W.taken a.output.now) (W.taken b.output.now) (W.failures a.output.now) (W.failures b.output.now) };
+
+    ghost Stops = { λ a s x y fault b. (b.output.ghost_name ≡ a.output.ghost_name) × TookPart (Counts s x a.summary) (text_of s x) (text_of s y) (W.taken a.output.now) (W.taken b.output.now) (W.failures a.output.now) (W.failures b.output.now) fault };
+
+    fn hear(&mut self, told: &Told, _taken: &[Taken]) -> Result<(), Fault> {
+        tell(self.alloc, told, &mut self.summary, self.output)
+    }
+
+    fn step(&mut self, _made: Stepped) -> Result<(), Fault> {
+        self.summary.events += 1;
+        Ok(())
+    }
+
+    fn pass(&mut self, steps: u32) {
+        self.summary.events += u64::from(steps);
+    }
+
+    ghost room_less = { λ a n k few room. (can_count_less a.summary n k few room.0, room.1) };
+
+    ghost hears_nothing = { λ a s x. (refl, (λ counts. counts), took_none (Counts s x a.summary) (text_of s x) (W.taken a.output.now) (W.failures a.output.now)) };
+
+    ghost hears_on = { λ a b c s x y z p q. (q.0 ∙ p.0, (λ counts. q.1 (p.1 counts)), took_on {P = Counts s x a.summary} {Q = Counts s y b.summary} p.1 p.2 q.2) };
+
+    ghost stops_unheard = { λ a s x. (refl, part_unheard (Counts s x a.summary) (text_of s x) (W.taken a.output.now) (W.failures a.output.now)) };
+
+    ghost stops_before = { λ a b s x y more fault p. (p.0, part_before (text_longer s y more) p.1) };
+
+    ghost stops_on = { λ a b c s x y z fault p q. (q.0 ∙ p.0, part_on {P = Counts s x a.summary} {Q = Counts s y b.summary} p.1 p.2 q.1) };
 }

@@ -100,7 +100,7 @@ fn end_line(alloc: Global, summary: &Summary) -> Result<String, AllocError>
 }
 
 /// Writes the last line of a replay.
-#[tactic(auto, using(crate::proofs::Written::line_whole, crate::proofs::Written::line_front))]
+#[tactic(auto, using(course::proofs::Written::line_whole, course::proofs::Written::line_front))]
 pub(crate) fn write_end<W: Sink>(
     alloc: Global,
     summary: &Summary,
@@ -118,20 +118,20 @@ pub(crate) fn write_end<W: Sink>(
 /// Writes and counts what is told.
 pub(crate) fn tell<W: Sink>(
     alloc: Global,
-    told: Told,
+    told: &Told,
     summary: &mut Summary,
     output: &mut W,
 ) -> Result<(), Fault>
     requires writes { W.failures output.old < 2 ^ 64 - 1 }
     requires events { summary.old.events < 2 ^ 64 - 1 }
     requires refused { summary.old.refused < 2 ^ 64 - 1 }
-    ensures ok { OnOk result (Appends (W.taken output.old) (W.taken output.new) (told_text summary.old.events told)) }
-    ensures count { OnOk result (summary.new ≡ counted told summary.old) }
-    ensures front { WritesFront (W.taken output.old) (W.taken output.new) (told_text summary.old.events told) }
+    ensures ok { OnOk result (Appends (W.taken output.old) (W.taken output.new) (told_text summary.old.events told.now)) }
+    ensures count { OnOk result (summary.new ≡ counted told.now summary.old) }
+    ensures front { WritesFront (W.taken output.old) (W.taken output.new) (told_text summary.old.events told.now) }
     ensures fault { IfErr result IsWriteFault }
     ensures failures { W.failures output.new ≡ W.failures output.old + failed_write result }
 {
-    write_told(alloc, summary.events, &told, output)?;
-    summary.count(&told);
+    write_told(alloc, summary.events, told, output)?;
+    summary.count(told);
     Ok(())
 }

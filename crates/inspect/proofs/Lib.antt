@@ -1,4 +1,3 @@
 pub mod Fronts
-pub mod InTurn
 pub mod Ranges
 pub mod Tabling

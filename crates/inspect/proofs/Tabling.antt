@@ -1,34 +1,53 @@
 -- The lines of the calls that end, turn by turn and line by line.
-use Rattle.std.proofs.Common.{◌≡◌, ◌≤◌, ℕ, List, [], ◌∷◌, ◌++◌, length, Option, None, Some, Ok, refl, ap, sym, subst, ◌∙◌, append-nil, append_assoc}
+use Rattle.std.proofs.Common.{◌≡◌, ◌+◌, ◌^◌, ◌<◌, ◌≤◌, ◌==◌, ◌&&◌, ℕ, Bool, true, false, not, cond, List, [], ◌∷◌, ◌++◌, length, Option, None, Some, Ok, refl, ap, sym, subst, ◌∙◌, append-nil, append_assoc, eq-eqb}
 use Rattle.std.specs.Io.KnownBytes.{Appends}
 use Rattle.scenario.specs.files.Streams.{WritesFront}
 use Rattle.plain_store.specs.declared.setups.Setup.{Setup}
 use Rattle.plain_store.specs.Setups.{checked}
+use Rattle.record.specs.declared.access.Access.{Access}
+use Rattle.record.specs.declared.events.Event.{Event}
+use Rattle.record.specs.declared.events.Event.TheVariants.{Step}
+use Rattle.record.specs.declared.history.Taken.{Taken}
+use Rattle.record.specs.declared.marks.Mark.{Mark}
 use Rattle.record.specs.Entries.{Entry, Past}
-use Rattle.record.specs.Records.{entry_of, process_of}
+use Rattle.record.specs.Records.{entry_of, past_of, process_of}
 use Rattle.scenario.specs.declared.lines.Line.{Line}
-use Rattle.calls.specs.Hearing.{HasHeard, TableState, ended_call}
+use Rattle.calls.specs.Columns.{called, is_calling}
+use Rattle.calls.specs.Hearing.{ComesInTurn, HasHeard, TableState, ended_call}
 use Rattle.calls.specs.Lines.{ended_lines, header, line_of, open_lines, table_text}
-use Rattle.course.specs.Courses.{CourseState, Follows, MakesTurn}
+use Rattle.course.specs.Courses.{CourseState, Follows}
 use Rattle.course.specs.Happenings.{Happening, Tries, Lacks, Tires, Looks, past_after, tried}
-use Rattle.course.specs.Runs.{Run, past_in, run_after, run_at_start, runs}
+use Rattle.course.specs.Listening.{Happens, StepsOn}
+use Rattle.course.specs.Runs.{Run, run_after, run_at_start, runs}
 use Rattle.course.specs.Telling.{TellsOf, entry_made}
-use Rattle.course.specs.Turns.{Turn, turn_of, turns_in}
+use Rattle.course.specs.Writing.{Writes, WritesPart}
+use Rattle.course.specs.declared.told.Stepped.{Stepped}
 use Rattle.course.specs.declared.told.Told.{Told}
 use Rattle.course.specs.declared.told.Told.TheVariants as told
-use Rattle.course.proofs.Grows.{Grows, lines_grow, rest_grows}
+use Rattle.course.proofs.Grows.{lines_grow}
+use Rattle.course.proofs.InTurn.{access_in_turn, process_there}
+use Rattle.course.proofs.Played.{Between}
 use Rattle.course.proofs.Refusals.{past_kept}
-use Rattle.course.proofs.TurnLaw.{rest_of, rest_none, rest_whole, turn_on}
-use Rattle.course.proofs.Underways.{Said, Turned, One, Nothing, said, silent_one, told_none, told_one, turned}
-use Rattle.course.proofs.Written.{appends_both, appends_none, front_after, front_longer, front_whole}
-use Rattle.inspect.specs.Tables.{CutsTable, CutsTold, IsInTurn, Tables, TablesLine, TablesPart, Tells, past_with, tabled, told_line}
-use Rattle.inspect.proofs.InTurn.{entry_in_turn}
+use Rattle.course.proofs.Written.{appends_both, front_after, front_longer}
+use Rattle.inspect.specs.Tables.{CutsTable, CutsTold, HasTabled, IsInTurn, Tables, TablesLine, Tells, lines_after, lines_longer, past_with, tabled, told_line}
+
+-- an entry of a run comes in its turn
+entry_in_turn : (s : Setup) → checked s ≡ Ok tt → (events : List Event) (event : Event) (e : Entry) → e.process ≡ process_of event → entry_of s (past_of s events) event ≡ Some e → ComesInTurn s (past_of s events) e
+entry_in_turn s good events event e mine is = record {
+  process = process_there s events event e mine is;
+  there = λ a made. (access_in_turn s good events event e is a made).0;
+  begun = λ a v made ends. (access_in_turn s good events event e is a made).1 v ends;
+}
 
 -- What is told.
 
+-- the past with an entry that is added
+event_added : (s : Setup) (before : List Happening) (event : Event) (e : Entry) → entry_of s (past_after s before) event ≡ Some e → past_after s (Tries event ∷ before) ≡ e ∷ past_after s before
+event_added s before event e adds = ap (λ (o : Option Entry). elim o as (λ _. Past) [ None ↦ past_after s before | Some e ↦ e ∷ past_after s before ]) adds
+
 -- the past with what is told is the past after what happens
 past_told : (s : Setup) (before : List Happening) (this : Happening) (answer : Told) → TellsOf s (past_after s before) this answer → past_after s (this ∷ before) ≡ past_with (past_after s before) answer
-past_told s before (Tries event) (told.Accepted made) tells = ap (λ (o : Option Entry). elim o as (λ _. Past) [ None ↦ past_after s before | Some e ↦ e ∷ past_after s before ]) tells.1
+past_told s before (Tries event) (told.Accepted made) tells = event_added s before event (entry_made made) tells.1
 past_told s before (Tries event) (told.Refused p r) tells = past_kept s (tried before) event r tells.1
 past_told s before (Tries event) (told.Tired p) tells = absurd tells
 past_told s before (Tries event) (told.Shown line) tells = absurd tells
@@ -71,246 +90,138 @@ lines_told s past (told.Refused p r) = sym (append-nil (ended_lines s past))
 lines_told s past (told.Tired p) = sym (append-nil (ended_lines s past))
 lines_told s past (told.Shown line) = sym (append-nil (ended_lines s past))
 
--- A run only adds to them.
-record Longer (s : Setup) (before after : List Happening) : Type 0 where
-  text : List ℕ
-  is : ended_lines s (past_after s after) ≡ ended_lines s (past_after s before) ++ text
+-- what the table hears, and what is written of it
+told_heard : (s : Setup) (before : List Happening) (this : Happening) (answer : Told) (taken : List Taken) (old new : TableState) (a b : Option (List ℕ)) → Happens s before this answer taken → Tells answer old new a b → HasTabled s before old →
+    HasHeard new (past_with (past_after s before) answer) × Appends a b (told_line s (past_after s before) answer)
+told_heard s before this answer taken old new a b h tells t =
+    let past : Past = past_after s before in
+    subst (λ (s : Setup). HasHeard new (past_with past answer) × Appends a b (told_line s past answer)) t.setup
+    (tells past t.heard (subst (λ (s : Setup). IsInTurn s past answer) (sym t.setup) (in_turn s h.good before this answer h.tells)))
 
-one_longer : (s : Setup) (before : List Happening) (this : Happening) → Longer s before (this ∷ before)
-one_longer s before (Tries event) = let u = by (entry_of s (past_after s before) event) in record { text = u.0; is = u.1 }
-  where
-    past : Past
-    past = past_after s before
-
-    by : (o : Option Entry) → (text : List ℕ) × (ended_lines s (elim o as (λ _. Past) [ None ↦ past | Some e ↦ e ∷ past ]) ≡ ended_lines s past ++ text)
-    by None = ([], sym (append-nil (ended_lines s past)))
-    by (Some e) = (line_of (length past) (ended_call s past e), refl)
-one_longer s before (Lacks p) = record { text = []; is = sym (append-nil (ended_lines s (past_after s before))) }
-one_longer s before (Tires p) = record { text = []; is = sym (append-nil (ended_lines s (past_after s before))) }
-one_longer s before Looks = record { text = []; is = sym (append-nil (ended_lines s (past_after s before))) }
-
-more_longer : (s : Setup) (before more : List Happening) → Longer s before (more ++ before)
-more_longer s before [] = record { text = []; is = sym (append-nil (ended_lines s (past_after s before))) }
-more_longer s before (this ∷ more) =
-    let u : Longer s before (more ++ before) = more_longer s before more in
-    let v : Longer s (more ++ before) (this ∷ (more ++ before)) = one_longer s (more ++ before) this in
-    record { text = u.text ++ v.text; is = v.is ∙ ap (λ l. l ++ v.text) u.is ∙ append_assoc (ended_lines s (past_after s before)) u.text v.text }
-
-longer : (s : Setup) (before after : List Happening) → Grows before after → Longer s before after
-longer s before after grows = subst (λ (l : List Happening). Longer s before l) (sym grows.is) (more_longer s before grows.more)
-
--- A line whose calls are being listed.
-pub record Tabling (s : Setup) (line : Line) (start : Run) (course : CourseState) (table : TableState) (old new : Option (List ℕ)) : Type 0 where
-  pub now : Run
-  pub follows : Follows course now
-  pub setup : course.world.setup ≡ s
-  pub kept : table.setup ≡ s
-  pub heard : HasHeard table (past_in s now)
-  pub text : List ℕ
-  pub is : ended_lines s (past_in s now) ≡ ended_lines s (past_in s start) ++ text
-  pub taken : Appends old new text
-  pub rest : rest_of s line course.left now ≡ run_after s line start
-
--- before its first turn
-pub tabling_start : (s : Setup) (line : Line) (start : Run) (course : CourseState) (table : TableState) (taken : Option (List ℕ)) → course.world.setup ≡ s → table.setup ≡ s → course.left ≡ turns_in line →
-    Follows course start → HasHeard table (past_in s start) → Tabling s line start course table taken taken
-tabling_start s line start course table taken setup kept left follows heard = record {
-  now = start;
-  follows = record { shows = follows.shows; flicks = follows.flicks };
-  setup = setup;
-  kept = kept;
-  heard = heard;
-  text = [];
-  is = sym (append-nil (ended_lines s (past_in s start)));
-  taken = appends_none taken;
-  rest = ap (λ n. rest_of s line n start) left ∙ rest_whole s line start;
+pub told_tabled : (s : Setup) (before : List Happening) (this : Happening) (answer : Told) (taken : List Taken) (old new : TableState) (a b : Option (List ℕ)) → Happens s before this answer taken → Tells answer old new a b → new.setup ≡ old.setup →
+    HasTabled s before old → HasTabled s (this ∷ before) new
+told_tabled s before this answer taken old new a b h tells kept t = record {
+  setup = kept ∙ t.setup;
+  heard = subst (HasHeard new) (sym (past_told s before this answer h.tells)) (told_heard s before this answer taken old new a b h tells t).0;
 }
 
--- what happened in a turn that tells something
-record Turns (s : Setup) (line : Line) (had : ℕ) (now : Run) (answer : Told) (course' : CourseState) : Type 0 where
-  this : Happening
-  same : (turn_of s line had now).run.happened ≡ this ∷ now.happened
-  tells : TellsOf s (past_in s now) this answer
-  said : Said s line had now (Some answer) course'
+pub told_written : (s : Setup) (before : List Happening) (this : Happening) (answer : Told) (taken : List Taken) (old new : TableState) (a b : Option (List ℕ)) → Happens s before this answer taken → Tells answer old new a b → HasTabled s before old →
+    Writes (lines_after s before) (lines_after s (this ∷ before)) a b
+told_written s before this answer taken old new a b h tells t = record {
+  text = told_line s (past_after s before) answer;
+  is = ap (ended_lines s) (past_told s before this answer h.tells) ∙ lines_told s (past_after s before) answer;
+  taken = (told_heard s before this answer taken old new a b h tells t).1;
+}
 
-turn_told : (s : Setup) (line : Line) (now : Run) (course course' : CourseState) (answer : Told) → course.world.setup ≡ s → Follows course now → MakesTurn course line (Some answer) course' → Turns s line course.left now answer course'
-turn_told s line now course course' answer setup follows makes = by (turned s line course.left now)
-  where
-    t : Turn
-    t = turn_of s line course.left now
-
-    is : Said s line course.left now (Some answer) course'
-    is = said s line now (Some answer) course course' setup (makes now follows)
-
-    by : Turned t now.happened → Turns s line course.left now answer course'
-    by (Nothing none ended same) = absurd (told_none s (past_in s now) t.this answer none is.tells)
-    by (One this some same) = record { this = this; same = same; tells = told_one s (past_in s now) t.this this answer some is.tells; said = is }
-
--- a turn more
-pub tabling_on : (s : Setup) → checked s ≡ Ok tt → (line : Line) (start : Run) (course course' : CourseState) (table table' : TableState) (answer : Told) (old mid new : Option (List ℕ)) → course.left ≤ turns_in line →
-    Tabling s line start course table old mid → MakesTurn course line (Some answer) course' → Tells answer table table' mid new → table'.setup ≡ table.setup → Tabling s line start course' table' old new
-tabling_on s good line start course course' table table' answer old mid new few u makes tells kept =
-    let t : Turn = turn_of s line course.left u.now in
-    let v : Turns s line course.left u.now answer course' = turn_told s line u.now course course' answer u.setup u.follows makes in
-    let past : Past = past_in s u.now in
-    let with : past_in s t.run ≡ past_with past answer = ap (past_after s) v.same ∙ past_told s u.now.happened v.this answer v.tells in
-    let heard : HasHeard table' (past_with past answer) × Appends mid new (told_line s past answer) =
-    subst (λ (s : Setup). HasHeard table' (past_with past answer) × Appends mid new (told_line s past answer)) u.kept
-    (tells past u.heard (subst (λ (s : Setup). IsInTurn s past answer) (sym u.kept) (in_turn s good u.now.happened v.this answer v.tells))) in
+pub told_cut : (s : Setup) (before : List Happening) (this : Happening) (answer : Told) (taken : List Taken) (old : TableState) (a b : Option (List ℕ)) → Happens s before this answer taken → CutsTold answer old a b → HasTabled s before old →
+    WritesPart (lines_after s before) (lines_after s (this ∷ before)) a b
+told_cut s before this answer taken old a b h cuts t =
+    let past : Past = past_after s before in
     record {
-      now = t.run;
-      follows = v.said.follows;
-      setup = v.said.setup;
-      kept = kept ∙ u.kept;
-      heard = subst (HasHeard table') (sym with) heard.0;
-      text = u.text ++ told_line s past answer;
-      is = ap (ended_lines s) with ∙ lines_told s past answer ∙ ap (λ l. l ++ told_line s past answer) u.is ∙ append_assoc (ended_lines s (past_in s start)) u.text (told_line s past answer);
-      taken = appends_both old mid new u.text (told_line s past answer) u.taken heard.1;
-      rest = ap (λ n. rest_of s line n t.run) v.said.left ∙ sym (turn_on s line course.left u.now few) ∙ u.rest;
+      text = told_line s past answer;
+      is = ap (ended_lines s) (past_told s before this answer h.tells) ∙ lines_told s past answer;
+      front = subst (λ (s : Setup). WritesFront a b (told_line s past answer)) t.setup (cuts past t.heard (subst (λ (s : Setup). IsInTurn s past answer) (sym t.setup) (in_turn s h.good before this answer h.tells)));
     }
 
--- the end of a line
-pub tabling_ended : (s : Setup) (line : Line) (start : Run) (course course' : CourseState) (table : TableState) (old new : Option (List ℕ)) → course.left ≤ turns_in line → Tabling s line start course table old new →
-    MakesTurn course line None course' → Tables s start (run_after s line start) course' table old new
-tabling_ended s line start course course' table old new few u makes = by (turned s line course.left u.now)
-  where
-    t : Turn
-    t = turn_of s line course.left u.now
+-- No call ends with an entry without a mark.
+not_ended : {A : Type 0} (b : Bool) (c : A) → cond (b && not b) (Some c) None ≡ None
+not_ended true c = refl
+not_ended false c = refl
 
-    is : Said s line course.left u.now None course'
-    is = said s line u.now None course course' u.setup (makes u.now u.follows)
+unmarked_ends : (s : Setup) (past : Past) (p : ℕ) (access : Option Access) → ended_call s past (record { process = p; access = access; marks = [] }) ≡ None
+unmarked_ends s past p access =
+    let e : Entry = record { process = p; access = access; marks = [] } in
+    let same : is_calling p (e ∷ past) ≡ is_calling p past = ap (λ t. elim t as (λ _. Bool) [ false ↦ is_calling p past | true ↦ is_calling p past ]) (eq-eqb p p refl) in
+    ap (λ b. cond (is_calling p past && not b) (Some (called s p (e ∷ past))) None) same ∙ not_ended (is_calling p past) (called s p (e ∷ past))
 
-    by : Turned t u.now.happened → Tables s start (run_after s line start) course' table old new
-    by (One this some same) = absurd (silent_one s (past_in s u.now) t.this this some is.tells)
-    by (Nothing none ended same) =
-        let all : t.run ≡ run_after s line start = sym (rest_none s line t.run) ∙ ap (λ n. rest_of s line n t.run) (sym ended) ∙ sym (turn_on s line course.left u.now few) ∙ u.rest in
-        let past : past_in s (run_after s line start) ≡ past_in s u.now = ap (λ (r : Run). past_in s r) (sym all) ∙ ap (past_after s) same in
-        record {
-          follows = subst (λ (r : Run). Follows course' r) all is.follows;
-          setup = is.setup;
-          heard = subst (HasHeard table) (sym past) u.heard;
-          text = u.text;
-          is = ap (ended_lines s) past ∙ u.is;
-          taken = u.taken;
-        }
-
--- a line that is cut short before its next turn
-pub tabling_cut : (s : Setup) (line : Line) (start : Run) (course : CourseState) (table : TableState) (old new : Option (List ℕ)) → Tabling s line start course table old new → TablesPart s start (run_after s line start) old new
-tabling_cut s line start course table old new u =
-    let more : Longer s u.now.happened (rest_of s line course.left u.now).happened = longer s u.now.happened (rest_of s line course.left u.now).happened (rest_grows s line course.left u.now) in
+-- a Step without a mark
+pub step_tabled : (s : Setup) (before : List Happening) (made : Stepped) (old new : TableState) → StepsOn s before made →
+    ((past : Past) (e : Entry) → e.process ≡ made.process → e.access ≡ Some made.access → e.marks ≡ [] → HasHeard old past → ComesInTurn old.setup past e → HasHeard new (e ∷ past)) →
+    new.setup ≡ old.setup → HasTabled s before old → HasTabled s (Tries (Step made.process made.flick) ∷ before) new
+step_tabled s before made old new on hears kept t =
+    let e : Entry = record { process = made.process; access = Some made.access; marks = [] } in
+    let past : Past = past_after s before in
+    let turn : ComesInTurn s past e = entry_in_turn s on.good (tried before) (Step made.process made.flick) e refl on.adds in
     record {
-      text = u.text ++ more.text;
-      is = ap (λ (r : Run). ended_lines s (past_in s r)) (sym u.rest) ∙ more.is ∙ ap (λ l. l ++ more.text) u.is ∙ append_assoc (ended_lines s (past_in s start)) u.text more.text;
-      front = front_whole old new u.text more.text u.taken;
+      setup = kept ∙ t.setup;
+      heard = subst (HasHeard new) (sym (event_added s before (Step made.process made.flick) e on.adds)) (hears past e refl refl refl t.heard (subst (λ (s : Setup). ComesInTurn s past e) (sym t.setup) turn));
     }
 
--- a line that is cut short in a call's line
-pub tabling_torn : (s : Setup) → checked s ≡ Ok tt → (line : Line) (start : Run) (course course' : CourseState) (table : TableState) (answer : Told) (old mid new : Option (List ℕ)) → course.left ≤ turns_in line →
-    Tabling s line start course table old mid → MakesTurn course line (Some answer) course' → CutsTold answer table mid new → TablesPart s start (run_after s line start) old new
-tabling_torn s good line start course course' table answer old mid new few u makes cuts =
-    let t : Turn = turn_of s line course.left u.now in
-    let v : Turns s line course.left u.now answer course' = turn_told s line u.now course course' answer u.setup u.follows makes in
-    let past : Past = past_in s u.now in
-    let here : List ℕ = told_line s past answer in
-    let with : past_in s t.run ≡ past_with past answer = ap (past_after s) v.same ∙ past_told s u.now.happened v.this answer v.tells in
-    let front : WritesFront mid new here =
-    subst (λ (s : Setup). WritesFront mid new (told_line s past answer)) u.kept
-    (cuts past u.heard (subst (λ (s : Setup). IsInTurn s past answer) (sym u.kept) (in_turn s good u.now.happened v.this answer v.tells))) in
-    let more : Longer s t.run.happened (rest_of s line t.left t.run).happened = longer s t.run.happened (rest_of s line t.left t.run).happened (rest_grows s line t.left t.run) in
-    let all : rest_of s line t.left t.run ≡ run_after s line start = sym (turn_on s line course.left u.now few) ∙ u.rest in
-    record {
-      text = u.text ++ (here ++ more.text);
-      is = ap (λ (r : Run). ended_lines s (past_in s r)) (sym all) ∙ more.is ∙ ap (λ l. l ++ more.text) (ap (ended_lines s) with ∙ lines_told s past answer)
-          ∙ append_assoc (ended_lines s past) here more.text ∙ ap (λ l. l ++ (here ++ more.text)) u.is ∙ append_assoc (ended_lines s (past_in s start)) u.text (here ++ more.text);
-      front = front_after old mid new u.text (here ++ more.text) u.taken (front_longer mid new here more.text front);
-    }
+pub step_lines : (s : Setup) (before : List Happening) (made : Stepped) → StepsOn s before made → lines_after s (Tries (Step made.process made.flick) ∷ before) ≡ lines_after s before
+step_lines s before made on =
+    let e : Entry = record { process = made.process; access = Some made.access; marks = [] } in
+    let past : Past = past_after s before in
+    ap (ended_lines s) (event_added s before (Step made.process made.flick) e on.adds)
+    ∙ ap (λ c. ended_lines s past ++ line_of (length past) c) (unmarked_ends s past made.process (Some made.access)) ∙ append-nil (ended_lines s past)
 
 -- Between two lines.
 
--- what was written is the first line and those of the calls that have ended
-pub record Tabled (s : Setup) (lines rest : List Line) (course : CourseState) (table : TableState) (old new : Option (List ℕ)) : Type 0 where
-  pub now : Run
-  pub good : checked s ≡ Ok tt
-  pub follows : Follows course now
-  pub setup : course.world.setup ≡ s
-  pub kept : table.setup ≡ s
-  pub heard : HasHeard table (past_in s now)
-  pub taken : Appends old new (header ++ ended_lines s (past_in s now))
-  pub whole : runs s rest now ≡ runs s lines run_at_start
+-- a table has heard what has happened, and what was written is the first line and those of the calls that have ended
+abbrev pub Tabled : Setup → TableState → Option (List ℕ) → Option (List ℕ) → List Happening → Type 0
+Tabled s table old new happened = HasTabled s happened table × Appends old new (header ++ lines_after s happened)
 
 -- at the start
-pub tabled_start : (s : Setup) (lines : List Line) (course : CourseState) (table : TableState) (old new : Option (List ℕ)) → checked s ≡ Ok tt → course.world.setup ≡ s → table.setup ≡ s → Follows course run_at_start →
-    HasHeard table [] → Appends old new header → Tabled s lines lines course table old new
-tabled_start s lines course table old new good setup kept follows heard head = record {
-  now = run_at_start;
-  good = good;
-  follows = follows;
-  setup = setup;
-  kept = kept;
-  heard = heard;
-  taken = subst (λ l. Appends old new l) (sym (append-nil header)) head;
-  whole = refl;
-}
+pub tabled_start : (s : Setup) (table : TableState) (old new : Option (List ℕ)) → table.setup ≡ s → HasHeard table [] → Appends old new header → Tabled s table old new []
+tabled_start s table old new kept heard head = (record { setup = kept; heard = heard }, subst (λ l. Appends old new l) (sym (append-nil header)) head)
 
 -- a line more
-pub tabled_on : (s : Setup) (lines rest : List Line) (line : Line) (course course' : CourseState) (table table' : TableState) (old mid new : Option (List ℕ)) → Tabled s lines (line ∷ rest) course table old mid →
-    TablesLine line course course' table table' mid new → table'.setup ≡ table.setup → Tabled s lines rest course' table' old new
-tabled_on s lines rest line course course' table table' old mid new u makes kept =
-    let family : Setup → Type 0 = λ s. checked s ≡ Ok tt → table.setup ≡ s → HasHeard table (past_in s u.now) → Tables s u.now (run_after s line u.now) course' table' mid new in
-    let m : Tables s u.now (run_after s line u.now) course' table' mid new = subst family u.setup (λ good same heard. makes u.now good same u.follows heard) u.good u.kept u.heard in
+pub tabled_on : (s : Setup) (lines rest : List Line) (line : Line) (course course' : CourseState) (table table' : TableState) (old mid new : Option (List ℕ)) → Between s lines (line ∷ rest) course (Tabled s table old mid) →
+    TablesLine line course course' table table' mid new → Between s lines rest course' (Tabled s table' old new)
+tabled_on s lines rest line course course' table table' old mid new u makes =
+    let here : List ℕ = lines_after s u.now.happened in
+    let m : Tables s u.now (run_after s line u.now) course' table' mid new =
+    subst (λ (s : Setup). HasTabled s u.now.happened table → Tables s u.now (run_after s line u.now) course' table' mid new) u.setup (makes u.now u.follows) u.so_far.0 in
     record {
       now = run_after s line u.now;
-      good = u.good;
       follows = m.follows;
       setup = m.setup;
-      kept = kept ∙ u.kept;
-      heard = m.heard;
-      taken = subst (λ l. Appends old new l) (append_assoc header (ended_lines s (past_in s u.now)) m.text ∙ ap (λ l. header ++ l) (sym m.is))
-          (appends_both old mid new (header ++ ended_lines s (past_in s u.now)) m.text u.taken m.taken);
+      so_far = (m.tabled, subst (λ l. Appends old new l) (append_assoc header here m.writes.text ∙ ap (λ l. header ++ l) (sym m.writes.is)) (appends_both old mid new (header ++ here) m.writes.text u.so_far.1 m.writes.taken));
       whole = u.whole;
     }
 
 -- the whole table
-whole_table : (s : Setup) (lines : List Line) (run : Run) → run ≡ runs s lines run_at_start → table_text s (past_in s run) ≡ tabled (record { setup = s; lines = lines })
-whole_table s lines run is = ap (λ (r : Run). table_text s (past_in s r)) is
+whole_table : (s : Setup) (lines : List Line) (run : Run) → run ≡ runs s lines run_at_start → table_text s (past_after s run.happened) ≡ tabled (record { setup = s; lines = lines })
+whole_table s lines run is = ap (λ (r : Run). table_text s (past_after s r.happened)) is
 
 -- at the end the calls follow that go on
-pub tabled_all : (s : Setup) (lines : List Line) (course : CourseState) (table : TableState) (old mid new : Option (List ℕ)) → Tabled s lines [] course table old mid →
+pub tabled_all : (s : Setup) (lines : List Line) (course : CourseState) (table : TableState) (old mid new : Option (List ℕ)) → Between s lines [] course (Tabled s table old mid) →
     ((past : Past) → HasHeard table past → Appends mid new (open_lines s past)) → Appends old new (tabled (record { setup = s; lines = lines }))
 tabled_all s lines course table old mid new u ends =
-    let past : Past = past_in s u.now in
+    let past : Past = past_after s u.now.happened in
     subst (λ l. Appends old new l) (append_assoc header (ended_lines s past) (open_lines s past) ∙ whole_table s lines u.now u.whole)
-    (appends_both old mid new (header ++ ended_lines s past) (open_lines s past) u.taken (ends past u.heard))
+    (appends_both old mid new (header ++ ended_lines s past) (open_lines s past) u.so_far.1 (ends past u.so_far.0.heard))
 
 -- or a front of their lines
-pub tabled_end_torn : (s : Setup) (lines : List Line) (course : CourseState) (table : TableState) (old mid new : Option (List ℕ)) → Tabled s lines [] course table old mid →
+pub tabled_end_torn : (s : Setup) (lines : List Line) (course : CourseState) (table : TableState) (old mid new : Option (List ℕ)) → Between s lines [] course (Tabled s table old mid) →
     ((past : Past) → HasHeard table past → WritesFront mid new (open_lines s past)) → WritesFront old new (tabled (record { setup = s; lines = lines }))
 tabled_end_torn s lines course table old mid new u ends =
-    let past : Past = past_in s u.now in
+    let past : Past = past_after s u.now.happened in
     subst (λ l. WritesFront old new l) (append_assoc header (ended_lines s past) (open_lines s past) ∙ whole_table s lines u.now u.whole)
-    (front_after old mid new (header ++ ended_lines s past) (open_lines s past) u.taken (ends past u.heard))
+    (front_after old mid new (header ++ ended_lines s past) (open_lines s past) u.so_far.1 (ends past u.so_far.0.heard))
 
 -- cut short in a line
-pub tabled_torn : (s : Setup) (lines rest : List Line) (line : Line) (course : CourseState) (table : TableState) (old mid new : Option (List ℕ)) → Tabled s lines (line ∷ rest) course table old mid →
+pub tabled_torn : (s : Setup) (lines rest : List Line) (line : Line) (course : CourseState) (table : TableState) (old mid new : Option (List ℕ)) → Between s lines (line ∷ rest) course (Tabled s table old mid) →
     CutsTable line course table mid new → WritesFront old new (tabled (record { setup = s; lines = lines }))
 tabled_torn s lines rest line course table old mid new u cuts =
-    let family : Setup → Type 0 = λ s. checked s ≡ Ok tt → table.setup ≡ s → HasHeard table (past_in s u.now) → TablesPart s u.now (run_after s line u.now) mid new in
-    let part : TablesPart s u.now (run_after s line u.now) mid new = subst family u.setup (λ good same heard. cuts u.now good same u.follows heard) u.good u.kept u.heard in
     let then : Run = run_after s line u.now in
     let end : Run = runs s rest then in
-    let here : List ℕ = ended_lines s (past_in s u.now) in
-    let more : Longer s then.happened end.happened = longer s then.happened end.happened (lines_grow s rest then) in
-    let last : List ℕ = open_lines s (past_in s end) in
-    let all : ended_lines s (past_in s end) ≡ here ++ (part.text ++ more.text) = more.is ∙ ap (λ l. l ++ more.text) part.is ∙ append_assoc here part.text more.text in
+    let here : List ℕ = lines_after s u.now.happened in
+    let part : WritesPart here (lines_after s then.happened) mid new =
+    subst (λ (s : Setup). HasTabled s u.now.happened table → WritesPart (lines_after s u.now.happened) (lines_after s (run_after s line u.now).happened) mid new) u.setup (cuts u.now u.follows) u.so_far.0 in
+    let grows = lines_grow s rest then in
+    let more : (text : List ℕ) × (lines_after s end.happened ≡ lines_after s then.happened ++ text) =
+    subst (λ (l : List Happening). (text : List ℕ) × (lines_after s l ≡ lines_after s then.happened ++ text)) (sym grows.is) (lines_longer s then.happened grows.more) in
+    let last : List ℕ = open_lines s (past_after s end.happened) in
+    let all : lines_after s end.happened ≡ here ++ (part.text ++ more.0) = more.1 ∙ ap (λ l. l ++ more.0) part.is ∙ append_assoc here part.text more.0 in
     subst (λ l. WritesFront old new l)
-    (append_assoc header here ((part.text ++ more.text) ++ last)
-    ∙ ap (λ l. header ++ l) (sym (append_assoc here (part.text ++ more.text) last) ∙ ap (λ l. l ++ last) (sym all))
+    (append_assoc header here ((part.text ++ more.0) ++ last)
+    ∙ ap (λ l. header ++ l) (sym (append_assoc here (part.text ++ more.0) last) ∙ ap (λ l. l ++ last) (sym all))
     ∙ whole_table s lines end u.whole)
-    (front_after old mid new (header ++ here) ((part.text ++ more.text) ++ last) u.taken
-    (subst (λ l. WritesFront mid new l) (sym (append_assoc part.text more.text last)) (front_longer mid new part.text (more.text ++ last) part.front)))
+    (front_after old mid new (header ++ here) ((part.text ++ more.0) ++ last) u.so_far.1
+    (subst (λ l. WritesFront mid new l) (sym (append_assoc part.text more.0 last)) (front_longer mid new part.text (more.0 ++ last) part.front)))
 
 -- cut short in the first line
 pub head_torn : (s : Setup) (lines : List Line) (old new : Option (List ℕ)) → WritesFront old new header → WritesFront old new (tabled (record { setup = s; lines = lines }))
 head_torn s lines old new front =
-    let past : Past = past_in s (runs s lines run_at_start) in
+    let past : Past = past_after s (runs s lines run_at_start).happened in
     front_longer old new header (ended_lines s past ++ open_lines s past) front

@@ -1,18 +1,20 @@
 -- The table of the calls of a scenario's run, and what is written of it as the run goes on.
-use Rattle.std.specs.Prelude.{◌≡◌, ℕ, List, [], ◌∷◌, ◌++◌, Option, Ok, Result, length}
+use Rattle.std.specs.Prelude.{◌≡◌, ◌+◌, ◌^◌, ◌<◌, ◌≤◌, ℕ, List, [], ◌∷◌, ◌++◌, Option, None, Some, Result, length, refl}
+use Rattle.std.proofs.Common.{ap, sym, ◌∙◌, arith, append-nil, append_assoc}
 use Rattle.std.specs.Io.KnownBytes.{Appends}
 use Rattle.plain_store.specs.declared.setups.Setup.{Setup}
-use Rattle.plain_store.specs.Setups.{checked}
-use Rattle.record.specs.Entries.{Past}
+use Rattle.record.specs.Entries.{Entry, Past}
+use Rattle.record.specs.Records.{entry_of}
 use Rattle.scenario.specs.files.Engines.{text_by}
 use Rattle.scenario.specs.files.Streams.{WritesFront}
 use Rattle.scenario.specs.files.declared.faults.LineFault.{LineFault}
 use Rattle.scenario.specs.Reading.{Script, scenario_of}
 use Rattle.scenario.specs.declared.lines.Line.{Line}
 use Rattle.course.specs.Courses.{CourseState, Follows}
-use Rattle.course.specs.Happenings.{past_after}
-use Rattle.course.specs.Runs.{Run, happenings, past_in, run_after}
+use Rattle.course.specs.Happenings.{Happening, Tries, Lacks, Tires, Looks, past_after}
+use Rattle.course.specs.Runs.{Run, happenings, run_after}
 use Rattle.course.specs.Telling.{entry_made}
+use Rattle.course.specs.Writing.{Writes, WritesPart}
 use Rattle.course.specs.declared.told.Told.{Told}
 use Rattle.course.specs.declared.told.Told.TheVariants as told
 use Rattle.calls.specs.Hearing.{ComesInTurn, HasHeard, TableState, ended_call}
@@ -56,29 +58,51 @@ Tells answer old new taken then =
 abbrev pub CutsTold : Told → TableState → Option (List ℕ) → Option (List ℕ) → Type 0
 CutsTold answer old taken then = (past : Past) → HasHeard old past → IsInTurn old.setup past answer → WritesFront taken then (told_line old.setup past answer)
 
+-- a table of these calls has heard all that has happened
+pub record HasTabled (s : Setup) (happened : List Happening) (table : TableState) : Type 0 where
+  pub setup : table.setup ≡ s
+  pub heard : HasHeard table (past_after s happened)
+
+-- the lines of the calls that have ended
+abbrev pub lines_after : Setup → List Happening → List ℕ
+lines_after s happened = ended_lines s (past_after s happened)
+
 -- from one run to another: the cursor, the table, and the lines of the calls that ended between, which were written
 pub record Tables (s : Setup) (before after : Run) (course : CourseState) (table : TableState) (old new : Option (List ℕ)) : Type 0 where
   pub follows : Follows course after
   pub setup : course.world.setup ≡ s
-  pub heard : HasHeard table (past_in s after)
-  pub text : List ℕ
-  pub is : ended_lines s (past_in s after) ≡ ended_lines s (past_in s before) ++ text
-  pub taken : Appends old new text
+  pub tabled : HasTabled s after.happened table
+  pub writes : Writes (lines_after s before.happened) (lines_after s after.happened) old new
 
 -- a line has made all its turns
 abbrev pub TablesLine : Line → CourseState → CourseState → TableState → TableState → Option (List ℕ) → Option (List ℕ) → Type 0
 TablesLine line old new had has taken then =
-    (run : Run) → checked old.world.setup ≡ Ok tt → had.setup ≡ old.world.setup → Follows old run → HasHeard had (past_in old.world.setup run) →
-    Tables old.world.setup run (run_after old.world.setup line run) new has taken then
+    (run : Run) → Follows old run → HasTabled old.world.setup run.happened had → Tables old.world.setup run (run_after old.world.setup line run) new has taken then
 
--- a front of the lines of the calls that ended between two runs was written
-pub record TablesPart (s : Setup) (before after : Run) (old new : Option (List ℕ)) : Type 0 where
-  pub text : List ℕ
-  pub is : ended_lines s (past_in s after) ≡ ended_lines s (past_in s before) ++ text
-  pub front : WritesFront old new text
-
--- a line was cut short
+-- or was cut short: a front of those lines was written
 abbrev pub CutsTable : Line → CourseState → TableState → Option (List ℕ) → Option (List ℕ) → Type 0
 CutsTable line old had taken then =
-    (run : Run) → checked old.world.setup ≡ Ok tt → had.setup ≡ old.world.setup → Follows old run → HasHeard had (past_in old.world.setup run) →
-    TablesPart old.world.setup run (run_after old.world.setup line run) taken then
+    (run : Run) → Follows old run → HasTabled old.world.setup run.happened had →
+    WritesPart (lines_after old.world.setup run.happened) (lines_after old.world.setup (run_after old.world.setup line run).happened) taken then
+
+-- a run only adds to the lines
+one_longer : (s : Setup) (before : List Happening) (this : Happening) → (text : List ℕ) × (lines_after s (this ∷ before) ≡ lines_after s before ++ text)
+one_longer s before (Tries event) = by (entry_of s (past_after s before) event)
+  where
+    by : (o : Option Entry) → (text : List ℕ) × (ended_lines s (elim o as (λ _. Past) [ None ↦ past_after s before | Some e ↦ e ∷ past_after s before ]) ≡ lines_after s before ++ text)
+    by None = ([], sym (append-nil (lines_after s before)))
+    by (Some e) = (line_of (length (past_after s before)) (ended_call s (past_after s before) e), refl)
+one_longer s before (Lacks p) = ([], sym (append-nil (lines_after s before)))
+one_longer s before (Tires p) = ([], sym (append-nil (lines_after s before)))
+one_longer s before Looks = ([], sym (append-nil (lines_after s before)))
+
+pub lines_longer : (s : Setup) (before more : List Happening) → (text : List ℕ) × (lines_after s (more ++ before) ≡ lines_after s before ++ text)
+lines_longer s before [] = ([], sym (append-nil (lines_after s before)))
+lines_longer s before (this ∷ more) =
+    let u = lines_longer s before more in
+    let v = one_longer s (more ++ before) this in
+    (u.0 ++ v.0, v.1 ∙ ap (λ l. l ++ v.0) u.1 ∙ append_assoc (lines_after s before) u.0 v.0)
+
+-- where there is room for so many entries, there is for fewer
+pub fewer : (n k more : ℕ) → k ≤ more → n + more < 2 ^ 64 → n + k < 2 ^ 64
+fewer n k more less room = omega (arith, less, room)

@@ -1,5 +1,5 @@
 //! The engine `calls`: a line for each call of a scenario's run, written as it ends; at the end the calls that go on.
-ghost use Rattle.std.specs.Prelude.{◌≡◌, ◌+◌, ◌-◌, ◌^◌, ◌<◌, flat_map, length, IfErr, IfOk, OnErr, OnOk};
+ghost use Rattle.std.specs.Prelude.{◌≡◌, ◌+◌, ◌-◌, ◌^◌, ◌<◌, ◌≤◌, flat_map, length, IfErr, IfOk, OnErr, OnOk};
 ghost use Rattle.std.specs.Io.KnownBytes.{Appends};
 ghost use Rattle.record.specs.Entries.{Past};
 ghost use Rattle.scenario.specs.files.Engines.{Ran};
@@ -11,7 +11,7 @@ ghost use Rattle.calls.specs.Hearing.{HasHeard, open_call};
 ghost use Rattle.calls.specs.Lines.{header, line_of, open_lines};
 ghost use Rattle.inspect.specs.Tables.{CutsTable, TablesLine, calls_text, tabled};
 
-use crate::hearing::{hear_told, write_if};
+use crate::hearing::{Tabler, write_if};
 use calls::{HEADER, Table};
 use course::Course;
 use fault_place::progress::{Onlooker, Place};
@@ -54,7 +54,7 @@ fn table_scenario<W: Sink, L: Onlooker>(
     ensures fault { IfErr result IsWriteFault }
     ensures failures { W.failures output.new ≡ W.failures output.old + failed_write result }
 {
-    let mut course = Course::new(alloc, &scenario.setup, false)?;
+    let mut course = Course::new(alloc, &scenario.setup)?;
     let mut table = Table::new(alloc, &scenario.setup)?;
     write_header(output)?;
     let mut place = Place::before(file, scenario.lines.len());
@@ -88,18 +88,16 @@ fn table_line<W: Sink>(
     requires entries { table.old.entries < 2 ^ 63 }
     ensures ok { OnOk result (TablesLine line.now course.old course.new table.old table.new (W.taken output.old) (W.taken output.new)) }
     ensures cut { OnErr result (CutsTable line.now course.old table.old (W.taken output.old) (W.taken output.new)) }
-    ensures setup { table.new.setup ≡ table.old.setup }
-    ensures entries { OnOk result (table.new.entries < table.old.entries + 2 ^ 32) }
+    ensures entries { OnOk result (table.new.entries ≤ table.old.entries + 2 ^ 32) }
     ensures fault { IfErr result IsWriteFault }
     ensures failures { W.failures output.new ≡ W.failures output.old + failed_write result }
 {
-    course.begin(line);
-    'turns: loop {
-        let Some(told) = course.turn(line)? else {
-            return Ok(());
-        };
-        hear_told(alloc, &told, table, output)?;
-    }
+    let mut tabler = Tabler {
+        alloc,
+        table,
+        output,
+    };
+    course.play(line, &mut tabler)
 }
 
 /// Writes the lines of the calls that go on, by process.

@@ -1,21 +1,70 @@
-//! A table of calls that hears a run, event by event: the line of each call that ends is written before the next event.
-ghost use Rattle.std.specs.Prelude.{◌≡◌, ◌+◌, ◌-◌, ◌^◌, ◌<◌, ◌∷◌, IfErr, OnErr, OnOk, length};
+//! A listener that tables the calls of a run: the line of each call that ends is written before the next event.
+ghost use Rattle.std.specs.Prelude.{◌≡◌, ◌+◌, ◌-◌, ◌^◌, ◌<◌, ◌∷◌, IfErr, OnErr, OnOk, length, true, refl};
+ghost use Rattle.std.proofs.Common.{◌∙◌};
 ghost use Rattle.std.specs.Io.KnownBytes.{Appends};
 ghost use Rattle.record.specs.Entries.{Entry as Noted, Past};
 ghost use Rattle.scenario.specs.files.Streams.{WritesFront};
+ghost use Rattle.course.specs.Takings.{Took, TookPart, part_before, part_on, part_unheard, took_none, took_on};
 ghost use Rattle.course.specs.Writing.{IsWriteFault, failed_write};
 ghost use Rattle.calls.specs.Hearing.{ComesInTurn, HasHeard, ended_call};
 ghost use Rattle.calls.specs.Lines.{call_line, line_of};
-ghost use Rattle.inspect.specs.Tables.{CutsTold, Tells};
+ghost use Rattle.inspect.specs.Tables.{CutsTold, HasTabled, Tells, fewer, lines_after, lines_longer};
 
 use calls::{Called, Table, print_call};
-use course::Told;
+use course::{Listener, Stepped, Taken, Told};
 use record::{Access, Mark};
 use scenario::{Fault, Sink, write_all};
 use std::alloc::Global;
 
+/// Tables the calls of a run as it hears them.
+#[derive(Drop)]
+pub(crate) struct Tabler<'a, W: Sink> {
+    pub alloc: Global,
+    pub table: &'a mut Table,
+    pub output: &'a mut W,
+}
+
+impl<'a, W: Sink> Listener for Tabler<'a, W> {
+    ghost hears_steps = { λ _. true };
+
+    #[inline(always)]
+    fn hears_steps(&self) -> bool {
+        true
+    }
+
+    ghost HasRoom = { λ tabler more. (tabler.table.now.entries + more < 2 ^ 64) × (W.failures tabler.output.now < 2 ^ 64 - 1) };
+
+    ghost Hears = { λ a s x y b. (b.output.ghost_name ≡ a.output.ghost_name) × (b.table.ghost_name ≡ a.table.ghost_name) × (HasTabled s x a.table.now → HasTabled s y b.table.now) × Took (HasTabled s x a.table.now) (lines_after s x) (lines_after s y) (W.taken a.output.now) (W.taken b.output.now) (W.failures a.output.now) (W.failures b.output.now) };
+
+    ghost Stops = { λ a s x y fault b. (b.output.ghost_name ≡ a.output.ghost_name) × TookPart (HasTabled s x a.table.now) (lines_after s x) (lines_after s y) (W.taken a.output.now) (W.taken b.output.now) (W.failures a.output.now) (W.failures b.output.now) fault };
+
+    fn hear(&mut self, told: &Told, _taken: &[Taken]) -> Result<(), Fault> {
+        hear_told(self.alloc, told, self.table, self.output)
+    }
+
+    #[inline(always)]
+    fn step(&mut self, made: Stepped) -> Result<(), Fault> {
+        let _none = self.table.hear(made.process, &Some(made.access), &[]);
+        Ok(())
+    }
+
+    fn pass(&mut self, _steps: u32) {}
+
+    ghost room_less = { λ a n k few room. (fewer a.table.now.entries n k few room.0, room.1) };
+
+    ghost hears_nothing = { λ a s x. (refl, refl, (λ tabled. tabled), took_none (HasTabled s x a.table.now) (lines_after s x) (W.taken a.output.now) (W.failures a.output.now)) };
+
+    ghost hears_on = { λ a b c s x y z p q. (q.0 ∙ p.0, q.1 ∙ p.1, (λ tabled. q.2 (p.2 tabled)), took_on {P = HasTabled s x a.table.now} {Q = HasTabled s y b.table.now} p.2 p.3 q.3) };
+
+    ghost stops_unheard = { λ a s x. (refl, part_unheard (HasTabled s x a.table.now) (lines_after s x) (W.taken a.output.now) (W.failures a.output.now)) };
+
+    ghost stops_before = { λ a b s x y more fault p. (p.0, part_before (lines_longer s y more) p.1) };
+
+    ghost stops_on = { λ a b c s x y z fault p q. (q.0 ∙ p.0, part_on {P = HasTabled s x a.table.now} {Q = HasTabled s y b.table.now} p.2 p.3 q.1) };
+}
+
 /// Hears what a turn tells.
-pub(crate) fn hear_told<W: Sink>(
+fn hear_told<W: Sink>(
     alloc: Global,
     told: &Told,
     table: &mut Table,

@@ -129,6 +129,7 @@ impl Course {
         let access = self.world.step_told(drawn.process, drawn.flick)?;
         Some(Stepped {
             process: drawn.process,
+            flick: drawn.flick,
             access,
         })
     }

@@ -11,13 +11,12 @@ ghost use Rattle.course.specs.Runs.{Run, has_step, is_there as is_target, movers
 ghost use Rattle.course.specs.Telling.{is_quiet as has_no_mark, told_step, with_told};
 
 use super::Course;
-use crate::heard::HeardWorld;
 use crate::told::{Accepted, Told, Turns};
 use plain_store::NestedTypes;
 use record::{Access, Event, Refusal, Stage};
 use scenario::Target;
 use smallvec::SmallVec;
-use world::{Effect, Flicks};
+use world::{Effect, Flicks, World};
 
 impl Course {
     /// Steps of this process, while more than so many turns are left, up to the first that is told; one that is
@@ -165,7 +164,7 @@ impl Course {
 /// many; none, if each Step is to be told.
 #[inline]
 fn stroll(
-    world: &mut HeardWorld,
+    world: &mut World,
     flicks: &mut Flicks,
     left: &mut u32,
     process: u8,
@@ -202,13 +201,7 @@ fn drawn(flicks: &mut Flicks, movers: &[u8]) -> (u8, bool)
 /// A Step of a process within a number access, which has no mark; none, if it is not within one, or each Step is to be
 /// told. `within`: so many bits at least each process has before its last one, of which the Step takes one.
 #[inline(always)]
-fn stride(
-    world: &mut HeardWorld,
-    within: &mut [u16; 256],
-    process: u8,
-    flick: bool,
-    all: bool,
-) -> bool
+fn stride(world: &mut World, within: &mut [u16; 256], process: u8, flick: bool, all: bool) -> bool
     requires counted { IsCounted within.old world.old.seats }
     requires unknown { all ≡ true → slice_index within.old process ≡ 0 }
     ensures made { result ≡ true → StepsQuietly world.old process flick world.new }
@@ -235,7 +228,7 @@ fn stride(
 /// How many bits a process has before the last one of its number access, by the world, which is not asked if each Step is
 /// to be told.
 #[inline(always)]
-fn bits_asked(world: &HeardWorld, process: u8, all: bool) -> u16
+fn bits_asked(world: &World, process: u8, all: bool) -> u16
     ensures within { result ≤ bits_within_at world.now.seats process }
     ensures all { all ≡ true → result ≡ 0 }
 {

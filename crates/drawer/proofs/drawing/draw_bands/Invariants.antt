@@ -1,4 +1,5 @@
-use Rattle.std.proofs.Common.{◌≡◌, ◌+◌, ◌*◌, ◌^◌, ◌≤◌, drop, length}
+use Rattle.std.proofs.Common.{◌≡◌, ◌+◌, ◌-◌, ◌*◌, ◌^◌, drop, length}
+use Rattle.course.specs.Summaries.{CanCount}
 use Rattle.drawer.specs.Drawings.{kept}
 use Rattle.drawer.specs.Pictures.{plan_of}
 use Rattle.drawer.proofs.Drawings.{Drawn}
@@ -7,9 +8,8 @@ use Rattle.drawer.proofs.drawing.draw_bands.Given as goal
 -- what has happened is drawn but for what is held back, and the lines to come follow
 abbrev pub invariant-loop-line : goal.invariant-loop-line
 invariant-loop-line g l = record {
-  drawn : Drawn (plan_of l.fn.form l.scenario.setup) l.fn.reads l.scenario.setup l.scenario.lines.items (drop l.line-index l.scenario.lines.items) l.drawing.source l.drawing.course l.drawing.summary l.drawing.changes.store l.drawing.overlaps (kept l.drawing.page) (g.W.Sink.taken l.fn.output) (g.W.Sink.taken l.output);
+  drawn : Drawn (plan_of l.fn.form l.scenario.setup) l.fn.reads l.scenario.setup l.scenario.lines.items (drop l.line-index l.scenario.lines.items) l.drawing.source l.course l.drawing.summary l.drawing.changes.store l.drawing.overlaps (kept l.drawing.page) (g.W.Sink.taken l.fn.output) (g.W.Sink.taken l.output);
   source : l.drawing.source ≡ length l.scenario.setup.opening + 5 + l.line-index;
   whole : g.W.Sink.failures l.output ≡ g.W.Sink.failures l.fn.output;
-  events : l.drawing.summary.events ≤ l.line-index * 2 ^ 32;
-  refused : l.drawing.summary.refused ≤ l.line-index * 2 ^ 32;
+  room : CanCount l.drawing.summary ((4000 - l.line-index) * 2 ^ 32);
 }

@@ -1,11 +1,15 @@
-use Rattle.std.proofs.Common.{None, ◌*◌, ◌^◌, ◌≤◌, drop}
-use Rattle.course.proofs.Onwards.{Onward}
+use Rattle.std.proofs.Common.{◌-◌, ◌*◌, ◌^◌, drop}
+use Rattle.course.specs.Happenings.{past_after}
+use Rattle.course.specs.Judging.{Audits}
+use Rattle.course.specs.Summaries.{CanCount}
+use Rattle.course.specs.Writing.{Counts}
+use Rattle.course.proofs.Played.{Between}
 use Rattle.engines.proofs.auditing.audit_run.Given as goal
 
--- what has happened was counted, and the lines to come follow
+-- what has happened was counted and heard, and the lines to come follow
 abbrev pub invariant-loop-line : goal.invariant-loop-line
 invariant-loop-line g l = record {
-  onward : Onward l.scenario.setup l.scenario.lines.items (drop l.line-index l.scenario.lines.items) l.course l.summary None None;
-  events : l.summary.events ≤ l.line-index * 2 ^ 32;
-  refused : l.summary.refused ≤ l.line-index * 2 ^ 32;
+  between : Between l.scenario.setup l.scenario.lines.items (drop l.line-index l.scenario.lines.items) l.course
+      (λ happened. Counts l.scenario.setup happened l.judged.listener × Audits l.scenario.setup (past_after l.scenario.setup happened) l.judged.audit);
+  room : CanCount l.judged.listener ((4000 - l.line-index) * 2 ^ 32);
 }

@@ -1,4 +1,4 @@
-use Rattle.std.proofs.Common.{◌≡◌, ◌+◌, ℕ, List, [], ◌∷◌, drop, arith, subst}
+use Rattle.std.proofs.Common.{◌≡◌, ◌+◌, ◌-◌, ◌*◌, ◌^◌, ◌<◌, ℕ, List, [], ◌∷◌, length, drop, arith, ap, refl, subst}
 use Rattle.std.proofs.lemmas.List.{drop_all}
 use Rattle.std.specs.Io.KnownBytes.{Appends}
 use Rattle.scenario.specs.Reads.{script}
@@ -10,9 +10,20 @@ use Rattle.course.specs.Texts.{end_line}
 use Rattle.course.specs.Summaries.{summary_of}
 use Rattle.course.specs.Runs.{happenings}
 use Rattle.course.specs.declared.summaries.Summary.{Summary}
-use Rattle.course.proofs.Onwards.{Onward, onward_end, onward_end_torn, onward_headline, onward_numbers, onward_on, onward_torn}
+use Rattle.course.proofs.Onwards.{Onward, onward_end, onward_end_torn, onward_headline, onward_numbers, onward_on, onward_start, onward_torn}
 use Rattle.course.proofs.Written.{front_all}
 use Rattle.engines.proofs.replaying.replay_scenario.Goals as goal
+
+pub loop-line-init : goal.loop-line-init
+loop-line-init g c =
+    let none = c.new-summary.ensures in
+    let events = ap (λ (n : Summary). n.events) none in
+    let refused = ap (λ (n : Summary). n.refused) none in
+    record {
+      onward = onward_start c.args.scenario.now.setup c.args.scenario.now.lines.items c.in_ok-course.course c.new-summary.result (g.W.Sink.taken c.args.output.now) c.in_ok-course.ensures.setup c.in_ok-course.ensures.follows none;
+      whole = refl;
+      room = (omega (arith, events), omega (arith, refused));
+    }
 
 pub returns-in_err-replay_line-clause-front : goal.returns-in_err-replay_line-clause-front
 returns-in_err-replay_line-clause-front g c =
@@ -32,14 +43,23 @@ loop-line-preserved g c =
     let k : ℕ = c.loop-line.line-index in
     let here : Line = c.line-item.result in
     let next : drop k lines ≡ here ∷ drop (k + 1) lines = drop_in lines k here (omega arith) (rw c.deref-line-items.ensures.value at c.line-item.is) in
+    let within : k < length c.args.scenario.now.lines.items = omega arith in
+    let few : k < 4000 = omega (arith, within, c.args.scenario.now.few) in
+    let room = c.loop-line.invariant.room in
     record {
       onward = onward_on s lines (drop (k + 1) lines) here c.loop-line.course c.replay_line.new.course c.loop-line.summary c.replay_line.new.summary _ _ _
           (subst (λ (rest : List Line). Onward s lines rest c.loop-line.course c.loop-line.summary (g.W.Sink.taken c.args.output.now) (g.W.Sink.taken c.loop-line.output)) next c.loop-line.invariant.onward)
           c.in_ok-replay_line.ensures.ok;
       whole = omega (arith, c.in_ok-replay_line.ensures.failures, c.loop-line.invariant.whole);
-      events = omega (arith, c.in_ok-replay_line.ensures.events, c.loop-line.invariant.events);
-      refused = omega (arith, c.in_ok-replay_line.ensures.refused, c.loop-line.invariant.refused);
+      room = c.in_ok-replay_line.ensures.room ((4000 - (k + 1)) * 2 ^ 32) (omega (arith, room.0, few), omega (arith, room.1, few));
     }
+
+pub replay_line-requires-clause-room : goal.replay_line-requires-clause-room
+replay_line-requires-clause-room g c =
+    let within : c.loop-line.line-index < length c.args.scenario.now.lines.items = omega arith in
+    let few : c.loop-line.line-index < 4000 = omega (arith, within, c.args.scenario.now.few) in
+    let room = c.loop-line.invariant.room in
+    (omega (arith, room.0, few), omega (arith, room.1, few))
 
 pub returns-in_err-write_end-clause-front : goal.returns-in_err-write_end-clause-front
 returns-in_err-write_end-clause-front g c =

@@ -1,4 +1,5 @@
-use Rattle.std.proofs.Common.{◌≡◌, ◌*◌, ◌^◌, ◌≤◌, drop}
+use Rattle.std.proofs.Common.{◌≡◌, ◌-◌, ◌*◌, ◌^◌, drop}
+use Rattle.course.specs.Summaries.{CanCount}
 use Rattle.course.proofs.Onwards.{Onward}
 use Rattle.engines.proofs.replaying.replay_scenario.Given as goal
 
@@ -7,6 +8,5 @@ abbrev pub invariant-loop-line : goal.invariant-loop-line
 invariant-loop-line g l = record {
   onward : Onward l.scenario.setup l.scenario.lines.items (drop l.line-index l.scenario.lines.items) l.course l.summary (g.W.Sink.taken l.fn.output) (g.W.Sink.taken l.output);
   whole : g.W.Sink.failures l.output ≡ g.W.Sink.failures l.fn.output;
-  events : l.summary.events ≤ l.line-index * 2 ^ 32;
-  refused : l.summary.refused ≤ l.line-index * 2 ^ 32;
+  room : CanCount l.summary ((4000 - l.line-index) * 2 ^ 32);
 }

@@ -1,65 +1,49 @@
-use Rattle.std.proofs.Common.{◌<◌, ◌∙◌, ap, arith, refl, sym, subst}
-use Rattle.std.specs.Prelude.{Option, Some, None}
-use Rattle.course.specs.Courses.{CourseState, Follows, MakesTurn}
-use Rattle.course.specs.declared.told.Told.{Told}
-use Rattle.course.proofs.Written.{on_err}
-use Rattle.inspect.specs.Tables.{CutsTable}
-use Rattle.inspect.proofs.Tabling.{tabling_cut, tabling_ended, tabling_on, tabling_start, tabling_torn}
+use Rattle.std.proofs.Common.{◌≡◌, ◌+◌, ◌-◌, ◌^◌, ◌≤◌, ◌∙◌, ap, arith, subst, sym}
+use Rattle.calls.specs.Hearing.{TableState}
+use Rattle.course.proofs.Endings.{failures_by, if_err, ok_with, on_err_if}
+use Rattle.course.proofs.Written.{ok_then}
+use Rattle.course.specs.Runs.{run_after}
+use Rattle.course.specs.Writing.{Writes, WritesPart}
+use Rattle.inspect.specs.Tables.{HasTabled, lines_after}
 use Rattle.inspect.proofs.calling.table_line.Goals as goal
 
-pub turns-init : goal.turns-init
-turns-init g c =
-    let begun : CourseState = c.begin.new.self in
-    let left = ap (λ (course : CourseState). course.left) c.begin.ensures.course in
+pub play-requires : goal.play-requires
+play-requires g c = (omega (arith, c.requires.entries), c.requires.writes)
+
+pub returns-clause-ok : goal.returns-clause-ok
+returns-clause-ok g c = ok_then c.play.result (λ plays run follows tabled.
+    let s = c.args.course.now.world.setup in
+    let played = plays run follows in
     record {
-      tabling = λ run good same follows heard. tabling_start c.args.course.now.world.setup c.args.line.now run begun c.args.table.now (g.W.Sink.taken c.args.output.now)
-          (ap (λ (course : CourseState). course.world.setup) c.begin.ensures.course) same left
-          (subst (λ course. Follows course run) (sym c.begin.ensures.course) (record { shows = follows.shows; flicks = follows.flicks })) heard;
-      setup = refl;
-      whole = refl;
-      left = omega (arith, left);
-      entries = omega (arith, left);
-    }
+      follows = played.follows;
+      setup = played.setup;
+      tabled = subst (λ t. HasTabled s (run_after s c.args.line.now run).happened t) (sym (c.table-1.given.1 (sym played.hears.1))) (played.hears.2 tabled);
+      writes = subst (λ w. Writes (lines_after s run.happened) (lines_after s (run_after s c.args.line.now run).happened) (g.W.Sink.taken c.args.output.now) (g.W.Sink.taken w)) (sym (c.output-1.given.1 (sym played.hears.0))) (played.hears.3.writes tabled);
+    }) c.play.ensures.ok
 
-pub turns-preserved : goal.turns-preserved
-turns-preserved g c =
-    let made : MakesTurn c.turns.course c.args.line.now (Some c.in-Some.told) c.turn.new.self = subst (λ (o : Option Told). MakesTurn c.turns.course c.args.line.now o c.turn.new.self) c.in-Some.is c.in_ok-told.ensures.made in
-    let less : c.turn.new.self.left < c.turns.course.left = rw c.in-Some.is at c.in_ok-told.ensures.left in
-    record {
-      tabling = λ run good same follows heard. tabling_on c.args.course.now.world.setup good c.args.line.now run c.turns.course c.turn.new.self c.turns.table c.hear_told.new.table c.in-Some.told _ _ _ c.turns.invariant.left
-          (c.turns.invariant.tabling run good same follows heard) made c.in_ok-hear_told.ensures.ok c.in_ok-hear_told.ensures.setup;
-      setup = c.in_ok-hear_told.ensures.setup ∙ c.turns.invariant.setup;
-      whole = omega (arith, c.in_ok-hear_told.ensures.failures, c.turns.invariant.whole);
-      left = omega (arith, less, c.turns.invariant.left);
-      entries = omega (arith, less, c.in_ok-hear_told.ensures.entries, c.turns.invariant.entries);
-    }
+pub returns-clause-cut : goal.returns-clause-cut
+returns-clause-cut g c = on_err_if c.play.result (λ fault cut run follows tabled.
+    let s = c.args.course.now.world.setup in
+    subst (λ w. WritesPart (lines_after s run.happened) (lines_after s (run_after s c.args.line.now run).happened) (g.W.Sink.taken c.args.output.now) (g.W.Sink.taken w)) (sym (c.output-1.given.1 (sym (cut run follows).0))) ((cut run follows).1.part tabled)) c.play.ensures.cut
 
-pub turns-preserved-in_ok-hear_told : goal.turns-preserved-in_ok-hear_told
-turns-preserved-in_ok-hear_told g c =
-    let made : MakesTurn c.turns.course c.args.line.now (Some c.in-Some.told) c.turn.new.self = subst (λ (o : Option Told). MakesTurn c.turns.course c.args.line.now o c.turn.new.self) c.in-Some.is c.in_ok-told.ensures.made in
-    let less : c.turn.new.self.left < c.turns.course.left = rw c.in-Some.is at c.in_ok-told.ensures.left in
-    record {
-      tabling = λ run good same follows heard. tabling_on c.args.course.now.world.setup good c.args.line.now run c.turns.course c.turn.new.self c.turns.table c.hear_told.new.table c.in-Some.told _ _ _ c.turns.invariant.left
-          (c.turns.invariant.tabling run good same follows heard) made c.in_ok-hear_told.ensures.ok c.in_ok-hear_told.ensures.setup;
-      setup = c.in_ok-hear_told.ensures.setup ∙ c.turns.invariant.setup;
-      whole = omega (arith, c.in_ok-hear_told.ensures.failures, c.turns.invariant.whole);
-      left = omega (arith, less, c.turns.invariant.left);
-      entries = omega (arith, less, c.in_ok-hear_told.ensures.entries, c.turns.invariant.entries);
-    }
+pub returns-clause-entries : goal.returns-clause-entries
+returns-clause-entries g c =
+    let (run, follows) = c.play.ensures.runs in
+    ok_then c.play.result (λ both.
+    let had = c.args.table.now.entries in
+    let few = c.requires.entries in
+    let same = ap (λ (t : TableState). t.entries) (c.table-1.given.1 (sym (both.0 run follows).hears.1)) in
+    let left = both.1 (2 ^ 64 - 1 - 2 ^ 32 - had) (omega (arith, few), c.requires.writes) in
+    omega (arith, same, left.0, few)) (ok_with c.play.result _ _ c.play.ensures.ok c.play.ensures.room)
 
-pub returns-in_err-told-clause-cut : goal.returns-in_err-told-clause-cut
-returns-in_err-told-clause-cut g c =
-    on_err c.from_residual.result (CutsTable c.args.line.now c.args.course.now c.args.table.now (g.W.Sink.taken c.args.output.now) (g.W.Sink.taken c.turns.output))
-    (λ run good same follows heard. tabling_cut c.args.course.now.world.setup c.args.line.now run c.turns.course c.turns.table _ _ (c.turns.invariant.tabling run good same follows heard))
+pub returns-clause-fault : goal.returns-clause-fault
+returns-clause-fault g c =
+    let (run, follows) = c.play.ensures.runs in
+    if_err c.play.result (λ fault cut. (cut run follows).1.is) c.play.ensures.cut
 
-pub returns-in_default-clause-ok : goal.returns-in_default-clause-ok
-returns-in_default-clause-ok g c =
-    let made : MakesTurn c.turns.course c.args.line.now None c.turn.new.self = subst (λ (o : Option Told). MakesTurn c.turns.course c.args.line.now o c.turn.new.self) c.in_default.is c.in_ok-told.ensures.made in
-    λ run good same follows heard. tabling_ended c.args.course.now.world.setup c.args.line.now run c.turns.course c.turn.new.self c.turns.table _ _ c.turns.invariant.left (c.turns.invariant.tabling run good same follows heard) made
-
-pub returns-in_err-hear_told-clause-cut : goal.returns-in_err-hear_told-clause-cut
-returns-in_err-hear_told-clause-cut g c =
-    let made : MakesTurn c.turns.course c.args.line.now (Some c.in-Some.told) c.turn.new.self = subst (λ (o : Option Told). MakesTurn c.turns.course c.args.line.now o c.turn.new.self) c.in-Some.is c.in_ok-told.ensures.made in
-    on_err c.from_residual-in_err-hear_told.result (CutsTable c.args.line.now c.args.course.now c.args.table.now (g.W.Sink.taken c.args.output.now) (g.W.Sink.taken c.hear_told.new.output))
-    (λ run good same follows heard. tabling_torn c.args.course.now.world.setup good c.args.line.now run c.turns.course c.turn.new.self c.turns.table c.in-Some.told _ _ _ c.turns.invariant.left
-    (c.turns.invariant.tabling run good same follows heard) made c.in_err-hear_told.ensures.cut)
+pub returns-clause-failures : goal.returns-clause-failures
+returns-clause-failures g c =
+    let (run, follows) = c.play.ensures.runs in
+    failures_by c.play.result (g.W.Sink.failures c.args.output.now) (g.W.Sink.failures c.output-1.given.0)
+    (ok_then c.play.result (λ plays. ap g.W.Sink.failures (c.output-1.given.1 (sym (plays run follows).hears.0)) ∙ (plays run follows).hears.3.whole) c.play.ensures.ok)
+    (if_err c.play.result (λ fault cut. ap g.W.Sink.failures (c.output-1.given.1 (sym (cut run follows).0)) ∙ (cut run follows).1.fails_are) c.play.ensures.cut)

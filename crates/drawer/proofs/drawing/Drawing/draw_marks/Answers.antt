@@ -1,12 +1,11 @@
 use Rattle.std.proofs.Common.{◌≡◌, ℕ, ◌+◌, ◌++◌, List, [], ◌∷◌, ◌∙◌, flat_map, map, take, ap, add-zero, arith, refl, subst, sym}
 use Rattle.std.proofs.lemmas.List.{take_all}
-use Rattle.record.specs.Histories.{history}
+use Rattle.plain_store.specs.declared.setups.Setup.{Setup}
+use Rattle.record.specs.Entries.{Past}
 use Rattle.record.specs.declared.history.Taken.{Taken}
 use Rattle.record.specs.declared.marks.Mark.{Mark}
 use Rattle.picture.specs.columns.declared.reads.OverlappedRead.{OverlappedRead}
 use Rattle.picture.specs.declared.reads.Reads.{Reads as Mode}
-use Rattle.course.specs.Courses.{CourseState}
-use Rattle.course.specs.Runs.{Run, past_in}
 use Rattle.course.specs.Texts.{mark_line}
 use Rattle.course.specs.declared.summaries.Summary.{Summary}
 use Rattle.course.proofs.Written.{failed_same, items_more}
@@ -19,11 +18,10 @@ use Rattle.drawer.proofs.drawing.Drawing.draw_marks.Goals as goal
 
 pub loop-mark-init : goal.loop-mark-init
 loop-mark-init g c = record {
-  drawn = λ mode now reads n among next. draws_on_none (kept c.args.self.now.page) (g.W.Sink.taken c.args.output.now);
-  among = λ mode now reads n among next. subst (λ k. IsAmong mode c.args.self.now.course now reads k c.args.self.now.changes.store c.args.self.now.overlaps) (sym (add-zero n)) among;
+  drawn = λ mode s past reads n among next. draws_on_none (kept c.args.self.now.page) (g.W.Sink.taken c.args.output.now);
+  among = λ mode s past reads n among next. subst (λ k. IsAmong mode s past c.args.taken.now reads k c.args.self.now.changes.store c.args.self.now.overlaps) (sym (add-zero n)) among;
   source = refl;
   summary = refl;
-  course = refl;
   whole = refl;
 }
 
@@ -40,58 +38,50 @@ loop-mark-preserved g c =
     let h : Mark → ℕ × Mark = λ mark. (c.args.process, mark) in
     let k : ℕ = c.loop-mark.mark-index in
     let here : Mark = c.mark-item.result in
-    let course : CourseState = c.args.self.now.course in
-    let taken : Run → List Taken = λ now. history course.world.setup (past_in course.world.setup now) in
-    let says : Run → Mark → Says = λ now. says_mark course.world.setup (taken now) c.args.process in
+    let taken : List Taken = c.args.taken.now in
+    let says : Setup → Mark → Says = λ s. says_mark s taken c.args.process in
     let given : Mode → List OverlappedRead → List Says → List Gives = λ mode. lines_given mode c.args.self.now.source c.args.self.now.summary.events in
-    let drew = λ (course : CourseState) (s : Summary) (n : ℕ).
-    (mode : Mode) (now : Run) (reads : List OverlappedRead) (m : ℕ) → IsAmong mode course now reads m c.loop-mark.self.changes.store c.loop-mark.self.overlaps → IsNext m (history course.world.setup (past_in course.world.setup now)) here →
-    DrawsOn (kept c.loop-mark.self.page) (kept c.draw_mark.new.self.page) (g.W.Sink.taken c.loop-mark.output) (g.W.Sink.taken c.draw_mark.new.output) (mark_line s.events c.args.process here) ((c.args.process, here) ∷ [])
-    (lines_given mode n s.events reads (says_mark course.world.setup (history course.world.setup (past_in course.world.setup now)) c.args.process here ∷ [])) in
-    let then = λ (course : CourseState).
-    (mode : Mode) (now : Run) (reads : List OverlappedRead) (m : ℕ) → IsAmong mode course now reads m c.loop-mark.self.changes.store c.loop-mark.self.overlaps → IsNext m (history course.world.setup (past_in course.world.setup now)) here →
-    IsAmong mode course now [] (m + takes here) c.draw_mark.new.self.changes.store c.draw_mark.new.self.overlaps in
-    let one : drew course c.args.self.now.summary c.args.self.now.source =
-    subst (drew course c.args.self.now.summary) c.loop-mark.invariant.source
-    (subst (λ (s : Summary). drew course s c.loop-mark.self.source) c.loop-mark.invariant.summary
-    (subst (λ (course : CourseState). drew course c.loop-mark.self.summary c.loop-mark.self.source) c.loop-mark.invariant.course c.in_ok-draw_mark.ensures.ok)) in
-    let after : then course = subst then c.loop-mark.invariant.course c.in_ok-draw_mark.ensures.among in
+    let drew = λ (k : Summary) (n : ℕ).
+    (mode : Mode) (s : Setup) (past : Past) (reads : List OverlappedRead) (m : ℕ) → IsAmong mode s past taken reads m c.loop-mark.self.changes.store c.loop-mark.self.overlaps → IsNext m taken here →
+    DrawsOn (kept c.loop-mark.self.page) (kept c.draw_mark.new.self.page) (g.W.Sink.taken c.loop-mark.output) (g.W.Sink.taken c.draw_mark.new.output) (mark_line k.events c.args.process here) ((c.args.process, here) ∷ [])
+    (lines_given mode n k.events reads (says_mark s taken c.args.process here ∷ [])) in
+    let one : drew c.args.self.now.summary c.args.self.now.source =
+    subst (drew c.args.self.now.summary) c.loop-mark.invariant.source (subst (λ (k : Summary). drew k c.loop-mark.self.source) c.loop-mark.invariant.summary c.in_ok-draw_mark.ensures.ok) in
+    let after = c.in_ok-draw_mark.ensures.among in
     record {
-      drawn = λ mode now reads n among next.
-          let been = c.loop-mark.invariant.among mode now reads n among next in
-          let at : IsNext (n + all_take (take k marks)) (taken now) here = next_at n (taken now) marks k here next c.loop-mark-test.true c.mark-item.is in
-          let lines : List Says = map (says now) (take k marks) in
-          let same : given mode reads lines ++ given mode (waiting (take k marks) reads) (says now here ∷ []) ≡ given mode reads (map (says now) (take (k + 1) marks)) =
-          ap (λ l. given mode reads lines ++ given mode l (says now here ∷ [])) (sym (waiting_map (says now) (take k marks) reads))
-          ∙ sym (lines_more mode c.args.self.now.source c.args.self.now.summary.events reads lines (says now here))
-          ∙ ap (given mode reads) (sym (map_more (says now) marks k here c.loop-mark-test.true c.mark-item.is)) in
-          subst (λ l. DrawsOn (kept c.args.self.now.page) (kept c.draw_mark.new.self.page) (g.W.Sink.taken c.args.output.now) (g.W.Sink.taken c.draw_mark.new.output) l (map h (take (k + 1) marks)) (given mode reads (map (says now) (take (k + 1) marks)))) (sym (items_more f marks k here c.loop-mark-test.true c.mark-item.is))
-          (subst (λ l. DrawsOn (kept c.args.self.now.page) (kept c.draw_mark.new.self.page) (g.W.Sink.taken c.args.output.now) (g.W.Sink.taken c.draw_mark.new.output) (flat_map f (take k marks) ++ f here) l (given mode reads (map (says now) (take (k + 1) marks)))) (sym (map_more h marks k here c.loop-mark-test.true c.mark-item.is))
+      drawn = λ mode s past reads n among next.
+          let been = c.loop-mark.invariant.among mode s past reads n among next in
+          let at : IsNext (n + all_take (take k marks)) taken here = next_at n taken marks k here next c.loop-mark-test.true c.mark-item.is in
+          let lines : List Says = map (says s) (take k marks) in
+          let same : given mode reads lines ++ given mode (waiting (take k marks) reads) (says s here ∷ []) ≡ given mode reads (map (says s) (take (k + 1) marks)) =
+          ap (λ l. given mode reads lines ++ given mode l (says s here ∷ [])) (sym (waiting_map (says s) (take k marks) reads))
+          ∙ sym (lines_more mode c.args.self.now.source c.args.self.now.summary.events reads lines (says s here))
+          ∙ ap (given mode reads) (sym (map_more (says s) marks k here c.loop-mark-test.true c.mark-item.is)) in
+          subst (λ l. DrawsOn (kept c.args.self.now.page) (kept c.draw_mark.new.self.page) (g.W.Sink.taken c.args.output.now) (g.W.Sink.taken c.draw_mark.new.output) l (map h (take (k + 1) marks)) (given mode reads (map (says s) (take (k + 1) marks)))) (sym (items_more f marks k here c.loop-mark-test.true c.mark-item.is))
+          (subst (λ l. DrawsOn (kept c.args.self.now.page) (kept c.draw_mark.new.self.page) (g.W.Sink.taken c.args.output.now) (g.W.Sink.taken c.draw_mark.new.output) (flat_map f (take k marks) ++ f here) l (given mode reads (map (says s) (take (k + 1) marks)))) (sym (map_more h marks k here c.loop-mark-test.true c.mark-item.is))
           (subst (λ l. DrawsOn (kept c.args.self.now.page) (kept c.draw_mark.new.self.page) (g.W.Sink.taken c.args.output.now) (g.W.Sink.taken c.draw_mark.new.output) (flat_map f (take k marks) ++ f here) (map h (take k marks) ++ h here ∷ []) l) same
-          (draws_on_both _ _ _ _ _ _ (flat_map f (take k marks)) (f here) (map h (take k marks)) (h here ∷ []) (given mode reads lines) (given mode (waiting (take k marks) reads) (says now here ∷ []))
-          (c.loop-mark.invariant.drawn mode now reads n among next) (one mode now (waiting (take k marks) reads) (n + all_take (take k marks)) been at))));
-      among = λ mode now reads n among next.
-          let been = c.loop-mark.invariant.among mode now reads n among next in
-          let at : IsNext (n + all_take (take k marks)) (taken now) here = next_at n (taken now) marks k here next c.loop-mark-test.true c.mark-item.is in
+          (draws_on_both _ _ _ _ _ _ (flat_map f (take k marks)) (f here) (map h (take k marks)) (h here ∷ []) (given mode reads lines) (given mode (waiting (take k marks) reads) (says s here ∷ []))
+          (c.loop-mark.invariant.drawn mode s past reads n among next) (one mode s past (waiting (take k marks) reads) (n + all_take (take k marks)) been at))));
+      among = λ mode s past reads n among next.
+          let been = c.loop-mark.invariant.among mode s past reads n among next in
+          let at : IsNext (n + all_take (take k marks)) taken here = next_at n taken marks k here next c.loop-mark-test.true c.mark-item.is in
           let many : n + all_take (take k marks) + takes here ≡ n + all_take (take (k + 1) marks) = omega (arith, take_counts marks k here c.loop-mark-test.true c.mark-item.is) in
-          subst (λ m. IsAmong mode course now (waiting (take (k + 1) marks) reads) m c.draw_mark.new.self.changes.store c.draw_mark.new.self.overlaps) many
-          (subst (λ l. IsAmong mode course now l (n + all_take (take k marks) + takes here) c.draw_mark.new.self.changes.store c.draw_mark.new.self.overlaps) (waiting_none marks k reads c.loop-mark-test.true)
-          (after mode now (waiting (take k marks) reads) (n + all_take (take k marks)) been at));
+          subst (λ m. IsAmong mode s past taken (waiting (take (k + 1) marks) reads) m c.draw_mark.new.self.changes.store c.draw_mark.new.self.overlaps) many
+          (subst (λ l. IsAmong mode s past taken l (n + all_take (take k marks) + takes here) c.draw_mark.new.self.changes.store c.draw_mark.new.self.overlaps) (waiting_none marks k reads c.loop-mark-test.true)
+          (after mode s past (waiting (take k marks) reads) (n + all_take (take k marks)) been at));
       source = c.in_ok-draw_mark.ensures.source ∙ c.loop-mark.invariant.source;
       summary = c.in_ok-draw_mark.ensures.summary ∙ c.loop-mark.invariant.summary;
-      course = c.in_ok-draw_mark.ensures.course ∙ c.loop-mark.invariant.course;
       whole = omega (arith, c.in_ok-draw_mark.ensures.failures, c.loop-mark.invariant.whole);
     }
 
 pub returns-clause-ok : goal.returns-clause-ok
-returns-clause-ok g c = λ mode now reads n among next.
-    let s = c.args.self.now.course.world.setup in
-    let says : Mark → Says = says_mark s (history s (past_in s now)) c.args.process in
+returns-clause-ok g c = λ mode s past reads n among next.
+    let says : Mark → Says = says_mark s c.args.taken.now c.args.process in
     let h : Mark → ℕ × Mark = λ mark. (c.args.process, mark) in
     subst (λ (l : List Mark). DrawsOn (kept c.args.self.now.page) (kept c.loop-mark.self.page) (g.W.Sink.taken c.args.output.now) (g.W.Sink.taken c.loop-mark.output) (flat_map (mark_line c.args.self.now.summary.events c.args.process) l) (map h l) (lines_given mode c.args.self.now.source c.args.self.now.summary.events reads (map says l)))
-    (take_all c.loop-mark.mark-index c.args.marks.now (omega arith)) (c.loop-mark.invariant.drawn mode now reads n among next)
+    (take_all c.loop-mark.mark-index c.args.marks.now (omega arith)) (c.loop-mark.invariant.drawn mode s past reads n among next)
 
 pub returns-clause-among : goal.returns-clause-among
-returns-clause-among g c = λ mode now reads n among next.
-    subst (λ (l : List Mark). IsAmong mode c.args.self.now.course now (waiting l reads) (n + all_take l) c.loop-mark.self.changes.store c.loop-mark.self.overlaps)
-    (take_all c.loop-mark.mark-index c.args.marks.now (omega arith)) (c.loop-mark.invariant.among mode now reads n among next)
+returns-clause-among g c = λ mode s past reads n among next.
+    subst (λ (l : List Mark). IsAmong mode s past c.args.taken.now (waiting l reads) (n + all_take l) c.loop-mark.self.changes.store c.loop-mark.self.overlaps)
+    (take_all c.loop-mark.mark-index c.args.marks.now (omega arith)) (c.loop-mark.invariant.among mode s past reads n among next)

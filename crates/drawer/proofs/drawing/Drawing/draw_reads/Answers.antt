@@ -10,7 +10,7 @@ use Rattle.drawer.proofs.Giving.{map_next}
 use Rattle.drawer.proofs.drawing.Drawing.draw_reads.Goals as goal
 
 pub loop-read-init : goal.loop-read-init
-loop-read-init g c = record { drawn = draws_on_none (kept c.args.self.now.page) (g.W.Sink.taken c.args.output.now); overlaps = refl; changes = refl; source = refl; summary = refl; course = refl; whole = refl }
+loop-read-init g c = record { drawn = draws_on_none (kept c.args.self.now.page) (g.W.Sink.taken c.args.output.now); overlaps = refl; changes = refl; source = refl; summary = refl; whole = refl }
 
 pub draw_read-requires : goal.draw_read-requires
 draw_read-requires g c = rw c.loop-read.invariant.whole c.requires
@@ -31,7 +31,6 @@ loop-read-preserved g c =
       changes = c.in_ok-draw_read.ensures.changes ∙ c.loop-read.invariant.changes;
       source = c.in_ok-draw_read.ensures.source ∙ c.loop-read.invariant.source;
       summary = c.in_ok-draw_read.ensures.summary ∙ c.loop-read.invariant.summary;
-      course = c.in_ok-draw_read.ensures.course ∙ c.loop-read.invariant.course;
       whole = omega (arith, c.in_ok-draw_read.ensures.failures, c.loop-read.invariant.whole);
     }
 

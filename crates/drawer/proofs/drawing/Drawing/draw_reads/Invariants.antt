@@ -11,6 +11,5 @@ invariant-loop-read g l = record {
   changes : l.self.changes ≡ l.fn.self.changes;
   source : l.self.source ≡ l.fn.self.source;
   summary : l.self.summary ≡ l.fn.self.summary;
-  course : l.self.course ≡ l.fn.self.course;
   whole : g.W.Sink.failures l.output ≡ g.W.Sink.failures l.fn.output;
 }

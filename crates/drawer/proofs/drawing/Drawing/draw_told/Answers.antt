@@ -2,13 +2,11 @@ use Rattle.std.proofs.Common.{◌≡◌, ℕ, ◌+◌, ◌++◌, List, [], ◌�
 use Rattle.std.specs.Result.{OnOk}
 use Rattle.std.specs.String.{string_bytes}
 use Rattle.plain_store.specs.declared.setups.Setup.{Setup}
-use Rattle.record.specs.Histories.{history}
 use Rattle.record.specs.Records.{process_of}
 use Rattle.record.specs.declared.history.Taken.{Taken}
 use Rattle.record.specs.declared.marks.Mark.{Mark}
 use Rattle.picture.specs.declared.reads.Reads.{Reads as Mode}
 use Rattle.course.specs.Happenings.{Happening, past_after}
-use Rattle.course.specs.Runs.{past_in}
 use Rattle.course.specs.Telling.{entry_made, marks_made, told_text}
 use Rattle.course.specs.Texts.{mark_line}
 use Rattle.course.specs.declared.told.Told.{Told}
@@ -25,49 +23,46 @@ pub returns-in_ok-hear-in-Accepted-clause-ok : goal.returns-in_ok-hear-in-Accept
 returns-in_ok-hear-in-Accepted-clause-ok g c =
     let self = c.args.self.now in
     let made = c.in-Accepted.made in
-    let s : Setup = self.course.world.setup in
     let marks : c.as_slice-in-Accepted.result.now ≡ marks_made made = c.as_slice-in-Accepted.ensures ∙ c.marks.ensures in
-    subst (λ (t : Told). OnOk c.draw_marks.result ((mode : Mode) (before : List Happening) (this : Happening) → IsToDraw mode self.course self.summary.events self.changes.store self.overlaps before this t →
+    subst (λ (t : Told). OnOk c.draw_marks.result ((mode : Mode) (s : Setup) (before : List Happening) (this : Happening) → IsToDraw mode s c.args.taken.now self.summary.events self.changes.store self.overlaps before this t →
     DrawsOn (kept self.page) (kept c.draw_marks.new.self.page) (g.W.Sink.taken c.args.output.now) (g.W.Sink.taken c.draw_marks.new.output) (told_text self.summary.events t) (marks_told t) (given_at mode s self.source before this))) (sym c.in-Accepted.is)
     (ok_then c.draw_marks.result
-    (λ drew mode before this d.
-    let b : BeginsMarks mode self.course self.source self.summary.events self.changes.store c.hear.new.overlaps before this made = begins_marks mode self.course self.source self.summary.events self.changes.store self.overlaps c.hear.new.overlaps before this made d (λ mode s past reads. c.in_ok-hear-in-Accepted.ensures mode s past reads (entry_made made) refl) in
-    let taken : List Taken = history s (past_in s b.now) in
+    (λ drew mode s before this d.
+    let b : BeginsMarks mode s c.args.taken.now self.source self.summary.events self.changes.store c.hear.new.overlaps before this made = begins_marks mode s c.args.taken.now self.source self.summary.events self.changes.store self.overlaps c.hear.new.overlaps before this made d (λ mode s past reads. c.in_ok-hear-in-Accepted.ensures mode s past reads (entry_made made) refl) in
+    let taken : List Taken = c.args.taken.now in
     let drawn = λ (p : ℕ) (l : List Mark). DrawsOn (kept self.page) (kept c.draw_marks.new.self.page) (g.W.Sink.taken c.args.output.now) (g.W.Sink.taken c.draw_marks.new.output) (flat_map (mark_line self.summary.events p) l) (map {B = ℕ × Mark} (λ (mark : Mark). (p, mark)) l) (lines_given mode self.source self.summary.events b.reads (map (says_mark s taken p) l)) in
     subst (λ l. DrawsOn (kept self.page) (kept c.draw_marks.new.self.page) (g.W.Sink.taken c.args.output.now) (g.W.Sink.taken c.draw_marks.new.output) (flat_map (mark_line self.summary.events (process_of made.event)) (marks_made made)) (map {B = ℕ × Mark} (λ (mark : Mark). (process_of made.event, mark)) (marks_made made)) l) b.gives
     (subst (λ (p : ℕ). drawn p (marks_made made)) c.process-process.ensures
     (subst (λ (l : List Mark). drawn c.process-process.result l) marks
-    (drew mode b.now b.reads b.n b.among (subst (λ (l : List Mark). AreNext b.n taken l) (sym marks) b.next)))))
+    (drew mode s b.past b.reads b.n b.among (subst (λ (l : List Mark). AreNext b.n taken l) (sym marks) b.next)))))
     c.draw_marks.ensures.ok)
 
 pub returns-in_ok-hear-in-Accepted-clause-recalls : goal.returns-in_ok-hear-in-Accepted-clause-recalls
 returns-in_ok-hear-in-Accepted-clause-recalls g c =
     let self = c.args.self.now in
     let made = c.in-Accepted.made in
-    let s : Setup = self.course.world.setup in
     let marks : c.as_slice-in-Accepted.result.now ≡ marks_made made = c.as_slice-in-Accepted.ensures ∙ c.marks.ensures in
-    subst (λ (t : Told). OnOk c.draw_marks.result ((mode : Mode) (before : List Happening) (this : Happening) → IsToDraw mode self.course self.summary.events self.changes.store self.overlaps before this t →
+    subst (λ (t : Told). OnOk c.draw_marks.result ((mode : Mode) (s : Setup) (before : List Happening) (this : Happening) → IsToDraw mode s c.args.taken.now self.summary.events self.changes.store self.overlaps before this t →
     Recalls mode s (this ∷ before) c.draw_marks.new.self.changes.store c.draw_marks.new.self.overlaps)) (sym c.in-Accepted.is)
     (ok_then c.draw_marks.result
-    (λ among mode before this d.
-    let b : BeginsMarks mode self.course self.source self.summary.events self.changes.store c.hear.new.overlaps before this made = begins_marks mode self.course self.source self.summary.events self.changes.store self.overlaps c.hear.new.overlaps before this made d (λ mode s past reads. c.in_ok-hear-in-Accepted.ensures mode s past reads (entry_made made) refl) in
-    let taken : List Taken = history s (past_in s b.now) in
+    (λ among mode s before this d.
+    let b : BeginsMarks mode s c.args.taken.now self.source self.summary.events self.changes.store c.hear.new.overlaps before this made = begins_marks mode s c.args.taken.now self.source self.summary.events self.changes.store self.overlaps c.hear.new.overlaps before this made d (λ mode s past reads. c.in_ok-hear-in-Accepted.ensures mode s past reads (entry_made made) refl) in
+    let taken : List Taken = c.args.taken.now in
     b.ends c.draw_marks.new.self.changes.store c.draw_marks.new.self.overlaps
-    (subst (λ (l : List Mark). IsAmong mode self.course b.now (waiting l b.reads) (b.n + all_take l) c.draw_marks.new.self.changes.store c.draw_marks.new.self.overlaps) marks
-    (among mode b.now b.reads b.n b.among (subst (λ (l : List Mark). AreNext b.n taken l) (sym marks) b.next))))
+    (subst (λ (l : List Mark). IsAmong mode s b.past taken (waiting l b.reads) (b.n + all_take l) c.draw_marks.new.self.changes.store c.draw_marks.new.self.overlaps) marks
+    (among mode s b.past b.reads b.n b.among (subst (λ (l : List Mark). AreNext b.n taken l) (sym marks) b.next))))
     c.draw_marks.ensures.among)
 
 pub returns-in_ok-words-in-Shown-clause-ok : goal.returns-in_ok-words-in-Shown-clause-ok
 returns-in_ok-words-in-Shown-clause-ok g c =
     let self = c.args.self.now in
     let line = c.in-Shown.line in
-    let s : Setup = self.course.world.setup in
-    subst (λ (t : Told). OnOk c.draw-in-Shown.result ((mode : Mode) (before : List Happening) (this : Happening) → IsToDraw mode self.course self.summary.events self.changes.store self.overlaps before this t →
+    subst (λ (t : Told). OnOk c.draw-in-Shown.result ((mode : Mode) (s : Setup) (before : List Happening) (this : Happening) → IsToDraw mode s c.args.taken.now self.summary.events self.changes.store self.overlaps before this t →
     DrawsOn (kept self.page) (kept c.draw-in-Shown.new.self.page) (g.W.Sink.taken c.args.output.now) (g.W.Sink.taken c.draw-in-Shown.new.output) (told_text self.summary.events t) (marks_told t) (given_at mode s self.source before this))) (sym c.in-Shown.is)
     (ok_then c.draw-in-Shown.result
-    (λ drew mode before this d.
-    let (words, is) = tells_line s (past_after s before) this (told.Shown line) d.tells in
-    let speaks : Speaks s before this (SaysStore (shown_words (string_bytes line))) = speaks_as s before this (told.Shown line) d.tells in
+    (λ drew mode s before this d.
+    let (words, is) = tells_line s (past_after s before) this (told.Shown line) d.happens.tells in
+    let speaks : Speaks s before this (SaysStore (shown_words (string_bytes line))) = speaks_as s before this (told.Shown line) d.happens.tells in
     let said = c.in_ok-words-in-Shown.ensures.words words (c.as_bytes.ensures.value ∙ is) in
     let shown = c.in_ok-words-in-Shown.ensures.shown ∙ ap shown_words c.as_bytes.ensures.value in
     subst (λ l. DrawsOn (kept self.page) (kept c.draw-in-Shown.new.self.page) (g.W.Sink.taken c.args.output.now) (g.W.Sink.taken c.draw-in-Shown.new.output) (string_bytes line) [] l)

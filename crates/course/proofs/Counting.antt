@@ -1,0 +1,55 @@
+-- What is heard of a run is counted, and has its text.
+use Rattle.std.proofs.Common.{◌≡◌, ℕ, zero, suc, ◌+◌, List, ◌∷◌, ◌++◌, length, Some, refl, ap, sym, subst, ◌∙◌, arith, add-zero, append-nil}
+use Rattle.plain_store.specs.declared.setups.Setup.{Setup}
+use Rattle.record.specs.declared.events.Event.TheVariants.{Step}
+use Rattle.record.specs.declared.history.Taken.{Taken}
+use Rattle.course.specs.Happenings.{Happening, Tries, past_after, refusals}
+use Rattle.course.specs.Listening.{Happens, PassQuietly, StepsOn}
+use Rattle.course.specs.Summaries.{counted}
+use Rattle.course.specs.Telling.{told_text}
+use Rattle.course.specs.Texts.{text_of}
+use Rattle.course.specs.Writing.{Counts}
+use Rattle.course.specs.declared.summaries.Summary.{Summary}
+use Rattle.course.specs.declared.told.Stepped.{Stepped}
+use Rattle.course.specs.declared.told.Told.{Told}
+use Rattle.course.proofs.Tellings.{Quietly, counts_more, quiet_counts, told_is}
+
+-- so many events more
+abbrev pub with_events : ℕ → Summary → Summary
+with_events n summary = record summary { events = summary.events + n }
+
+-- what is told is counted
+pub counts_heard : (s : Setup) (before : List Happening) (this : Happening) (told : Told) (taken : List Taken) (had has : Summary) → Happens s before this told taken → has ≡ counted told had → Counts s before had → Counts s (this ∷ before) has
+counts_heard s before this told taken had has h is counts =
+    let more = counts_more s before this told had h.tells counts.events counts.refused in
+    subst (λ (n : Summary). Counts s (this ∷ before) n) (sym is) (record { events = more.0; refused = more.1 })
+
+-- and its text is that of what happens
+pub text_heard : (s : Setup) (before : List Happening) (this : Happening) (told : Told) (taken : List Taken) (had : Summary) → Happens s before this told taken → Counts s before had → text_of s (this ∷ before) ≡ text_of s before ++ told_text had.events told
+text_heard s before this told taken had h counts = ap (λ l. text_of s before ++ l) (sym (ap (λ n. told_text n told) counts.events ∙ told_is s (past_after s before) this told h.tells))
+
+-- events without a mark are counted, and have no text
+pub counts_passed : (s : Setup) (n : ℕ) (before after : List Happening) (summary : Summary) → PassQuietly s n before after → Counts s before summary → Counts s after (with_events n summary)
+counts_passed s zero before after summary same counts = record {
+  events = add-zero summary.events ∙ counts.events ∙ ap (λ l. length (past_after s l)) (sym same);
+  refused = counts.refused ∙ ap (refusals s) (sym same);
+}
+counts_passed s (suc n) before after summary (this, quiet, more) counts =
+    let q : Quietly s before this = quiet_counts s before this quiet in
+    let one : Counts s (this ∷ before) (with_events 1 summary) = record { events = ap (λ n. n + 1) counts.events ∙ sym q.events; refused = counts.refused ∙ sym q.refused } in
+    let all = counts_passed s n (this ∷ before) after (with_events 1 summary) more one in
+    let sum : summary.events + suc n ≡ (summary.events + 1) + n = omega arith in
+    record { events = sum ∙ all.events; refused = all.refused }
+
+pub text_passed : (s : Setup) (n : ℕ) (before after : List Happening) → PassQuietly s n before after → text_of s after ≡ text_of s before
+text_passed s zero before after same = ap (text_of s) same
+text_passed s (suc n) before after (this, quiet, more) =
+    let q : Quietly s before this = quiet_counts s before this quiet in
+    text_passed s n (this ∷ before) after more ∙ ap (λ l. text_of s before ++ l) q.text ∙ append-nil (text_of s before)
+
+-- a Step without a mark is one of them
+pub step_passes : (s : Setup) (before : List Happening) (made : Stepped) → StepsOn s before made → PassQuietly s 1 before (Tries (Step made.process made.flick) ∷ before)
+step_passes s before made on = (Tries (Step made.process made.flick), (Some made.access, on.adds), refl)
+
+pub counts_stepped : (s : Setup) (before : List Happening) (made : Stepped) (summary : Summary) → StepsOn s before made → Counts s before summary → Counts s (Tries (Step made.process made.flick) ∷ before) (with_events 1 summary)
+counts_stepped s before made summary on counts = counts_passed s 1 before (Tries (Step made.process made.flick) ∷ before) summary (step_passes s before made on) counts

@@ -1,0 +1,355 @@
+-- A line that is being played: what was heard of it, and what is left.
+use Rattle.std.proofs.Common.{◌≡◌, ℕ, zero, suc, ◌+◌, ◌<◌, ◌≤◌, List, [], ◌∷◌, ◌++◌, map, Option, None, Some, Result, Ok, Err, IfErr, IfSome, IsErrAnd, refl, ap, sym, subst, ◌∙◌, arith}
+use Rattle.plain_store.specs.declared.setups.Setup.{Setup}
+use Rattle.plain_store.specs.Setups.{checked}
+use Rattle.record.specs.declared.events.Event.{Event}
+use Rattle.record.specs.declared.events.Event.TheVariants.{Step}
+use Rattle.record.specs.declared.history.Taken.{Taken}
+use Rattle.record.specs.Given.{AreGiven}
+use Rattle.record.specs.Histories.{history}
+use Rattle.record.specs.Records.{entry_of}
+use Rattle.scenario.specs.declared.lines.Line.{Line}
+use Rattle.scenario.specs.files.declared.faults.Fault.{Fault}
+use Rattle.course.specs.Courses.{CourseState, Follows, IsQuiet, MakesTurns, QuietTurns}
+use Rattle.course.specs.Happenings.{Happening, Tries, Lacks, Tires, Looks, past_after, tried}
+use Rattle.course.specs.Listening.{ComesTo, Happens, PassQuietly, Plays, StepsOn, room_wanted}
+use Rattle.course.specs.Runs.{Run, past_in, run_after, run_at_start, runs}
+use Rattle.course.specs.Steppers.{AreNext, IsReady, MakesStep}
+use Rattle.course.specs.Telling.{Tells, TellsOf, told_unmarked}
+use Rattle.course.specs.Turns.{Turn, rest_of, turn_of, turns_in}
+use Rattle.course.specs.declared.told.Drawn.{Drawn}
+use Rattle.course.specs.declared.told.Stepped.{Stepped}
+use Rattle.course.specs.declared.told.Told.{Told}
+use Rattle.course.specs.declared.told.Turns.{Turns}
+use Rattle.course.specs.declared.turns.steps.Steppers.{Steppers}
+use Rattle.course.proofs.Grows.{Grows, rest_grows}
+use Rattle.course.proofs.Steppings.{Draws, StepsNext, TellsNext}
+use Rattle.course.proofs.TurnLaw.{rest_none, rest_whole, turn_less, turn_on}
+use Rattle.course.proofs.Underways.{Turned, One, Nothing, silent_one, told_none, told_one, turned}
+use Rattle.course.proofs.Walks.{turns_then}
+
+-- turns without a mark leave what is to be done
+rest_quiet : (s : Setup) (line : Line) (quiet left : ℕ) (run : Run) (left' : ℕ) (run' : Run) → left ≤ turns_in line → QuietTurns s line quiet left run left' run' → (left' ≤ turns_in line) × (rest_of s line left run ≡ rest_of s line left' run')
+rest_quiet s line zero left run left' run' few (same, at) = (omega (arith, same, few), λ i. rest_of s line (sym same i) (sym at i))
+rest_quiet s line (suc quiet) left run left' run' few (first, more) =
+    let less = turn_less s line left run in
+    let next = rest_quiet s line quiet (turn_of s line left run).left (turn_of s line left run).run left' run' (omega (arith, less, few)) more in
+    (next.0, turn_on s line left run few ∙ next.1)
+
+-- they are passed by
+quiet_passes : (s : Setup) (line : Line) (quiet left : ℕ) (run : Run) (left' : ℕ) (run' : Run) → QuietTurns s line quiet left run left' run' → PassQuietly s quiet run.happened run'.happened
+quiet_passes s line zero left run left' run' (same, at) = ap (λ (r : Run). r.happened) at
+quiet_passes s line (suc quiet) left run left' run' (first, more) = by (turned s line left run) (quiet_passes s line quiet (turn_of s line left run).left (turn_of s line left run).run left' run' more)
+  where
+    t : Turn
+    t = turn_of s line left run
+
+    by : Turned t run.happened → PassQuietly s quiet t.run.happened run'.happened → PassQuietly s (suc quiet) run.happened run'.happened
+    by (Nothing none ended same) rest = absurd (subst (λ o. IsQuiet s (past_in s run) o) none first)
+    by (One this some same) rest = (this, subst (λ o. IsQuiet s (past_in s run) o) some first, subst (λ l. PassQuietly s quiet l run'.happened) same rest)
+
+-- what a course shows is of a good setup, and given
+good_of : (s : Setup) (course : CourseState) (run : Run) → course.world.setup ≡ s → Follows course run → (checked s ≡ Ok tt) × AreGiven s (tried run.happened)
+good_of s course run setup follows = subst (λ s. (checked s ≡ Ok tt) × AreGiven s (tried run.happened)) setup (follows.shows.good, follows.shows.given)
+
+-- the turn that tells: this happens
+record Tells1 (s : Setup) (line : Line) (left : ℕ) (now : Run) (answer : Told) (taken : List Taken) : Type 0 where
+  this : Happening
+  same : (turn_of s line left now).run.happened ≡ this ∷ now.happened
+  happens : Happens s now.happened this answer taken
+
+-- what was taken, by what a course answers
+abbrev pub AnswersTaken : CourseState → List Taken → Type 0
+AnswersTaken course taken = (run : Run) → Follows course run → taken ≡ history course.world.setup (past_in course.world.setup run)
+
+tells_one : (s : Setup) (line : Line) (left : ℕ) (now : Run) (answer : Told) (course : CourseState) (taken : List Taken) → Tells s (past_in s now) (turn_of s line left now).this (Some answer) → Follows course (turn_of s line left now).run → course.world.setup ≡ s →
+    AnswersTaken course taken → Tells1 s line left now answer taken
+tells_one s line left now answer course taken tells follows setup are = by (turned s line left now)
+  where
+    t : Turn
+    t = turn_of s line left now
+
+    by : Turned t now.happened → Tells1 s line left now answer taken
+    by (Nothing none ended same) = absurd (told_none s (past_in s now) t.this answer none tells)
+    by (One this some same) =
+        let both = good_of s course t.run setup follows in
+        record {
+          this = this;
+          same = same;
+          happens = record {
+            good = both.0;
+            given = subst (λ l. AreGiven s (tried l)) same both.1;
+            tells = told_one s (past_in s now) t.this this answer some tells;
+            taken_are = are t.run follows ∙ ap (λ s. history s (past_in s t.run)) setup ∙ ap (λ l. history s (past_after s l)) same;
+          };
+        }
+
+-- a line from a run on: the run now, what was heard, and what is left
+pub record Played {L : Type 0} (Hears : L → Setup → List Happening → List Happening → L → Type 0) (s : Setup) (line : Line) (start : Run) (was : L) (course : CourseState) (is : L) : Type 0 where
+  pub now : Run
+  pub follows : Follows course now
+  pub setup : course.world.setup ≡ s
+  pub hears : Hears was s start.happened now.happened is
+  pub rest : rest_of s line course.left now ≡ run_after s line start
+
+-- Steps of a line without a mark, which were heard
+pub record Stepping {L : Type 0} (Hears : L → Setup → List Happening → List Happening → L → Type 0) (s : Setup) (line : Line) (had : ℕ) (start : Run) (was : L) (course : CourseState) (steppers : Steppers) (is : L) : Type 0 where
+  pub quiet : ℕ
+  pub now : Run
+  pub turns : QuietTurns s line quiet had start course.left now
+  pub follows : Follows course now
+  pub setup : course.world.setup ≡ s
+  pub hears : Hears was s start.happened now.happened is
+  pub next : AreNext s line now steppers
+
+-- the Step that is made, of a turn that tells one without a mark
+record Steps1 (s : Setup) (line : Line) (left : ℕ) (now : Run) (made : Stepped) : Type 0 where
+  same : (turn_of s line left now).run.happened ≡ Tries (Step made.process made.flick) ∷ now.happened
+  quiet : IsQuiet s (past_in s now) (turn_of s line left now).this
+  on : StepsOn s now.happened made
+
+step_of : (s : Setup) (before : List Happening) (this : Happening) (made : Stepped) → TellsOf s (past_after s before) this (told_unmarked made) →
+    (this ≡ Tries (Step made.process made.flick)) × (entry_of s (past_after s before) (Step made.process made.flick) ≡ Some (record { process = made.process; access = Some made.access; marks = [] }))
+step_of s before (Tries event) made (is, adds) = (ap Tries (sym is), subst (λ (e : Event). entry_of s (past_after s before) e ≡ Some (record { process = made.process; access = Some made.access; marks = [] })) (sym is) adds)
+step_of s before (Lacks p) made tells = absurd tells
+step_of s before (Tires p) made tells = absurd tells
+step_of s before Looks made tells = absurd tells
+
+steps_one : (s : Setup) (line : Line) (left : ℕ) (now : Run) (made : Stepped) (course : CourseState) → Tells s (past_in s now) (turn_of s line left now).this (Some (told_unmarked made)) → Follows course (turn_of s line left now).run → course.world.setup ≡ s → Steps1 s line left now made
+steps_one s line left now made course tells follows setup = by (turned s line left now)
+  where
+    t : Turn
+    t = turn_of s line left now
+
+    by : Turned t now.happened → Steps1 s line left now made
+    by (Nothing none ended same) = absurd (told_none s (past_in s now) t.this (told_unmarked made) none tells)
+    by (One this some same) =
+        let both = good_of s course t.run setup follows in
+        let step = step_of s now.happened this made (told_one s (past_in s now) t.this this (told_unmarked made) some tells) in
+        let is = same ∙ ap (λ (this : Happening). this ∷ now.happened) step.0 in
+        record {
+          same = is;
+          quiet = subst (λ o. IsQuiet s (past_in s now) o) (sym (some ∙ ap Some step.0)) (Some made.access, step.1);
+          on = record { good = both.0; given = subst (λ l. AreGiven s (tried l)) is both.1; adds = step.1 };
+        }
+
+module _ {L : Type 0} (Hears : L → Setup → List Happening → List Happening → L → Type 0) where
+  pub played_start : (s : Setup) (line : Line) (start : Run) (old course : CourseState) (a : L) → ((a : L) (s : Setup) (x : List Happening) → Hears a s x x a) → old.world.setup ≡ s → course ≡ record old { left = turns_in line } → Follows old start → Played Hears s line start a course a
+  played_start s line start old course a nothing setup begun follows = record {
+    now = start;
+    follows = subst (λ course. Follows course start) (sym begun) (record { shows = follows.shows; flicks = follows.flicks });
+    setup = ap (λ (c : CourseState). c.world.setup) begun ∙ setup;
+    hears = nothing a s start.happened;
+    rest = ap (λ (c : CourseState). rest_of s line c.left start) begun ∙ rest_whole s line start;
+  }
+
+  -- what is left once a turn is made
+  rest_after : (s : Setup) (line : Line) (start : Run) (was is is' : L) (course course' : CourseState) (answer : Option Told) → course.left ≤ turns_in line → (u : Played Hears s line start was course is) → (c : ComesTo Hears s line course.left u.now is is' answer course') →
+      rest_of s line (turn_of s line c.left c.now).left (turn_of s line c.left c.now).run ≡ run_after s line start
+  rest_after s line start was is is' course course' answer few u c =
+      let q = rest_quiet s line c.quiet course.left u.now c.left c.now few c.turns in
+      sym (q.1 ∙ turn_on s line c.left c.now q.0) ∙ u.rest
+
+  module _ (s : Setup) (line : Line) (start : Run) (was is is' : L) (course course' : CourseState) (few : course.left ≤ turns_in line) (hears_on : (a b c : L) (s : Setup) (x y z : List Happening) → Hears a s x y b → Hears b s y z c → Hears a s x z c) where
+    abbrev pub Comes : Option Told → Type 0
+    Comes answer = (run : Run) → Follows course run → ComesTo Hears course.world.setup line course.left run is is' answer course'
+
+    comes_now : (answer : Option Told) (u : Played Hears s line start was course is) → Comes answer → ComesTo Hears s line course.left u.now is is' answer course'
+    comes_now answer u comes = subst (λ s. ComesTo Hears s line course.left u.now is is' answer course') u.setup (comes u.now u.follows)
+
+    -- a turn more, which is heard
+    pub played_on : (is'' : L) (answer : Told) (taken : List Taken) → Played Hears s line start was course is → Comes (Some answer) → AnswersTaken course' taken →
+        ((s : Setup) (before : List Happening) (this : Happening) → Happens s before this answer taken → Hears is' s before (this ∷ before) is'') → Played Hears s line start was course' is''
+    played_on is'' answer taken u comes are heard =
+        let c = comes_now (Some answer) u comes in
+        let one = tells_one s line c.left c.now answer course' taken c.tells c.follows c.setup are in
+        let t : Turn = turn_of s line c.left c.now in
+        record {
+          now = t.run;
+          follows = c.follows;
+          setup = c.setup;
+          hears = hears_on was is is'' s start.happened u.now.happened t.run.happened u.hears
+              (subst (λ l. Hears is s u.now.happened l is'') (sym one.same) (hears_on is is' is'' s u.now.happened c.now.happened (one.this ∷ c.now.happened) c.hears (heard s c.now.happened one.this one.happens)));
+          rest = ap (λ n. rest_of s line n t.run) c.left_is ∙ rest_after s line start was is is' course course' (Some answer) few u c;
+        }
+
+    -- the end of the line
+    pub played_ended : Played Hears s line start was course is → Comes None → Plays Hears s line start course' was is'
+    played_ended u comes = by (turned s line c.left c.now)
+      where
+        c : ComesTo Hears s line course.left u.now is is' None course'
+        c = comes_now None u comes
+
+        t : Turn
+        t = turn_of s line c.left c.now
+
+        by : Turned t c.now.happened → Plays Hears s line start course' was is'
+        by (One this some same) = absurd (silent_one s (past_in s c.now) t.this this some c.tells)
+        by (Nothing none ended same) =
+            let all : t.run ≡ run_after s line start = sym (rest_none s line t.run) ∙ ap (λ n. rest_of s line n t.run) (sym ended) ∙ rest_after s line start was is is' course course' None few u c in
+            record {
+              follows = subst (λ (r : Run). Follows course' r) all c.follows;
+              setup = c.setup;
+              hears = subst (λ l. Hears was s start.happened l is') (sym same ∙ ap (λ (r : Run). r.happened) all) (hears_on was is is' s start.happened u.now.happened c.now.happened u.hears c.hears);
+            }
+
+    module _ (Stops : L → Setup → List Happening → List Happening → Fault → L → Type 0) (stops_on : (a b c : L) (s : Setup) (x y z : List Happening) (fault : Fault) → Hears a s x y b → Stops b s y z fault c → Stops a s x z fault c) (fault : Fault) where
+      -- a fault as a turn is heard
+      pub played_cut : (is'' : L) (answer : Told) (taken : List Taken) → ((a b : L) (s : Setup) (x y more : List Happening) (fault : Fault) → Stops a s x y fault b → Stops a s x (more ++ y) fault b) → Played Hears s line start was course is → Comes (Some answer) → AnswersTaken course' taken →
+          ((s : Setup) (before : List Happening) (this : Happening) → Happens s before this answer taken → Stops is' s before (this ∷ before) fault is'') → Stops was s start.happened (run_after s line start).happened fault is''
+      played_cut is'' answer taken stops_before u comes are cut =
+          let c = comes_now (Some answer) u comes in
+          let one = tells_one s line c.left c.now answer course' taken c.tells c.follows c.setup are in
+          let t : Turn = turn_of s line c.left c.now in
+          let more : Grows t.run.happened (rest_of s line t.left t.run).happened = rest_grows s line t.left t.run in
+          let all : (run_after s line start).happened ≡ more.more ++ (one.this ∷ c.now.happened) = ap (λ (r : Run). r.happened) (sym (rest_after s line start was is is' course course' (Some answer) few u c)) ∙ more.is ∙ ap (λ l. more.more ++ l) one.same in
+          subst (λ l. Stops was s start.happened l fault is'') (sym all)
+          (stops_on was is is'' s start.happened u.now.happened (more.more ++ (one.this ∷ c.now.happened)) fault u.hears
+          (stops_on is is' is'' s u.now.happened c.now.happened (more.more ++ (one.this ∷ c.now.happened)) fault c.hears
+          (stops_before is' is'' s c.now.happened (one.this ∷ c.now.happened) more.more fault (cut s c.now.happened one.this one.happens))))
+
+      -- a fault before the turn
+      pub played_torn : Played Hears s line start was course is → ((run : Run) → Follows course run → Stops is course.world.setup run.happened (rest_of course.world.setup line course.left run).happened fault is') → Stops was s start.happened (run_after s line start).happened fault is'
+      played_torn u cut =
+          subst (λ (r : Run). Stops was s start.happened r.happened fault is') u.rest
+          (stops_on was is is' s start.happened u.now.happened (rest_of s line course.left u.now).happened fault u.hears
+          (subst (λ s. Stops is s u.now.happened (rest_of s line course.left u.now).happened fault is') u.setup (cut u.now u.follows)))
+
+  -- turns without a mark are passed by, before the one that tells
+  pub passed : (old new : CourseState) (line : Line) (run : Run) (turns : Turns) (a b : L) → MakesTurns old line run turns new → ((s : Setup) (before after : List Happening) → PassQuietly s turns.quiet before after → Hears a s before after b) → ComesTo Hears old.world.setup line old.left run a b turns.told new
+  passed old new line run turns a b m pass = record {
+    quiet = turns.quiet;
+    left = m.left;
+    now = m.now;
+    turns = m.quiet;
+    hears = pass old.world.setup run.happened m.now.happened (quiet_passes old.world.setup line turns.quiet old.left run m.left m.now m.quiet);
+    tells = m.makes.tells;
+    follows = m.makes.follows;
+    left_is = m.makes.left;
+    setup = m.makes.setup;
+  }
+
+  pub stepping_start : (line : Line) (start : Run) (course : CourseState) (steppers : Steppers) (a : L) → ((a : L) (s : Setup) (x : List Happening) → Hears a s x x a) → Follows course start → AreNext course.world.setup line start steppers → Stepping Hears course.world.setup line course.left start a course steppers a
+  stepping_start line start course steppers a nothing follows next = record {
+    quiet = 0;
+    now = start;
+    turns = (refl, refl);
+    follows = record { shows = follows.shows; flicks = follows.flicks };
+    setup = refl;
+    hears = nothing a course.world.setup start.happened;
+    next = next;
+  }
+
+  module _ (s : Setup) (line : Line) (had : ℕ) (start : Run) (was is : L) (course ready course' : CourseState) (steppers : Steppers) (drawn : Option Drawn) (draws : Draws course line steppers drawn ready) (u : Stepping Hears s line had start was course steppers is) where
+    is_ready : IsReady course line u.now drawn ready
+    is_ready = draws u.now u.follows (subst (λ (s : Setup). AreNext s line u.now steppers) (sym u.setup) u.next)
+
+    -- the Step that is made next
+    step_next : (made : Stepped) → StepsNext course ready line drawn made course' → MakesStep course line u.now made course'
+    step_next made steps = steps u.now u.follows is_ready
+
+    step_one : (made : Stepped) (m : MakesStep course line u.now made course') → Steps1 s line course.left u.now made
+    step_one made m =
+        let family : Setup → Type 0 = λ s. course'.world.setup ≡ s → Steps1 s line course.left u.now made in
+        subst family u.setup (λ same. steps_one course.world.setup line course.left u.now made course' m.makes.tells m.makes.follows m.makes.setup) (m.makes.setup ∙ u.setup)
+
+    pub stepping_on : (is' : L) (made : Stepped) → ((a b c : L) (s : Setup) (x y z : List Happening) → Hears a s x y b → Hears b s y z c → Hears a s x z c) → StepsNext course ready line drawn made course' →
+        ((s : Setup) (before : List Happening) → StepsOn s before made → Hears is s before (Tries (Step made.process made.flick) ∷ before) is') → Stepping Hears s line had start was course' steppers is'
+    stepping_on is' made hears_on steps heard =
+        let m : MakesStep course line u.now made course' = step_next made steps in
+        let one = step_one made m in
+        let t : Turn = turn_of s line course.left u.now in
+        let follows : Follows course' t.run = subst (λ s. Follows course' (turn_of s line course.left u.now).run) u.setup m.makes.follows in
+        let left : course'.left ≡ t.left = subst (λ s. course'.left ≡ (turn_of s line course.left u.now).left) u.setup m.makes.left in
+        record {
+          quiet = u.quiet + 1;
+          now = t.run;
+          turns = subst (λ n. QuietTurns s line (u.quiet + 1) had start n t.run) (sym left) (turns_then s line u.quiet 1 had start course.left u.now t.left t.run u.turns (one.quiet, (refl, refl)));
+          follows = follows;
+          setup = m.makes.setup ∙ u.setup;
+          hears = hears_on was is is' s start.happened u.now.happened t.run.happened u.hears (subst (λ l. Hears is s u.now.happened l is') (sym one.same) (heard s u.now.happened one.on));
+          next = subst (λ (s : Setup). AreNext s line (turn_of s line course.left u.now).run steppers) u.setup (m.next steppers (subst (λ (s : Setup). AreNext s line u.now steppers) (sym u.setup) u.next));
+        }
+
+    pub stepping_told : (answer : Option Told) → TellsNext course ready line drawn answer course' → ComesTo Hears s line had start was is answer course'
+    stepping_told answer tells =
+        let makes = tells u.now u.follows is_ready in
+        let family : Setup → Type 0 = λ s. (QuietTurns s line u.quiet had start course.left u.now) → Hears was s start.happened u.now.happened is → course.world.setup ≡ s → ComesTo Hears s line had start was is answer course' in
+        subst family u.setup (λ turns hears same. record { quiet = u.quiet; left = course.left; now = u.now; turns = turns; hears = hears; tells = makes.tells; follows = makes.follows; left_is = makes.left; setup = makes.setup }) u.turns u.hears u.setup
+
+    module _ (Stops : L → Setup → List Happening → List Happening → Fault → L → Type 0) (stops_on : (a b c : L) (s : Setup) (x y z : List Happening) (fault : Fault) → Hears a s x y b → Stops b s y z fault c → Stops a s x z fault c)
+        (stops_before : (a b : L) (s : Setup) (x y more : List Happening) (fault : Fault) → Stops a s x y fault b → Stops a s x (more ++ y) fault b) (few : had ≤ turns_in line) where
+      -- a fault as it is heard
+      pub stepping_cut : (is' : L) (made : Stepped) (fault : Fault) → StepsNext course ready line drawn made course' → ((s : Setup) (before : List Happening) → StepsOn s before made → Stops is s before (Tries (Step made.process made.flick) ∷ before) fault is') → Stops was s start.happened (rest_of s line had start).happened fault is'
+      stepping_cut is' made fault steps cut =
+          let one = step_one made (step_next made steps) in
+          let t : Turn = turn_of s line course.left u.now in
+          let q = rest_quiet s line u.quiet had start course.left u.now few u.turns in
+          let more : Grows t.run.happened (rest_of s line t.left t.run).happened = rest_grows s line t.left t.run in
+          let here : List Happening = Tries (Step made.process made.flick) ∷ u.now.happened in
+          let all : (rest_of s line had start).happened ≡ more.more ++ here = ap (λ (r : Run). r.happened) (q.1 ∙ turn_on s line course.left u.now q.0) ∙ more.is ∙ ap (λ l. more.more ++ l) one.same in
+          subst (λ l. Stops was s start.happened l fault is') (sym all)
+          (stops_on was is is' s start.happened u.now.happened (more.more ++ here) fault u.hears (stops_before is is' s u.now.happened here more.more fault (cut s u.now.happened one.on)))
+
+      -- or before the turn that comes next
+      pub stepping_torn : (fault : Fault) → Stops is s u.now.happened u.now.happened fault is → Stops was s start.happened (rest_of s line had start).happened fault is
+      stepping_torn fault cut =
+          let q = rest_quiet s line u.quiet had start course.left u.now few u.turns in
+          let more : Grows u.now.happened (rest_of s line course.left u.now).happened = rest_grows s line course.left u.now in
+          let all : (rest_of s line had start).happened ≡ more.more ++ u.now.happened = ap (λ (r : Run). r.happened) q.1 ∙ more.is in
+          subst (λ l. Stops was s start.happened l fault is) (sym all)
+          (stops_on was is is s start.happened u.now.happened (more.more ++ u.now.happened) fault u.hears (stops_before is is s u.now.happened u.now.happened more.more fault cut))
+
+-- a fault before anything is heard
+pub unheard : {L : Type 0} (Stops : L → Setup → List Happening → List Happening → Fault → L → Type 0) (s : Setup) (line : Line) (left : ℕ) (run : Run) (a : L) (fault : Fault) → ((a b : L) (s : Setup) (x y more : List Happening) (fault : Fault) → Stops a s x y fault b → Stops a s x (more ++ y) fault b) →
+    Stops a s run.happened run.happened fault a → Stops a s run.happened (rest_of s line left run).happened fault a
+unheard Stops s line left run a fault stops_before cut =
+    let more : Grows run.happened (rest_of s line left run).happened = rest_grows s line left run in
+    subst (λ l. Stops a s run.happened l fault a) (sym more.is) (stops_before a a s run.happened run.happened more.more fault cut)
+
+-- Between two lines.
+
+-- the run so far, of which this holds, and the lines to come
+pub record Between (s : Setup) (lines rest : List Line) (course : CourseState) (P : List Happening → Type 0) : Type 0 where
+  pub now : Run
+  pub follows : Follows course now
+  pub setup : course.world.setup ≡ s
+  pub so_far : P now.happened
+  pub whole : runs s rest now ≡ runs s lines run_at_start
+
+pub between_start : (s : Setup) (lines : List Line) (course : CourseState) (P : List Happening → Type 0) → course.world.setup ≡ s → Follows course run_at_start → P [] → Between s lines lines course P
+between_start s lines course P setup follows so_far = record { now = run_at_start; follows = record { shows = follows.shows; flicks = follows.flicks }; setup = setup; so_far = so_far; whole = refl }
+
+-- a line more, which was heard
+pub between_on : {L : Type 0} {Hears : L → Setup → List Happening → List Happening → L → Type 0} (s : Setup) (lines rest : List Line) (line : Line) (course course' : CourseState) (P Q : List Happening → Type 0) (was is : L) → Between s lines (line ∷ rest) course P →
+    ((run : Run) → Follows course run → Plays Hears course.world.setup line run course' was is) → ((x y : List Happening) → Hears was s x y is → P x → Q y) → Between s lines rest course' Q
+between_on {L} {Hears} s lines rest line course course' P Q was is u plays more =
+    let p : Plays Hears s line u.now course' was is = subst (λ s. Plays Hears s line u.now course' was is) u.setup (plays u.now u.follows) in
+    record { now = run_after s line u.now; follows = p.follows; setup = p.setup; so_far = more u.now.happened (run_after s line u.now).happened p.hears u.so_far; whole = u.whole }
+
+-- at the end it holds of all
+pub between_all : (s : Setup) (lines : List Line) (course : CourseState) (P : List Happening → Type 0) → Between s lines [] course P → P (runs s lines run_at_start).happened
+between_all s lines course P u = subst (λ (r : Run). P r.happened) u.whole u.so_far
+
+-- and the setup is good, and the run given
+pub between_good : (s : Setup) (lines : List Line) (course : CourseState) (P : List Happening → Type 0) → Between s lines [] course P → (checked s ≡ Ok tt) × AreGiven s (tried (runs s lines run_at_start).happened)
+between_good s lines course P u = subst (λ (r : Run). (checked s ≡ Ok tt) × AreGiven s (tried r.happened)) u.whole (good_of s course u.now u.setup u.follows)
+
+-- Room, and faults that are passed on.
+
+pub wanted_less : (told : Option Told) (n k m : ℕ) → IfSome told (λ _. n < k) → k ≤ m → room_wanted told n ≤ m
+wanted_less None n k m less most = omega arith
+wanted_less (Some told) n k m less most = omega (arith, less, most)
+
+pub wanted_sum : (told : Option Told) (k n m : ℕ) → k + n ≤ m → IfSome told (λ _. k + n < m) → k + room_wanted told n ≤ m
+wanted_sum None k n m most less = omega (arith, most)
+wanted_sum (Some told) k n m most less = omega (arith, less)
+
+pub on_fault : {A : Type 0} (r : Result A Fault) (e : Fault) (P : Fault → Type 0) → IsErrAnd r (λ x. x ≡ e) → P e → IfErr r P
+on_fault (Ok a) e P is p = tt
+on_fault (Err x) e P is p = subst P (sym is) p
+
+-- events alone are what was tried
+pub tried_all : (events : List Event) → tried (map Tries events) ≡ events
+tried_all [] = refl
+tried_all (event ∷ events) = ap (λ l. event ∷ l) (tried_all events)

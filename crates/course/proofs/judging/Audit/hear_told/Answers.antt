@@ -1,0 +1,18 @@
+use Rattle.std.proofs.Common.{◌≡◌, ◌∙◌, ◌∷◌, subst}
+use Rattle.plain_store.specs.declared.setups.Setup.{Setup}
+use Rattle.record.specs.Entries.{Entry, Past}
+use Rattle.auditor.specs.Verdicts.{KeepsAll}
+use Rattle.course.specs.Judging.{Audits}
+use Rattle.course.specs.Telling.{entry_made}
+use Rattle.course.proofs.Listeners.{told_audited}
+use Rattle.course.proofs.judging.Audit.hear_told.Goals as goal
+
+pub returns-in-Accepted : goal.returns-in-Accepted
+returns-in-Accepted c = λ s before this taken happens audits.
+    let made = c.in-Accepted.made in
+    let old = c.args.self.now in
+    let new = c.hear.new.self in
+    let e : Entry = record { process = c.process.result; access = made.access; marks = c.as_slice.result.now } in
+    let same : e ≡ entry_made made = λ i. record { process = c.process.ensures i; access = made.access; marks = (c.as_slice.ensures ∙ c.marks-marks.ensures) i } in
+    told_audited s before this made c.args.told.now taken old new c.in-Accepted.is happens
+    (subst (λ (e : Entry). (s : Setup) (past : Past) → KeepsAll s past e → Audits s past old → Audits s (e ∷ past) new) same c.hear.ensures) audits

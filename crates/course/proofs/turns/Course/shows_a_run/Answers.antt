@@ -1,0 +1,14 @@
+use Rattle.std.proofs.Common.{map, refl, subst, sym}
+use Rattle.world.specs.Shows.{Shows}
+use Rattle.course.specs.Courses.{CourseState, Follows}
+use Rattle.course.specs.Happenings.{Tries}
+use Rattle.course.specs.Runs.{Run}
+use Rattle.course.proofs.Played.{tried_all}
+use Rattle.course.proofs.turns.Course.shows_a_run.Goals as goal
+
+pub returns : goal.returns
+returns c =
+    let i = c.self.inside in
+    let (events, shows) = c.shown.ensures in
+    let run : Run = record { happened = map Tries events; flicks = i.flicks } in
+    subst (λ (now : CourseState). (run : Run) × Follows now run) c.self.view_is (run, record { shows = subst (λ events. Shows i.world events) (sym (tried_all events)) shows; flicks = refl })

@@ -1,0 +1,13 @@
+-- What the auditor of a run has heard.
+use Rattle.std.specs.Prelude.{◌≡◌}
+use Rattle.plain_store.specs.declared.setups.Setup.{Setup}
+use Rattle.record.specs.Entries.{Past}
+use Rattle.auditor.specs.Hearing.{HasHeard}
+use Rattle.auditor.specs.declared.verdicts.Verdict.TheVariants.{Good}
+use Rattle.course.specs.declared.judging.Audit.{Audit}
+
+-- it has heard the entries of this past, and none broke a law
+pub record Audits (s : Setup) (past : Past) (audit : Audit) : Type 0 where
+  pub setup : audit.auditor.core.setup ≡ s
+  pub heard : HasHeard audit.auditor past
+  pub kept : audit.verdict ≡ Good

@@ -1,0 +1,159 @@
+//! A listener, and an auditor that hears each entry beside it.
+ghost use Rattle.std.specs.Prelude.{◌≡◌, ◌↔◌, [], ◌∷◌, List, IfOk, IsTrue, None, Ok, Some, true};
+ghost use Rattle.plain_store.specs.Setups.{checked};
+ghost use Rattle.plain_store.specs.declared.setups.Setup.{Setup as Given};
+ghost use Rattle.record.specs.Entries.{Past};
+ghost use Rattle.record.specs.declared.history.Taken.{Taken as Seen};
+ghost use Rattle.auditor.specs.Verdicts.{KeepsAll};
+ghost use Rattle.auditor.specs.declared.verdicts.Verdict.TheVariants.{Good};
+ghost use Rattle.course.specs.Happenings.{Happening, past_after};
+ghost use Rattle.course.specs.Judging.{Audits};
+ghost use Rattle.course.specs.Listening.{Happens};
+
+use crate::listening::Listener;
+use crate::told::{Stepped, Told};
+use auditor::{Auditor, Law, Verdict};
+use plain_store::{NestedTypes, Setup};
+use record::{Access, Mark, Taken};
+use scenario::Fault;
+use std::alloc::{AllocError, Global};
+
+/// What an auditor finds of the entries of a run.
+#[derive(Drop)]
+pub struct Audit {
+    alloc: Global,
+    auditor: Auditor,
+    /// How many entries it has heard, or 2^64 - 1 if there were more.
+    entries: u64,
+    /// A run's entries break no law, which is proved; what the auditor answers decides all the same. The law that it
+    /// tells is the first one after `Safe`, for which it would need the entries before.
+    verdict: Verdict,
+}
+
+impl Audit {
+    /// One that has heard nothing.
+    pub fn new(alloc: Global, setup: &Setup) -> Result<Audit, AllocError>
+        requires { checked setup.now ≡ Ok tt }
+        ensures { IfOk result (Audits setup.now []) }
+    {
+        Ok(Audit {
+            alloc,
+            auditor: Auditor::new(alloc, setup)?,
+            entries: 0,
+            verdict: Verdict::Good,
+        })
+    }
+
+    /// The verdict on the entries so far.
+    pub fn verdict(&self) -> Verdict
+        ensures { (s : Given) (past : Past) → Audits s past self.now → result ≡ Good }
+    {
+        self.verdict
+    }
+
+    /// Hears what a turn tells, if it is an entry.
+    #[inline(never)]
+    fn hear_told(&mut self, told: &Told)
+        ensures { (s : Given) (before : List Happening) (this : Happening) (taken : List Seen) → Happens s before this told.now taken → Audits s (past_after s before) self.old → Audits s (past_after s (this ∷ before)) self.new }
+    {
+        let _nested: NestedTypes = None;
+        if let Told::Accepted(made) = told {
+            let marks = made.marks(self.alloc);
+            self.hear(made.event.process(), &made.access, marks.as_slice());
+        }
+    }
+
+    /// Hears an entry, unless one before has broken a law.
+    fn hear(&mut self, process: u8, access: &Option<Access>, marks: &[Mark])
+        ensures { (s : Given) (past : Past) → KeepsAll s past (record { process = process; access = access.now; marks = marks.now }) → Audits s past self.old → Audits s (record { process = process; access = access.now; marks = marks.now } ∷ past) self.new }
+    {
+        let _nested: NestedTypes = None;
+        if !self.is_good() {
+            return;
+        }
+        let law = self.auditor.hear_parts(process, access, marks);
+        self.note(law);
+    }
+
+    /// Hears an entry with this access and no mark, unless one before has broken a law.
+    #[inline]
+    fn hear_access(&mut self, process: u8, access: Access)
+        ensures { (s : Given) (past : Past) → KeepsAll s past (record { process = process; access = Some access; marks = [] }) → Audits s past self.old → Audits s (record { process = process; access = Some access; marks = [] } ∷ past) self.new }
+    {
+        let _nested: NestedTypes = None;
+        if !self.is_good() {
+            return;
+        }
+        let law = self.auditor.hear_access(process, access);
+        self.note(law);
+    }
+
+    /// Whether no entry has broken a law.
+    #[inline]
+    fn is_good(&self) -> bool
+        ensures { IsTrue result ↔ (self.now.verdict ≡ Good) }
+    {
+        matches!(self.verdict, Verdict::Good)
+    }
+
+    /// One more entry was heard, which breaks this law or none.
+    #[inline]
+    fn note(&mut self, law: Option<Law>)
+        ensures auditor { self.new.auditor ≡ self.old.auditor }
+        ensures kept { law ≡ None → self.new.verdict ≡ self.old.verdict }
+    {
+        match law {
+            None => self.entries = self.entries.saturating_add(1),
+            Some(law) => self.verdict = Verdict::Bad(self.entries, law),
+        }
+    }
+}
+
+/// A listener, and the audit of what it hears.
+#[derive(Drop)]
+pub struct Judged<L: Listener + Drop> {
+    pub listener: L,
+    pub audit: Audit,
+}
+
+impl<L: Listener + Drop> Listener for Judged<L> {
+    ghost hears_steps = { λ _. true };
+
+    #[inline(always)]
+    fn hears_steps(&self) -> bool {
+        true
+    }
+
+    ghost HasRoom = { λ judged more. L.HasRoom judged.listener more };
+
+    ghost Hears = { λ a s x y b. L.Hears a.listener s x y b.listener × (Audits s (past_after s x) a.audit → Audits s (past_after s y) b.audit) };
+
+    ghost Stops = { λ a s x y fault b. L.Stops a.listener s x y fault b.listener };
+
+    fn hear(&mut self, told: &Told, taken: &[Taken]) -> Result<(), Fault> {
+        self.audit.hear_told(told);
+        self.listener.hear(told, taken)
+    }
+
+    #[inline(always)]
+    fn step(&mut self, made: Stepped) -> Result<(), Fault> {
+        self.audit.hear_access(made.process, made.access);
+        self.listener.step(made)
+    }
+
+    fn pass(&mut self, steps: u32) {
+        self.listener.pass(steps);
+    }
+
+    ghost room_less = { λ a n k. L.room_less a.listener n k };
+
+    ghost hears_nothing = { λ a s x. (L.hears_nothing a.listener s x, λ audits. audits) };
+
+    ghost hears_on = { λ a b c s x y z p q. (L.hears_on a.listener b.listener c.listener s x y z p.0 q.0, λ audits. q.1 (p.1 audits)) };
+
+    ghost stops_unheard = { λ a s x. L.stops_unheard a.listener s x };
+
+    ghost stops_before = { λ a b s x y more fault p. L.stops_before a.listener b.listener s x y more fault p };
+
+    ghost stops_on = { λ a b c s x y z fault p q. L.stops_on a.listener b.listener c.listener s x y z fault p.0 q };
+}

@@ -1,0 +1,64 @@
+//! Who hears a run as its course makes it.
+ghost use Rattle.std.specs.Prelude.{◌≡◌, ◌+◌, ◌≤◌, ◌++◌, ℕ, List, ◌∷◌, Bool, false, OnOk, IfErr};
+ghost use Rattle.plain_store.specs.declared.setups.Setup.{Setup};
+ghost use Rattle.record.specs.declared.events.Event.TheVariants.{Step};
+ghost use Rattle.scenario.specs.files.declared.faults.Fault.{Fault as WhyEnded};
+ghost use Rattle.scenario.specs.files.declared.faults.Fault.TheVariants.{Memory};
+ghost use Rattle.course.specs.Happenings.{Happening, Tries};
+ghost use Rattle.course.specs.Listening.{Happens, PassQuietly, StepsOn};
+
+use crate::told::{Stepped, Told};
+use record::Taken;
+use scenario::Fault;
+
+/// Who hears a run. Two relations say what it has heard between two moments: of what happened in a run of a setup,
+/// from the one list of it to the other.
+pub trait Listener {
+    /// Whether each Step without a mark is heard. If not, they are passed by, many at once.
+    ghost hears_steps: { Self → Bool };
+
+    fn hears_steps(&self) -> bool
+        ensures { result ≡ hears_steps self.now };
+
+    /// It has room for so many things more.
+    ghost HasRoom: { Self → ℕ → Type 0 };
+
+    /// It has heard this.
+    ghost Hears: { Self → Setup → List Happening → List Happening → Self → Type 0 };
+
+    /// It has heard a front of this, and then came a fault.
+    ghost Stops: { Self → Setup → List Happening → List Happening → WhyEnded → Self → Type 0 };
+
+    /// Hears what a turn tells, once these commands are taken.
+    fn hear(&mut self, told: &Told, taken: &[Taken]) -> Result<(), Fault>
+        requires { HasRoom self.old 1 }
+        ensures ok { OnOk result ((s : Setup) (before : List Happening) (this : Happening) → Happens s before this told.now taken.now → Hears self.old s before (this ∷ before) self.new) }
+        ensures room { OnOk result ((more : ℕ) → HasRoom self.old (more + 1) → HasRoom self.new more) }
+        ensures cut { IfErr result (λ fault. (s : Setup) (before : List Happening) (this : Happening) → Happens s before this told.now taken.now → Stops self.old s before (this ∷ before) fault self.new) };
+
+    /// Hears a Step without a mark.
+    fn step(&mut self, made: Stepped) -> Result<(), Fault>
+        requires { HasRoom self.old 1 }
+        ensures ok { OnOk result ((s : Setup) (before : List Happening) → StepsOn s before made → Hears self.old s before (Tries (Step made.process made.flick) ∷ before) self.new) }
+        ensures room { OnOk result ((more : ℕ) → HasRoom self.old (more + 1) → HasRoom self.new more) }
+        ensures cut { IfErr result (λ fault. (s : Setup) (before : List Happening) → StepsOn s before made → Stops self.old s before (Tries (Step made.process made.flick) ∷ before) fault self.new) };
+
+    /// So many Steps without a mark are passed by.
+    fn pass(&mut self, steps: u32)
+        requires { HasRoom self.old steps }
+        ensures ok { hears_steps self.old ≡ false → (s : Setup) (before after : List Happening) → PassQuietly s steps before after → Hears self.old s before after self.new }
+        ensures room { (more : ℕ) → HasRoom self.old (more + steps) → HasRoom self.new more };
+
+    ghost room_less: { (a : Self) (n k : ℕ) → n ≤ k → HasRoom a k → HasRoom a n };
+
+    ghost hears_nothing: { (a : Self) (s : Setup) (x : List Happening) → Hears a s x x a };
+
+    ghost hears_on: { (a b c : Self) (s : Setup) (x y z : List Happening) → Hears a s x y b → Hears b s y z c → Hears a s x z c };
+
+    /// A course may find no memory before it has let anything be heard.
+    ghost stops_unheard: { (a : Self) (s : Setup) (x : List Happening) → Stops a s x x Memory a };
+
+    ghost stops_before: { (a b : Self) (s : Setup) (x y more : List Happening) (fault : WhyEnded) → Stops a s x y fault b → Stops a s x (more ++ y) fault b };
+
+    ghost stops_on: { (a b c : Self) (s : Setup) (x y z : List Happening) (fault : WhyEnded) → Hears a s x y b → Stops b s y z fault c → Stops a s x z fault c };
+}

@@ -1,0 +1,78 @@
+//! A line is played: its turns are made, one after the other, and a listener hears them. Who need not hear each Step
+//! without a mark has them passed by, made in a row.
+ghost use Rattle.std.specs.Prelude.{◌≡◌, ◌+◌, ◌^◌, ◌<◌, ◌≤◌, ℕ, IfErr, IfOk, OnOk};
+ghost use Rattle.course.specs.Courses.{Follows};
+ghost use Rattle.course.specs.Listening.{ComesTo, Plays, room_wanted};
+ghost use Rattle.course.specs.Runs.{Run, run_after};
+ghost use Rattle.course.specs.Turns.{rest_of, turns_in as turns_of};
+
+use super::Course;
+use crate::listening::Listener;
+use crate::told::Told;
+use scenario::{Fault, Line};
+
+impl Course {
+    /// Makes the turns of a line, each of which is heard before the next is made. A course finds no memory only before a
+    /// turn.
+    pub fn play<L: Listener>(&mut self, line: &Line, listener: &mut L) -> Result<(), Fault>
+        requires { L.HasRoom listener.old (2 ^ 32) }
+        ensures ok { OnOk result ((run : Run) → Follows self.old run → Plays L.Hears self.old.world.setup line.now run self.new listener.old listener.new) }
+        ensures runs { (run : Run) × Follows self.old run }
+        ensures room { OnOk result ((more : ℕ) → L.HasRoom listener.old (more + 2 ^ 32) → L.HasRoom listener.new more) }
+        ensures cut { IfErr result (λ fault. (run : Run) → Follows self.old run → L.Stops listener.old self.old.world.setup run.happened (run_after self.old.world.setup line.now run).happened fault listener.new) }
+    {
+        self.shows_a_run();
+        self.begin(line);
+        'turns: loop {
+            let Some(told) = self.next(line, listener)? else {
+                return Ok(());
+            };
+            listener.hear(&told, self.history())?;
+        }
+    }
+
+    /// Does nothing. Its contract says that the course shows a run.
+    #[inline(always)]
+    fn shows_a_run(&self)
+        ensures { (run : Run) × Follows self.now run }
+    {
+        self.world.shown();
+    }
+
+    /// Makes the turns of a line up to the one that tells, which is not heard yet; none once the line has ended.
+    #[inline]
+    fn next<L: Listener>(&mut self, line: &Line, listener: &mut L) -> Result<Option<Told>, Fault>
+        requires few { self.old.left ≤ turns_of line.now }
+        requires room { L.HasRoom listener.old self.old.left }
+        ensures left { IfOk result (λ told. room_wanted told self.new.left ≤ self.old.left) }
+        ensures ok { IfOk result (λ told. (run : Run) → Follows self.old run → ComesTo L.Hears self.old.world.setup line.now self.old.left run listener.old listener.new told self.new) }
+        ensures room { IfOk result (λ told. (more : ℕ) → L.HasRoom listener.old (more + self.old.left) → L.HasRoom listener.new (more + room_wanted told self.new.left)) }
+        ensures cut { IfErr result (λ fault. (run : Run) → Follows self.old run → L.Stops listener.old self.old.world.setup run.happened (rest_of self.old.world.setup line.now self.old.left run).happened fault listener.new) }
+    {
+        if listener.hears_steps() {
+            return self.step_on(line, listener);
+        }
+        let made = self.turns(line)?;
+        listener.pass(made.quiet);
+        Ok(made.told)
+    }
+
+    /// The same where each Step is heard.
+    fn step_on<L: Listener>(&mut self, line: &Line, listener: &mut L) -> Result<Option<Told>, Fault>
+        requires few { self.old.left ≤ turns_of line.now }
+        requires room { L.HasRoom listener.old self.old.left }
+        ensures left { IfOk result (λ told. room_wanted told self.new.left ≤ self.old.left) }
+        ensures ok { IfOk result (λ told. (run : Run) → Follows self.old run → ComesTo L.Hears self.old.world.setup line.now self.old.left run listener.old listener.new told self.new) }
+        ensures room { IfOk result (λ told. (more : ℕ) → L.HasRoom listener.old (more + self.old.left) → L.HasRoom listener.new (more + room_wanted told self.new.left)) }
+        ensures cut { IfErr result (λ fault. (run : Run) → Follows self.old run → L.Stops listener.old self.old.world.setup run.happened (rest_of self.old.world.setup line.now self.old.left run).happened fault listener.new) }
+    {
+        let steppers = self.steppers(line);
+        'steps: loop {
+            let drawn = self.draw(&steppers);
+            let Some(made) = self.step_drawn(drawn) else {
+                return Ok(self.turn_drawn(line, drawn)?);
+            };
+            listener.step(made)?;
+        }
+    }
+}

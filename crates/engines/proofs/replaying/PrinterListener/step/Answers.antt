@@ -1,0 +1,18 @@
+use Rattle.std.proofs.Common.{◌∷◌, refl}
+use Rattle.course.specs.«record».declared.events.Event.TheVariants.{Step}
+use Rattle.course.specs.Happenings.{Tries}
+use Rattle.course.specs.Texts.{text_of}
+use Rattle.course.specs.Writing.{Counts}
+use Rattle.course.proofs.Counting.{counts_stepped, step_passes, text_passed}
+use Rattle.course.proofs.Endings.{took_same}
+use Rattle.engines.proofs.replaying.PrinterListener.step.Goals as goal
+
+pub returns-clause-ok : goal.returns-clause-ok
+returns-clause-ok g c = λ s before on.
+    let old = c.args.self.now in
+    let made = c.args._made in
+    let after = Tries (Step made.process made.flick) ∷ before in (
+      refl,
+      counts_stepped s before made old.summary on,
+      took_same (Counts s before old.summary) (text_of s before) (text_of s after) (g.W.Sink.taken old.output.now) (g.W.Sink.failures old.output.now) (text_passed s 1 before after (step_passes s before made on)),
+    )
