@@ -3,7 +3,7 @@
 
 ghost use Rattle.std.specs.Prelude.{◌-◌, ◌<◌, ◌^◌};
 
-use any_judge::{judge_any_lock, run_judge_with_reasons};
+use any_judge::judge_any_lock;
 use command_line::{
     Asked, Engine, Fault, FromRead, Intake, IntoWrite, LineFault, Output, Request, Sink, Source,
     Terminals, Uninterrupted, WatchedInput, Watcher, all_words, ended, read_words,
@@ -182,8 +182,7 @@ fn run_engine<T: AllocGlobal + Threads + Wait + Sync, R: Source, W: Sink, L: Onl
         Engine::Record => ended(run_record(alloc, input, output, onlooker)),
         Engine::Calls => ended(run_calls(alloc, input, output, onlooker)),
         Engine::Judge if wanted.any_lock => judge_any_lock(alloc, input, output, wanted.why),
-        Engine::Judge if wanted.why => run_judge_with_reasons(alloc, input, output),
-        Engine::Judge => run_judge(alloc, input, output),
+        Engine::Judge => run_judge(alloc, input, output, wanted.why),
         Engine::Race => return run_race(rt, alloc, input, output),
         Engine::Draw => ended(draw(alloc, reads, input, output, onlooker)),
         Engine::DrawSvg => ended(draw_svg(alloc, reads, input, output, onlooker)),
