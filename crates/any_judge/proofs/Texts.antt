@@ -1,12 +1,6 @@
 -- Texts behind one another.
-use Rattle.std.proofs.Common.{◌≡◌, ℕ, List, [], ◌++◌, sym, ◌∙◌, append_assoc, append-nil}
-
--- nothing more
-pub none : (t : List ℕ) → t ≡ t ++ []
-none t = sym (append-nil t)
-
-pub three : (t a b c : List ℕ) → ((t ++ a) ++ b) ++ c ≡ t ++ (a ++ (b ++ c))
-three t a b c = append_assoc (t ++ a) b c ∙ append_assoc t a (b ++ c)
+use Rattle.std.proofs.Common.{◌≡◌, ℕ, List, ◌++◌, ◌∙◌, append_assoc}
+use Rattle.trial.proofs.Texts.{three}
 
 pub five : (t a b c d e : List ℕ) → ((((t ++ a) ++ b) ++ c) ++ d) ++ e ≡ t ++ (a ++ (b ++ (c ++ (d ++ e))))
 five t a b c d e = three ((t ++ a) ++ b) c d e ∙ append_assoc (t ++ a) b (c ++ (d ++ e)) ∙ append_assoc t a (b ++ (c ++ (d ++ e)))

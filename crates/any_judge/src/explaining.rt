@@ -1,16 +1,14 @@
 //! A judge who tells the reasons of a bad verdict too.
 ghost use Rattle.std.specs.Prelude.{◌≡◌, ◌&&◌, not, OnOk};
-ghost use Rattle.record_file.specs.Printing.{step_entry as entry_of_step};
 ghost use Rattle.any_judge.specs.Explanations.{Explains, ExplainsIf, HasExplained, TellsReasons, is_good};
 
 use crate::reason_lines::reason_lines;
 use crate::verdicts::{status_of, verdict_line};
 use any_lock::{Judge, Verdict};
-use plain_store::{NestedTypes, Setup};
-use record::{Access, Act, Entry};
-use smallvec::SmallVec;
+use plain_store::Setup;
+use record::{Access, Entry};
 use std::alloc::{AllocError, Global};
-use trial::{Hearer, Telling};
+use trial::{Hearer, Telling, step_entry};
 
 /// A judge, and the lines of the reasons once his verdict is bad.
 #[derive(Drop)]
@@ -81,20 +79,6 @@ fn is_good(judge: &Judge) -> bool
     ensures { result ≡ is_good judge.now.verdict }
 {
     matches!(judge.judged().verdict, Verdict::Good)
-}
-
-/// The entry of a Step with this access and no mark.
-fn step_entry(alloc: Global, process: u8, access: Access) -> Entry
-    ensures { result ≡ entry_of_step process access }
-{
-    let _nested: NestedTypes = None;
-    Entry {
-        process,
-        act: Act {
-            access: Some(access),
-            marks: SmallVec::new(alloc),
-        },
-    }
 }
 
 /// Writes the reasons of an entry, which stands in this line, if it is the bad one: the verdict was good, and is bad now.

@@ -11,5 +11,4 @@ mod verdicts;
 
 pub use any_lock::{Judge, Judged, Law, Verdict};
 pub use common_laws::good_records_keep_laws_of_any_lock;
-pub use judge::run_judge_with_reasons;
 pub use judging::judge_any_lock;

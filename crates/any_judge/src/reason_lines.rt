@@ -31,7 +31,7 @@ pub(crate) fn reason_lines(
 }
 
 /// The entry as it would keep all laws.
-#[tactic(auto, using(crate::proofs::Texts::none))]
+#[tactic(auto, using(trial::proofs::Texts::none))]
 fn push_may(
     alloc: Global,
     entry: &Entry,
@@ -51,7 +51,7 @@ fn push_may(
 }
 
 /// Why it is refused.
-#[tactic(auto, using(crate::proofs::Texts::none))]
+#[tactic(auto, using(trial::proofs::Texts::none))]
 fn push_refused(
     alloc: Global,
     refused: &Option<Refused>,
@@ -85,7 +85,7 @@ fn mark_text(alloc: Global, refusal: &MarkRefusal) -> Result<String, AllocError>
 }
 
 /// Where its process stands.
-#[tactic(auto, using(crate::proofs::Texts::three))]
+#[tactic(auto, using(trial::proofs::Texts::three))]
 fn push_standing(alloc: Global, reasons: &Reasons, text: &mut Vec<u8>) -> Result<(), AllocError>
     ensures { OnOk result (text.new.items ≡ text.old.items ++ standing_lines reasons.now) }
 {
@@ -95,7 +95,7 @@ fn push_standing(alloc: Global, reasons: &Reasons, text: &mut Vec<u8>) -> Result
 }
 
 /// Where others stand.
-#[tactic(auto, using(crate::proofs::Texts::three))]
+#[tactic(auto, using(trial::proofs::Texts::three))]
 fn push_others(alloc: Global, reasons: &Reasons, text: &mut Vec<u8>) -> Result<(), AllocError>
     ensures { OnOk result (text.new.items ≡ text.old.items ++ others_lines reasons.now) }
 {
@@ -105,7 +105,7 @@ fn push_others(alloc: Global, reasons: &Reasons, text: &mut Vec<u8>) -> Result<(
 }
 
 /// The number of an entry, if there is one.
-#[tactic(auto, using(crate::proofs::Texts::none))]
+#[tactic(auto, using(trial::proofs::Texts::none))]
 fn push_if(
     alloc: Global,
     word: &str,
@@ -121,7 +121,7 @@ fn push_if(
 }
 
 /// Who is inside.
-#[tactic(auto, using(crate::proofs::Texts::none))]
+#[tactic(auto, using(trial::proofs::Texts::none))]
 fn push_inside(
     alloc: Global,
     inside: Option<(u8, u64)>,
@@ -147,7 +147,7 @@ fn push_waits(alloc: Global, waits: &[Option<u64>], text: &mut Vec<u8>) -> Resul
     Ok(())
 }
 
-#[tactic(auto, using(crate::proofs::Texts::none))]
+#[tactic(auto, using(trial::proofs::Texts::none))]
 fn push_wait(
     alloc: Global,
     process: u64,

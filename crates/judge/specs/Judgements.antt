@@ -1,5 +1,5 @@
 -- What the engine `judge` answers and writes.
-use Rattle.std.specs.Prelude.{◌≡◌, ℕ, List, ◌++◌, codes, length, Result}
+use Rattle.std.specs.Prelude.{◌≡◌, ℕ, Bool, true, false, List, ◌++◌, codes, length, Result}
 use Rattle.plain_store.specs.declared.setups.Setup.{Setup}
 use Rattle.auditor.specs.Shown.{verdict_text}
 use Rattle.auditor.specs.Verdicts.{IsVerdict}
@@ -26,10 +26,6 @@ pub record TellsVerdict (s : Setup) (entries : List Entry) (numbers told : List 
   pub answer : status ≡ status_of_verdict verdict
   pub line : told ≡ verdict_line (length entries) verdict
 
--- How judging ends: with the verdict on what the whole input says, or with its fault; each fault has its cause, and nothing was written unless the verdict is known.
-abbrev pub JudgeEnds : Result ℕ Fault → Streams → Streams → Type 0
-JudgeEnds = TrialEnds TellsVerdict
-
 -- the line of the verdict, and behind it the lines of its reasons, and its status
 pub record TellsReasons (s : Setup) (entries : List Entry) (numbers told : List ℕ) (status : ℕ) : Type 0 where
   pub verdict : Verdict
@@ -38,6 +34,7 @@ pub record TellsReasons (s : Setup) (entries : List Entry) (numbers told : List 
   pub reasons : List ℕ
   pub text : told ≡ verdict_line (length entries) verdict ++ reasons
 
--- how judging ends where reasons are asked for
-abbrev pub ExplainingEnds : Result ℕ Fault → Streams → Streams → Type 0
-ExplainingEnds = TrialEnds TellsReasons
+-- How judging ends: with the verdict on what the whole input says, and with lines of reasons if they are asked for; or with its fault. Each fault has its cause, and nothing was written unless the verdict is known.
+abbrev pub JudgeEnds : Bool → Result ℕ Fault → Streams → Streams → Type 0
+JudgeEnds false = TrialEnds TellsVerdict
+JudgeEnds true = TrialEnds TellsReasons

@@ -1,6 +1,5 @@
 //! A judge who tells the reasons of a bad verdict too.
 ghost use Rattle.std.specs.Prelude.{◌≡◌};
-ghost use Rattle.record_file.specs.Printing.{step_entry as entry_of_step};
 ghost use Rattle.judge.specs.Judgements.{TellsReasons};
 ghost use Rattle.judge.specs.Judging.{HasJudged};
 
@@ -11,10 +10,9 @@ use auditor::Verdict;
 use plain_store::{NestedTypes, Setup};
 use record::{Access, Act, Entry, Event, Mark, Refusal};
 use record_file::print_entry;
-use smallvec::SmallVec;
 use std::alloc::{AllocError, Global};
 use trial::reason_lines::{push_bad, push_entry, push_stage, push_word};
-use trial::{Hearer, Telling};
+use trial::{Hearer, Telling, step_entry};
 
 /// A judge, what goes along with the entries so far, and the lines of the reasons once the verdict is bad.
 #[derive(Drop)]
@@ -98,20 +96,6 @@ impl Explaining {
 #[inline]
 fn is_good(judge: &Judge) -> bool {
     matches!(judge.audited().verdict, Verdict::Good)
-}
-
-/// The entry of a Step with this access and no mark.
-fn step_entry(alloc: Global, process: u8, access: Access) -> Entry
-    ensures { result ≡ entry_of_step process access }
-{
-    let _nested: NestedTypes = None;
-    Entry {
-        process,
-        act: Act {
-            access: Some(access),
-            marks: SmallVec::new(alloc),
-        },
-    }
 }
 
 /// Writes the reasons of a bad entry, which stands in this line, behind a record that the follower has followed.

@@ -1,41 +1,31 @@
 //! The engine `judge`: the verdict on the record that a file says, which is read line by line.
 ghost use Rattle.std.specs.Prelude.{◌≡◌, ◌-◌, ◌^◌, ◌<◌};
-ghost use Rattle.judge.specs.Judgements.{ExplainingEnds, JudgeEnds};
+ghost use Rattle.judge.specs.Judgements.{JudgeEnds};
 
 use crate::explaining::Explaining;
 use crate::judge::Judge;
 use std::alloc::Global;
 use trial::{Fault, Sink, Source, run_trial};
 
-/// Reads a whole record file, line by line, and then writes the verdict on the record that it says, on one line; answers
-/// the exit status. It holds a line and a block, however long the file is. A file of 2^64 - 1 lines or more, whose
-/// numbers want more than 64 bits, ends with `Memory`.
+/// Reads a whole record file, line by line, and then writes the verdict on the record that it says, on one line, and
+/// behind a bad one its reasons, if they are asked for; answers the exit status. It holds a line, a block and the reasons,
+/// however long the file is; where they are asked for it goes along with the record, and takes about twice the time. A
+/// file of 2^64 - 1 lines or more, whose numbers want more than 64 bits, ends with `Memory`.
 pub fn run_judge<R: Source, W: Sink>(
     alloc: Global,
     input: &mut R,
     output: &mut W,
+    asked: bool,
 ) -> Result<u8, Fault>
     requires reads { R.failures input.old < 2 ^ 64 - 1 }
     requires writes { W.failures output.old < 2 ^ 64 - 1 }
-    ensures { JudgeEnds result
+    ensures { JudgeEnds asked result
         (record { to_come = R.to_come input.old; taken = W.taken output.old; read_failures = R.failures input.old; write_failures = W.failures output.old })
         (record { to_come = R.to_come input.new; taken = W.taken output.new; read_failures = R.failures input.new; write_failures = W.failures output.new }) }
 {
-    run_trial::<Judge, R, W>(alloc, input, output)
-}
-
-/// The same; behind a bad verdict stand its reasons. It goes along with the record, so it takes about twice the time, and
-/// holds the reasons too.
-pub fn run_judge_with_reasons<R: Source, W: Sink>(
-    alloc: Global,
-    input: &mut R,
-    output: &mut W,
-) -> Result<u8, Fault>
-    requires reads { R.failures input.old < 2 ^ 64 - 1 }
-    requires writes { W.failures output.old < 2 ^ 64 - 1 }
-    ensures { ExplainingEnds result
-        (record { to_come = R.to_come input.old; taken = W.taken output.old; read_failures = R.failures input.old; write_failures = W.failures output.old })
-        (record { to_come = R.to_come input.new; taken = W.taken output.new; read_failures = R.failures input.new; write_failures = W.failures output.new }) }
-{
-    run_trial::<Explaining, R, W>(alloc, input, output)
+    if asked {
+        run_trial::<Explaining, R, W>(alloc, input, output)
+    } else {
+        run_trial::<Judge, R, W>(alloc, input, output)
+    }
 }

@@ -2,7 +2,7 @@
 //! record file, whoever wrote it, line by line. No record is held.
 //!
 //! ```rust
-//! Engine::Judge => run_judge(alloc, input, output),
+//! Engine::Judge => run_judge(alloc, input, output, wanted.why),
 //! ```
 #![tactic(auto)]
 
@@ -18,6 +18,6 @@ pub use auditor::{
     records_have_one_verdict, records_of_events_are_good,
 };
 pub use judge::Judge;
-pub use judging::{run_judge, run_judge_with_reasons};
+pub use judging::run_judge;
 pub use record_file::{StepLine, print_entry, print_setup};
 pub use verdicts::{status_of, verdict_line};

@@ -1,10 +1,11 @@
 //! Who hears the entries of a record file.
 ghost use Rattle.std.specs.Prelude.{◌≡◌, ◌-◌, ◌^◌, ◌<◌, ◌∷◌, ◌++◌, [], IfOk, List, Ok, OnOk, length, ℕ};
 ghost use Rattle.plain_store.specs.Setups.{checked};
-ghost use Rattle.record_file.specs.Printing.{step_entry};
+ghost use Rattle.record_file.specs.Printing.{step_entry as entry_of_step};
 
-use plain_store::Setup;
-use record::{Access, Entry};
+use plain_store::{NestedTypes, Setup};
+use record::{Access, Act, Entry};
+use smallvec::SmallVec;
 use std::alloc::{AllocError, Global};
 
 /// What is told of a record: a text, and an exit status.
@@ -48,11 +49,25 @@ pub trait Hearer: Sized + Drop {
         access: Access,
     ) -> Result<(), AllocError>
         requires { count self.old < 2 ^ 64 - 1 }
-        ensures { OnOk result ((s : Given) (entries : List Noted) (numbers : List ℕ) → HasHeard self.old s entries numbers → HasHeard self.new s (entries ++ step_entry process access ∷ []) (numbers ++ number ∷ [])) };
+        ensures { OnOk result ((s : Given) (entries : List Noted) (numbers : List ℕ) → HasHeard self.old s entries numbers → HasHeard self.new s (entries ++ entry_of_step process access ∷ []) (numbers ++ number ∷ [])) };
 
     /// What is told of the entries so far. The one fault is want of memory.
     fn tell(&self, alloc: Global) -> Result<Telling, AllocError>
         ensures { IfOk result (λ telling. (s : Given) (entries : List Noted) (numbers : List ℕ) → HasHeard self.now s entries numbers → Tells s entries numbers telling.text.items telling.status) };
 
     ghost counts: { (hearer : Self) (s : Given) (entries : List Noted) (numbers : List ℕ) → HasHeard hearer s entries numbers → count hearer ≡ length entries };
+}
+
+/// The entry of a Step with this access and no mark.
+pub fn step_entry(alloc: Global, process: u8, access: Access) -> Entry
+    ensures { result ≡ entry_of_step process access }
+{
+    let _nested: NestedTypes = None;
+    Entry {
+        process,
+        act: Act {
+            access: Some(access),
+            marks: SmallVec::new(alloc),
+        },
+    }
 }

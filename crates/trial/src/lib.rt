@@ -9,4 +9,4 @@ mod trial;
 
 pub use engine::run_trial;
 pub use files::{DONE, Fault, Sink, Source};
-pub use hearers::{Hearer, Telling};
+pub use hearers::{Hearer, Telling, step_entry};
