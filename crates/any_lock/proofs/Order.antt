@@ -1,5 +1,5 @@
 -- Entries that keep all laws: of two calls that do not overlap the earlier one has the lower place.
-use Rattle.std.proofs.Common.{◌≡◌, ◌≢◌, ℕ, ◌+◌, ◌<◌, ◌≤◌, not, ◌||◌, Bool, true, false, cond, List, [], ◌∷◌, ◌++◌, Contains, Option, None, Some, length, refl, sym, ap, ◌∙◌, subst, append_assoc, append-nil, arith, true≢false, ◌⊎◌, inl, inr, ne_eqb}
+use Rattle.std.proofs.Common.{◌≡◌, ◌≢◌, ℕ, ◌<◌, ◌≤◌, not, ◌||◌, Bool, true, false, List, [], ◌∷◌, ◌++◌, Contains, Option, None, Some, length, refl, sym, ap, ◌∙◌, subst, append_assoc, append-nil, arith, true≢false, ◌⊎◌, inl, inr, ne_eqb}
 use Rattle.std.specs.List.{list_any}
 use Rattle.std.proofs.lemmas.Bool.{cases_eq}
 use Rattle.std.proofs.lemmas.List.{length-append}
@@ -7,7 +7,6 @@ use Rattle.std.proofs.lemmas.List.Elements.{Contains-append_cases}
 use Rattle.plain_store.specs.declared.Reply.{Reply}
 use Rattle.plain_store.specs.declared.Setup.{Setup}
 use Rattle.record.specs.declared.access.Access.{Access}
-use Rattle.record.specs.declared.history.Taken.{Taken}
 use Rattle.record.specs.declared.marks.Mark.{Mark}
 use Rattle.record.specs.declared.marks.Mark.TheVariants as mark
 use Rattle.record.specs.declared.stages.Stage.{Stage}
@@ -16,7 +15,7 @@ use Rattle.record.specs.Doorways.{is_waiting_stage}
 use Rattle.record.specs.Entries.{Entry, Past, has, is_called, own}
 use Rattle.record.specs.Headline.{PlacesKeepOrder}
 use Rattle.record.specs.Histories.{history, reply_taken}
-use Rattle.record.specs.Spans.{all_takings, ends_span, entries_of_call, has_ended, takings, takings_of_call, until}
+use Rattle.record.specs.Spans.{all_takings, ends_span, has_ended, takings, takings_of_call, until}
 use Rattle.any_lock.specs.declared.refusals.MarkRefusal.TheVariants as refusal
 use Rattle.any_lock.specs.declared.standings.Standing.{Standing}
 use Rattle.any_lock.specs.Keeping.{accessed_by, marked, marked_all, refusal_on}

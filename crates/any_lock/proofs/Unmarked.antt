@@ -1,5 +1,5 @@
 -- An entry with an access and no mark.
-use Rattle.std.proofs.Common.{◌≡◌, ℕ, ◌<◌, false, List, [], ◌∷◌, Option, None, Some, length, get_or, slice_get, refl, sym, ap, subst, ◌∙◌, arith}
+use Rattle.std.proofs.Common.{◌≡◌, ℕ, ◌<◌, false, List, [], ◌∷◌, None, Some, length, get_or, slice_get, refl, sym, ap, ◌∙◌, arith}
 use Rattle.std.proofs.lemmas.Option.{slice_get-get_or, slice_get_within}
 use Rattle.std.specs.List.{list_any}
 use Rattle.plain_store.specs.declared.Setup.{Setup}
@@ -9,7 +9,7 @@ use Rattle.record.specs.Entries.{Entry, Past}
 use Rattle.any_lock.specs.declared.refusals.MarkRefusal.TheVariants as refusal
 use Rattle.any_lock.specs.declared.standings.Standing.{Standing}
 use Rattle.any_lock.specs.declared.verdicts.Law.TheVariants as law
-use Rattle.any_lock.specs.Keeping.{KeptState, Knows, accessed, accessed_by, is_taken}
+use Rattle.any_lock.specs.Keeping.{KeptState, Knows, accessed, is_taken}
 use Rattle.any_lock.specs.Laws.{breaks_history, breaks_overtaken, breaks_together, broken_later}
 use Rattle.any_lock.specs.Refusals.{refusal_of_access, refusal_of_marks}
 use Rattle.any_lock.specs.Standings.{standing}
