@@ -1,5 +1,5 @@
 -- What is heard of a record whose reads are shown or hidden.
-use Rattle.std.proofs.Common.{◌≡◌, ◌≢◌, ℕ, ◌<◌, ◌==◌, ◌&&◌, Bool, true, false, nat_lt, cond, get_or, List, [], ◌∷◌, ◌++◌, length, set, Option, None, Some, true≢false, refl, ap, sym, subst, ◌∙◌, append-nil, arith, length-set, inl, inr}
+use Rattle.std.proofs.Common.{◌≡◌, ◌≢◌, ℕ, ◌<◌, ◌==◌, ◌&&◌, Bool, true, false, cond, get_or, List, [], ◌∷◌, ◌++◌, length, set, Option, None, Some, true≢false, refl, ap, sym, subst, ◌∙◌, append-nil, arith, inl, inr}
 use Rattle.std.proofs.lemmas.Bool.{cases_lt}
 use Rattle.std.proofs.lemmas.Bool.Decides.{nat_tests}
 use Rattle.std.proofs.lemmas.List.{get_or-set_same, get_or-set_other}
@@ -9,8 +9,7 @@ use Rattle.record.specs.safe_bit.declared.Move.TheVariants.{BeginWrite, EndWrite
 use Rattle.plain_store.specs.declared.setups.Setup.{Setup as Given}
 use Rattle.plain_store.proofs.GoodSetups.{few-processes}
 use Rattle.record.specs.Entries.{Entry, Past}
-use Rattle.record.specs.Moves.{begins_read, move_on, moves_of, same_bit}
-use Rattle.record.specs.Registers.{width}
+use Rattle.record.specs.Moves.{begins_read, moves_of, same_bit}
 use Rattle.watch.specs.Looks.{ends_overlapped}
 use Rattle.watch.specs.Watching.{HasHeard}
 use Rattle.watch.specs.laws.Held.{IsThere}

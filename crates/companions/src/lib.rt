@@ -7,7 +7,7 @@ mod store_changes;
 
 pub use overlaps::{Overlaps, hear, take_ended};
 pub use picture::{
-    Change, FIRST_BAND, Form, Line, Markup, OverlappedRead, Page, Reads, Saying, page_end, page_head,
-    picture_end, picture_head,
+    Change, FIRST_BAND, Form, Line, Markup, OverlappedRead, Page, Reads, Saying, page_end,
+    page_head, picture_end, picture_head,
 };
 pub use store_changes::{apply, opening_store, store_words, words_by_pairs, words_shown};

@@ -2,7 +2,6 @@
 use Rattle.std.proofs.Common.{◌≡◌, ℕ, ◌+◌, ◌≤◌, Bool, true, false, List, [], ◌∷◌, ◌++◌, length, reverse, Option, Some, None, Result, Ok, Err, IfErr, IsErrAnd, IfSome, IsSome, refl, ap, sym, subst, ◌∙◌, arith}
 use Rattle.std.proofs.lemmas.List.{length-append, reverse-reverse}
 use Rattle.std.specs.Io.KnownBytes.{IsAtEnd, prepend_known}
-use Rattle.plain_store.specs.declared.setups.Setup.{Setup}
 use Rattle.files.specs.Checks.{◌>>=◌}
 use Rattle.files.specs.Files.{at_line}
 use Rattle.files.specs.Reads.{UnlessMemory}

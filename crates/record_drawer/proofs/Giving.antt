@@ -1,9 +1,9 @@
 -- What the marks of an entry give, one by one, and the reads that stand before them.
-use Rattle.std.proofs.Common.{◌≡◌, ◌<◌, ℕ, zero, suc, ◌+◌, List, [], ◌∷◌, ◌++◌, codes, flat_map, length, get_or, map, reverse, take, refl, ap, sym, subst, ◌∙◌, append-nil, append_assoc, arith}
+use Rattle.std.proofs.Common.{◌≡◌, ◌<◌, ℕ, zero, suc, ◌+◌, List, [], ◌∷◌, ◌++◌, flat_map, length, get_or, map, reverse, take, refl, ap, sym, ◌∙◌, append-nil, append_assoc}
 use Rattle.std.proofs.lemmas.Grind.{flat_map-append}
 use Rattle.std.proofs.lemmas.List.{map-append, take_more}
 use Rattle.plain_store.specs.declared.setups.Setup.{Setup}
-use Rattle.record.specs.Entries.{Entry, Past}
+use Rattle.record.specs.Entries.{Past}
 use Rattle.record.specs.declared.marks.Mark.{Mark}
 use Rattle.record_file.specs.RecordFiles.{Said}
 use Rattle.companions.specs.picture.Bandings.{Item, Reads, Tells}
@@ -14,7 +14,7 @@ use Rattle.companions.specs.picture.columns.declared.told.Saying.{Saying}
 use Rattle.companions.specs.picture.columns.declared.told.Saying.TheVariants.{Marked, Refused, Tired, Shown, Ended}
 use Rattle.companions.specs.picture.declared.reads.Reads.{Reads as Mode}
 use Rattle.companions.specs.picture.declared.reads.Reads.TheVariants.{Hidden, Shown as ReadsShown}
-use Rattle.record_drawer.specs.Items.{Gives, GivesLine, GivesRead, Says, SaysEnd, SaysMark, SaysOther, behind, given, given_at_end, given_by, given_of, lines_given, lines_of_past, mark_given, mark_line, marks_back, marks_given, marks_says, reads_since, record_gives, record_lines, says_marks, says_of, source_of, taken_by, text_given, texts_given, waiting}
+use Rattle.record_drawer.specs.Items.{Gives, GivesLine, GivesRead, Says, SaysEnd, SaysMark, behind, given, given_at_end, given_by, given_of, lines_given, lines_of_past, mark_given, mark_line, marks_back, marks_given, marks_says, reads_since, record_gives, record_lines, says_marks, says_of, source_of, taken_by, text_given, texts_given, waiting}
 use Rattle.companions.specs.Overlaps.{overlapped_by, shown_of}
 use Rattle.record_drawer.specs.Takings.{change_of}
 

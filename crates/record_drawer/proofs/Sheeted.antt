@@ -1,5 +1,5 @@
 -- The picture of a record goes on, entry by entry.
-use Rattle.std.proofs.Common.{◌≡◌, ℕ, ◌+◌, ◌-◌, List, [], ◌∷◌, ◌++◌, codes, flat_map, length, is_some, false, true≢false, Option, None, Some, refl, ap, sym, subst, ◌∙◌, append-nil, arith}
+use Rattle.std.proofs.Common.{◌≡◌, ℕ, ◌+◌, ◌-◌, List, [], ◌∷◌, ◌++◌, codes, flat_map, is_some, false, true≢false, Option, None, Some, refl, ap, sym, subst, ◌∙◌, append-nil, arith}
 use Rattle.plain_store.specs.declared.setups.Setup.{Setup}
 use Rattle.record.specs.Entries.{Entry, Past}
 use Rattle.record.specs.declared.access.Access.{Access}
@@ -7,7 +7,7 @@ use Rattle.record_file.specs.Printing.{head_words, step_entry}
 use Rattle.record_file.specs.RecordFiles.{Progress}
 use Rattle.record_file.specs.scenario.Printing.{printed_line}
 use Rattle.companions.specs.picture.Sheets.{page_front}
-use Rattle.companions.specs.picture.Pages.{page_names, seen_page}
+use Rattle.companions.specs.picture.Pages.{page_names}
 use Rattle.companions.specs.picture.declared.page.Form.{Form}
 use Rattle.companions.specs.picture.declared.page.Form.TheVariants as form
 use Rattle.companions.specs.picture.declared.page.Page.{Page}
@@ -15,8 +15,8 @@ use Rattle.companions.specs.picture.declared.reads.Reads.{Reads as Mode}
 use Rattle.companions.specs.picture.shapes.Elements.{opens_in}
 use Rattle.companions.specs.picture.shapes.Titles.{lines_in}
 use Rattle.record_drawer.specs.Drawings.{DrawsOn, DrawsRest, Kept, Recalls, Writes, kept, kept_at_first, plan_of}
-use Rattle.record_drawer.specs.Items.{SaysEnd, given_at_end, given_by, given_of, lines_given, marks_back, reads_since, source_of, taken_by}
-use Rattle.record_drawer.specs.Sheets.{Draws, DrawsAt, EndsAt, Heads, HeadsPage, IsDrawn, listed}
+use Rattle.record_drawer.specs.Items.{SaysEnd, given_at_end, given_by, given_of, lines_given, reads_since, source_of}
+use Rattle.record_drawer.specs.Sheets.{Draws, DrawsAt, EndsAt, Heads, IsDrawn, listed}
 use Rattle.record_drawer.specs.declared.drawing.Drawing.{Drawing}
 use Rattle.record_drawer.proofs.Drawn.{draws_bands, draws_on_both, draws_on_none}
 

@@ -1,5 +1,5 @@
 -- What is known of marks goes on.
-use Rattle.std.proofs.Common.{◌≡◌, ◌≢◌, ◌<◌, ◌≤◌, ℕ, ◌==◌, ◌⊎◌, inl, inr, Bool, true, false, nat_lt, cond, List, [], ◌∷◌, get_or, length, set, Option, None, Some, slice_get, refl, ap, sym, subst, ◌∙◌, arith, length-set, true≢false}
+use Rattle.std.proofs.Common.{◌≡◌, ◌≢◌, ◌<◌, ◌≤◌, ℕ, ◌==◌, inl, inr, Bool, true, false, nat_lt, cond, List, ◌∷◌, get_or, length, set, Option, None, Some, slice_get, refl, ap, sym, subst, ◌∙◌, arith, length-set, true≢false}
 use Rattle.std.proofs.lemmas.Bool.{cases_lt}
 use Rattle.std.proofs.lemmas.Bool.Decides.{nat_tests}
 use Rattle.std.proofs.lemmas.List.{get_or-set_same, get_or-set_other}

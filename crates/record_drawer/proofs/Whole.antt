@@ -1,5 +1,5 @@
 -- How the engines end: front, bands and back are a whole picture.
-use Rattle.std.proofs.Common.{◌≡◌, ℕ, ◌+◌, List, [], ◌∷◌, ◌++◌, reverse, Option, Some, None, Result, Ok, Err, OnOk, IfErr, IfOk, IfSome, IsErrAnd, refl, ap, sym, subst, ◌∙◌, append-nil, arith}
+use Rattle.std.proofs.Common.{◌≡◌, ℕ, ◌+◌, List, [], ◌++◌, Option, Some, None, Result, Ok, Err, OnOk, IfErr, IfSome, IsErrAnd, ap, sym, subst, ◌∙◌, append-nil, arith}
 use Rattle.std.specs.Io.KnownBytes.{Appends, IsAtEnd, Keeps}
 use Rattle.files.proofs.EngineEnds.{kept}
 use Rattle.files.specs.Engines.{Streams}
@@ -7,11 +7,10 @@ use Rattle.files.specs.Streams.{failed_reading}
 use Rattle.files.specs.declared.faults.Fault.{Fault}
 use Rattle.files.specs.declared.faults.Fault.TheVariants as fault
 use Rattle.plain_store.specs.Setups.{opening_store}
-use Rattle.plain_store.specs.declared.setups.Setup.{Setup}
 use Rattle.record_file.specs.RecordFiles.{Said}
-use Rattle.companions.specs.picture.Bandings.{bands_told, heights_told}
+use Rattle.companions.specs.picture.Bandings.{bands_told}
 use Rattle.companions.specs.picture.Pages.{page_names, picture_names}
-use Rattle.companions.specs.picture.Sheets.{page_back, page_front, picture_back, picture_front}
+use Rattle.companions.specs.picture.Sheets.{page_back, picture_back, picture_front}
 use Rattle.companions.specs.picture.declared.page.Form.{Form}
 use Rattle.companions.specs.picture.declared.page.Form.TheVariants as form
 use Rattle.companions.specs.picture.declared.reads.Reads.{Reads as Mode}
@@ -21,7 +20,7 @@ use Rattle.companions.proofs.picture.shapes.Lines.{lines_on}
 use Rattle.companions.proofs.picture.shapes.Stacks.{opens_on}
 use Rattle.record_drawer.specs.Drawings.{DrawsBands, Writes, plan_of}
 use Rattle.record_drawer.specs.Items.{record_gives, record_lines}
-use Rattle.record_drawer.specs.Sheets.{DrawsBandsOf, DrawsRecord, Drew, IsDrawFault, IsPictureOf, LeavesNone, listed, picture_of, without_write}
+use Rattle.record_drawer.specs.Sheets.{DrawsBandsOf, DrawsRecord, Drew, IsDrawFault, IsPictureOf, LeavesNone, picture_of, without_write}
 use Rattle.companions.specs.StoreChanges.{store_words}
 use Rattle.record_drawer.specs.Writing.{IsWriteFault, failed_write}
 use Rattle.record_drawer.specs.declared.sheet.Drawn.{Drawn}

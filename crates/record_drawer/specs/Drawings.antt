@@ -1,5 +1,5 @@
 -- What was written of a record's picture, and what is read back of it.
-use Rattle.std.specs.Prelude.{◌≡◌, ℕ, true, List, [], ◌∷◌, ◌++◌, codes, flat_map, length, Option}
+use Rattle.std.specs.Prelude.{◌≡◌, ℕ, true, List, [], ◌++◌, length, Option}
 use Rattle.std.specs.Io.KnownBytes.{Appends}
 use Rattle.companions.specs.picture.shapes.Elements.{EndsAll}
 use Rattle.companions.specs.picture.shapes.Titles.{is_at_rest, lines_in, tags_of}

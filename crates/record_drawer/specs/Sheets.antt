@@ -1,6 +1,6 @@
 -- What stands while a record is read and drawn line by line, and how that ends.
 use Rattle.std.specs.Prelude.{◌≡◌, ◌<◌, ◌+◌, ℕ, true, List, [], ◌++◌, codes, flat_map, reverse, Option, None, Some, IfSome, Result, Ok, Err}
-use Rattle.std.specs.Io.KnownBytes.{Appends, IsAtEnd, Keeps}
+use Rattle.std.specs.Io.KnownBytes.{IsAtEnd, Keeps}
 use Rattle.files.specs.Engines.{Streams}
 use Rattle.files.specs.Reads.{UnlessMemory}
 use Rattle.files.specs.declared.faults.Fault.{Fault}

@@ -1,5 +1,5 @@
 -- What the commands that marks take change in the one-thread store. Of marks, each with its process, the newest stands first.
-use Rattle.std.specs.Prelude.{◌≡◌, ◌<◌, ℕ, ◌+◌, ◌==◌, Bool, true, false, cond, min, nat_lt, List, [], ◌∷◌, get_or, length, Option, None, Some}
+use Rattle.std.specs.Prelude.{◌≡◌, ◌<◌, ℕ, ◌+◌, ◌==◌, Bool, true, cond, min, nat_lt, List, [], ◌∷◌, get_or, length, Option, None}
 use Rattle.plain_store.specs.Setups.{opening_store}
 use Rattle.plain_store.specs.Store.{Contents, after}
 use Rattle.plain_store.specs.declared.commands.Command.TheVariants.{Ask}

@@ -17,10 +17,8 @@ ghost use Rattle.record_drawer.specs.Writing.{IsWriteFault, failed_write};
 
 use crate::changes::Changes;
 use crate::writing::{write_band, write_markup};
+use companions::{Form, Line, OverlappedRead, Overlaps, Page, Reads, Saying, hear, take_ended};
 use files::{Fault, Sink};
-use companions::{
-    Form, Line, OverlappedRead, Overlaps, Page, Reads, Saying, hear, take_ended,
-};
 use plain_store::{NestedTypes, Setup};
 use record::{Access, Entry, Mark};
 use std::alloc::Global;

@@ -11,9 +11,9 @@ use crate::changes::Changes;
 use crate::held::Held;
 use crate::sheet::{Drawn, Sheet};
 use crate::writing::write_markup;
+use companions::{FIRST_BAND, Form, Reads, page_end, picture_end, picture_head};
 use files::source_lines::Lines;
 use files::{Fault, FaultKind, Sink, Source, write_all};
-use companions::{FIRST_BAND, Form, Reads, page_end, picture_end, picture_head};
 use std::alloc::Global;
 
 /// Reads a record file line by line, and writes the page of what it says: a picture in bands, each written when it is full.

@@ -12,8 +12,8 @@ ghost use Rattle.record_drawer.specs.Writing.{IsWriteFault, failed_write};
 
 use crate::drawing::Drawing;
 use crate::writing::write_markup;
-use files::{Fault, FaultKind, LineFault, Sink, read_any_line};
 use companions::{Form, Markup, Reads, page_head};
+use files::{Fault, FaultKind, LineFault, Sink, read_any_line};
 use plain_store::{NestedTypes, Setup};
 use record::Entry;
 use record_file::{RecordReader, print_setup, read_step};

@@ -6,8 +6,8 @@ ghost use Rattle.companions.specs.picture.Pages.{band_text, lines_of_band};
 ghost use Rattle.record_drawer.specs.Drawings.{Draws, Writes};
 ghost use Rattle.record_drawer.specs.Writing.{IsWriteFault, failed_write};
 
-use files::{Fault, Sink, write_all};
 use companions::Markup;
+use files::{Fault, Sink, write_all};
 
 /// Writes markup.
 #[tactic(auto, using(crate::proofs::Drawn::draws_bytes, crate::proofs::Drawn::writes_bytes))]

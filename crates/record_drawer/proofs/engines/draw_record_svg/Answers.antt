@@ -1,4 +1,4 @@
-use Rattle.std.proofs.Common.{◌≡◌, List, [], ℕ, ◌+◌, Some, IfSome, ap, subst, ◌∙◌, arith}
+use Rattle.std.proofs.Common.{List, ℕ, Some, IfSome, subst, arith}
 use Rattle.std.specs.Io.KnownBytes.{Appends}
 use Rattle.companions.specs.picture.declared.page.Form.TheVariants as form
 use Rattle.record_drawer.specs.Sheets.{DrawsBandsOf}

@@ -1,4 +1,4 @@
-use Rattle.std.proofs.Common.{◌≡◌, ℕ, ◌∙◌, Ok, sym, subst}
+use Rattle.std.proofs.Common.{◌≡◌, ◌∙◌, Ok, sym, subst}
 use Rattle.plain_store.specs.Setups.{checked}
 use Rattle.plain_store.specs.declared.setups.Setup.{Setup}
 use Rattle.companions.proofs.Overhearing.{told_at}

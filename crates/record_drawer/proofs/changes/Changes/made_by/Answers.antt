@@ -1,4 +1,4 @@
-use Rattle.std.proofs.Common.{◌≡◌, ℕ, List, ◌∷◌, Option, Some, true, slice_get, sym, subst, ap, ◌∙◌, option_map}
+use Rattle.std.proofs.Common.{◌∷◌, Option, sym, subst, ap, ◌∙◌, option_map}
 use Rattle.std.specs.Global.{Vec}
 use Rattle.record.specs.declared.marks.Mark.{Mark}
 use Rattle.companions.specs.picture.columns.declared.told.Change.{Change}

@@ -1,4 +1,4 @@
-use Rattle.std.proofs.Common.{◌≡◌, ℕ, List, ◌∙◌, ap, get_or, length, refl, arith}
+use Rattle.std.proofs.Common.{◌≡◌, List, ◌∙◌, ap, get_or, length, refl, arith}
 use Rattle.std.proofs.lemmas.List.{get_or-replicate, length-replicate}
 use Rattle.record_drawer.specs.Takings.{no_call}
 use Rattle.record_drawer.specs.declared.changes.Called.{Called}

@@ -1,4 +1,4 @@
-use Rattle.std.proofs.Common.{◌≡◌, ℕ, ◌-◌, List, [], ◌∷◌, Option, option_map, ap, refl, subst, sym, ◌∙◌}
+use Rattle.std.proofs.Common.{ℕ, ◌-◌, [], ◌∷◌, Option, option_map, ap, refl, subst, sym, ◌∙◌}
 use Rattle.companions.specs.picture.columns.States.{places_marked}
 use Rattle.record_drawer.specs.Drawings.{DrawsOn, kept}
 use Rattle.record_drawer.specs.Items.{SaysMark, lines_given}

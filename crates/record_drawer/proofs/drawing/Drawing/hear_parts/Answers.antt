@@ -1,4 +1,4 @@
-use Rattle.std.proofs.Common.{◌≡◌, ℕ, ◌+◌, ◌-◌, List, ◌∷◌, ◌++◌, length, ap, refl, subst, sym}
+use Rattle.std.proofs.Common.{ℕ, ◌+◌, ◌-◌, List, ◌∷◌, ◌++◌, length, ap, refl, subst, sym}
 use Rattle.record.specs.declared.marks.Mark.{Mark}
 use Rattle.record_drawer.specs.Drawings.{DrawsOn, IsAmong, kept}
 use Rattle.record_drawer.specs.Items.{behind, lines_given, marks_back, reads_since, says_marks, waiting}

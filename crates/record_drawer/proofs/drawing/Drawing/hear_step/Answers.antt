@@ -1,4 +1,4 @@
-use Rattle.std.proofs.Common.{ℕ, ◌+◌, Some, refl}
+use Rattle.std.proofs.Common.{◌+◌, Some, refl}
 use Rattle.record_file.specs.Printing.{step_entry}
 use Rattle.record_drawer.proofs.Hearing.{heard_among, recalls_on}
 use Rattle.record_drawer.proofs.drawing.Drawing.hear_step.Goals as goal

@@ -1,4 +1,4 @@
-use Rattle.std.proofs.Common.{◌≡◌, ℕ, List, [], ◌∷◌, Option, Some, ap, sym, subst, ◌∙◌}
+use Rattle.std.proofs.Common.{ℕ, List, [], ◌∷◌, Option, ap, sym, subst, ◌∙◌}
 use Rattle.record_drawer.specs.Drawings.{DrawsRest, kept}
 use Rattle.record_drawer.specs.Items.{SaysEnd, lines_given, reads_since}
 use Rattle.record_drawer.specs.Sheets.{Draws, IsDrawn}

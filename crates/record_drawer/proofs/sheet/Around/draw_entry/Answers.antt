@@ -1,5 +1,4 @@
-use Rattle.std.proofs.Common.{◌≡◌, ℕ, List, ◌∷◌, Option, Some, ap, sym, subst, ◌∙◌}
-use Rattle.record.specs.Entries.{Past}
+use Rattle.std.proofs.Common.{ℕ, List, Option, ap, sym, subst, ◌∙◌}
 use Rattle.record_drawer.specs.Sheets.{Draws, IsDrawn}
 use Rattle.record_drawer.specs.declared.drawing.Drawing.{Drawing}
 use Rattle.record_drawer.proofs.Sheeted.{drawn_begun, drawn_entry}

@@ -1,4 +1,4 @@
-use Rattle.std.proofs.Common.{◌≡◌, ℕ, List, ap, ◌∙◌}
+use Rattle.std.proofs.Common.{ℕ, List, ap, ◌∙◌}
 use Rattle.companions.specs.picture.Sheets.{page_front}
 use Rattle.record_drawer.proofs.Written.{if_ok_then}
 use Rattle.record_drawer.proofs.sheet.Around.head.Goals as goal

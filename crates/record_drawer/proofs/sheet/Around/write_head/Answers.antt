@@ -1,5 +1,4 @@
-use Rattle.std.proofs.Common.{◌≡◌, refl, subst, sym}
-use Rattle.std.specs.Result.{OnOk}
+use Rattle.std.proofs.Common.{subst, sym}
 use Rattle.companions.specs.picture.declared.page.Form.{Form}
 use Rattle.record_drawer.specs.Sheets.{Heads}
 use Rattle.record_drawer.proofs.Sheeted.{heads_page}
