@@ -17,6 +17,7 @@ pub trait Listener {
     /// Whether each Step without a mark is heard. If not, they are passed by, many at once.
     ghost hears_steps: { Self → Bool };
 
+    /// The same, as the course asks it.
     fn hears_steps(&self) -> bool
         ensures { result ≡ hears_steps self.now };
 

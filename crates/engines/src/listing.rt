@@ -59,10 +59,7 @@ impl Listener for Lister {
 
     #[tactic(auto, using(crate::proofs::Listed::step_listed))]
     fn step(&mut self, made: Stepped) -> Result<(), Fault> {
-        Ok(add(
-            Event::Step(made.process, made.flick),
-            &mut self.events,
-        )?)
+        Ok(add(Event::Step(made.process, made.flick), &mut self.events)?)
     }
 
     fn pass(&mut self, _steps: u32) {}

@@ -1,5 +1,5 @@
 -- The lines of the calls that end, turn by turn and line by line.
-use Rattle.std.proofs.Common.{◌≡◌, ◌+◌, ◌^◌, ◌<◌, ◌≤◌, ◌==◌, ◌&&◌, ℕ, Bool, true, false, not, cond, List, [], ◌∷◌, ◌++◌, length, Option, None, Some, Ok, refl, ap, sym, subst, ◌∙◌, append-nil, append_assoc, eq-eqb}
+use Rattle.std.proofs.Common.{◌≡◌, ◌+◌, ◌^◌, ◌<◌, ◌≤◌, ◌==◌, ◌&&◌, ℕ, Bool, true, false, not, cond, List, [], ◌∷◌, ◌++◌, length, Option, None, Some, Result, Ok, Err, IfErr, OnErr, refl, ap, sym, subst, ◌∙◌, append-nil, append_assoc, eq-eqb}
 use Rattle.std.specs.Io.KnownBytes.{Appends}
 use Rattle.scenario.specs.files.Streams.{WritesFront}
 use Rattle.plain_store.specs.declared.setups.Setup.{Setup}
@@ -20,10 +20,12 @@ use Rattle.course.specs.Happenings.{Happening, Tries, Lacks, Tires, Looks, past_
 use Rattle.course.specs.Listening.{Happens, StepsOn}
 use Rattle.course.specs.Runs.{Run, run_after, run_at_start, runs}
 use Rattle.course.specs.Telling.{TellsOf, entry_made}
-use Rattle.course.specs.Writing.{Writes, WritesPart}
+use Rattle.course.specs.Writing.{IsWriteFault, Writes, WritesPart, failed_write}
 use Rattle.course.specs.declared.told.Stepped.{Stepped}
 use Rattle.course.specs.declared.told.Told.{Told}
 use Rattle.course.specs.declared.told.Told.TheVariants as told
+use Rattle.scenario.specs.files.declared.faults.Fault.{Fault}
+use Rattle.course.proofs.Endings.{err_both}
 use Rattle.course.proofs.Grows.{lines_grow}
 use Rattle.course.proofs.InTurn.{access_in_turn, process_there}
 use Rattle.course.proofs.Played.{Between}
@@ -153,6 +155,11 @@ step_lines s before made on =
     let past : Past = past_after s before in
     ap (ended_lines s) (event_added s before (Step made.process made.flick) e on.adds)
     ∙ ap (λ c. ended_lines s past ++ line_of (length past) c) (unmarked_ends s past made.process (Some made.access)) ∙ append-nil (ended_lines s past)
+
+-- a fault, what it left, and how many calls failed
+pub err_all : {A P : Type 0} (r : Result A Fault) (R : Fault → Type 0) (m n : ℕ) → ((f : Fault) → P → IsWriteFault f → n ≡ m + failed_write {A = Unit {0}} (Err f) → R f) → OnErr r P → IfErr r IsWriteFault → n ≡ m + failed_write r → IfErr r R
+err_all (Ok done) R m n then p is e = tt
+err_all {A} (Err f) R m n then p is e = err_both {A = A} (Err f) R m n (λ f is e. then f p is e) is e
 
 -- Between two lines.
 

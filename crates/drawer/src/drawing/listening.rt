@@ -56,11 +56,8 @@ impl<'a, W: Sink> Listener for Drawer<'a, W> {
     }
 
     fn step(&mut self, made: Stepped) -> Result<(), Fault> {
-        hear(
-            &mut self.drawing.overlaps,
-            self.drawing.summary.events,
-            Some(made.access),
-        )?;
+        let number = self.drawing.summary.events;
+        hear(&mut self.drawing.overlaps, number, Some(made.access))?;
         self.drawing.summary.events += 1;
         Ok(())
     }

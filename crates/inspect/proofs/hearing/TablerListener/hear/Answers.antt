@@ -1,6 +1,6 @@
 use Rattle.std.proofs.Common.{refl}
-use Rattle.course.proofs.Endings.{err_both, ok_whole}
-use Rattle.inspect.proofs.Tabling.{told_cut, told_tabled, told_written}
+use Rattle.course.proofs.Endings.{ok_whole}
+use Rattle.inspect.proofs.Tabling.{err_all, told_cut, told_tabled, told_written}
 use Rattle.inspect.proofs.hearing.TablerListener.hear.Goals as goal
 
 pub returns-clause-ok : goal.returns-clause-ok
@@ -16,7 +16,7 @@ returns-clause-ok g c =
 pub returns-clause-cut : goal.returns-clause-cut
 returns-clause-cut g c =
     let old = c.args.self.now in
-    err_both c.hear_told.result _ (g.W.Sink.failures old.output.now) (g.W.Sink.failures c.hear_told.new.output) (λ fault is fails s before this happens. (
+    err_all c.hear_told.result _ (g.W.Sink.failures old.output.now) (g.W.Sink.failures c.hear_told.new.output) (λ fault cut is fails s before this happens. (
       refl,
-      record { part = λ tabled. told_cut s before this c.args.told.now c.args._taken.now old.table.now _ _ happens c.hear_told.ensures.cut tabled; is = is; fails_are = fails },
-    )) c.hear_told.ensures.fault c.hear_told.ensures.failures
+      record { part = λ tabled. told_cut s before this c.args.told.now c.args._taken.now old.table.now _ _ happens cut tabled; is = is; fails_are = fails },
+    )) c.hear_told.ensures.cut c.hear_told.ensures.fault c.hear_told.ensures.failures

@@ -13,6 +13,6 @@ returns-clause-ok g c = λ s before on.
     let after = Tries (Step made.process made.flick) ∷ before in (
       refl,
       refl,
-      (λ tabled. step_tabled s before made old.table.now c.hear-_none.new.self on c.hear-_none.ensures.heard c.hear-_none.ensures.setup tabled),
+      (λ tabled. step_tabled s before made old.table.now c.hear-none.new.self on c.hear-none.ensures.heard c.hear-none.ensures.setup tabled),
       took_same (HasTabled s before old.table.now) (lines_after s before) (lines_after s after) (g.W.Sink.taken old.output.now) (g.W.Sink.failures old.output.now) (step_lines s before made on),
     )
