@@ -12,7 +12,7 @@ use drawer::{Reads, draw, draw_svg};
 use engines::{replay, run_audit, run_bits, run_judge, run_plain, run_record, run_sweep};
 use inspect::{FileKind, Kept, KeptInput, explanation, run_calls};
 use race::{RunFault, run_fault_status, run_race};
-use record_drawer::{Opened, draw_record, draw_record_svg, judge_any_lock, run_judge_with_reasons};
+use record_drawer::{Opened, draw_record, draw_record_svg, judge_any_lock};
 use std::alloc::Global;
 use std::env::Env;
 use std::fs::{File, Files};

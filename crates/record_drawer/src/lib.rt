@@ -15,6 +15,6 @@ mod opened;
 mod sheet;
 mod writing;
 
-pub use any_judge::{judge_any_lock, run_judge_with_reasons};
+pub use any_judge::judge_any_lock;
 pub use engines::{draw_record, draw_record_svg};
 pub use opened::Opened;
