@@ -13,17 +13,17 @@ use Rattle.record.specs.Given.{is_event}
 use Rattle.record.specs.Histories.{history}
 use Rattle.record.specs.Records.{entry_of, past_of, process_of, refused}
 use Rattle.record.specs.Stages.{stage}
-use Rattle.scenario.specs.declared.lines.Flick.{Flick}
 use Rattle.scenario.specs.declared.lines.Line.{Line}
 use Rattle.scenario.specs.declared.lines.Line.TheVariants as line
 use Rattle.scenario.specs.declared.lines.Target.{Target}
 use Rattle.world.specs.process.Telling.{act_of}
 use Rattle.world.specs.Events.{Adds, GoesOn, IsTurnedAway, entry_with, stage_in}
 use Rattle.world.specs.flicks.Flicks.{FlickState, after_set}
+use Rattle.world.specs.flicks.declared.Flick.{Flick}
 use Rattle.world.specs.Shows.{Shows, WorldState}
 use Rattle.course.specs.Courses.{CourseState, Follows, Makes, MakesTurns, QuietTurns, course}
 use Rattle.course.specs.Happenings.{Tries, Lacks, Looks, tried}
-use Rattle.course.specs.Runs.{Run, has_step, is_there, past_in, set_to}
+use Rattle.course.specs.Runs.{Run, has_step, is_there, past_in}
 use Rattle.course.specs.Telling.{TellsOf}
 use Rattle.course.specs.Texts.{newest_store, store_text}
 use Rattle.course.specs.Turns.{Turn, ends, go_turn, happens, next_turn, on_turn, turn_of}
@@ -176,11 +176,11 @@ turn_ended old line turns are none = one_made old old line turns (ap (λ (turns 
     (subst (λ n. Makes old run (turn_of old.world.setup line n run) None old) (sym none) (record { tells = tt; follows = record { shows = follows.shows; flicks = follows.flicks }; left = none; setup = refl })))
 
 -- a line that sets where flicks come from
-pub flick_made : (w : WorldState) (flicks flicks' : FlickState) (left : ℕ) (flick : Flick) → left ≤ 1 → flicks' ≡ after_set (set_to flick) flicks →
+pub flick_made : (w : WorldState) (flicks flicks' : FlickState) (left : ℕ) (flick : Flick) → left ≤ 1 → flicks' ≡ after_set flick flicks →
     (run : Run) → Follows (course w flicks left) run → Makes (course w flicks left) run (next_turn w.setup (line.Flick flick) (left - 1) run) None (course w flicks' (left - 1))
 flick_made w flicks flicks' left flick few is run follows = record {
   tells = tt;
-  follows = record { shows = follows.shows; flicks = is ∙ ap (after_set (set_to flick)) follows.flicks };
+  follows = record { shows = follows.shows; flicks = is ∙ ap (after_set flick) follows.flicks };
   left = omega (arith, few);
   setup = refl;
 }

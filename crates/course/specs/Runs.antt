@@ -10,14 +10,10 @@ use Rattle.record.specs.Records.{refused}
 use Rattle.record.specs.Registers.{processes}
 use Rattle.record.specs.Stages.{stage}
 use Rattle.scenario.specs.Reading.{Script}
-use Rattle.scenario.specs.declared.lines.Flick.{Flick}
-use Rattle.scenario.specs.declared.lines.Flick.TheVariants as flick
 use Rattle.scenario.specs.declared.lines.Line.{Line}
 use Rattle.scenario.specs.declared.lines.Line.TheVariants as line
 use Rattle.scenario.specs.declared.lines.Target.{Target}
 use Rattle.scenario.specs.declared.lines.Target.TheVariants as target
-use Rattle.world.specs.flicks.declared.Flick.{Flick as WorldFlick}
-use Rattle.world.specs.flicks.declared.Flick.TheVariants as world_flick
 use Rattle.world.specs.flicks.Flicks.{FlickState, constant_flicks, after_set, flick_of, after_flick, pick_of, after_pick}
 use Rattle.course.specs.Happenings.{Happening, Tries, Lacks, Tires, Looks, past_after}
 
@@ -105,12 +101,6 @@ abbrev pub wanders : Setup → ℕ → Run → Run
 wanders s zero run = run
 wanders s (suc n) run = elim (movers s (past_in s run)) [ [] ↦ run | p ∷ ps ↦ wanders s n (picked (p ∷ ps) run) ]
 
--- where flicks come from, as `Flicks` has it
-abbrev pub set_to : Flick → WorldFlick
-set_to flick.Zero = world_flick.Zero
-set_to flick.One = world_flick.One
-set_to (flick.Pcg seed) = world_flick.Pcg seed
-
 -- the Steps that a `go` makes at most
 abbrev pub go_limit : ℕ
 go_limit = 65536
@@ -123,7 +113,7 @@ run_after s (line.Go p target) run = elim (nat_lt p s.processes) [ true ↦ goes
 run_after s (line.Fail p) run = with_happening (Tries (event.Fail p)) run
 run_after s (line.Withdraw p) run = with_happening (Tries (event.Withdraw p)) run
 run_after s (line.Restart p) run = with_happening (Tries (event.Restart p)) run
-run_after s (line.Flick flick) run = record run { flicks = after_set (set_to flick) run.flicks }
+run_after s (line.Flick flick) run = record run { flicks = after_set flick run.flicks }
 run_after s (line.Wander n) run = wanders s n run
 run_after s line.Show run = with_happening Looks run
 

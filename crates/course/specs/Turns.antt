@@ -8,7 +8,7 @@ use Rattle.scenario.specs.declared.lines.Line.TheVariants as line
 use Rattle.scenario.specs.declared.lines.Target.{Target}
 use Rattle.world.specs.flicks.Flicks.{after_set}
 use Rattle.course.specs.Happenings.{Happening, Tries, Lacks, Tires, Looks}
-use Rattle.course.specs.Runs.{Run, past_in, with_happening, next_step, stepped, steps, goes, wanders, run_after, may_step, is_there, movers, pick_among, after_pick_in, set_to, go_limit}
+use Rattle.course.specs.Runs.{Run, past_in, with_happening, next_step, stepped, steps, goes, wanders, run_after, may_step, is_there, movers, pick_among, after_pick_in, go_limit}
 
 -- how many turns a line may make; the last one of a `go` looks where the process is, and makes no Step
 abbrev pub turns_in : Line → ℕ
@@ -69,7 +69,7 @@ next_turn s (line.Go p target) left run = go_turn s p target left run
 next_turn s (line.Fail p) left run = happens (Tries (event.Fail p)) left run
 next_turn s (line.Withdraw p) left run = happens (Tries (event.Withdraw p)) left run
 next_turn s (line.Restart p) left run = happens (Tries (event.Restart p)) left run
-next_turn s (line.Flick flick) left run = ends (record run { flicks = after_set (set_to flick) run.flicks })
+next_turn s (line.Flick flick) left run = ends (record run { flicks = after_set flick run.flicks })
 next_turn s (line.Wander n) left run = wander_turn left run (movers s (past_in s run))
 next_turn s line.Show left run = happens Looks left run
 

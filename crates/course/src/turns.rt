@@ -11,7 +11,7 @@ ghost use Rattle.world.specs.flicks.Flicks.{constant_flicks};
 ghost use Rattle.world.specs.Shows.{Shows};
 ghost use Rattle.course.specs.Courses.{Follows, Makes, MakesTurns, CourseState};
 ghost use Rattle.course.specs.Happenings.{Tries};
-ghost use Rattle.course.specs.Runs.{Run, is_there as is_target, past_in, run_at_start, set_to as seed_set};
+ghost use Rattle.course.specs.Runs.{Run, is_there as is_target, past_in, run_at_start};
 ghost use Rattle.course.specs.Texts.{newest_store, store_text};
 ghost use Rattle.course.specs.Turns.{happens, turn_of, turns_in as turns_of};
 
@@ -23,7 +23,7 @@ use crate::store_line::newest_line;
 use crate::told::{Accepted, Told, Turns};
 use plain_store::{NestedTypes, Setup};
 use record::{Event, Refusal, Taken};
-use scenario::{Flick, Line};
+use scenario::Line;
 use std::alloc::{AllocError, Global};
 use std::marker::Model;
 pub use steps::Steppers;
@@ -136,7 +136,7 @@ impl Course {
             Line::Restart(process) => self.event(Event::Restart(*process)),
             Line::Flick(flick) => {
                 self.left -= 1;
-                self.flicks.set(set_to(*flick));
+                self.flicks.set(*flick);
                 Ok(Turns::ended())
             }
             Line::Show => {
@@ -215,16 +215,5 @@ fn turns_in(line: &Line) -> u32
         | Line::Restart(_)
         | Line::Flick(_)
         | Line::Show => 1,
-    }
-}
-
-/// Where flicks come from, as `Flicks` has it.
-fn set_to(flick: Flick) -> world::Flick
-    ensures { result ≡ seed_set flick }
-{
-    match flick {
-        Flick::Zero => world::Flick::Zero,
-        Flick::One => world::Flick::One,
-        Flick::Pcg(seed) => world::Flick::Pcg(seed),
     }
 }

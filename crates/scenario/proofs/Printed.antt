@@ -8,9 +8,7 @@ use Rattle.plain_store.specs.declared.commands.Command.{Command}
 use Rattle.plain_store.specs.declared.commands.Command.TheVariants as command
 use Rattle.plain_store.specs.declared.commands.Value.{Value}
 use Rattle.plain_store.specs.declared.setups.Setup.{Setup}
-use Rattle.scenario.specs.Printing.{command_words, flick_words, kind_words, line_words, open_words, spaced, printed_line}
-use Rattle.scenario.specs.declared.lines.Flick.{Flick}
-use Rattle.scenario.specs.declared.lines.Flick.TheVariants as flick
+use Rattle.scenario.specs.Printing.{command_words, kind_words, line_words, open_words, spaced, printed_line}
 use Rattle.scenario.specs.declared.lines.Line.{Line}
 use Rattle.scenario.specs.declared.lines.Line.TheVariants as line
 use Rattle.scenario.proofs.Places.{drop_in}
@@ -32,11 +30,6 @@ call_is p c = by c (command_is c)
     by (command.Add name d) is = ap (λ t. codes "call " ++ (decimal p ++ (codes " " ++ t))) is
     by (command.Cas name expected value) is = ap (λ t. codes "call " ++ (decimal p ++ (codes " " ++ t))) is
     by command.Ask is = ap (λ t. codes "call " ++ (decimal p ++ (codes " " ++ t))) is
-
-pub flick_is : (f : Flick) → codes "flick " ++ spaced (flick_words f) ≡ spaced (line_words (line.Flick f))
-flick_is flick.Zero = refl
-flick_is flick.One = refl
-flick_is (flick.Pcg seed) = refl
 
 -- an opening pair's line
 pub open_line_is : (name : List ℕ) (value : Value) → codes "open " ++ (name ++ (codes " " ++ (value_text value ++ codes "\n"))) ≡ printed_line (open_words (name, value))

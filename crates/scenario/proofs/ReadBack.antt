@@ -33,8 +33,8 @@ use Rattle.scenario.specs.declared.keywords.LineWord.TheVariants as name
 use Rattle.scenario.specs.declared.keywords.Opener.TheVariants as opener
 use Rattle.scenario.specs.declared.keywords.Verb.{Verb}
 use Rattle.scenario.specs.declared.keywords.Verb.TheVariants as verb
-use Rattle.scenario.specs.declared.lines.Flick.{Flick}
-use Rattle.scenario.specs.declared.lines.Flick.TheVariants as flick
+use Rattle.flicks.specs.declared.Flick.{Flick}
+use Rattle.flicks.specs.declared.Flick.TheVariants as flick
 use Rattle.scenario.specs.declared.lines.Line.{Line}
 use Rattle.scenario.specs.declared.lines.Line.TheVariants as line
 use Rattle.scenario.specs.declared.lines.Target.{Target}

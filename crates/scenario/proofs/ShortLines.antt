@@ -23,7 +23,7 @@ use Rattle.scenario.specs.Statements.{is_line_of}
 use Rattle.files.specs.Words.{begins_with}
 use Rattle.scenario.specs.declared.keywords.Heading.{Heading}
 use Rattle.scenario.specs.declared.keywords.Heading.TheVariants.{Processes, Tickets, Stamps, Slots}
-use Rattle.scenario.specs.declared.lines.Flick.TheVariants as flick
+use Rattle.flicks.specs.declared.Flick.TheVariants as flick
 use Rattle.scenario.specs.declared.lines.Line.{Line}
 use Rattle.scenario.specs.declared.lines.Line.TheVariants as line
 use Rattle.scenario.specs.declared.lines.Target.{Target}

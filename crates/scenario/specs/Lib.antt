@@ -1,4 +1,5 @@
 pub use Rattle.files.specs as files
+pub use Rattle.flicks.specs as flicks
 pub mod BitFiles
 pub mod Keywords
 pub mod Numbers

@@ -9,8 +9,8 @@ use Rattle.plain_store.specs.declared.setups.Setup.{Setup}
 use Rattle.scenario.specs.Reading.{Script}
 use Rattle.scenario.specs.declared.keywords.Heading.{Heading}
 use Rattle.scenario.specs.declared.keywords.Heading.TheVariants.{Processes, Tickets, Stamps, Slots}
-use Rattle.scenario.specs.declared.lines.Flick.{Flick}
-use Rattle.scenario.specs.declared.lines.Flick.TheVariants as flick
+use Rattle.flicks.specs.declared.Flick.{Flick}
+use Rattle.flicks.specs.declared.Flick.TheVariants as flick
 use Rattle.scenario.specs.declared.lines.Line.{Line}
 use Rattle.scenario.specs.declared.lines.Line.TheVariants as line
 use Rattle.scenario.specs.declared.lines.Target.{Target}

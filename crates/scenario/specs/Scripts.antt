@@ -7,8 +7,8 @@ use Rattle.plain_store.specs.Pairs.{is_pair}
 use Rattle.plain_store.specs.Store.{names_differ}
 use Rattle.scenario.specs.Reading.{Script}
 use Rattle.scenario.specs.Statements.{is_line_of}
-use Rattle.scenario.specs.declared.lines.Flick.{Flick}
-use Rattle.scenario.specs.declared.lines.Flick.TheVariants as flick
+use Rattle.flicks.specs.declared.Flick.{Flick}
+use Rattle.flicks.specs.declared.Flick.TheVariants as flick
 use Rattle.scenario.specs.declared.lines.Line.{Line}
 use Rattle.scenario.specs.declared.lines.Line.TheVariants as line
 

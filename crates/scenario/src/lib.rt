@@ -25,8 +25,9 @@ pub use files::{
     DONE, Ending, Failed, Fault, FaultKind, FromRead, INPUT_LIMIT, IntoWrite, LineFault, Sink,
     Source, ended, fault_status, progress, read_input, write_all,
 };
+pub use flicks::Flick;
 pub use laws::cut_texts_have_the_fault_of_the_whole;
-pub use lines::{Flick, Line, Target};
+pub use lines::{Line, Target};
 pub use printing::print_scenario;
 pub use reading::{Reader, read_scenario};
 pub use scenarios::Scenario;

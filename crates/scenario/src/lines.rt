@@ -1,16 +1,6 @@
 //! The lines of a scenario.
+use flicks::Flick;
 use plain_store::Command;
-
-/// Where later steps get their flicks.
-#[derive(Clone, Copy, Debug, PartialEq, Eq)]
-pub enum Flick {
-    /// Each is 0.
-    Zero,
-    /// Each is 1.
-    One,
-    /// Each is the lowest bit of a word of the generator, made anew from this seed.
-    Pcg(u64),
-}
 
 /// The stage up to which a process goes.
 #[derive(Clone, Copy, Debug, PartialEq, Eq)]

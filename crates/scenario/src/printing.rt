@@ -1,15 +1,16 @@
 //! How scenarios are printed.
 ghost use Rattle.std.specs.Prelude.{◌≡◌, ◌++◌, ◌∷◌, codes, flat_map, map, true, IfOk, OnOk, Ok};
 ghost use Rattle.std.specs.String.{string_bytes};
-ghost use Rattle.scenario.specs.Printing.{command_words, target_word, flick_words, line_words, kind_words, open_words, spaced, printed_line, scenario_text};
+ghost use Rattle.scenario.specs.Printing.{command_words, target_word, line_words, kind_words, open_words, spaced, printed_line, scenario_text};
 ghost use Rattle.scenario.specs.Reading.{scenario_of};
 ghost use Rattle.scenario.specs.Reads.{script};
 ghost use Rattle.scenario.specs.Scripts.{is_line};
 ghost use Rattle.std.specs.List.{list_all};
 
-use crate::lines::{Flick, Line, Target};
+use crate::lines::{Line, Target};
 use crate::scenarios::Scenario;
 use crate::sound::sound_line;
+use flicks::Flick;
 use plain_store::{Name, NestedTypes, Opening, Setup, Value};
 use std::alloc::{AllocError, Global};
 use std::fmt;
@@ -100,26 +101,12 @@ impl fmt::Display for Target {
     }
 }
 
-impl fmt::Display for Flick {
-    ghost use Rattle.std.specs.Prelude.{Some};
-
-    ghost output = { λ flick. Some (spaced (flick_words flick)) };
-
-    fn fmt<W: fmt::Write>(&self, f: &mut fmt::Formatter<W>) -> fmt::Result {
-        match self {
-            Flick::Zero => write!(f, "0"),
-            Flick::One => write!(f, "1"),
-            Flick::Pcg(seed) => write!(f, "pcg {seed}"),
-        }
-    }
-}
-
 impl fmt::Display for Line {
     ghost use Rattle.std.specs.Prelude.{Some};
 
     ghost output = { λ line. Some (spaced (line_words line)) };
 
-    #[tactic(auto, using(crate::proofs::Printed::call_is, crate::proofs::Printed::flick_is))]
+    #[tactic(auto, using(crate::proofs::Printed::call_is))]
     fn fmt<W: fmt::Write>(&self, f: &mut fmt::Formatter<W>) -> fmt::Result {
         let _nested: NestedTypes = None;
         match self {
@@ -129,7 +116,9 @@ impl fmt::Display for Line {
             Line::Fail(process) => write!(f, "fail {process}"),
             Line::Withdraw(process) => write!(f, "withdraw {process}"),
             Line::Restart(process) => write!(f, "restart {process}"),
-            Line::Flick(flick) => write!(f, "flick {flick}"),
+            Line::Flick(Flick::Zero) => write!(f, "flick 0"),
+            Line::Flick(Flick::One) => write!(f, "flick 1"),
+            Line::Flick(Flick::Pcg(seed)) => write!(f, "flick pcg {seed}"),
             Line::Wander(turns) => write!(f, "wander {turns}"),
             Line::Show => write!(f, "show"),
         }

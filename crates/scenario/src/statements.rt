@@ -4,9 +4,10 @@ ghost use Rattle.files.specs.Words.{texts};
 ghost use Rattle.scenario.specs.Statements.{is_line_of, is_verb_of, verb_in, operand_count, verb_at, command_of, call_of, step_of, go_of, process_of, flick_of, wander_of, show_of, line_of};
 
 use crate::keywords::{LineWord, Verb};
-use crate::lines::{Flick, Line, Target};
+use crate::lines::{Line, Target};
 use crate::operands::{count, integer, name, number, process, value};
 use files::FaultKind;
+use flicks::Flick;
 use plain_store::Command;
 
 impl Verb {

@@ -1,6 +1,5 @@
 use Rattle.std.proofs.Common.{◌≤◌, ◌-◌, ◌∙◌, ap, sym, subst}
 use Rattle.std.specs.Prelude.{Some, None}
-use Rattle.world.specs.flicks.Flicks.{after_set}
 use Rattle.scenario.specs.declared.lines.Line.TheVariants as line
 use Rattle.course.specs.Courses.{CourseState, Follows, MakesTurns, course}
 use Rattle.course.specs.Runs.{Run}
@@ -39,7 +38,7 @@ returns-in-Flick-clause-made c =
     let new : CourseState = course i.world c.set.new.self (i.left - 1) in
     let family : CourseState → Type 0 = λ old. (run : Run) → Follows old run → MakesTurns old c.args.line.now run c.ended-in-Flick.result new in
     subst family c.self.view_is (one_told (course i.world i.flicks i.left) new c.args.line.now (line.Flick c.in-Flick.flick) c.ended-in-Flick.result None c.ended-in-Flick.ensures c.if-self-eq0.false c.in-Flick.is
-    (flick_made i.world i.flicks c.set.new.self i.left c.in-Flick.flick few (c.set.ensures ∙ ap (λ f. after_set f i.flicks) c.set_to.ensures)))
+    (flick_made i.world i.flicks c.set.new.self i.left c.in-Flick.flick few c.set.ensures))
 
 pub returns-in_ok-shown-in-Show-clause-made : goal.returns-in_ok-shown-in-Show-clause-made
 returns-in_ok-shown-in-Show-clause-made c =
