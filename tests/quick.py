@@ -30,7 +30,7 @@ LESSONS = TOP / "lessons"
 # one that runs no program
 LEFT_OUT = {"10-sixteen", "14-sweep", "15-race", "21-polite"}
 # the crate whose tests make hundreds of thousands of events, which take minutes in such a build too
-TOO_LONG = {"worked_runs"}
+TOO_LONG = {"scenario_tests"}
 SECONDS = 60
 # how many builds go side by side: each has two processes
 AT_ONCE = 2 if len(os.sched_getaffinity(0)) < 4 else 3

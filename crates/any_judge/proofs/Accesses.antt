@@ -30,16 +30,16 @@ use Rattle.record.proofs.PlaceTurns.{access_in}
 use Rattle.record.proofs.Singles.{is_write}
 use Rattle.record.proofs.Turns.{and_false}
 use Rattle.record.proofs.Width.{IsGood}
-use Rattle.any_lock.specs.watch.laws.Doings.{Doing, Runs, Closes, call, doing}
-use Rattle.any_lock.specs.watch.laws.Held.{IsThere}
-use Rattle.any_lock.specs.watch.laws.Steps.{next_of}
-use Rattle.any_lock.proofs.watch.laws.Doings as laws
-use Rattle.any_lock.proofs.watch.laws.Frame.{Happens, a_call, a_withdrawal, a_failure, a_restart, a_step, a_closing}
-use Rattle.any_lock.proofs.watch.laws.FrameCells.{ByProcess}
-use Rattle.any_lock.proofs.watch.laws.FrameEvents.{Accepted, accepted}
-use Rattle.any_lock.proofs.watch.laws.FrameInside.{stage-is}
-use Rattle.any_lock.proofs.watch.laws.FrameSteps.{closing-writes, entry-by}
-use Rattle.any_lock.proofs.watch.laws.HeldThere.{access_there}
+use Rattle.any_lock.specs.read_law.laws.Doings.{Doing, Runs, Closes, call, doing}
+use Rattle.any_lock.specs.read_law.laws.Held.{IsThere}
+use Rattle.any_lock.specs.read_law.laws.Steps.{next_of}
+use Rattle.any_lock.proofs.read_law.laws.Doings as laws
+use Rattle.any_lock.proofs.read_law.laws.Frame.{Happens, a_call, a_withdrawal, a_failure, a_restart, a_step, a_closing}
+use Rattle.any_lock.proofs.read_law.laws.FrameCells.{ByProcess}
+use Rattle.any_lock.proofs.read_law.laws.FrameEvents.{Accepted, accepted}
+use Rattle.any_lock.proofs.read_law.laws.FrameInside.{stage-is}
+use Rattle.any_lock.proofs.read_law.laws.FrameSteps.{closing-writes, entry-by}
+use Rattle.any_lock.proofs.read_law.laws.HeldThere.{access_there}
 use Rattle.any_lock.specs.declared.refusals.AccessRefusal.{AccessRefusal}
 use Rattle.any_lock.specs.declared.refusals.AccessRefusal.TheVariants as access
 use Rattle.any_lock.specs.declared.standings.Begun.{Begun}

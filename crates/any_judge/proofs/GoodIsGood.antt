@@ -11,9 +11,9 @@ use Rattle.record.specs.Places.{is_running}
 use Rattle.record.specs.Records.{entry_of, past_of}
 use Rattle.record.specs.Stages.{stage}
 use Rattle.record.proofs.Width.{IsGood, is_good}
-use Rattle.any_lock.specs.watch.laws.Doings.{Doing, Rests, Lies, Runs, Closes, doing}
-use Rattle.any_lock.proofs.watch.laws.Doings as laws
-use Rattle.any_lock.proofs.watch.laws.FrameInside.{stage-is}
+use Rattle.any_lock.specs.read_law.laws.Doings.{Doing, Rests, Lies, Runs, Closes, doing}
+use Rattle.any_lock.proofs.read_law.laws.Doings as laws
+use Rattle.any_lock.proofs.read_law.laws.FrameInside.{stage-is}
 use Rattle.judge.specs.auditor.Verdicts.{IsOfEvent, KeepsAll}
 use Rattle.judge.specs.auditor.Verdicts as own
 use Rattle.judge.specs.auditor.declared.verdicts.Law.TheVariants as law

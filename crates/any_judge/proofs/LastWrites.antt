@@ -11,10 +11,10 @@ use Rattle.record.specs.Entries.{Entry, Past, own}
 use Rattle.record.specs.Unit.{is_begin, last_write, unfinished}
 use Rattle.record.proofs.Opens.{last-none}
 use Rattle.record.proofs.Singles.{is_write}
-use Rattle.any_lock.specs.watch.laws.Doings.{Doing, Runs, Closes}
-use Rattle.any_lock.proofs.watch.laws.Frame.{own-own}
-use Rattle.any_lock.proofs.watch.laws.FrameCells.{ByProcess}
-use Rattle.any_lock.proofs.watch.laws.FrameCuts.{last-made}
+use Rattle.any_lock.specs.read_law.laws.Doings.{Doing, Runs, Closes}
+use Rattle.any_lock.proofs.read_law.laws.Frame.{own-own}
+use Rattle.any_lock.proofs.read_law.laws.FrameCells.{ByProcess}
+use Rattle.any_lock.proofs.read_law.laws.FrameCuts.{last-made}
 use Rattle.any_lock.specs.declared.standings.Begun.{Begun}
 use Rattle.any_lock.specs.Standings.{begins, left_open, opened, write_of}
 use Rattle.any_lock.proofs.Markings.{ArePlain}

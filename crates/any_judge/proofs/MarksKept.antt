@@ -25,15 +25,15 @@ use Rattle.record.specs.Stages.{inside, stage}
 use Rattle.record.proofs.Turns.{and_false}
 use Rattle.record.proofs.Width.{IsGood}
 use Rattle.record.proofs.World.{entry-accepted}
-use Rattle.any_lock.specs.watch.laws.Doings.{Doing, Rests, Lies, Runs, Closes, call, closes, doing, is_inside, runs}
-use Rattle.any_lock.specs.watch.laws.Steps.{next_of}
-use Rattle.any_lock.proofs.watch.laws.Alone.{ClosesInside, closes_inside}
-use Rattle.any_lock.proofs.watch.laws.AtPlaces.{AtPlace}
-use Rattle.any_lock.proofs.watch.laws.Doings as laws
-use Rattle.any_lock.proofs.watch.laws.Frame.{Happens, a_call, a_withdrawal, a_failure, a_restart, a_step, a_closing, may_fail}
-use Rattle.any_lock.proofs.watch.laws.FrameEvents.{Accepted, accepted}
-use Rattle.any_lock.proofs.watch.laws.FrameInside.{inside-is, stage-is}
-use Rattle.any_lock.proofs.watch.laws.Steps.{step_is}
+use Rattle.any_lock.specs.read_law.laws.Doings.{Doing, Rests, Lies, Runs, Closes, call, closes, doing, is_inside, runs}
+use Rattle.any_lock.specs.read_law.laws.Steps.{next_of}
+use Rattle.any_lock.proofs.read_law.laws.Alone.{ClosesInside, closes_inside}
+use Rattle.any_lock.proofs.read_law.laws.AtPlaces.{AtPlace}
+use Rattle.any_lock.proofs.read_law.laws.Doings as laws
+use Rattle.any_lock.proofs.read_law.laws.Frame.{Happens, a_call, a_withdrawal, a_failure, a_restart, a_step, a_closing, may_fail}
+use Rattle.any_lock.proofs.read_law.laws.FrameEvents.{Accepted, accepted}
+use Rattle.any_lock.proofs.read_law.laws.FrameInside.{inside-is, stage-is}
+use Rattle.any_lock.proofs.read_law.laws.Steps.{step_is}
 use Rattle.judge.proofs.history_laws.Told.{told}
 use Rattle.judge.proofs.history_laws.Took.{TookBy}
 use Rattle.any_lock.specs.declared.refusals.MarkRefusal.{MarkRefusal}

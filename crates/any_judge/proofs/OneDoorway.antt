@@ -21,12 +21,12 @@ use Rattle.record.specs.Stages.{stage}
 use Rattle.record.specs.Unit.{last_write, unfinished}
 use Rattle.record.proofs.Turns.{and_false}
 use Rattle.record.proofs.Width.{IsGood}
-use Rattle.any_lock.specs.watch.laws.Doings.{Doing, Rests, Lies, Runs, Closes, call, closes, doing, runs}
-use Rattle.any_lock.proofs.watch.laws.AtPlaces.{IsOfLock, any-closing, any-placed, own-induction}
-use Rattle.any_lock.proofs.watch.laws.Frame.{Happens, a_call, a_withdrawal, a_failure, a_restart, a_step, a_closing, doing-other}
-use Rattle.any_lock.proofs.watch.laws.FrameDoorways.{begins-is, begins_at, begins_with}
-use Rattle.any_lock.proofs.watch.laws.FrameEvents.{accepted}
-use Rattle.any_lock.proofs.watch.laws.FrameMarks.{called-is, is_raising, is_resting, is_running}
+use Rattle.any_lock.specs.read_law.laws.Doings.{Doing, Rests, Lies, Runs, Closes, call, closes, doing, runs}
+use Rattle.any_lock.proofs.read_law.laws.AtPlaces.{IsOfLock, any-closing, any-placed, own-induction}
+use Rattle.any_lock.proofs.read_law.laws.Frame.{Happens, a_call, a_withdrawal, a_failure, a_restart, a_step, a_closing, doing-other}
+use Rattle.any_lock.proofs.read_law.laws.FrameDoorways.{begins-is, begins_at, begins_with}
+use Rattle.any_lock.proofs.read_law.laws.FrameEvents.{accepted}
+use Rattle.any_lock.proofs.read_law.laws.FrameMarks.{called-is, is_raising, is_resting, is_running}
 use Rattle.any_lock.specs.Laws.{breaks_overtaken, lowest_other, waits_before}
 use Rattle.any_lock.specs.Standings.{has_access, standing}
 use Rattle.any_lock.specs.declared.standings.Standing.{Standing}

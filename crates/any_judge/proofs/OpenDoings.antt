@@ -29,15 +29,15 @@ use Rattle.record.specs.Scripts.{Call, Next}
 use Rattle.record.specs.Unit.{last_write, made_with, unfinished}
 use Rattle.record.proofs.PlaceTurns.{access_in}
 use Rattle.record.proofs.Width.{IsGood}
-use Rattle.any_lock.specs.watch.laws.Doings.{Doing, Rests, Runs, Closes, call, closes, doing, runs}
-use Rattle.any_lock.specs.watch.laws.Held.{IsThere}
-use Rattle.any_lock.specs.watch.laws.Steps.{next_of}
-use Rattle.any_lock.proofs.watch.laws.AtPlaces.{own-induction}
-use Rattle.any_lock.proofs.watch.laws.Frame.{Happens, a_call, a_withdrawal, a_failure, a_restart, a_step, a_closing, doing-other}
-use Rattle.any_lock.proofs.watch.laws.FrameCuts.{LeftClosing, LeftIn, LeftRun, left}
-use Rattle.any_lock.proofs.watch.laws.FrameEvents.{accepted}
-use Rattle.any_lock.proofs.watch.laws.FrameSteps.{left-is}
-use Rattle.any_lock.proofs.watch.laws.HeldThere.{access_there}
+use Rattle.any_lock.specs.read_law.laws.Doings.{Doing, Rests, Runs, Closes, call, closes, doing, runs}
+use Rattle.any_lock.specs.read_law.laws.Held.{IsThere}
+use Rattle.any_lock.specs.read_law.laws.Steps.{next_of}
+use Rattle.any_lock.proofs.read_law.laws.AtPlaces.{own-induction}
+use Rattle.any_lock.proofs.read_law.laws.Frame.{Happens, a_call, a_withdrawal, a_failure, a_restart, a_step, a_closing, doing-other}
+use Rattle.any_lock.proofs.read_law.laws.FrameCuts.{LeftClosing, LeftIn, LeftRun, left}
+use Rattle.any_lock.proofs.read_law.laws.FrameEvents.{accepted}
+use Rattle.any_lock.proofs.read_law.laws.FrameSteps.{left-is}
+use Rattle.any_lock.proofs.read_law.laws.HeldThere.{access_there}
 use Rattle.any_lock.specs.declared.standings.Begun.{Begun}
 use Rattle.any_lock.specs.declared.standings.Standing.{Standing}
 use Rattle.any_lock.specs.Refusals.{reads}

@@ -21,8 +21,8 @@ use Rattle.record.specs.Program.{entered_if_none, lets_by, reply, store_read, wa
 use Rattle.record.specs.Scripts.{Call, Next}
 use Rattle.record.specs.Stages.{stage_after}
 use Rattle.record.specs.Unit.{is_commit}
-use Rattle.any_lock.specs.watch.laws.Doings.{Closes, call, is_inside_at, is_inside_closing}
-use Rattle.any_lock.proofs.watch.laws.Alone.{SettlesInside}
+use Rattle.any_lock.specs.read_law.laws.Doings.{Closes, call, is_inside_at, is_inside_closing}
+use Rattle.any_lock.proofs.read_law.laws.Alone.{SettlesInside}
 use Rattle.judge.proofs.history_laws.Took.{TookAt, TookIn}
 use Rattle.any_lock.specs.declared.standings.Standing.{Standing}
 use Rattle.any_lock.specs.Keeping.{marked}

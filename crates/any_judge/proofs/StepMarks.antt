@@ -14,7 +14,7 @@ use Rattle.record.specs.Records.{placed}
 use Rattle.record.specs.Scripts.{Call, Next}
 use Rattle.record.proofs.Turns.{and_false}
 use Rattle.any_lock.specs.Refusals.{stands_alone}
-use Rattle.any_lock.proofs.watch.laws.AtPlaces.{IsOfLock, any-closing, any-marks, any-placed}
+use Rattle.any_lock.proofs.read_law.laws.AtPlaces.{IsOfLock, any-closing, any-marks, any-placed}
 use Rattle.any_lock.proofs.Markings.{ArePlain}
 
 of_plain : IsOfLock stands_alone

@@ -15,7 +15,7 @@ use Rattle.record.specs.Parts.{is_over}
 use Rattle.record.specs.Places.{Place, write_moved}
 use Rattle.record.specs.Scripts.{Call, Next}
 use Rattle.record.proofs.PlaceTurns.{access_in}
-use Rattle.any_lock.specs.watch.laws.Doings.{Doing, Rests, Runs, Closes, call, closes, runs}
+use Rattle.any_lock.specs.read_law.laws.Doings.{Doing, Rests, Runs, Closes, call, closes, runs}
 use Rattle.any_lock.specs.declared.standings.Begun.{Begun}
 use Rattle.any_lock.specs.Standings.{settles, torn, torn_after}
 

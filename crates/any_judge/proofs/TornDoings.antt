@@ -22,15 +22,15 @@ use Rattle.record.specs.Unit.{is_begin, is_finished, last_write, made_with, unfi
 use Rattle.record.proofs.Opens.{last-none}
 use Rattle.record.proofs.Singles.{is_write}
 use Rattle.record.proofs.Width.{IsGood}
-use Rattle.any_lock.specs.watch.laws.Doings.{Doing, Rests, Lies, Runs, Closes, call, closes, doing, runs}
-use Rattle.any_lock.specs.watch.laws.Held.{IsThere}
-use Rattle.any_lock.proofs.watch.laws.AtPlaces.{own-induction}
-use Rattle.any_lock.proofs.watch.laws.Frame.{Happens, a_call, a_withdrawal, a_failure, a_restart, a_step, a_closing, doing-other, may_fail, own-other, own-own}
-use Rattle.any_lock.proofs.watch.laws.FrameCells.{ByProcess, EntryBy, makes, marks_only}
-use Rattle.any_lock.proofs.watch.laws.FrameCuts.{LeftIn, LeftRun, last-made, left, written-writes}
-use Rattle.any_lock.proofs.watch.laws.FrameEvents.{accepted}
-use Rattle.any_lock.proofs.watch.laws.FrameSteps.{closing-writes, entry-by, is_write-ended, left-is}
-use Rattle.any_lock.proofs.watch.laws.HeldThere.{access_there}
+use Rattle.any_lock.specs.read_law.laws.Doings.{Doing, Rests, Lies, Runs, Closes, call, closes, doing, runs}
+use Rattle.any_lock.specs.read_law.laws.Held.{IsThere}
+use Rattle.any_lock.proofs.read_law.laws.AtPlaces.{own-induction}
+use Rattle.any_lock.proofs.read_law.laws.Frame.{Happens, a_call, a_withdrawal, a_failure, a_restart, a_step, a_closing, doing-other, may_fail, own-other, own-own}
+use Rattle.any_lock.proofs.read_law.laws.FrameCells.{ByProcess, EntryBy, makes, marks_only}
+use Rattle.any_lock.proofs.read_law.laws.FrameCuts.{LeftIn, LeftRun, last-made, left, written-writes}
+use Rattle.any_lock.proofs.read_law.laws.FrameEvents.{accepted}
+use Rattle.any_lock.proofs.read_law.laws.FrameSteps.{closing-writes, entry-by, is_write-ended, left-is}
+use Rattle.any_lock.proofs.read_law.laws.HeldThere.{access_there}
 use Rattle.any_lock.specs.declared.standings.Begun.{Begun}
 use Rattle.any_lock.specs.declared.standings.Standing.{Standing}
 use Rattle.any_lock.specs.Standings.{opened, standing, torn, torn_after, write_of}

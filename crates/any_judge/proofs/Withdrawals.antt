@@ -21,10 +21,10 @@ use Rattle.record.specs.Registers.{others, processes}
 use Rattle.record.specs.Scripts.{Call}
 use Rattle.record.specs.Unit.{last_write, unfinished}
 use Rattle.record.proofs.Width.{IsGood}
-use Rattle.any_lock.specs.watch.laws.Doings.{Doing, Rests, Runs, Closes, call, closes, doing, runs}
-use Rattle.any_lock.proofs.watch.laws.AtPlaces.{AtPlace, own-induction, place-induction}
-use Rattle.any_lock.proofs.watch.laws.Frame.{Happens, a_call, a_withdrawal, a_failure, a_restart, a_step, a_closing, doing-other}
-use Rattle.any_lock.proofs.watch.laws.FrameEvents.{accepted}
+use Rattle.any_lock.specs.read_law.laws.Doings.{Doing, Rests, Runs, Closes, call, closes, doing, runs}
+use Rattle.any_lock.proofs.read_law.laws.AtPlaces.{AtPlace, own-induction, place-induction}
+use Rattle.any_lock.proofs.read_law.laws.Frame.{Happens, a_call, a_withdrawal, a_failure, a_restart, a_step, a_closing, doing-other}
+use Rattle.any_lock.proofs.read_law.laws.FrameEvents.{accepted}
 use Rattle.any_lock.specs.declared.standings.Standing.{Standing}
 use Rattle.any_lock.specs.Standings.{is_withdrawal, its_call}
 use Rattle.any_lock.proofs.Markings.{withdrawn-plain}

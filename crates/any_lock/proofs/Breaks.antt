@@ -10,8 +10,8 @@ use Rattle.record.specs.declared.access.Access.{Access}
 use Rattle.record.specs.Entries.{Entry, Past}
 use Rattle.record.specs.Moves.{begins_read, moves_of}
 use Rattle.record.specs.Registers.{opening_bit, width}
-use Rattle.watch.specs.Safe.{KeepsSafe, MatchBool}
-use Rattle.watch.specs.Watching.{IsOfThere}
+use Rattle.read_law.specs.Safe.{KeepsSafe, MatchBool}
+use Rattle.read_law.specs.Watching.{IsOfThere}
 use Rattle.any_lock.specs.declared.refusals.AccessRefusal.{AccessRefusal}
 use Rattle.any_lock.specs.declared.refusals.AccessRefusal.TheVariants as access
 use Rattle.any_lock.specs.declared.refusals.MarkRefusal.{MarkRefusal}

@@ -1,4 +1,4 @@
-pub use Rattle.watch.proofs as watch
+pub use Rattle.read_law.proofs as read_law
 pub mod Steps
 pub mod Markings
 pub mod Whole

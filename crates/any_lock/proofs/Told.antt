@@ -3,8 +3,8 @@ use Rattle.std.proofs.Common.{◌≡◌, ℕ, ◌+◌, ◌++◌, Bool, not, List
 use Rattle.std.proofs.lemmas.List.{length-append, length-reverse, reverse-append}
 use Rattle.plain_store.specs.declared.Setup.{Setup}
 use Rattle.record.specs.Entries.{Entry, Past}
-use Rattle.watch.specs.Watching.{AllAreOfThere, WatchState}
-use Rattle.watch.specs.Watching.{HasHeard as HasWatched}
+use Rattle.read_law.specs.Watching.{AllAreOfThere, WatchState}
+use Rattle.read_law.specs.Watching.{HasHeard as HasWatched}
 use Rattle.any_lock.specs.declared.verdicts.Law.{Law}
 use Rattle.any_lock.specs.declared.verdicts.Verdict.{Verdict}
 use Rattle.any_lock.specs.declared.verdicts.Verdict.TheVariants.{Good, Bad}

@@ -3,8 +3,8 @@ use Rattle.std.specs.Prelude.{◌≡◌, ℕ, List, ◌∷◌, ◌++◌, length,
 use Rattle.plain_store.specs.declared.Setup.{Setup}
 use Rattle.plain_store.specs.Setups.{checked}
 use Rattle.record.specs.Entries.{Entry, Past}
-use Rattle.watch.specs.Watching.{AllAreOfThere, WatchState}
-use Rattle.watch.specs.Watching.{HasHeard as HasWatched}
+use Rattle.read_law.specs.Watching.{AllAreOfThere, WatchState}
+use Rattle.read_law.specs.Watching.{HasHeard as HasWatched}
 use Rattle.any_lock.specs.declared.reasons.Reasons.{Reasons}
 use Rattle.any_lock.specs.declared.verdicts.Law.{Law}
 use Rattle.any_lock.specs.declared.verdicts.Verdict.{Verdict}

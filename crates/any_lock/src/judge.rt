@@ -2,7 +2,7 @@ ghost use Rattle.std.specs.Prelude.{◌≡◌, ◌+◌, ◌-◌, ◌^◌, ◌<�
 ghost use Rattle.plain_store.specs.declared.Setup.{Setup as Given};
 ghost use Rattle.plain_store.specs.Setups.{checked};
 ghost use Rattle.record.specs.Entries.{Entry as Noted, Past};
-ghost use Rattle.watch.specs.Watching.{AllAreOfThere, HasHeard as HasWatched};
+ghost use Rattle.read_law.specs.Watching.{AllAreOfThere, HasHeard as HasWatched};
 ghost use Rattle.any_lock.specs.declared.verdicts.Verdict.TheVariants.{Good};
 ghost use Rattle.any_lock.specs.Headline.{KeepsHeadlineThroughout};
 ghost use Rattle.any_lock.specs.Judging.{AreReasonsIf, AreReasonsOf, BothHeard, HasJudged};
@@ -16,7 +16,7 @@ use plain_store::{NestedTypes, Setup};
 use record::{Access, Entry, Mark};
 use std::alloc::{AllocError, Global};
 use std::marker::Model;
-use watch::Watch;
+use read_law::Watch;
 
 /// A judge of the record of any lock, whose entries it takes one at a time. It keeps of each bit what the safe rule looks
 /// back at, where each process stands, one store, two counts, the verdict and its reasons: so it needs the same memory

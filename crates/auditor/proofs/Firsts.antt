@@ -3,7 +3,7 @@ use Rattle.std.proofs.Common.{◌≡◌, ℕ, suc, ◌<◌, List, [], ◌∷◌,
 use Rattle.std.proofs.lemmas.List.{reverse-append, length-reverse, length-take-le}
 use Rattle.plain_store.specs.declared.Setup.{Setup}
 use Rattle.record.specs.Entries.{Entry, Past}
-use Rattle.watch.specs.Safe.{KeepsSafe}
+use Rattle.read_law.specs.Safe.{KeepsSafe}
 use Rattle.auditor.specs.declared.verdicts.Law.{Law}
 use Rattle.auditor.specs.declared.verdicts.Law.TheVariants as law
 use Rattle.auditor.specs.Hearing.{BreaksNext}

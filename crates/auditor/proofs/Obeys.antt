@@ -12,11 +12,11 @@ use Rattle.record.specs.Records.{added, entry_of, past_of, process_of, refused_a
 use Rattle.record.specs.Stages.{inside, inside_after, stage}
 use Rattle.record.proofs.Width.{IsGood, is_good}
 use Rattle.record.proofs.World.{entry-accepted}
-use Rattle.watch.specs.laws.Doings.{doing, is_inside}
-use Rattle.watch.proofs.laws.FrameEvents.{Accepted, accepted}
-use Rattle.watch.proofs.laws.FrameInside.{inside-is}
-use Rattle.watch.proofs.laws.FrameMarks.{entered-is}
-use Rattle.watch.proofs.laws.SafeRecords.{ends_as_it_may}
+use Rattle.read_law.specs.laws.Doings.{doing, is_inside}
+use Rattle.read_law.proofs.laws.FrameEvents.{Accepted, accepted}
+use Rattle.read_law.proofs.laws.FrameInside.{inside-is}
+use Rattle.read_law.proofs.laws.FrameMarks.{entered-is}
+use Rattle.read_law.proofs.laws.SafeRecords.{ends_as_it_may}
 use Rattle.world.proofs.history_laws_proofs.Headlines.{alone, history_is_one, in_turn}
 use Rattle.world.proofs.WorldShows.{past-after}
 use Rattle.auditor.specs.declared.verdicts.Law.TheVariants as law

@@ -7,7 +7,7 @@ use Rattle.record.specs.declared.events.Event.{Event}
 use Rattle.record.specs.Entries.{Entry, Past}
 use Rattle.record.specs.Records.{entry_of, past_of}
 use Rattle.record.proofs.Width.{is_good}
-use Rattle.watch.proofs.laws.HeldThere.{access_there}
+use Rattle.read_law.proofs.laws.HeldThere.{access_there}
 use Rattle.world.proofs.WorldShows.{past-after}
 use Rattle.auditor.specs.Hearing.{AuditorState, HasHeard}
 use Rattle.auditor.specs.Verdicts.{AllKeep, GoodAccessesAreThere, GoodIsOfEvents, IsGoodOfEvents, IsOfEvent, IsTrueRecord, IsVerdict, OfEventsIsGood}

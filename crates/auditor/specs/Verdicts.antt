@@ -12,8 +12,8 @@ use Rattle.record.specs.Given.{AreGiven}
 use Rattle.record.specs.Headline.{KeepsHeadlineThroughout, OvertakesNobody, TakesItsPlace}
 use Rattle.record.specs.Records.{entry_of, past_of, placed, record_of, stepped}
 use Rattle.record.specs.Stages.{inside, stage}
-use Rattle.watch.specs.Safe.{KeepsSafe}
-use Rattle.watch.specs.Watching.{AllAreOfThere}
+use Rattle.read_law.specs.Safe.{KeepsSafe}
+use Rattle.read_law.specs.Watching.{AllAreOfThere}
 use Rattle.auditor.specs.declared.verdicts.Law.{Law}
 use Rattle.auditor.specs.declared.verdicts.Law.TheVariants as law
 use Rattle.auditor.specs.declared.verdicts.Verdict.{Verdict}

@@ -9,7 +9,7 @@ use crate::verdicts::{Law, Verdict};
 use plain_store::Setup;
 use record::{Entry, Record};
 use std::alloc::{AllocError, Global};
-use watch::is_unsafe;
+use read_law::is_unsafe;
 
 /// The verdict on a record: the lowest entry that breaks a law, and the first law that it breaks. The one fault is want
 /// of memory. It takes the entries one by one, and looks back at most once. A good record is that of some list of

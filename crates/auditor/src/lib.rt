@@ -23,5 +23,5 @@ pub use laws_of_verdicts::{
 };
 pub use record::{Entry, Record};
 pub use verdicts::{Audited, Law, Verdict};
-pub use watch::Watch;
+pub use read_law::Watch;
 pub use world::{Flicks, Told, World};

@@ -32,8 +32,8 @@ use Rattle.record.specs.Records.{past_of}
 use Rattle.record.specs.Registers.{bytes_of_bits, image_bytes, processes, width}
 use Rattle.record.specs.Stages.{inside, stage}
 use Rattle.record.proofs.Width.{IsGood, is_good}
-use Rattle.process.proofs.critical.NewestSteps.{process-in}
-use Rattle.process.proofs.critical.Widths.{ranges}
+use Rattle.process.proofs.section.NewestSteps.{process-in}
+use Rattle.process.proofs.section.Widths.{ranges}
 use Rattle.process.specs.laws.Doings.{Doing, call, doing, is_inside}
 use Rattle.process.specs.laws.Held.{IsThere, cell_held}
 use Rattle.process.proofs.laws.Frame.{Does, at_rest, lying, running, leaving, settling}

@@ -22,7 +22,7 @@ use Rattle.record.specs.Places.{Place, bits_with, is_fresh, is_last, place_after
 use Rattle.record.specs.Program.{Wait, entered_if_none, newest_stamp, waits_of}
 use Rattle.record.specs.Scripts.{Call}
 use Rattle.record.specs.Unit.{is_commit}
-use Rattle.process.specs.critical.Sections.{changes_at}
+use Rattle.process.specs.section.Sections.{changes_at}
 use Rattle.process.specs.laws.Doings.{Doing, Rests, Lies, Runs, Closes, call, closes, is_inside, is_inside_at, is_inside_closing}
 use Rattle.process.specs.laws.Steps.{cut_of, does_then, marks_with, next_of}
 use Rattle.history_laws.specs.Stamps.{stamp_at, stamp_read}

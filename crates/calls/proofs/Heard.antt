@@ -9,8 +9,8 @@ use Rattle.plain_store.specs.declared.Setup.{Setup}
 use Rattle.record.specs.declared.access.Access.{Access}
 use Rattle.record.specs.declared.marks.Mark.{Mark}
 use Rattle.record.specs.Entries.{Entry, Past}
-use Rattle.watch.specs.Watching.{WatchState}
-use Rattle.watch.specs.Watching.{HasHeard as HasWatched}
+use Rattle.read_law.specs.Watching.{WatchState}
+use Rattle.read_law.specs.Watching.{HasHeard as HasWatched}
 use Rattle.calls.specs.declared.called.Called.{Called}
 use Rattle.calls.specs.declared.standing.Standing.{Standing}
 use Rattle.calls.specs.Columns.{ends_overlapped_read, is_read, is_write, makes_itself}

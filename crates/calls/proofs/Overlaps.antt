@@ -6,8 +6,8 @@ use Rattle.record.specs.declared.access.Access.{Access}
 use Rattle.plain_store.specs.declared.Setup.{Setup}
 use Rattle.record.specs.Entries.{Entry, Past}
 use Rattle.record.specs.Moves.{begins_read, moves_of}
-use Rattle.watch.specs.laws.Held.{IsThere}
-use Rattle.watch.specs.Looks.{ends_overlapped}
+use Rattle.read_law.specs.laws.Held.{IsThere}
+use Rattle.read_law.specs.Looks.{ends_overlapped}
 use Rattle.calls.specs.Columns.{ends_overlapped_read, is_read_end}
 use Rattle.calls.specs.Hearing.{ComesInTurn}
 

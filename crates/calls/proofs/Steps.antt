@@ -9,7 +9,7 @@ use Rattle.record.specs.Calls.{called_in, calls_in, last_command}
 use Rattle.record.specs.Doorways.{number_in_call}
 use Rattle.record.specs.Entries.{Entry, Past, has, is_called, is_entered, is_failed, is_waiting, own}
 use Rattle.record.specs.Moves.{moves_of}
-use Rattle.watch.specs.Looks.{ends_overlapped}
+use Rattle.read_law.specs.Looks.{ends_overlapped}
 use Rattle.calls.specs.declared.called.Accesses.{Accesses}
 use Rattle.calls.specs.declared.called.Marked.{Marked}
 use Rattle.calls.specs.declared.standing.Standing.{Standing}

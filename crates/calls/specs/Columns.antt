@@ -15,7 +15,7 @@ use Rattle.record.specs.Entries.{Entry, Past, has, is_called, is_entered, is_fai
 use Rattle.record.specs.Moves.{moves_of}
 use Rattle.record.specs.Program.{is_below}
 use Rattle.record.specs.Registers.{width}
-use Rattle.watch.specs.Looks.{ends_overlapped}
+use Rattle.read_law.specs.Looks.{ends_overlapped}
 use Rattle.calls.specs.declared.called.Accesses.{Accesses}
 use Rattle.calls.specs.declared.called.Called.{Called as Told}
 use Rattle.calls.specs.declared.called.Marked.{Marked}

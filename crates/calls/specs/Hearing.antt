@@ -7,9 +7,9 @@ use Rattle.record.specs.declared.marks.Mark.{Mark}
 use Rattle.record.specs.safe_bit.declared.Move.TheVariants.{EndRead}
 use Rattle.record.specs.Entries.{Entry, Past}
 use Rattle.record.specs.Moves.{begins_read, moves_of}
-use Rattle.watch.specs.laws.Held.{IsThere}
-use Rattle.watch.specs.Watching.{WatchState}
-use Rattle.watch.specs.Watching.{HasHeard as HasWatched}
+use Rattle.read_law.specs.laws.Held.{IsThere}
+use Rattle.read_law.specs.Watching.{WatchState}
+use Rattle.read_law.specs.Watching.{HasHeard as HasWatched}
 use Rattle.calls.specs.declared.called.Called.{Called}
 use Rattle.calls.specs.declared.standing.Standing.{Standing}
 use Rattle.calls.specs.Columns.{called, is_calling}

@@ -1,4 +1,4 @@
-pub use Rattle.watch.specs as watch
+pub use Rattle.read_law.specs as read_law
 pub mod Columns
 pub mod Hearing
 pub mod Lines

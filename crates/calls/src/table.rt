@@ -1,7 +1,7 @@
 ghost use Rattle.std.specs.Prelude.{◌≡◌, ◌+◌, ◌-◌, ◌^◌, ◌<◌, ◌∷◌, [], IfOk, Ok, Some, None, slice_get};
 ghost use Rattle.plain_store.specs.Setups.{checked};
 ghost use Rattle.record.specs.Entries.{Entry as Noted, Past};
-ghost use Rattle.watch.specs.Watching.{HasHeard as HasWatched};
+ghost use Rattle.read_law.specs.Watching.{HasHeard as HasWatched};
 ghost use Rattle.calls.specs.Columns.{ends_overlapped_read, is_read_end};
 ghost use Rattle.calls.specs.declared.standing.Standing.{Standing as Stood};
 ghost use Rattle.calls.specs.Hearing.{ComesInTurn, GoesOn, HasHeard, ended_call, open_call};
@@ -12,7 +12,7 @@ use plain_store::{NestedTypes, Setup};
 use record::{Access, Mark, Move};
 use std::alloc::{AllocError, Global};
 use std::marker::Model;
-use watch::Watch;
+use read_law::Watch;
 
 /// The calls of a run, whose entries it takes one at a time. It keeps the last call of each process, and of each bit what
 /// the safe rule looks back at: so it needs the same memory however long the run is, and however many calls it has.
@@ -25,7 +25,7 @@ pub struct Table {
 }
 
 impl Model for Table {
-    ghost use Rattle.watch.specs.Watching.{HasHeard as HasWatched};
+    ghost use Rattle.read_law.specs.Watching.{HasHeard as HasWatched};
     ghost use Rattle.calls.specs.Columns.{ends_overlapped_read, is_read_end};
     ghost use Rattle.calls.specs.declared.standing.Standing.{Standing as Stood};
     ghost use Rattle.calls.specs.Hearing.{IsTable, TableState};

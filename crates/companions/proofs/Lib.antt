@@ -1,5 +1,5 @@
 pub use Rattle.picture.proofs as picture
-pub use Rattle.watch.proofs as watch
+pub use Rattle.read_law.proofs as read_law
 -- What commands change, and how that is shown
 mod Changing
 pub mod Shown

@@ -10,10 +10,10 @@ use Rattle.plain_store.specs.declared.setups.Setup.{Setup as Given}
 use Rattle.plain_store.proofs.GoodSetups.{few-processes}
 use Rattle.record.specs.Entries.{Entry, Past}
 use Rattle.record.specs.Moves.{begins_read, moves_of, same_bit}
-use Rattle.watch.specs.Looks.{ends_overlapped}
-use Rattle.watch.specs.Watching.{HasHeard}
-use Rattle.watch.specs.laws.Held.{IsThere}
-use Rattle.watch.proofs.Hears.{heard_none}
+use Rattle.read_law.specs.Looks.{ends_overlapped}
+use Rattle.read_law.specs.Watching.{HasHeard}
+use Rattle.read_law.specs.laws.Held.{IsThere}
+use Rattle.read_law.proofs.Hears.{heard_none}
 use Rattle.picture.specs.columns.declared.reads.OverlappedRead.{OverlappedRead}
 use Rattle.picture.specs.declared.reads.Reads.{Reads as Mode}
 use Rattle.picture.specs.declared.reads.Reads.TheVariants.{Hidden, Shown}

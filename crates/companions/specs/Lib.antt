@@ -1,4 +1,4 @@
 pub use Rattle.picture.specs as picture
-pub use Rattle.watch.specs as watch
+pub use Rattle.read_law.specs as read_law
 pub mod Overlaps
 pub mod StoreChanges

@@ -8,8 +8,8 @@ use Rattle.plain_store.specs.declared.setups.Setup.{Setup}
 use Rattle.record.specs.Entries.{Entry, Past}
 use Rattle.record.specs.Moves.{moves_of, same_bit}
 use Rattle.record.specs.Registers.{width}
-use Rattle.watch.specs.Looks.{ends_overlapped}
-use Rattle.watch.specs.Watching.{HasHeard}
+use Rattle.read_law.specs.Looks.{ends_overlapped}
+use Rattle.read_law.specs.Watching.{HasHeard}
 use Rattle.picture.specs.Sheets.{held_in_64}
 use Rattle.picture.specs.columns.declared.reads.OverlappedRead.{OverlappedRead}
 use Rattle.picture.specs.declared.reads.Reads.{Reads as Mode}

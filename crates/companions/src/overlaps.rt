@@ -15,7 +15,7 @@ use picture::{OverlappedRead, Reads};
 use plain_store::{NestedTypes, Setup};
 use record::{Access, Field, Move};
 use std::alloc::{AllocError, Global};
-use watch::Watch;
+use read_law::Watch;
 
 /// How many reads are shown between two lines of the picture.
 const MOST_SHOWN: usize = 3;

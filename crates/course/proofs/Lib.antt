@@ -1,6 +1,6 @@
 pub use Rattle.world.proofs.history_laws_proofs as history_laws
 pub use Rattle.auditor.proofs.laws as laws
-pub use Rattle.auditor.proofs.watch as watch
+pub use Rattle.auditor.proofs.read_law as read_law
 pub use Rattle.record.proofs as «record»
 -- The turns of a line
 pub mod TurnLaw

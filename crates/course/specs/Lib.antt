@@ -3,7 +3,7 @@ pub use Rattle.world.specs.laws as laws
 pub use Rattle.world.specs.process as process
 pub use Rattle.world.specs as world
 pub use Rattle.record.specs as «record»
-pub use Rattle.auditor.specs.watch as watch
+pub use Rattle.auditor.specs.read_law as read_law
 pub mod Counts
 pub mod Courses
 pub mod Growing

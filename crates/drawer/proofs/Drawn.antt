@@ -3,10 +3,10 @@ use Rattle.std.proofs.Common.{◌≡◌, ℕ, true, List, [], ◌∷◌, ◌++�
 use Rattle.std.proofs.lemmas.Grind.{flat_map-append}
 use Rattle.std.specs.Io.KnownBytes.{Appends}
 use Rattle.record.specs.declared.marks.Mark.{Mark}
-use Rattle.picture.specs.shapes.Elements.{EndsAll, opens_in}
-use Rattle.picture.specs.shapes.Titles.{is_at_rest, lines_in, tags_of}
-use Rattle.picture.proofs.shapes.Lines.{lines_on, rests_on}
-use Rattle.picture.proofs.shapes.Stacks.{opens_on}
+use Rattle.picture.specs.markup.Elements.{EndsAll, opens_in}
+use Rattle.picture.specs.markup.Titles.{is_at_rest, lines_in, tags_of}
+use Rattle.picture.proofs.markup.Lines.{lines_on, rests_on}
+use Rattle.picture.proofs.markup.Stacks.{opens_on}
 use Rattle.picture.specs.Bandings.{Item, Plan, Reads, Tells, bands_told, full_told}
 use Rattle.picture.specs.Pages.{GivesRest, GoesOn, SeenPage, band_text, lines_of_band, page_of}
 use Rattle.picture.specs.columns.Stages.{marks_said}

@@ -5,9 +5,9 @@ use Rattle.plain_store.specs.declared.Setup.{Setup}
 use Rattle.plain_store.proofs.GoodSetups.{few-processes}
 use Rattle.record.specs.Entries.{Entry, Past}
 use Rattle.record.specs.Moves.{moves_of}
-use Rattle.course.specs.watch.Looks.{ends_overlapped}
-use Rattle.course.specs.watch.Watching.{HasHeard}
-use Rattle.course.proofs.watch.Hears.{heard_none}
+use Rattle.course.specs.read_law.Looks.{ends_overlapped}
+use Rattle.course.specs.read_law.Watching.{HasHeard}
+use Rattle.course.proofs.read_law.Hears.{heard_none}
 use Rattle.picture.specs.columns.declared.reads.OverlappedRead.{OverlappedRead}
 use Rattle.picture.specs.declared.reads.Reads.{Reads as Mode}
 use Rattle.picture.specs.declared.reads.Reads.TheVariants.{Hidden, Shown}

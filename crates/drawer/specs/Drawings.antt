@@ -1,8 +1,8 @@
 -- What was written of a run's picture, and what is read back of it.
 use Rattle.std.specs.Prelude.{◌≡◌, ◌<◌, ℕ, true, List, [], ◌∷◌, ◌+◌, ◌++◌, flat_map, length, map, take, Option, Some, IfSome, Result, Ok, Err}
 use Rattle.std.specs.Io.KnownBytes.{Appends, IsAtEnd}
-use Rattle.picture.specs.shapes.Elements.{EndsAll, opens_in}
-use Rattle.picture.specs.shapes.Titles.{is_at_rest, lines_in, tags_of}
+use Rattle.picture.specs.markup.Elements.{EndsAll, opens_in}
+use Rattle.picture.specs.markup.Titles.{is_at_rest, lines_in, tags_of}
 use Rattle.plain_store.specs.Store.{Contents}
 use Rattle.plain_store.specs.declared.setups.Setup.{Setup}
 use Rattle.record.specs.Entries.{Past}

@@ -9,8 +9,8 @@ use Rattle.course.specs.laws.Held.{IsThere}
 use Rattle.record.specs.Entries.{Entry, Past}
 use Rattle.record.specs.Moves.{begins_read, moves_of}
 use Rattle.record.specs.Registers.{width}
-use Rattle.course.specs.watch.Looks.{ends_overlapped}
-use Rattle.course.specs.watch.Watching.{HasHeard}
+use Rattle.course.specs.read_law.Looks.{ends_overlapped}
+use Rattle.course.specs.read_law.Watching.{HasHeard}
 use Rattle.picture.specs.Sheets.{held_in_64}
 use Rattle.picture.specs.columns.declared.reads.OverlappedRead.{OverlappedRead}
 use Rattle.picture.specs.declared.reads.Reads.{Reads as Mode}

@@ -1,7 +1,7 @@
 //! How markup is written.
 ghost use Rattle.std.specs.Prelude.{◌≡◌, ◌+◌, ◌-◌, ◌^◌, ◌<◌, IfErr, IfSome, OnOk};
-ghost use Rattle.picture.specs.shapes.Elements.{EndsAll};
-ghost use Rattle.picture.specs.shapes.Titles.{lines_in};
+ghost use Rattle.picture.specs.markup.Elements.{EndsAll};
+ghost use Rattle.picture.specs.markup.Titles.{lines_in};
 ghost use Rattle.picture.specs.Pages.{band_text, lines_of_band};
 ghost use Rattle.course.specs.Writing.{IsWriteFault, failed_write};
 ghost use Rattle.drawer.specs.Drawings.{Draws, Writes};

@@ -4,9 +4,9 @@ use Rattle.std.proofs.lemmas.List.{length-append, length-reverse, reverse-append
 use Rattle.plain_store.specs.declared.setups.Setup.{Setup}
 use Rattle.plain_store.specs.Setups.{checked}
 use Rattle.record.specs.Entries.{Entry, Past}
-use Rattle.auditor.specs.watch.Safe.{KeepsSafe, MatchBool}
-use Rattle.auditor.specs.watch.Watching.{AllAreOfThere, WatchState}
-use Rattle.auditor.specs.watch.Watching.{HasHeard as HasWatched}
+use Rattle.auditor.specs.read_law.Safe.{KeepsSafe, MatchBool}
+use Rattle.auditor.specs.read_law.Watching.{AllAreOfThere, WatchState}
+use Rattle.auditor.specs.read_law.Watching.{HasHeard as HasWatched}
 use Rattle.auditor.specs.Hearing.{AuditorState, HasHeard, IsHeard}
 use Rattle.auditor.specs.Verdicts.{AllKeep, BreaksFirst, IsBadAt, IsVerdict}
 use Rattle.auditor.specs.declared.verdicts.Law.{Law}

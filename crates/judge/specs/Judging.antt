@@ -3,8 +3,8 @@ use Rattle.std.specs.Prelude.{◌≡◌, ℕ, Bool, true, false, List, length, r
 use Rattle.plain_store.specs.declared.setups.Setup.{Setup}
 use Rattle.plain_store.specs.Setups.{checked}
 use Rattle.record.specs.Entries.{Entry, Past}
-use Rattle.auditor.specs.watch.Watching.{WatchState}
-use Rattle.auditor.specs.watch.Watching.{HasHeard as HasWatched}
+use Rattle.auditor.specs.read_law.Watching.{WatchState}
+use Rattle.auditor.specs.read_law.Watching.{HasHeard as HasWatched}
 use Rattle.auditor.specs.Hearing.{AuditorState, HasHeard}
 use Rattle.auditor.specs.Verdicts.{IsVerdict}
 use Rattle.auditor.specs.declared.verdicts.Verdict.{Verdict}

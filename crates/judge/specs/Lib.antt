@@ -1,6 +1,6 @@
 pub use Rattle.auditor.specs as auditor
 pub use Rattle.trial.specs as trial
 pub use Rattle.record_file.specs as record_file
-pub use Rattle.auditor.specs.watch as watch
+pub use Rattle.auditor.specs.read_law as read_law
 pub mod Judging
 pub mod Judgements

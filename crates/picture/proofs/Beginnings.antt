@@ -1,9 +1,9 @@
 -- How a mark begins: its attributes, and its title.
 use Rattle.std.proofs.Common.{◌≡◌, ℕ, Result, Ok, Err, OnOk, List, [], ◌∷◌, ◌++◌, flat_map, ap, sym, ◌∙◌, append-nil, append_assoc}
 use Rattle.std.proofs.lemmas.Grind.{flat_map-append}
-use Rattle.shapes.specs.Figures.{Mark, drawings, drawn}
-use Rattle.shapes.specs.Markup.{Said, attribute_text, marking, marking_by, said_text}
-use Rattle.shapes.specs.declared.attributes.Attribute.{Attribute}
+use Rattle.markup.specs.Figures.{Mark, drawings, drawn}
+use Rattle.markup.specs.Markup.{Said, attribute_text, marking, marking_by, said_text}
+use Rattle.markup.specs.declared.attributes.Attribute.{Attribute}
 use Rattle.picture.proofs.Drawn.{one_drawn}
 
 -- four parts, the second of which ends in nothing

@@ -1,7 +1,7 @@
 -- What stands before and behind the bands begins elements, and ends them.
 use Rattle.std.proofs.Common.{◌≡◌, ℕ, List, [], ◌∷◌, codes, Some, refl, ap, ◌∙◌}
-use Rattle.shapes.specs.Elements.{opens_in}
-use Rattle.shapes.specs.Readings.{Reading, group, reading, with_begun, with_tags}
+use Rattle.markup.specs.Elements.{opens_in}
+use Rattle.markup.specs.Readings.{Reading, group, reading, with_begun, with_tags}
 use Rattle.picture.specs.Pages.{page_names, picture_names}
 
 -- the lines and the open elements of a part

@@ -1,4 +1,4 @@
-pub use Rattle.shapes.proofs as shapes
+pub use Rattle.markup.proofs as markup
 mod Beginnings
 mod Drawn
 mod Steps

@@ -3,7 +3,7 @@ use Rattle.std.proofs.Common.{◌≡◌, ℕ, ◌+◌, ◌-◌, Bool, true, fals
 use Rattle.std.proofs.lemmas.Grind.{fold-append}
 use Rattle.std.proofs.Math.Seq.{take-append_seam}
 use Rattle.std.proofs.lemmas.List.{length-map}
-use Rattle.shapes.specs.Figures.{drawings}
+use Rattle.markup.specs.Figures.{drawings}
 use Rattle.record.specs.declared.marks.Mark.{Mark}
 use Rattle.picture.specs.Bandings.{Bands, Item, Plan, Reads, Tells, bands_of, begun_by, behind_columns, columns_of, filled, framed, full_bytes, heights, last_in, layout_in, line_by, newest, newest_at, older, placing_before, placing_in, room_by, state_after, with_line, with_placed, with_put, with_room}
 use Rattle.columns.specs.Columns.{Seen, alone, column_of_read, joined, joins, seen}

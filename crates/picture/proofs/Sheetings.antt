@@ -1,8 +1,8 @@
 -- What stands around the bands, put together piece by piece.
 use Rattle.std.proofs.Common.{◌≡◌, ℕ, Result, Ok, Err, OnOk, List, [], ◌∷◌, ◌++◌, codes, flat_map, ap, ◌∙◌, append_assoc}
-use Rattle.shapes.specs.Markup.{Said, attribute_text, said_text, telling_by}
-use Rattle.shapes.specs.declared.attributes.Attribute.{Attribute}
-use Rattle.shapes.specs.declared.names.Tag.TheVariants as tag
+use Rattle.markup.specs.Markup.{Said, attribute_text, said_text, telling_by}
+use Rattle.markup.specs.declared.attributes.Attribute.{Attribute}
+use Rattle.markup.specs.declared.names.Tag.TheVariants as tag
 use Rattle.std.specs.Fmt.{decimal}
 use Rattle.picture.specs.Sheets.{item_of, plural_of, says}
 

@@ -1,7 +1,7 @@
 -- What is drawn of a column, and then of those behind it.
 use Rattle.std.proofs.Common.{◌≡◌, ℕ, ◌+◌, add-one, ◌<◌, Bool, is_some, Option, List, ◌++◌, drop, length, map, flat_map, get_or, ap, sym, ◌∙◌}
-use Rattle.shapes.specs.Figures.{Shape, drawings}
-use Rattle.shapes.specs.declared.figures.Point.{Point}
+use Rattle.markup.specs.Figures.{Shape, drawings}
+use Rattle.markup.specs.declared.figures.Point.{Point}
 use Rattle.columns.specs.Columns.{Seen, seen}
 use Rattle.picture.specs.Drawings.{SeenBand, axis, axis_up_to, for_each, inside_since, line_shapes, lines_shapes, shade_up_to, shades}
 use Rattle.columns.specs.declared.columns.Column.{Column}

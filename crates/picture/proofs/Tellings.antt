@@ -2,10 +2,10 @@
 use Rattle.std.proofs.Common.{◌≡◌, ℕ, ◌+◌, ◌<◌, false, Result, Ok, Err, OnOk, List, [], ◌∷◌, ◌++◌, flat_map, length, take, get_or, refl, ap, sym, ◌∙◌, append-nil, append_assoc}
 use Rattle.std.proofs.lemmas.Grind.{flat_map-append}
 use Rattle.std.proofs.lemmas.List.{map-append, take_more}
-use Rattle.shapes.specs.Elements.{Stack, is_among, text_names}
-use Rattle.shapes.specs.Readings.{Reading, group, reading, with_begun, with_ended, with_lines, with_mark}
-use Rattle.shapes.specs.Titles.{lines_in}
-use Rattle.shapes.proofs.Stacks.{round}
+use Rattle.markup.specs.Elements.{Stack, is_among, text_names}
+use Rattle.markup.specs.Readings.{Reading, group, reading, with_begun, with_ended, with_lines, with_mark}
+use Rattle.markup.specs.Titles.{lines_in}
+use Rattle.markup.proofs.Stacks.{round}
 use Rattle.columns.specs.Told.{text_of, texts, told_in}
 use Rattle.columns.specs.declared.columns.Column.{Column}
 use Rattle.columns.specs.declared.told.Line.{Line}

@@ -1,10 +1,10 @@
 -- The bands of a picture, by what it is told. Of items, of columns and of full bands the newest stands first.
 use Rattle.std.specs.Prelude.{ℕ, ◌+◌, ◌-◌, min, Bool, true, false, List, [], ◌∷◌, ◌++◌, codes, fold, length, slice_get, Option, None, Some}
 use Rattle.std.specs.Fmt.{decimal}
-use Rattle.shapes.specs.Figures.{End, drawings, drawn}
-use Rattle.shapes.specs.Markup.{entering_by, lowering}
-use Rattle.shapes.specs.declared.names.Key.TheVariants as key
-use Rattle.shapes.specs.declared.names.Tag.TheVariants as tag
+use Rattle.markup.specs.Figures.{End, drawings, drawn}
+use Rattle.markup.specs.Markup.{entering_by, lowering}
+use Rattle.markup.specs.declared.names.Key.TheVariants as key
+use Rattle.markup.specs.declared.names.Tag.TheVariants as tag
 use Rattle.columns.specs.Columns.{Seen, alone, column_of_read, joined, joins, shortened}
 use Rattle.picture.specs.Drawings.{band_shapes}
 use Rattle.columns.specs.Layouts.{layout_of}

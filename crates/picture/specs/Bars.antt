@@ -4,8 +4,8 @@ use Rattle.std.specs.Fmt.{decimal}
 use Rattle.std.specs.Str.{bytes_eq}
 use Rattle.record.specs.declared.stages.Stage.{Stage}
 use Rattle.record.specs.declared.stages.Stage.TheVariants as stage
-use Rattle.shapes.specs.Figures.{Shape, Block, Label, line_from}
-use Rattle.shapes.specs.declared.figures.Point.{Point}
+use Rattle.markup.specs.Figures.{Shape, Block, Label, line_from}
+use Rattle.markup.specs.declared.figures.Point.{Point}
 use Rattle.columns.specs.Columns.{Seen, capped}
 use Rattle.columns.specs.Layouts.{bar_of, stands_in}
 use Rattle.columns.specs.Stages.{stage_among}

@@ -1,10 +1,10 @@
 -- What a band draws, as a list of shapes.
 use Rattle.std.specs.Prelude.{ℕ, zero, suc, ◌+◌, ◌-◌, ◌*◌, ◌/◌, ◌^◌, min, Bool, true, false, ◌==◌, ◌&&◌, ◌||◌, cond, is_some, nat_le, nat_lt, List, [], ◌∷◌, ◌++◌, codes, flat_map, length, map, string_bytes, Option, None, Some}
 use Rattle.std.specs.Fmt.{decimal}
-use Rattle.shapes.specs.Figures.{Shape, Block, End, Label, Mark, Note, line_from, path_from}
-use Rattle.shapes.specs.Markup.{Said}
-use Rattle.shapes.specs.declared.figures.Point.{Point}
-use Rattle.shapes.specs.declared.names.Key.TheVariants as key
+use Rattle.markup.specs.Figures.{Shape, Block, End, Label, Mark, Note, line_from, path_from}
+use Rattle.markup.specs.Markup.{Said}
+use Rattle.markup.specs.declared.figures.Point.{Point}
+use Rattle.markup.specs.declared.names.Key.TheVariants as key
 use Rattle.picture.specs.Bars.{bars, lane_name, point, words_from}
 use Rattle.columns.specs.Columns.{Seen, Wording, capped, seen, settles_and_takes_in, taken_in}
 use Rattle.columns.specs.Layouts.{bar_of, chain_ends_of, knot_of, lane_in}

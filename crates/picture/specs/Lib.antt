@@ -1,5 +1,5 @@
 pub use Rattle.columns.specs as columns
-pub use Rattle.shapes.specs as shapes
+pub use Rattle.markup.specs as markup
 pub mod Bandings
 pub mod Bars
 pub mod Drawings

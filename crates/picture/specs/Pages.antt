@@ -2,7 +2,7 @@
 use Rattle.std.specs.Prelude.{◌≡◌, ℕ, Bool, List, [], ◌∷◌, ◌++◌, codes, flat_map, map, Option, None, Some, option_map}
 use Rattle.std.specs.Option.{option_to_list}
 use Rattle.record.specs.declared.stages.Stage.{Stage}
-use Rattle.shapes.specs.Titles.{lines_in}
+use Rattle.markup.specs.Titles.{lines_in}
 use Rattle.picture.specs.Bandings.{Bands, Item, Plan, band_bytes, bands_of, bands_told, before_band, columns_of, filled, full_bytes, full_told, heights, heights_told, newest, newest_at, number_of, older, opens_before, placing_in, state_after, with_put, with_room}
 use Rattle.columns.specs.Columns.{Seen, seen}
 use Rattle.columns.specs.Told.{told_in}

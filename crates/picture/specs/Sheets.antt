@@ -3,9 +3,9 @@ use Rattle.std.specs.Prelude.{ℕ, ◌+◌, ◌-◌, ◌^◌, ◌==◌, cond, mi
 use Rattle.std.specs.Fmt.{decimal}
 use Rattle.bstr.specs.Text.{lines_of, without_terminator}
 use Rattle.record.specs.plain_store.declared.setups.Setup.{Setup}
-use Rattle.shapes.specs.Markup.{Said, entering_by, lowering, said_text, standing_by, telling_by}
-use Rattle.shapes.specs.declared.names.Key.TheVariants as key
-use Rattle.shapes.specs.declared.names.Tag.TheVariants as tag
+use Rattle.markup.specs.Markup.{Said, entering_by, lowering, said_text, standing_by, telling_by}
+use Rattle.markup.specs.declared.names.Key.TheVariants as key
+use Rattle.markup.specs.declared.names.Tag.TheVariants as tag
 use Rattle.picture.specs.declared.constants.TheConstants.{LEGEND, PAGE_STYLE, PATTERNS, READS_LEGEND, SCRIPT, STYLE}
 use Rattle.picture.specs.declared.reads.Reads.{Reads}
 use Rattle.picture.specs.declared.reads.Reads.TheVariants.{Hidden, Shown}

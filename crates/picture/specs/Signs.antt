@@ -3,8 +3,8 @@ use Rattle.std.specs.Prelude.{ℕ, ◌+◌, ◌-◌, ◌*◌, ◌/◌, ◌^◌, 
 use Rattle.std.specs.Fmt.{decimal}
 use Rattle.record.specs.declared.marks.Mark.{Mark}
 use Rattle.record.specs.declared.marks.Mark.TheVariants as mark
-use Rattle.shapes.specs.Figures.{Shape, Block, Label, Pill, Ring, path_from}
-use Rattle.shapes.specs.declared.figures.Point.{Point}
+use Rattle.markup.specs.Figures.{Shape, Block, Label, Pill, Ring, path_from}
+use Rattle.markup.specs.declared.figures.Point.{Point}
 use Rattle.columns.specs.Columns.{capped}
 use Rattle.columns.specs.declared.told.Saying.{Saying}
 use Rattle.columns.specs.declared.told.Saying.TheVariants.{Marked, Refused, Tired, Shown, Ended}

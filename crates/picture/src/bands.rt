@@ -1,13 +1,13 @@
 //! A band: its columns, and what stood before them.
 ghost use Rattle.std.specs.Prelude.{◌≡◌, ◌++◌, flat_map, map, OnOk};
-ghost use Rattle.shapes.specs.Figures.{drawings};
-ghost use Rattle.shapes.specs.Readings.{reading, with_lines};
+ghost use Rattle.markup.specs.Figures.{drawings};
+ghost use Rattle.markup.specs.Readings.{reading, with_lines};
 ghost use Rattle.columns.specs.Columns.{seen};
 ghost use Rattle.picture.specs.Drawings.{band_shapes, column_shapes, for_each, lane_shapes, lane_words, links, seen_band};
 ghost use Rattle.columns.specs.Told.{told_in};
 
 use columns::{Column, Layout, State};
-use shapes::Markup;
+use markup::Markup;
 use std::alloc::{AllocError, Global};
 
 /// A band that is full, or the last one.

@@ -1,7 +1,7 @@
 //! The bars of a lane: the stages of its process.
 ghost use Rattle.std.specs.Prelude.{◌≡◌, ◌++◌, OnOk};
-ghost use Rattle.shapes.specs.Figures.{drawings};
-ghost use Rattle.shapes.specs.Readings.{reading};
+ghost use Rattle.markup.specs.Figures.{drawings};
+ghost use Rattle.markup.specs.Readings.{reading};
 ghost use Rattle.picture.specs.Bars.{bar, height_of, lane_name, lane_rule};
 ghost use Rattle.picture.specs.Drawings.{lane_shapes, seen_band};
 ghost use Rattle.picture.specs.Words.{stage_text};
@@ -9,7 +9,7 @@ ghost use Rattle.picture.specs.Words.{stage_text};
 use crate::bands::Band;
 use columns::{LEFT, Lane, RIGHT};
 use record::Stage;
-use shapes::{Markup, Point};
+use markup::{Markup, Point};
 use std::alloc::{AllocError, Global};
 
 impl Band {

@@ -19,5 +19,5 @@ pub use columns::{Change, Line, OverlappedRead, Saying, stages_are_the_records};
 pub use laws::bars_are_stages;
 pub use page::{Form, Page};
 pub use reads::Reads;
-pub use shapes::Markup;
+pub use markup::Markup;
 pub use sheets::{FIRST_BAND, page_end, page_head, picture_end, picture_head};

@@ -1,13 +1,13 @@
 //! What leads from one lane to another.
 ghost use Rattle.std.specs.Prelude.{◌≡◌, ◌≤◌, ◌++◌, OnOk};
-ghost use Rattle.shapes.specs.Figures.{drawings};
-ghost use Rattle.shapes.specs.Readings.{reading};
+ghost use Rattle.markup.specs.Figures.{drawings};
+ghost use Rattle.markup.specs.Readings.{reading};
 ghost use Rattle.columns.specs.Columns.{seen};
 ghost use Rattle.picture.specs.Drawings.{arrow_by, distance_of_tip, drop_line, freed_arrow, links, seen_band};
 
 use crate::bands::Band;
 use columns::{Column, Lane};
-use shapes::{Markup, Point};
+use markup::{Markup, Point};
 use std::alloc::{AllocError, Global};
 
 impl Band {

@@ -1,10 +1,10 @@
 //! The marks of a band: for each line of the run a group that has the line as its title.
 ghost use Rattle.std.specs.Prelude.{◌≡◌, [], ◌∷◌, ◌++◌, flat_map, IfOk, OnOk, string_bytes};
-ghost use Rattle.shapes.specs.Figures.{drawings};
-ghost use Rattle.shapes.specs.Readings.{reading, with_lines, with_mark};
+ghost use Rattle.markup.specs.Figures.{drawings};
+ghost use Rattle.markup.specs.Readings.{reading, with_lines, with_mark};
 ghost use Rattle.columns.specs.Columns.{seen};
 ghost use Rattle.picture.specs.Drawings.{column_shapes, foot_shapes, head_shapes, line_shapes, lines_shapes, mark_shape, note_shapes, number_words, pair_words, place_of_row, queue_said, right_by, rows_of_line, rows_place, seen_band, store_said};
-ghost use Rattle.shapes.specs.Markup.{attribute_text, said_text};
+ghost use Rattle.markup.specs.Markup.{attribute_text, said_text};
 ghost use Rattle.columns.specs.Told.{change_told, text_of, texts};
 ghost use Rattle.picture.specs.Words.{queue_text, row_class};
 
@@ -13,7 +13,7 @@ use crate::reads::draw_read;
 use crate::signs::{below, draw_sign, moved};
 use crate::words::listed;
 use columns::{Column, Line, Row};
-use shapes::{Attribute, Key, Markup, Point, number, words};
+use markup::{Attribute, Key, Markup, Point, number, words};
 use std::alloc::{AllocError, Global};
 
 impl Band {

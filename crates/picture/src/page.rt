@@ -1,9 +1,9 @@
 //! The bands of a page, from the lines of a run.
 ghost use Rattle.std.specs.Prelude.{◌≡◌, ◌++◌, [], ◌∷◌, codes, flat_map, map, IfOk, IfSome, None, OnOk};
-ghost use Rattle.shapes.specs.Elements.{EndsAll};
-ghost use Rattle.shapes.specs.Figures.{drawings};
-ghost use Rattle.shapes.specs.Readings.{reading, with_begun};
-ghost use Rattle.shapes.specs.Titles.{lines_in};
+ghost use Rattle.markup.specs.Elements.{EndsAll};
+ghost use Rattle.markup.specs.Figures.{drawings};
+ghost use Rattle.markup.specs.Readings.{reading, with_begun};
+ghost use Rattle.markup.specs.Titles.{lines_in};
 ghost use Rattle.picture.specs.Bandings.{Reads, Tells, band_tag, behind_columns, framed, opening_length, opens_with};
 ghost use Rattle.columns.specs.Columns.{seen};
 ghost use Rattle.picture.specs.Drawings.{band_shapes, seen_band};
@@ -14,7 +14,7 @@ ghost use Rattle.columns.specs.Told.{text_of, told_in};
 
 use crate::bands::Band;
 use columns::{Column, Layout, Line, OverlappedRead, Placing, State, cut, stretch};
-use shapes::{Key, Markup, Tag, class, words};
+use markup::{Key, Markup, Tag, class, words};
 use std::alloc::{AllocError, Global};
 
 /// What the bands stand in.

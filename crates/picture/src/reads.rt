@@ -1,13 +1,13 @@
 //! Reads that writes overlapped: what a picture shows of them beside the lines of the run.
 ghost use Rattle.std.specs.Prelude.{◌≡◌, ◌++◌, OnOk};
-ghost use Rattle.shapes.specs.Figures.{drawings};
-ghost use Rattle.shapes.specs.Readings.{reading};
+ghost use Rattle.markup.specs.Figures.{drawings};
+ghost use Rattle.markup.specs.Readings.{reading};
 ghost use Rattle.picture.specs.Drawings.{open_shapes, read_shapes, seen_band};
 
 use crate::bands::Band;
 use crate::signs::below;
 use columns::{OverlappedRead, event_place};
-use shapes::{Markup, Point};
+use markup::{Markup, Point};
 use std::alloc::{AllocError, Global};
 
 /// Whether a picture shows the reads that writes overlapped.

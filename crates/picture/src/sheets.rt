@@ -1,9 +1,9 @@
 //! What stands around the bands: the heading, the styles, the legend, the scenario and the slider.
 ghost use Rattle.std.specs.Prelude.{◌≡◌, [], ◌++◌, codes, IfOk, OnOk, Some};
 ghost use Rattle.std.specs.String.{string_bytes};
-ghost use Rattle.shapes.specs.Elements.{opens_in};
-ghost use Rattle.shapes.specs.Readings.{reading, with_begun};
-ghost use Rattle.shapes.specs.Titles.{lines_in};
+ghost use Rattle.markup.specs.Elements.{opens_in};
+ghost use Rattle.markup.specs.Readings.{reading, with_begun};
+ghost use Rattle.markup.specs.Titles.{lines_in};
 ghost use Rattle.picture.specs.Pages.{page_names, picture_names};
 ghost use Rattle.picture.specs.Sheets.{description_tag, ground_of, ground_tag, heading_of, heading_tag, height_of_legend, legend_front, legend_of, legend_tag, list_of, page_back, page_front, paper_of, picture_back, picture_front, plural_of, slider_of, svg_front, svg_tag, title_tag, titles_of};
 
@@ -11,7 +11,7 @@ use crate::constants::{LEGEND, PAGE_STYLE, PATTERNS, READS_LEGEND, SCRIPT, STYLE
 use crate::reads::Reads;
 use bstr::ByteSlice;
 use record::Setup;
-use shapes::{Key, Markup, Tag, class, number, words};
+use markup::{Key, Markup, Tag, class, number, words};
 use std::alloc::{AllocError, Global};
 
 /// Where the first band of one picture begins.

@@ -1,12 +1,12 @@
 //! The signs at the foot of a column.
 ghost use Rattle.std.specs.Prelude.{◌≤◌, ◌≡◌, ◌++◌, OnOk};
-ghost use Rattle.shapes.specs.Figures.{drawings};
-ghost use Rattle.shapes.specs.Readings.{reading};
+ghost use Rattle.markup.specs.Figures.{drawings};
+ghost use Rattle.markup.specs.Readings.{reading};
 ghost use Rattle.picture.specs.Signs.{down_by, mark_sign, moved_by, settled_sign, sign, taken_sign};
 
 use columns::{DIGIT, Line, Saying, room};
 use record::Mark;
-use shapes::{Markup, Point};
+use markup::{Markup, Point};
 use std::alloc::{AllocError, Global};
 
 /// Draws the sign of a line at a place.

@@ -1,8 +1,8 @@
 //! The words in the bars of a lane.
 ghost use Rattle.std.specs.Prelude.{◌≡◌, ◌+◌, ◌*◌, ◌++◌, ◌&&◌, ◌||◌, not, [], codes, cond, IfOk, length, OnOk, option_map, string_bytes, take};
 ghost use Rattle.std.specs.Fmt.{decimal};
-ghost use Rattle.shapes.specs.Figures.{drawings};
-ghost use Rattle.shapes.specs.Readings.{reading};
+ghost use Rattle.markup.specs.Figures.{drawings};
+ghost use Rattle.markup.specs.Readings.{reading};
 ghost use Rattle.picture.specs.Bars.{free_left, is_word, says_word, stretch_at, stretch_word, style_of_word};
 ghost use Rattle.columns.specs.Layouts.{stands_in};
 ghost use Rattle.columns.specs.Columns.{capped, seen};
@@ -13,7 +13,7 @@ use crate::bands::Band;
 use crate::bars::stage_name;
 use columns::{Column, DIGIT, Group, LEFT, Word, room};
 use record::{Mark, Stage};
-use shapes::{Markup, Point};
+use markup::{Markup, Point};
 use std::alloc::{AllocError, Global};
 
 /// A stretch of a bar in which one word may stand.

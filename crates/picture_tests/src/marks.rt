@@ -1,4 +1,4 @@
-use shapes::{Key, Markup, Tag, number, words};
+use markup::{Key, Markup, Tag, number, words};
 use std::test::Fail;
 
 const TAGS: &str = "<g transform=\"translate(0,34)\">\n\

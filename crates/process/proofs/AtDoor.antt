@@ -3,7 +3,7 @@ use Rattle.std.proofs.Common.{◌≡◌, ℕ, true, refl, sym, ◌∙◌}
 use Rattle.plain_store.specs.declared.Command.{Command}
 use Rattle.plain_store.specs.declared.Setup.{Setup}
 use Rattle.bakery.specs.Doors.{DoorState, is_going}
-use Rattle.critical.specs.Sections.{Section}
+use Rattle.section.specs.Sections.{Section}
 use Rattle.laws.specs.Doings.{Doing}
 use Rattle.process.specs.declared.process.Work.{Work}
 use Rattle.process.specs.declared.process.Work.TheVariants as work

@@ -18,7 +18,7 @@ use Rattle.record.specs.Scripts.{Call}
 use Rattle.bakery.specs.Doors.{DoorState}
 use Rattle.bakery.specs.Leavings.{LeavingState, is_leaving, leaving_at}
 use Rattle.bakery.proofs.Passage.{IsOfKind, on-the-way}
-use Rattle.critical.specs.Sections.{Section}
+use Rattle.section.specs.Sections.{Section}
 use Rattle.laws.specs.Doings.{Doing, call, runs}
 use Rattle.laws.specs.Doings as doing
 use Rattle.laws.proofs.FrameInside.{run-unfresh}

@@ -18,13 +18,13 @@ use Rattle.bakery.specs.Leavings.{LeavingState, is_leaving, leaving_at, new_leav
 use Rattle.bakery.specs.Locks as locks
 use Rattle.bakery.specs.Locks.{locks_after}
 use Rattle.bakery.proofs.Passage.{IsOfKind, on-the-way}
-use Rattle.critical.specs.declared.progress.SectionProgress.{SectionProgress}
-use Rattle.critical.specs.declared.progress.SectionProgress.TheVariants as progress
-use Rattle.critical.specs.Registers.{MayMake, after_access, is_data}
-use Rattle.critical.specs.Registers as versions
-use Rattle.critical.specs.Sections as sections
-use Rattle.critical.specs.Sections.{Section, changes_at, goes, goes_on, is_going, progress_at, section_at, told}
-use Rattle.critical.specs.Standings.{standing_at}
+use Rattle.section.specs.declared.progress.SectionProgress.{SectionProgress}
+use Rattle.section.specs.declared.progress.SectionProgress.TheVariants as progress
+use Rattle.section.specs.Registers.{MayMake, after_access, is_data}
+use Rattle.section.specs.Registers as versions
+use Rattle.section.specs.Sections as sections
+use Rattle.section.specs.Sections.{Section, changes_at, goes, goes_on, is_going, progress_at, section_at, told}
+use Rattle.section.specs.Standings.{standing_at}
 use Rattle.laws.specs.Doings.{Doing, call, runs}
 use Rattle.laws.specs.Doings as doing
 use Rattle.process.specs.declared.process.Work.{Work}

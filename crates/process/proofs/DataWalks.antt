@@ -1,15 +1,15 @@
 -- Steps of a process at the data, by the accesses of its section.
 use Rattle.std.proofs.Common.{◌≡◌, ℕ, zero, suc, Bool, true, refl, sym, ap, subst, ◌∙◌}
-use Rattle.critical.specs.flicks.Flicks.{FlickState, after_flick, flick_of}
+use Rattle.section.specs.flicks.Flicks.{FlickState, after_flick, flick_of}
 use Rattle.plain_store.specs.declared.Command.{Command}
 use Rattle.plain_store.specs.declared.Setup.{Setup}
 use Rattle.record.specs.Places.{Place, place_of, place_after, value_of}
 use Rattle.record.specs.Scripts.{Call}
 use Rattle.bakery.specs.Doors.{DoorState}
 use Rattle.bakery.specs.Locks.{LockRows}
-use Rattle.critical.specs.Registers.{DataRow}
-use Rattle.critical.specs.Sections as sections
-use Rattle.critical.specs.Sections.{Section, is_going, section_at}
+use Rattle.section.specs.Registers.{DataRow}
+use Rattle.section.specs.Sections as sections
+use Rattle.section.specs.Sections.{Section, is_going, section_at}
 use Rattle.laws.specs.Doings.{Doing, call}
 use Rattle.laws.specs.Steps.{marks_with}
 use Rattle.process.specs.declared.process.Work.TheVariants as work

@@ -2,9 +2,9 @@
 use Rattle.std.proofs.Common.{◌≡◌, ◌<◌, true, false, refl, sym, ap, ◌∙◌, arith}
 use Rattle.record.specs.Places.{place_of}
 use Rattle.bakery.specs.Doors.{DoorState}
-use Rattle.critical.specs.Sections as sections
-use Rattle.critical.specs.Sections.{Section, section_at}
-use Rattle.critical.proofs.Within.{bits-within, is_within}
+use Rattle.section.specs.Sections as sections
+use Rattle.section.specs.Sections.{Section, section_at}
+use Rattle.section.proofs.Within.{bits-within, is_within}
 use Rattle.process.specs.declared.process.Work.{Work}
 use Rattle.process.specs.declared.process.Work.TheVariants as work
 use Rattle.laws.specs.Doings.{Doing, call}

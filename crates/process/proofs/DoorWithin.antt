@@ -15,9 +15,9 @@ use Rattle.bakery.specs.Standings.{part_of}
 use Rattle.bakery.specs.declared.standing.Standing.{Standing}
 use Rattle.bakery.proofs.Accesses.{answered-again}
 use Rattle.bakery.proofs.Passage.{next-at, not-over, on-the-way}
-use Rattle.critical.specs.Registers as versions
-use Rattle.critical.specs.Registers.{is_data}
-use Rattle.critical.specs.Sections.{Section}
+use Rattle.section.specs.Registers as versions
+use Rattle.section.specs.Registers.{is_data}
+use Rattle.section.specs.Sections.{Section}
 use Rattle.laws.specs.Doings.{Doing, call}
 use Rattle.laws.specs.Steps.{next_of}
 use Rattle.process.specs.declared.process.Work.{Work}

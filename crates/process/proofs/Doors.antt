@@ -17,7 +17,7 @@ use Rattle.record.specs.Scripts.{Call}
 use Rattle.bakery.specs.declared.progress.DoorProgress.TheVariants as told
 use Rattle.bakery.specs.Doors.{DoorState, door_at, is_going, is_waiting, progress_at, standing_at, told_at}
 use Rattle.bakery.specs.Standings.{part_of}
-use Rattle.critical.specs.Sections.{inside_place, section_at}
+use Rattle.section.specs.Sections.{inside_place, section_at}
 use Rattle.laws.specs.Doings.{Doing, call, runs}
 use Rattle.laws.specs.Doings as doing
 use Rattle.process.specs.Processes.{AtDoor, AtData, Rests, kept_at, kept_in}

@@ -26,10 +26,10 @@ use Rattle.bakery.specs.Doors.{DoorState, is_going, standing_at}
 use Rattle.bakery.specs.Leavings.{LeavingState, leaving_of}
 use Rattle.bakery.specs.Standings.{part_of}
 use Rattle.bakery.proofs.Passage.{IsOfKind, not-over, on-the-way}
-use Rattle.critical.specs.Registers.{is_data}
-use Rattle.critical.specs.Sections.{Section, goes}
-use Rattle.critical.specs.Standings as data_standings
-use Rattle.failure.specs.Units.{unit_at}
+use Rattle.section.specs.Registers.{is_data}
+use Rattle.section.specs.Sections.{Section, goes}
+use Rattle.section.specs.Standings as data_standings
+use Rattle.memory_unit.specs.Units.{unit_at}
 use Rattle.laws.specs.Doings.{Doing, Runs, call}
 use Rattle.laws.specs.Doings as doing
 use Rattle.process.specs.Halts.{kept_cut, taken_in}

@@ -1,4 +1,4 @@
-pub use Rattle.critical.proofs as critical
+pub use Rattle.section.proofs as section
 pub use Rattle.laws.proofs as laws
 -- What is kept of a process, of what it is doing
 pub mod Stages

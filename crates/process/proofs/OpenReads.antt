@@ -12,7 +12,7 @@ use Rattle.record.proofs.Width.{IsGood}
 use Rattle.bakery.specs.Doors.{DoorState, is_going, read_of, standing_at}
 use Rattle.bakery.specs.Standings.{part_of}
 use Rattle.bakery.proofs.Passage.{IsOfKind, IsShown, not-over, on-the-way, shown-at}
-use Rattle.critical.specs.Sections.{Section, reads_in}
+use Rattle.section.specs.Sections.{Section, reads_in}
 use Rattle.laws.specs.Doings.{Doing, Runs, call}
 use Rattle.laws.specs.Doings as doing
 use Rattle.laws.specs.Steps.{IsReached, reads_of}

@@ -12,8 +12,8 @@ use Rattle.bakery.specs.declared.progress.DoorProgress.TheVariants as told
 use Rattle.bakery.specs.Doors as doors
 use Rattle.bakery.specs.Doors.{DoorState, IsDoorAfter, door_at, is_going, next_after, progress_at, standing_at}
 use Rattle.bakery.specs.Standings.{part_of}
-use Rattle.critical.specs.Registers.{is_data}
-use Rattle.critical.specs.Sections.{Section, inside_place, section_at, started}
+use Rattle.section.specs.Registers.{is_data}
+use Rattle.section.specs.Sections.{Section, inside_place, section_at, started}
 use Rattle.laws.specs.Doings.{Doing, call}
 use Rattle.laws.specs.Doings as doing
 use Rattle.process.specs.Processes as kept

@@ -8,7 +8,7 @@ use Rattle.record.specs.declared.Refusal.TheVariants.{NotRunning}
 use Rattle.record.specs.declared.Stage.TheVariants as stage
 use Rattle.record.specs.Records.{refused_at}
 use Rattle.bakery.specs.Doors.{DoorState, is_waiting}
-use Rattle.critical.specs.Sections.{Section}
+use Rattle.section.specs.Sections.{Section}
 use Rattle.process.specs.declared.process.Work.{Work}
 use Rattle.process.specs.Keeping.{kept_shown}
 use Rattle.process.specs.Processes as kept

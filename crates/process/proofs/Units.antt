@@ -16,11 +16,11 @@ use Rattle.record.specs.Parts.{Part, Raises, Asks, TakesTicket, Lowers, Refuses,
 use Rattle.record.specs.Places.{Place, write_moved}
 use Rattle.record.specs.Scripts.{Call, Next}
 use Rattle.bakery.specs.Doors.{DoorState}
-use Rattle.critical.specs.Sections.{Section}
-use Rattle.failure.specs.declared.progress.UnitProgress.{UnitProgress}
-use Rattle.failure.specs.declared.progress.UnitProgress.TheVariants as progress
-use Rattle.failure.specs.Units as units
-use Rattle.failure.specs.Units.{UnitState, goes_on, next_access, next_marks, remains, unit_at, work_at}
+use Rattle.section.specs.Sections.{Section}
+use Rattle.memory_unit.specs.declared.progress.UnitProgress.{UnitProgress}
+use Rattle.memory_unit.specs.declared.progress.UnitProgress.TheVariants as progress
+use Rattle.memory_unit.specs.Units as units
+use Rattle.memory_unit.specs.Units.{UnitState, goes_on, next_access, next_marks, remains, unit_at, work_at}
 use Rattle.laws.specs.Doings.{Doing, call, closes}
 use Rattle.laws.specs.Doings as doing
 use Rattle.laws.proofs.FrameInside.{moved-unfresh}

@@ -1,6 +1,6 @@
 -- Steps of a process in a row.
 use Rattle.std.proofs.Common.{◌≡◌, ℕ, zero, suc, ◌<◌, Bool, sym, subst, arith}
-use Rattle.critical.specs.flicks.Flicks.{FlickState, after_flick, flick_of}
+use Rattle.section.specs.flicks.Flicks.{FlickState, after_flick, flick_of}
 use Rattle.process.specs.Processes.{ProcessState}
 use Rattle.process.specs.Registers.{MayStep, MayWalk, RegistersState, StepsWithin, WalksWithin}
 

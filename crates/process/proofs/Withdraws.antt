@@ -14,7 +14,7 @@ use Rattle.record.specs.Places.{Place, bit_written, write_moved}
 use Rattle.record.specs.Scripts.{Call}
 use Rattle.bakery.specs.Doors.{DoorState}
 use Rattle.bakery.specs.Leavings.{LeavingState, is_leaving, leaving_of}
-use Rattle.critical.specs.Sections.{Section}
+use Rattle.section.specs.Sections.{Section}
 use Rattle.laws.specs.Doings.{Doing, call, closes}
 use Rattle.laws.specs.Doings as doing
 use Rattle.process.specs.declared.process.Work.{Work}

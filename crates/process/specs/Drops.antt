@@ -3,7 +3,7 @@ use Rattle.std.specs.Prelude.{◌≡◌, ℕ, ◌<◌, true, false, cond, List, 
 use Rattle.record.specs.declared.access.Field.{Field}
 use Rattle.plain_store.specs.declared.Setup.{Setup}
 use Rattle.bakery.specs.Locks.{LockRows, lock_of, row_in, locks_without_reads}
-use Rattle.critical.specs.Registers.{FitsSetup, is_data, register_at, without_reads_at}
+use Rattle.section.specs.Registers.{FitsSetup, is_data, register_at, without_reads_at}
 use Rattle.laws.specs.Doings.{Doing}
 use Rattle.laws.specs.Steps.{reads_of}
 use Rattle.process.specs.Registers.{RegistersState}

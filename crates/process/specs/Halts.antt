@@ -8,7 +8,7 @@ use Rattle.record.specs.Closings as closing
 use Rattle.record.specs.Closings.{freeing}
 use Rattle.record.specs.Cuts.{Change}
 use Rattle.record.specs.Unit.{is_commit}
-use Rattle.failure.specs.Units.{unit_at}
+use Rattle.memory_unit.specs.Units.{unit_at}
 use Rattle.laws.specs.Doings.{call}
 use Rattle.process.specs.Processes as kept
 use Rattle.process.specs.Processes.{Kept}

@@ -12,12 +12,12 @@ use Rattle.record.specs.declared.Stage.TheVariants as stage
 use Rattle.bakery.specs.Doors as doors
 use Rattle.bakery.specs.Doors.{DoorState}
 use Rattle.bakery.specs.Leavings.{LeavingState, is_leaving}
-use Rattle.critical.specs.declared.progress.SectionProgress.{SectionProgress}
-use Rattle.critical.specs.declared.progress.SectionProgress.TheVariants as progress
-use Rattle.critical.specs.Sections as sections
-use Rattle.critical.specs.Sections.{Section}
-use Rattle.failure.specs.Units as units
-use Rattle.failure.specs.Units.{UnitState}
+use Rattle.section.specs.declared.progress.SectionProgress.{SectionProgress}
+use Rattle.section.specs.declared.progress.SectionProgress.TheVariants as progress
+use Rattle.section.specs.Sections as sections
+use Rattle.section.specs.Sections.{Section}
+use Rattle.memory_unit.specs.Units as units
+use Rattle.memory_unit.specs.Units.{UnitState}
 use Rattle.process.specs.declared.process.Work.{Work}
 use Rattle.process.specs.declared.process.Work.TheVariants as work
 use Rattle.process.specs.Processes.{Kept, Rests, Lies, AtDoor, AtData, Leaves, Withdraws, Settles, Frees}

@@ -1,6 +1,6 @@
 pub use Rattle.bakery.specs as bakery
-pub use Rattle.critical.specs as critical
-pub use Rattle.critical.specs.flicks as flicks
+pub use Rattle.section.specs as section
+pub use Rattle.section.specs.flicks as flicks
 pub use Rattle.laws.specs as laws
 pub mod Drops
 pub mod Halts

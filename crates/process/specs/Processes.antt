@@ -15,8 +15,8 @@ use Rattle.record.specs.Places.{Place, is_fresh}
 use Rattle.record.specs.Scripts.{Call}
 use Rattle.bakery.specs.Doors.{DoorState, door_at, is_waiting}
 use Rattle.bakery.specs.Leavings.{LeavingState, leaving_at, leaving_of}
-use Rattle.critical.specs.Sections.{Section, section_at}
-use Rattle.failure.specs.Units.{UnitState, unit_at}
+use Rattle.section.specs.Sections.{Section, section_at}
+use Rattle.memory_unit.specs.Units.{UnitState, unit_at}
 use Rattle.laws.specs.Doings as doings
 use Rattle.laws.specs.Doings.{Doing, call, doing}
 

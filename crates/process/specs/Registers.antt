@@ -1,5 +1,5 @@
 -- The registers of all processes, those of the lock and those of the versions, and a process that is served by them.
-use Rattle.critical.specs.flicks.Flicks.{FlickState, after_flick, flick_of}
+use Rattle.section.specs.flicks.Flicks.{FlickState, after_flick, flick_of}
 use Rattle.std.specs.Prelude.{ℕ, zero, suc, ◌≡◌, ◌+◌, ◌≤◌, Bool, true, false, cond, List, [], Some}
 use Rattle.record.specs.declared.access.Access.{Access}
 use Rattle.plain_store.specs.declared.Setup.{Setup}
@@ -7,8 +7,8 @@ use Rattle.record.specs.Doorways.{is_waiting_stage}
 use Rattle.record.specs.Places.{value_of}
 use Rattle.bakery.specs.Locks as locks
 use Rattle.bakery.specs.Locks.{LockRows, lock_of, locks_after, new_locks, row_in}
-use Rattle.critical.specs.Registers as versions
-use Rattle.critical.specs.Registers.{DataRow, after_access, is_data, opening_cell, row_from}
+use Rattle.section.specs.Registers as versions
+use Rattle.section.specs.Registers.{DataRow, after_access, is_data, opening_cell, row_from}
 use Rattle.laws.specs.Doings.{Doing}
 use Rattle.laws.specs.Steps.{does_then, marks_with, next_of}
 use Rattle.process.specs.Processes.{ProcessState, kept_at, stage_kept}

@@ -5,7 +5,7 @@ use Rattle.plain_store.specs.declared.Setup.{Setup}
 use Rattle.record.specs.Closings.{withdrawing}
 use Rattle.record.specs.Cuts.{Change, pending_at}
 use Rattle.bakery.specs.Doors as doors
-use Rattle.critical.specs.Sections as sections
+use Rattle.section.specs.Sections as sections
 use Rattle.laws.specs.Doings.{Doing, Runs, call}
 use Rattle.laws.specs.Steps.{IsCallOf, IsLive, IsReached, cut_of}
 use Rattle.process.specs.Processes as kept

@@ -16,8 +16,8 @@ mod refusals;
 mod served;
 
 use bakery::{Door, Leaving};
-use critical::Section;
-use failure::Unit;
+use section::Section;
+use memory_unit::Unit;
 use plain_store::{Answer, Command, Reply, Setup};
 use record::{Field, Stage};
 use std::alloc::{AllocError, Global};

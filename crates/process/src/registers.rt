@@ -3,13 +3,13 @@ ghost use Rattle.std.specs.Prelude.{◌≡◌, IfOk, Ok};
 ghost use Rattle.plain_store.specs.Setups.{checked};
 ghost use Rattle.record.specs.Moves.{ended_with};
 ghost use Rattle.record.specs.Places.{value_of};
-ghost use Rattle.critical.specs.Newest.{newest_store, IsQuiet};
-ghost use Rattle.critical.specs.Registers.{FitsSetup};
+ghost use Rattle.section.specs.Newest.{newest_store, IsQuiet};
+ghost use Rattle.section.specs.Registers.{FitsSetup};
 ghost use Rattle.process.specs.Drops.{CanDrop, without_read};
 ghost use Rattle.process.specs.Registers.{AreAlike, CanMake, answered, made, new_registers};
 
 use bakery::Locks;
-use critical::{DataRow, Image};
+use section::{DataRow, Image};
 use plain_store::Setup;
 use record::{Access, Field, Move};
 use std::alloc::{AllocError, Global};

@@ -3,12 +3,12 @@ ghost use Rattle.record.specs.Histories.{reply_taken};
 ghost use Rattle.record.specs.Records.{placed};
 ghost use Rattle.record.specs.declared.Mark.TheVariants.{Left};
 ghost use Rattle.bakery.specs.Doors as doors;
-ghost use Rattle.critical.specs.Sections as sections;
+ghost use Rattle.section.specs.Sections as sections;
 ghost use Rattle.process.specs.Keeping.{answer_told, changes_in, marks_settled, stage_waiting};
 ghost use Rattle.process.specs.Telling.{act_of, changes_told, marks_of, marks_told};
 
 use bakery::DoorProgress;
-use critical::SectionProgress;
+use section::SectionProgress;
 use plain_store::{Answer, Command, Reply};
 use record::{Access, Act, Mark};
 use smallvec::SmallVec;

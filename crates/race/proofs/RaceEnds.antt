@@ -11,7 +11,7 @@ use Rattle.scenario.specs.files.declared.faults.Fault.TheVariants.{Line, Memory,
 use Rattle.scenario.specs.files.declared.faults.LineFault.{LineFault}
 use Rattle.scenario.proofs.CutTexts.{scenario_tells_at_limit}
 use Rattle.scenario.specs.Reading.{Script, scenario_of}
-use Rattle.weigh.specs.declared.verdicts.Weighed.{Weighed}
+use Rattle.call_check.specs.declared.verdicts.Weighed.{Weighed}
 use Rattle.race.specs.Ends.{IsFaultOfRacing, OfInput, RanRace, TellsRace, WritesRace, WritesRaceFront}
 use Rattle.race.specs.Statuses.{status_of_race}
 use Rattle.race.specs.declared.faults.RunFault.{RunFault}

@@ -8,9 +8,9 @@ use Rattle.scenario.specs.files.declared.faults.Fault.TheVariants.{Line, Read, W
 use Rattle.scenario.specs.files.declared.faults.LineFault.{LineFault}
 use Rattle.scenario.specs.Reading.{Script, scenario_of}
 use Rattle.race.specs.Races.{IsRaced}
-use Rattle.weigh.specs.Weighing.{IsWeighed}
+use Rattle.call_check.specs.Weighing.{IsWeighed}
 use Rattle.record.specs.declared.calls.Placed.{Placed}
-use Rattle.weigh.specs.declared.verdicts.Weighed.{Weighed}
+use Rattle.call_check.specs.declared.verdicts.Weighed.{Weighed}
 use Rattle.race.specs.Statuses.{status_of_race}
 use Rattle.race.specs.Texts.{plans_in, race_text}
 use Rattle.race.specs.declared.faults.RunFault.{RunFault}

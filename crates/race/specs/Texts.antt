@@ -13,9 +13,9 @@ use Rattle.scenario.specs.declared.lines.Line.{Line}
 use Rattle.scenario.specs.declared.lines.Line.TheVariants as line
 use Rattle.record.specs.Shown.{refusal_line}
 use Rattle.record.specs.declared.refusals.Refusal.TheVariants.{NoProcess}
-use Rattle.weigh.specs.Shown.{verdict_text}
+use Rattle.call_check.specs.Shown.{verdict_text}
 use Rattle.record.specs.declared.calls.Placed.{Placed}
-use Rattle.weigh.specs.declared.verdicts.Weighed.{Weighed}
+use Rattle.call_check.specs.declared.verdicts.Weighed.{Weighed}
 
 -- the command that a line calls of process p, if it does
 abbrev pub called_of : ℕ → Line → List Command

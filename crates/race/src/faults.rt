@@ -6,7 +6,7 @@ ghost use Rattle.race.specs.Statuses.{status_of_race, status_of_run_fault};
 use scenario::{DONE, Fault, LineFault, fault_status};
 use std::alloc::AllocError;
 use thiserror::Error;
-use weigh::Weighed;
+use call_check::Weighed;
 
 /// Why a race has no closing. Of several faults the least is told, in this order.
 #[derive(Clone, Copy, Debug, PartialEq, Eq, PartialOrd, Ord, Error)]

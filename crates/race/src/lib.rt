@@ -23,4 +23,4 @@ pub use gates::{AlwaysOn, Gate, Moment, Pass};
 pub use plans::plans_of;
 pub use racing::race;
 pub use running::run_race;
-pub use weigh::Weighed;
+pub use call_check::Weighed;

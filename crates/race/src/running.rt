@@ -14,7 +14,7 @@ use scenario::{Scenario, Sink, Source, read_input, read_scenario, write_all};
 use std::alloc::Global;
 use std::sync::Wait;
 use std::thread::Threads;
-use weigh::{Weighed, weigh};
+use call_check::{Weighed, weigh};
 
 /// What there is to tell of a race that has ended.
 #[derive(Drop)]

@@ -10,7 +10,7 @@ use plain_store::{Answer, NestedTypes, Setup, show_line};
 use record::{Placed, Refusal, refusal_line};
 use scenario::{Line, Scenario};
 use std::alloc::{AllocError, Global};
-use weigh::Weighed;
+use call_check::Weighed;
 
 /// The text of a race of the scenario that left these lists and this image, with this verdict on them.
 pub(crate) fn race_text(

@@ -9,7 +9,7 @@ use std::process::Abort;
 use std::sync::Wait;
 use std::test::Fail;
 use std::thread::Threads;
-use weigh::{Weighed, weigh};
+use call_check::{Weighed, weigh};
 
 /// The command that adds 1 to the one name here.
 pub fn add() -> Result<Command, Fail> {

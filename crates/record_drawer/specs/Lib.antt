@@ -1,7 +1,7 @@
 pub use Rattle.companions.specs as companions
 pub use Rattle.companions.specs.picture as picture
 pub use Rattle.record_file.specs as record_file
-pub use Rattle.companions.specs.watch as watch
+pub use Rattle.companions.specs.read_law as read_law
 pub mod Drawings
 pub mod Items
 pub mod Sheets

@@ -5,7 +5,7 @@ use safe_bit::Move;
 use smallvec::SmallVec;
 use std::alloc::{AllocError, Global};
 use std::test::Fail;
-use watch::Watch;
+use read_law::Watch;
 
 /// A copy of a bit: whose register it is of, its number, and its reader.
 type Place = (u8, Field, u16, u8);

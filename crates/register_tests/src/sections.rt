@@ -3,11 +3,11 @@ ghost use Rattle.std.specs.Prelude.{◌≡◌, zero, true, Ok, IfOk};
 ghost use Rattle.record.specs.safe_bit.declared.Move.TheVariants.{BeginWrite};
 ghost use Rattle.record.specs.declared.access.Field.TheVariants.{Commit};
 ghost use Rattle.plain_store.specs.Setups.{checked};
-ghost use Rattle.failure.specs.critical.Registers.{row_from, opening_cell, after_access};
-ghost use Rattle.failure.specs.critical.Sections.{is_going, goes_on};
+ghost use Rattle.memory_unit.specs.section.Registers.{row_from, opening_cell, after_access};
+ghost use Rattle.memory_unit.specs.section.Sections.{is_going, goes_on};
 
 use super::memory::Memory;
-use failure::{DataRow, Section, SectionProgress};
+use memory_unit::{DataRow, Section, SectionProgress};
 use plain_store::{Command, Name, NestedTypes, Reply, Setup, Value};
 use reader_copies::Made;
 use record::{Access, Field, Move};

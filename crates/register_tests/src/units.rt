@@ -1,5 +1,5 @@
 //! The memory unit on registers.
-use failure::{DataRow, Locks, Unit, UnitProgress};
+use memory_unit::{DataRow, Locks, Unit, UnitProgress};
 use plain_store::Setup;
 use record::{Access, Field, Move};
 use std::test::Fail;

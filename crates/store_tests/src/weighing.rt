@@ -1,13 +1,13 @@
 //! Weighing: the lists of two ports, in which each call goes by a name. All calls are of the value `a`.
 ghost use Rattle.std.specs.Prelude.{◌≡◌, ◌≤◌, ◌∷◌, [], length, IfOk};
-ghost use Rattle.weigh.specs.record.CallLists.{lists_of};
+ghost use Rattle.call_check.specs.record.CallLists.{lists_of};
 
 use plain_store::{Answer, Caller, Command, Name, NestedTypes, Reply, Setup, Store, Value};
 use std::alloc::{AllocError, Global};
 use std::process::Abort;
 use std::test::Fail;
 use store_image::Image;
-use weigh::{Placed, Weighed, weigh};
+use call_check::{Placed, Weighed, weigh};
 
 /// Calls.
 #[derive(Clone, Copy)]

@@ -4,7 +4,7 @@ use plain_store::{Caller, Command, Name, NestedTypes, Reply, Store, Value};
 use std::alloc::{AllocError, Global};
 use std::rt::Clock;
 use std::time::Instant;
-use weigh::Image;
+use call_check::Image;
 
 const NAMES: [&str; 8] = [
     "first", "second", "third", "fourth", "fifth", "sixth", "seventh", "eighth",

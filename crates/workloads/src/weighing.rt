@@ -13,7 +13,7 @@ use plain_store::Setup;
 use record::Placed;
 use std::rt::Clock;
 use std::time::Instant;
-use weigh::weigh;
+use call_check::weigh;
 
 /// The most calls of a process in version 2.
 const MOST_CALLS: u32 = 65_535;

@@ -11,8 +11,8 @@ use Rattle.record.specs.Records.{past_of}
 use Rattle.record.specs.Registers.{processes}
 use Rattle.process.specs.bakery.Locks as locks
 use Rattle.process.specs.bakery.Locks.{LockRows}
-use Rattle.process.specs.critical.Registers as versions
-use Rattle.process.specs.critical.Registers.{Data, DataRow, data_from, register_from, row_from}
+use Rattle.process.specs.section.Registers as versions
+use Rattle.process.specs.section.Registers.{Data, DataRow, data_from, register_from, row_from}
 use Rattle.laws.specs.Held.{cell_held}
 use Rattle.world.specs.Cores.{CoreState, KeepsCore}
 use Rattle.world.specs.Seats.{seat_of, setups_in}

@@ -17,8 +17,8 @@ use Rattle.record.specs.Registers.{opening_bit}
 use Rattle.record.proofs.Width.{is_good}
 use Rattle.process.specs.bakery.Locks as locks
 use Rattle.process.specs.bakery.Locks.{CanAccess, locks_after, lock_of, made_by, row_in}
-use Rattle.process.specs.critical.Registers as versions
-use Rattle.process.specs.critical.Registers.{MayMake, after_access, is_data, made_of, register_at, register_from}
+use Rattle.process.specs.section.Registers as versions
+use Rattle.process.specs.section.Registers.{MayMake, after_access, is_data, made_of, register_at, register_from}
 use Rattle.laws.specs.Held.{IsThere, cell_held}
 use Rattle.laws.proofs.FrameCells.{OnCopy, itself, on-copy}
 use Rattle.laws.proofs.HeldCells.{held-entry, held_answers}

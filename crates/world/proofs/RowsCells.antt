@@ -12,7 +12,7 @@ use Rattle.record.specs.Entries.{Past}
 use Rattle.record.specs.Newest.{copy}
 use Rattle.record.specs.Registers.{width}
 use Rattle.process.specs.bakery.Locks.{LockRows, lock_of, no_lock, row_in}
-use Rattle.process.specs.critical.Registers.{Data, DataRow, data_from, data_of, is_data, no_data, register_at, register_from, row_from}
+use Rattle.process.specs.section.Registers.{Data, DataRow, data_from, data_of, is_data, no_data, register_at, register_from, row_from}
 use Rattle.laws.specs.Held.{cell_held}
 use Rattle.process.specs.Registers.{RegistersState}
 use Rattle.world.specs.Shows.{lock_from, locks_from, registers_from}

@@ -11,7 +11,7 @@ use Rattle.plain_store.specs.declared.Setup.{Setup}
 use Rattle.record.specs.Newest.{copy}
 use Rattle.record.specs.Registers.{processes, width}
 use Rattle.process.specs.bakery.Locks.{lock_of, with_row}
-use Rattle.process.specs.critical.Registers.{data_from, data_of, is_data, register_from, row_from, with_register, with_register_at}
+use Rattle.process.specs.section.Registers.{data_from, data_of, is_data, register_from, row_from, with_register, with_register_at}
 use Rattle.world.specs.Shows.{lock_from, locks_from}
 use Rattle.world.proofs.RowsCells.{copies_from, copies-are, data-is, lock-is}
 

@@ -23,7 +23,7 @@ use Rattle.record.specs.Registers.{width}
 use Rattle.record.specs.Scripts.{Call}
 use Rattle.record.proofs.Width.{IsGood, is_good}
 use Rattle.process.specs.bakery.Locks.{locks_without_reads, lock_of, row_in}
-use Rattle.process.specs.critical.Registers.{is_data, register_at, register_from, row_from, without_reads_at}
+use Rattle.process.specs.section.Registers.{is_data, register_at, register_from, row_from, without_reads_at}
 use Rattle.laws.specs.Doings.{Doing, Rests, Lies, Runs, Closes, call, doing}
 use Rattle.laws.specs.Held.{cell_held, drops}
 use Rattle.laws.proofs.AtPlaces.{AtPlace}

@@ -10,7 +10,7 @@ use Rattle.record.specs.Entries.{Entry, Past}
 use Rattle.record.specs.Registers.{processes, width}
 use Rattle.record.proofs.Width.{is_good}
 use Rattle.process.specs.bakery.Locks.{new_lock, new_locks}
-use Rattle.process.proofs.critical.Opening.{zero-register, const-range}
+use Rattle.process.proofs.section.Opening.{zero-register, const-range}
 use Rattle.laws.specs.Held.{cell_held, drops}
 use Rattle.laws.proofs.HeldCells.{held-marks}
 use Rattle.process.specs.Drops.{AreOf}

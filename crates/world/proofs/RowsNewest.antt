@@ -21,9 +21,9 @@ use Rattle.record.specs.Newest as record_newest
 use Rattle.record.specs.Program.{Version, image_field, newest_process, stamp_field, version_of}
 use Rattle.record.specs.Registers.{bytes_of_bits, image_bytes, width}
 use Rattle.record.proofs.Width.{is_good}
-use Rattle.process.specs.critical.Newest.{IsQuiet, newest_store, values_of, version_held, version_in, versions_in}
-use Rattle.process.specs.critical.Registers.{Data, data_from, data_of, is_data, no_data, register_at, register_from, register_of}
-use Rattle.process.proofs.critical.Committed.{newest-inside}
+use Rattle.process.specs.section.Newest.{IsQuiet, newest_store, values_of, version_held, version_in, versions_in}
+use Rattle.process.specs.section.Registers.{Data, data_from, data_of, is_data, no_data, register_at, register_from, register_of}
+use Rattle.process.proofs.section.Committed.{newest-inside}
 use Rattle.laws.specs.Held.{cell_held}
 use Rattle.laws.proofs.HeldCells.{held-is}
 use Rattle.world.proofs.RowsCells.{cell-is, copies-are, data-is, data-register, many-parts, readers-are, row_at, width-is}

@@ -17,8 +17,8 @@ use Rattle.record.specs.Records.{past_of}
 use Rattle.record.specs.Registers.{processes}
 use Rattle.record.specs.Stages.{inside}
 use Rattle.record.proofs.Width.{is_good}
-use Rattle.process.specs.critical.Newest.{IsQuiet, newest_store}
-use Rattle.process.specs.critical.Registers.{DataRow, FitsSetup}
+use Rattle.process.specs.section.Newest.{IsQuiet, newest_store}
+use Rattle.process.specs.section.Registers.{DataRow, FitsSetup}
 use Rattle.laws.specs.Doings.{call, doing}
 use Rattle.laws.proofs.FrameInside.{inside-is}
 use Rattle.history_laws.proofs.Codec.{bytes_read, store_is_read}

@@ -15,7 +15,7 @@ use Rattle.record.specs.Records.{calls_full, past_of, process_of, refused, refus
 use Rattle.record.specs.Registers.{processes}
 use Rattle.record.specs.Stages.{stage}
 use Rattle.record.proofs.Width.{is_good}
-use Rattle.process.proofs.critical.Widths.{ranges}
+use Rattle.process.proofs.section.Widths.{ranges}
 use Rattle.laws.proofs.Theorems.{less}
 use Rattle.world.specs.Events.{IsRefused}
 use Rattle.world.specs.Seats.{Seat, seat_of}

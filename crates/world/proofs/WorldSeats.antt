@@ -21,7 +21,7 @@ use Rattle.laws.specs.Doings.{doing}
 use Rattle.laws.proofs.Frame.{own-other, own-own, doing-other}
 use Rattle.laws.proofs.FrameEvents.{accepted}
 use Rattle.laws.proofs.Theorems.{not_ahead_of_itself}
-use Rattle.process.proofs.critical.Widths.{ranges}
+use Rattle.process.proofs.section.Widths.{ranges}
 use Rattle.world.specs.Seats.{Seat, seat_of, waiting_before, with_kept}
 use Rattle.process.specs.Processes.{Kept, kept_at}
 use Rattle.world.specs.Changes.{told, before_told}

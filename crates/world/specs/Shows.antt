@@ -13,7 +13,7 @@ use Rattle.record.specs.Histories.{history}
 use Rattle.record.specs.Records.{past_of}
 use Rattle.record.specs.Registers.{processes}
 use Rattle.process.specs.bakery.Locks.{LockRows}
-use Rattle.process.specs.critical.Registers.{register_from, row_from}
+use Rattle.process.specs.section.Registers.{register_from, row_from}
 use Rattle.laws.specs.Held.{cell_held}
 use Rattle.process.specs.Registers.{RegistersState}
 use Rattle.world.specs.Seats.{Seat, seat_of}

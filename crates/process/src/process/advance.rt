@@ -1,6 +1,6 @@
 //! The next access of a process, and how it goes on by it.
 ghost use Rattle.std.specs.Prelude.{◌≡◌, ◌+◌, ◌<◌, ◌≤◌, true, false, Bool, [], IfSome, None, Some};
-ghost use Rattle.critical.specs.Registers.{is_data};
+ghost use Rattle.section.specs.Registers.{is_data};
 ghost use Rattle.laws.specs.Doings.{Doing};
 ghost use Rattle.laws.specs.Held.{IsThere};
 ghost use Rattle.laws.specs.Steps.{does_then, marks_with, next_of};
@@ -13,7 +13,7 @@ ghost use Rattle.process.specs.declared.process.Work.TheVariants as works;
 use super::{Process, Work};
 use crate::told::{Told, answer_told, settled, told_at_data, told_at_door, told_left};
 use bakery::{DoorProgress, Leaving};
-use failure::{Progress, UnitProgress};
+use memory_unit::{Progress, UnitProgress};
 use plain_store::{Answer, NestedTypes};
 use record::Access;
 use std::mem;

@@ -11,7 +11,7 @@ ghost use Rattle.process.specs.Steps.{IsAt, is_at_door, kept_failing, kept_withd
 
 use super::{Process, Work};
 use bakery::Leaving;
-use failure::Unit;
+use memory_unit::Unit;
 use plain_store::Reply;
 use record::{Field, TornBit};
 

@@ -14,7 +14,7 @@ use super::{Process, Work};
 use crate::registers::{Registers, ended, given};
 use crate::told::Told;
 use bakery::Pace;
-use critical::Flicks;
+use section::Flicks;
 use record::Access;
 
 impl Process {

@@ -7,7 +7,7 @@ use anyhow::Result;
 use plain_store::{Answer, Caller, Command, Name, NestedTypes, Reply, Setup, Store, Value, opened};
 use record::Placed;
 use std::alloc::{AllocError, Global};
-use weigh::Image;
+use call_check::Image;
 
 /// What the processes of a history call.
 #[derive(Clone, Copy)]

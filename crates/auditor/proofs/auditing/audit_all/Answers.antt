@@ -4,7 +4,7 @@ use Rattle.plain_store.specs.declared.Setup.{Setup}
 use Rattle.record.specs.Entries.{Entry, Past}
 use Rattle.auditor.specs.Hearing.{BreaksNext, HasHeard}
 use Rattle.auditor.specs.Verdicts.{AllKeep, KeepsAll}
-use Rattle.watch.proofs.Entries.{entries_more}
+use Rattle.read_law.proofs.Entries.{entries_more}
 use Rattle.auditor.proofs.Firsts.{is_bad_at}
 use Rattle.auditor.proofs.Whole.{good_of_events, true_record}
 use Rattle.auditor.proofs.auditing.audit_all.Goals as goal

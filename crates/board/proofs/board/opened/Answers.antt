@@ -1,6 +1,6 @@
 use Rattle.std.proofs.Common.{◌∙◌, ap, arith, rules}
 use Rattle.std.specs.Prelude.{slice_index}
-use Rattle.process.proofs.critical.Widths.{ranges}
+use Rattle.process.proofs.section.Widths.{ranges}
 use Rattle.board.proofs.Seats.{starts}
 use Rattle.board.proofs.board.opened.Goals as goal
 

@@ -1,4 +1,4 @@
-use Rattle.process.proofs.critical.Widths.{ranges}
+use Rattle.process.proofs.section.Widths.{ranges}
 use Rattle.board.proofs.WordNumbers.{bit_of_word, bit_there, word_below}
 use Rattle.board.proofs.laws_of_boards.words_are_of_single_bits.Goals as goal
 

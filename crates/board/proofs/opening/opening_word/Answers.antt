@@ -6,7 +6,7 @@ use Rattle.record.proofs.safe_number.Numbers.{get-bits}
 use Rattle.plain_store.specs.Setups.{opening_store}
 use Rattle.store_image.specs.Image.{image_of}
 use Rattle.record.specs.Registers.{opening_bit, opening_bits, width}
-use Rattle.process.proofs.critical.Widths.{ranges}
+use Rattle.process.proofs.section.Widths.{ranges}
 use Rattle.board.specs.Words.{bit_of, closed_word}
 use Rattle.board.proofs.WordNumbers.{bit_there, byte_word, opens_late, opens_low}
 use Rattle.board.proofs.opening.opening_word.Goals as goal

@@ -1,10 +1,10 @@
 use Rattle.std.proofs.Common.{◌≡◌, ℕ, ◌+◌, Bool, List, [], ◌∷◌, ◌++◌, map, inl, inr, sym, ap, ◌∙◌, arith}
 use Rattle.std.specs.List.{range_with_len}
 use Rattle.record.specs.Program.{Version}
-use Rattle.process.specs.critical.Newest.{newest_of}
-use Rattle.process.specs.critical.declared.newest.Newest.{Newest}
-use Rattle.process.proofs.critical.NewestSteps.{newest-new, newest-old, process-in}
-use Rattle.process.proofs.critical.Widths.{ranges}
+use Rattle.process.specs.section.Newest.{newest_of}
+use Rattle.process.specs.section.declared.newest.Newest.{Newest}
+use Rattle.process.proofs.section.NewestSteps.{newest-new, newest-old, process-in}
+use Rattle.process.proofs.section.Widths.{ranges}
 use Rattle.board.specs.Closings.{version_shown}
 use Rattle.board.proofs.ShownBits.{many-versions, versions-more}
 use Rattle.board.proofs.shown_image.newest_shown.Goals.{then-process-eq0, then-process-eq0-via-then-process-eq0, then-process-eq0-via-else-process-eq0+then-greatest-stamp, else-process-eq0+else-greatest-stamp}

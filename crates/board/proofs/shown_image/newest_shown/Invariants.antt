@@ -1,7 +1,7 @@
 use Rattle.std.proofs.Common.{◌≡◌, map}
 use Rattle.std.specs.List.{range_with_len}
-use Rattle.process.specs.critical.Newest.{newest_of}
-use Rattle.process.specs.critical.declared.newest.Newest.{Newest}
+use Rattle.process.specs.section.Newest.{newest_of}
+use Rattle.process.specs.section.declared.newest.Newest.{Newest}
 use Rattle.board.specs.Closings.{version_shown}
 use Rattle.board.proofs.shown_image.newest_shown.Given as goal
 

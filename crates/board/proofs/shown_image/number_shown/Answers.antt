@@ -1,6 +1,6 @@
 use Rattle.std.proofs.Common.{◌≡◌, ℕ, ◌+◌, ◌-◌, Bool, List, take, drop, if◌then◌else◌, ap, ◌∙◌, pow_mono, arith}
 use Rattle.record.specs.safe_number.Bytes.{number_of_bits}
-use Rattle.process.proofs.critical.Holdings.{byte-below, byte-is, number-below}
+use Rattle.process.proofs.section.Holdings.{byte-below, byte-is, number-below}
 use Rattle.board.specs.Closings.{bits_shown}
 use Rattle.board.proofs.ShownBits.{length-bits, number-more}
 use Rattle.board.proofs.shown_image.number_shown.Goals as goal

@@ -1,7 +1,7 @@
 use Rattle.std.proofs.Common.{List, ◌++◌, ◌∷◌, ◌∙◌, ap, flat_map}
 use Rattle.std.specs.Fmt.{decimal}
-use Rattle.shapes.specs.Markup.{Said, attribute_text, said_text}
-use Rattle.shapes.specs.declared.names.Key.TheVariants as key
+use Rattle.markup.specs.Markup.{Said, attribute_text, said_text}
+use Rattle.markup.specs.declared.names.Key.TheVariants as key
 use Rattle.picture.specs.Drawings.{queue_said, store_said}
 use Rattle.columns.specs.Told.{change_told, text_of}
 use Rattle.picture.specs.Words.{queue_text}

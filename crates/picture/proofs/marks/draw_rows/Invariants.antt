@@ -1,6 +1,6 @@
 use Rattle.std.proofs.Common.{◌≡◌, ◌++◌, drop, map}
-use Rattle.shapes.specs.Figures.{drawings}
-use Rattle.shapes.specs.Readings.{reading}
+use Rattle.markup.specs.Figures.{drawings}
+use Rattle.markup.specs.Readings.{reading}
 use Rattle.columns.specs.Columns.{wording}
 use Rattle.picture.specs.Drawings.{rows_shapes}
 use Rattle.picture.proofs.marks.draw_rows.Given as goal

@@ -1,6 +1,6 @@
 use Rattle.std.proofs.Common.{◌≡◌, ◌++◌, flat_map, map}
 use Rattle.bstr.specs.Text.{lines_of, without_terminator}
-use Rattle.shapes.specs.Readings.{reading}
+use Rattle.markup.specs.Readings.{reading}
 use Rattle.picture.specs.Sheets.{item_of}
 use Rattle.picture.proofs.sheets.list_lines.Given as goal
 

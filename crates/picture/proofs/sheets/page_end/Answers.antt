@@ -1,6 +1,6 @@
 use Rattle.std.proofs.Common.{◌∙◌, ap, refl}
-use Rattle.shapes.specs.Elements.{opens_in}
-use Rattle.shapes.specs.Readings.{reading, with_tags}
+use Rattle.markup.specs.Elements.{opens_in}
+use Rattle.markup.specs.Readings.{reading, with_tags}
 use Rattle.picture.specs.declared.constants.TheConstants.{SCRIPT}
 use Rattle.picture.proofs.Framing.{page_end_read, script_text}
 use Rattle.picture.proofs.Sheetings.{adds}

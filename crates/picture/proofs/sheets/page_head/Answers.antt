@@ -1,8 +1,8 @@
 use Rattle.std.proofs.Common.{◌≡◌, [], ◌∙◌, ap, codes}
-use Rattle.shapes.specs.Elements.{opens_in}
-use Rattle.shapes.specs.Readings.{reading, with_begun, with_tags}
-use Rattle.shapes.specs.Markup.{telling_by}
-use Rattle.shapes.specs.declared.names.Tag.TheVariants as tag
+use Rattle.markup.specs.Elements.{opens_in}
+use Rattle.markup.specs.Readings.{reading, with_begun, with_tags}
+use Rattle.markup.specs.Markup.{telling_by}
+use Rattle.markup.specs.declared.names.Tag.TheVariants as tag
 use Rattle.picture.specs.Sheets.{heading_of}
 use Rattle.picture.proofs.Framing.{page_head_read, body_text, list_text, list_end_text, style_text}
 use Rattle.picture.proofs.Sheetings.{adds, adds_same}

@@ -1,6 +1,6 @@
 use Rattle.std.proofs.Common.{ℕ, ◌+◌, ◌≡◌, ◌∙◌, ap}
-use Rattle.shapes.specs.Elements.{opens_in}
-use Rattle.shapes.specs.Readings.{reading, with_tags}
+use Rattle.markup.specs.Elements.{opens_in}
+use Rattle.markup.specs.Readings.{reading, with_tags}
 use Rattle.picture.specs.Sheets.{ground_of, heading_of, held_in_64, picture_height, svg_front, titles_of}
 use Rattle.picture.proofs.Sheetings.{adds, adds_same}
 use Rattle.picture.proofs.Framing.{picture_head_read, style_text, style_end_text}

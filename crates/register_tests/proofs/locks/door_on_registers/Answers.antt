@@ -2,8 +2,8 @@ use Rattle.std.proofs.Common.{◌≡◌, Bool, true, false, List, [], sym, ap, s
 use Rattle.record.specs.declared.access.Access.{Access}
 use Rattle.plain_store.specs.declared.Setup.{Setup}
 use Rattle.record.specs.Places.{place_of, place_after, value_of}
-use Rattle.failure.specs.bakery.Doors.{DoorState, call_of, door_at, next_of, MayDrop}
-use Rattle.failure.specs.bakery.Locks.{LockRows, CanAccess, answered, lock_of, new_locks}
+use Rattle.memory_unit.specs.bakery.Doors.{DoorState, call_of, door_at, next_of, MayDrop}
+use Rattle.memory_unit.specs.bakery.Locks.{LockRows, CanAccess, answered, lock_of, new_locks}
 use Rattle.register_tests.proofs.locks.door_on_registers.Goals as goal
 
 -- the first access may be made on these locks

@@ -7,8 +7,8 @@ use Rattle.plain_store.specs.declared.Command.TheVariants.{Read}
 use Rattle.plain_store.specs.declared.Setup.{Setup}
 use Rattle.record.specs.Places.{Place, access_at, place_after, value_of}
 use Rattle.record.specs.Scripts.{Call}
-use Rattle.failure.specs.critical.Registers.{DataRow, row_from, opening_cell, after_access, answered, MayMake}
-use Rattle.failure.specs.critical.Sections.{Section, section_at, inside_place, started}
+use Rattle.memory_unit.specs.section.Registers.{DataRow, row_from, opening_cell, after_access, answered, MayMake}
+use Rattle.memory_unit.specs.section.Sections.{Section, section_at, inside_place, started}
 use Rattle.register_tests.proofs.sections.steps_on_registers.Goals as goal
 
 -- a write of the commit bit begins

@@ -4,10 +4,10 @@ use Rattle.record.specs.declared.access.Access.{Access}
 use Rattle.record.specs.declared.access.Field.TheVariants.{Ticket}
 use Rattle.plain_store.specs.declared.Setup.{Setup}
 use Rattle.record.specs.Failures.{cut}
-use Rattle.failure.specs.bakery.Locks.{LockRows, lock_of, new_locks}
-use Rattle.failure.specs.critical.Registers.{Data}
-use Rattle.failure.specs.Memory.{CanAccess}
-use Rattle.failure.specs.Units.{UnitState, unit_at, call_in, next_of}
+use Rattle.memory_unit.specs.bakery.Locks.{LockRows, lock_of, new_locks}
+use Rattle.memory_unit.specs.section.Registers.{Data}
+use Rattle.memory_unit.specs.Memory.{CanAccess}
+use Rattle.memory_unit.specs.Units.{UnitState, unit_at, call_in, next_of}
 use Rattle.register_tests.proofs.units.clears_the_registers.Goals as goal
 
 -- the first access of a unit that has nothing to settle may be made on new locks

@@ -1,5 +1,5 @@
 use Rattle.std.proofs.Common.{◌≡◌, ◌≤◌, ℕ, length, refl, rules, ap, subst, ◌∙◌, arith}
-use Rattle.process.proofs.critical.Widths.{ranges}
+use Rattle.process.proofs.section.Widths.{ranges}
 use Rattle.board.specs.Boards.{BoardState}
 use Rattle.board.specs.Closings.{AreOfAll, AreQuiet}
 use Rattle.board.proofs.Orders.{all_later, are_lists, first_leaves, first_ports, quiet_later}

@@ -1,6 +1,6 @@
 use Rattle.std.proofs.Common.{◌<◌, ap, sym, subst, ◌∙◌}
 use Rattle.plain_store.specs.declared.Setup.{Setup}
-use Rattle.process.proofs.critical.Widths.{ranges}
+use Rattle.process.proofs.section.Widths.{ranges}
 use Rattle.board.specs.Boards.{BoardState}
 use Rattle.board.proofs.Seats.{some_words, splits_at}
 use Rattle.board.proofs.board.Board.newcomer.Goals as goal

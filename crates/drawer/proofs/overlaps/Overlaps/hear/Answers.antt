@@ -1,5 +1,5 @@
 use Rattle.std.proofs.Common.{◌≡◌, Some, subst, sym, ap, ◌∙◌}
-use Rattle.course.specs.watch.Watching.{HasHeard, WatchState}
+use Rattle.course.specs.read_law.Watching.{HasHeard, WatchState}
 use Rattle.drawer.proofs.Overhearing.{hears_none, hears_on}
 use Rattle.drawer.proofs.overlaps.Overlaps.hear.Goals as goal
 

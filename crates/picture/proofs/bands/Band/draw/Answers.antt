@@ -1,6 +1,6 @@
 use Rattle.std.proofs.Common.{ℕ, List, ◌++◌, ◌∙◌, ap, flat_map}
-use Rattle.shapes.specs.Figures.{Shape}
-use Rattle.shapes.specs.Readings.{with_lines}
+use Rattle.markup.specs.Figures.{Shape}
+use Rattle.markup.specs.Readings.{with_lines}
 use Rattle.picture.specs.Drawings.{SeenBand, axis, chain_shapes, column_shapes, first_inside, for_each, lane_shapes, lane_words, links, seen_band, shades}
 use Rattle.columns.specs.Told.{told_in}
 use Rattle.picture.proofs.Drawn.{ends_drawn, then_drawn}

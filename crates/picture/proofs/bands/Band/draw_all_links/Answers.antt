@@ -1,5 +1,5 @@
 use Rattle.std.proofs.Common.{ℕ, ◌+◌, List, ◌∙◌, arith, drop, flat_map, map}
-use Rattle.shapes.specs.Figures.{Shape}
+use Rattle.markup.specs.Figures.{Shape}
 use Rattle.columns.specs.Columns.{Seen, seen}
 use Rattle.picture.specs.Drawings.{links, seen_band}
 use Rattle.columns.specs.declared.columns.Column.{Column}

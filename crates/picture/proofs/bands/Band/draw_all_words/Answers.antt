@@ -1,6 +1,6 @@
 use Rattle.std.proofs.Common.{◌≡◌, ℕ, true, List, [], ap, sym, ◌∙◌}
 use Rattle.std.proofs.lemmas.Bool.{cond-true, not-false}
-use Rattle.shapes.specs.Figures.{Shape}
+use Rattle.markup.specs.Figures.{Shape}
 use Rattle.columns.specs.Layouts.{lane_in}
 use Rattle.columns.specs.declared.layout.Lane.{Lane}
 use Rattle.picture.specs.Drawings.{SeenBand, lane_words, seen_band, words_of_lane}

@@ -1,6 +1,6 @@
 use Rattle.std.proofs.Common.{◌≡◌, ◌++◌}
-use Rattle.shapes.specs.Figures.{drawings}
-use Rattle.shapes.specs.Readings.{reading}
+use Rattle.markup.specs.Figures.{drawings}
+use Rattle.markup.specs.Readings.{reading}
 use Rattle.picture.specs.Drawings.{for_each, lane_words, seen_band}
 use Rattle.picture.proofs.bands.Band.draw_all_words.Given as goal
 

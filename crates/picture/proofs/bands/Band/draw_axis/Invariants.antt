@@ -1,6 +1,6 @@
 use Rattle.std.proofs.Common.{◌≡◌, ◌++◌, drop, map}
-use Rattle.shapes.specs.Figures.{drawings}
-use Rattle.shapes.specs.Readings.{reading}
+use Rattle.markup.specs.Figures.{drawings}
+use Rattle.markup.specs.Readings.{reading}
 use Rattle.columns.specs.Columns.{seen}
 use Rattle.picture.specs.Drawings.{axis}
 use Rattle.picture.proofs.bands.Band.draw_axis.Given as goal

@@ -1,6 +1,6 @@
 use Rattle.std.proofs.Common.{ℕ, ◌+◌, List, arith, drop, flat_map, map, refl}
-use Rattle.shapes.specs.Figures.{Shape}
-use Rattle.shapes.specs.Readings.{reading}
+use Rattle.markup.specs.Figures.{Shape}
+use Rattle.markup.specs.Readings.{reading}
 use Rattle.columns.specs.Columns.{Seen, seen}
 use Rattle.picture.specs.Drawings.{column_shapes, seen_band}
 use Rattle.columns.specs.declared.columns.Column.{Column}

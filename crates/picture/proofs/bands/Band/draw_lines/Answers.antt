@@ -1,5 +1,5 @@
 use Rattle.std.proofs.Common.{ℕ, ◌+◌, List, arith, drop, refl}
-use Rattle.shapes.specs.Readings.{reading}
+use Rattle.markup.specs.Readings.{reading}
 use Rattle.columns.specs.Columns.{seen}
 use Rattle.picture.specs.Drawings.{SeenBand, line_shapes, lines_shapes, seen_band}
 use Rattle.columns.specs.declared.told.Line.{Line}

@@ -1,6 +1,6 @@
 use Rattle.std.proofs.Common.{◌≡◌, ◌++◌, drop, take}
-use Rattle.shapes.specs.Figures.{drawings}
-use Rattle.shapes.specs.Readings.{reading, with_lines}
+use Rattle.markup.specs.Figures.{drawings}
+use Rattle.markup.specs.Readings.{reading, with_lines}
 use Rattle.columns.specs.Columns.{seen}
 use Rattle.picture.specs.Drawings.{lines_shapes, seen_band}
 use Rattle.columns.specs.Told.{texts}

@@ -1,6 +1,6 @@
 use Rattle.std.proofs.Common.{ℕ, ◌+◌, List, arith, drop, flat_map, refl}
-use Rattle.shapes.specs.Figures.{Shape}
-use Rattle.shapes.specs.Readings.{reading}
+use Rattle.markup.specs.Figures.{Shape}
+use Rattle.markup.specs.Readings.{reading}
 use Rattle.columns.specs.Columns.{seen}
 use Rattle.picture.specs.Drawings.{note_shapes, seen_band}
 use Rattle.columns.specs.declared.told.Line.{Line}

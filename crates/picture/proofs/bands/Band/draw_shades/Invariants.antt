@@ -1,6 +1,6 @@
 use Rattle.std.proofs.Common.{◌≡◌, ◌++◌, drop, map}
-use Rattle.shapes.specs.Figures.{drawings}
-use Rattle.shapes.specs.Readings.{reading}
+use Rattle.markup.specs.Figures.{drawings}
+use Rattle.markup.specs.Readings.{reading}
 use Rattle.columns.specs.Columns.{seen}
 use Rattle.picture.specs.Drawings.{first_inside, shades}
 use Rattle.picture.proofs.bands.Band.draw_shades.Given as goal

@@ -1,7 +1,7 @@
 use Rattle.std.proofs.Common.{◌≡◌, ℕ, ◌+◌, List, [], ◌++◌, ap, drop, length, map, sym, take, ◌∙◌}
 use Rattle.std.specs.declared.alloc.Global.{Global}
 use Rattle.std.specs.declared.vec.Vec.{Vec}
-use Rattle.shapes.specs.Figures.{drawings}
+use Rattle.markup.specs.Figures.{drawings}
 use Rattle.picture.specs.Bandings.{behind_columns, framed}
 use Rattle.columns.specs.Columns.{seen}
 use Rattle.picture.specs.Drawings.{band_shapes}

@@ -1,6 +1,6 @@
 use Rattle.std.proofs.Common.{ap, flat_map, refl}
-use Rattle.shapes.specs.Markup.{lowering}
-use Rattle.shapes.specs.Readings.{group, reading}
+use Rattle.markup.specs.Markup.{lowering}
+use Rattle.markup.specs.Readings.{group, reading}
 use Rattle.columns.specs.Told.{told_in}
 use Rattle.picture.proofs.Sheetings.{adds, adds_same}
 use Rattle.picture.proofs.Tellings.{framed_ends, framed_lines}

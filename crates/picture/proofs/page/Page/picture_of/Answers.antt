@@ -1,5 +1,5 @@
 use Rattle.std.proofs.Common.{◌∙◌, codes, flat_map, refl}
-use Rattle.shapes.specs.Readings.{reading}
+use Rattle.markup.specs.Readings.{reading}
 use Rattle.columns.specs.Told.{told_in}
 use Rattle.picture.proofs.Sheetings.{adds}
 use Rattle.picture.proofs.Tellings.{framed_ends, framed_lines}

@@ -3,7 +3,7 @@ use Rattle.std.proofs.Common.{◌≡◌, refl, sym, ap, subst, ◌∙◌}
 use Rattle.std.specs.Prelude.{IfSome}
 use Rattle.record.specs.Places.{place_after, place_of}
 use Rattle.record.proofs.Width.{is_good}
-use Rattle.critical.specs.Sections.{Section, changes_at, progress_at}
+use Rattle.section.specs.Sections.{Section, changes_at, progress_at}
 use Rattle.laws.specs.Doings.{call}
 use Rattle.process.specs.Processes.{ProcessState}
 use Rattle.process.specs.Processes.{Kept, kept_at}

@@ -1,7 +1,7 @@
 -- An access with which the memory unit clears the ticket and the choosing bit.
 use Rattle.std.proofs.Common.{◌≡◌, false, refl, sym, ap, subst, ◌∙◌}
 use Rattle.record.specs.Closings.{closing_after}
-use Rattle.failure.specs.Units.{remains}
+use Rattle.memory_unit.specs.Units.{remains}
 use Rattle.laws.specs.Doings.{call}
 use Rattle.process.specs.Processes as kept
 use Rattle.process.specs.Processes.{ProcessState}

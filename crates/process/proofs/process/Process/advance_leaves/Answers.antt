@@ -3,7 +3,7 @@ use Rattle.std.proofs.Common.{◌≡◌, ◌<◌, Bool, false, cond, not, List, 
 use Rattle.record.specs.declared.Mark.{Mark}
 use Rattle.record.specs.declared.Mark.TheVariants as mark
 use Rattle.bakery.specs.Leavings.{LeavingState, is_leaving}
-use Rattle.critical.proofs.Ends.{done-at}
+use Rattle.section.proofs.Ends.{done-at}
 use Rattle.laws.specs.Doings.{call}
 use Rattle.process.specs.Processes as kept
 use Rattle.process.specs.Processes.{ProcessState}

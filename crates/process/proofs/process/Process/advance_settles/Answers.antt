@@ -3,7 +3,7 @@ use Rattle.std.proofs.Common.{◌≡◌, refl, sym, ap, subst, ◌∙◌}
 use Rattle.std.specs.Prelude.{Some}
 use Rattle.record.specs.Closings.{Closing, closing_after}
 use Rattle.record.specs.Scripts.{Call}
-use Rattle.failure.specs.Units.{goes_on}
+use Rattle.memory_unit.specs.Units.{goes_on}
 use Rattle.laws.specs.Doings.{call}
 use Rattle.process.specs.Keeping.{marks_settled}
 use Rattle.process.specs.Processes as kept

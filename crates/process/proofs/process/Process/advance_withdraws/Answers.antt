@@ -2,7 +2,7 @@
 use Rattle.std.proofs.Common.{◌≡◌, true, false, not, sym, ap, subst, ◌∙◌}
 use Rattle.record.specs.Closings as closing
 use Rattle.bakery.specs.Leavings.{is_leaving}
-use Rattle.critical.proofs.Ends.{done-at}
+use Rattle.section.proofs.Ends.{done-at}
 use Rattle.laws.specs.Doings.{call}
 use Rattle.process.specs.Processes as kept
 use Rattle.process.specs.Processes.{ProcessState}

@@ -1,8 +1,8 @@
 -- An access within a number access at the data, by the place of the call.
 use Rattle.std.proofs.Common.{◌+◌, ◌≤◌, false, refl, sym, ap, subst, ◌∙◌}
 use Rattle.record.specs.Places.{place_after, place_of}
-use Rattle.critical.specs.Sections.{section_at}
-use Rattle.critical.proofs.Within.{within-fewer, within-going, within-marks}
+use Rattle.section.specs.Sections.{section_at}
+use Rattle.section.proofs.Within.{within-fewer, within-going, within-marks}
 use Rattle.laws.specs.Doings.{call}
 use Rattle.laws.specs.Steps.{marks_with}
 use Rattle.process.specs.Processes as kept

@@ -2,7 +2,7 @@
 use Rattle.std.proofs.Common.{false, refl, sym, ap, ◌∙◌}
 use Rattle.std.specs.Prelude.{None, Some}
 use Rattle.plain_store.specs.declared.Command.TheVariants.{Ask}
-use Rattle.failure.specs.Units.{UnitState}
+use Rattle.memory_unit.specs.Units.{UnitState}
 use Rattle.laws.specs.Doings.{call}
 use Rattle.process.specs.Halts.{kept_cut}
 use Rattle.process.specs.Processes as kept

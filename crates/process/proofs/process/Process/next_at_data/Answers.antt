@@ -3,7 +3,7 @@ use Rattle.std.proofs.Common.{sym, ap, subst, ◌∙◌}
 use Rattle.std.specs.Prelude.{Some}
 use Rattle.record.specs.declared.access.Access.{Access}
 use Rattle.record.specs.Places.{place_of}
-use Rattle.critical.specs.Registers.{is_data}
+use Rattle.section.specs.Registers.{is_data}
 use Rattle.laws.specs.Doings.{call}
 use Rattle.laws.specs.Held.{IsThere}
 use Rattle.laws.specs.Steps.{next_of}

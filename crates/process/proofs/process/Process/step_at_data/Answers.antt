@@ -1,8 +1,8 @@
 -- An access within a number access at the data, by the place of the call.
 use Rattle.std.proofs.Common.{◌≡◌, ◌<◌, sym, ap, subst, ◌∙◌}
 use Rattle.record.specs.Places.{place_of}
-use Rattle.critical.specs.Sections as sections
-use Rattle.critical.specs.Sections.{Section}
+use Rattle.section.specs.Sections as sections
+use Rattle.section.specs.Sections.{Section}
 use Rattle.laws.specs.Doings.{call}
 use Rattle.process.specs.Processes.{ProcessState}
 use Rattle.process.specs.Processes.{Kept}

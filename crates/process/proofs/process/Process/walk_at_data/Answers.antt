@@ -1,8 +1,8 @@
 -- Steps in a row at the data, by the place of the call.
 use Rattle.std.proofs.Common.{◌≡◌, ◌≤◌, sym, ap, subst, ◌∙◌, arith}
-use Rattle.critical.specs.flicks.Flicks.{flick_of}
+use Rattle.section.specs.flicks.Flicks.{flick_of}
 use Rattle.record.specs.Places.{place_of}
-use Rattle.critical.specs.Sections.{Section}
+use Rattle.section.specs.Sections.{Section}
 use Rattle.laws.specs.Doings.{call}
 use Rattle.process.specs.Keeping.{Goes, is_at_data, kept_shown}
 use Rattle.process.specs.Processes.{Kept, ProcessState}

@@ -1,5 +1,5 @@
 use Rattle.std.proofs.Common.{◌≡◌, ℕ, ◌+◌, ◌-◌, ◌≤◌, true}
-use Rattle.critical.specs.flicks.Flicks.{FlickState}
+use Rattle.section.specs.flicks.Flicks.{FlickState}
 use Rattle.process.specs.Processes.{ProcessState}
 use Rattle.process.specs.Registers.{MayWalk, RegistersState, WalksWithin}
 use Rattle.process.specs.Steps.{bits_to_walk, is_at_door}

@@ -1,0 +1,62 @@
+-- Whether a call is bad.
+use Rattle.std.proofs.Common.{◌≡◌, ℕ, ◌+◌, ◌<◌, ◌≤◌, Bool, true, false, not, List, [], ◌∷◌, ◌++◌, length, take, get_or, Option, None, Some, IsTrue, refl, sym, ap, subst, ◌∙◌, arith, ⊎_elim, true≢false}
+use Rattle.std.proofs.lemmas.Bool.{cases_lt}
+use Rattle.std.proofs.lemmas.List.{take_more}
+use Rattle.std.proofs.lemmas.Option.{slice_get_read, slice_get_within}
+use Rattle.std.specs.List.{slice_get}
+use Rattle.plain_store.specs.declared.Answer.{Answer}
+use Rattle.plain_store.specs.declared.Answer.TheVariants as answer
+use Rattle.plain_store.specs.declared.Reply.{Reply}
+use Rattle.plain_store.specs.declared.Setup.{Setup}
+use Rattle.plain_store.specs.Store.{Contents, reply_to}
+use Rattle.call_check.specs.declared.calls.Call.{Call}
+use Rattle.record.specs.declared.calls.Placed.{Placed}
+use Rattle.call_check.specs.declared.notes.Note.{Note}
+use Rattle.call_check.specs.Following.{ArePart, IsFollowed, IsJudged, IsLeast, IsNote}
+use Rattle.call_check.specs.Weighing.{HasWrongReply, IsBad, IsBadIn, above, several, falling, wrong_reply, without_place, with_place, caller_of, falls, is_above, is_one_of_several, is_other_with_place, is_reply_without_place}
+use Rattle.call_check.proofs.Followed.{from_some}
+
+-- where nothing else is bad, a call is bad that has another answer and a place
+pub bad_at_last : (s : Setup) (calls : List Call) (c : ℕ) (store : Contents) (earlier : List Placed) (call : Call) (result : Bool) → is_above c call.placed.place ≡ false → is_one_of_several calls c store call.placed ≡ false → falls s calls earlier call.placed.place ≡ false → (HasWrongReply s calls call → ⊥) → is_reply_without_place call.placed ≡ false → result ≡ is_other_with_place call.placed →
+    IsBad s calls c store earlier call → IsTrue result
+bad_at_last s calls c store earlier call result a b d w e f (above h) = absurd (true≢false (sym h ∙ a))
+bad_at_last s calls c store earlier call result a b d w e f (several h) = absurd (true≢false (sym h ∙ b))
+bad_at_last s calls c store earlier call result a b d w e f (falling h) = absurd (true≢false (sym h ∙ d))
+bad_at_last s calls c store earlier call result a b d w e f (wrong_reply h) = absurd (w h)
+bad_at_last s calls c store earlier call result a b d w e f (without_place h) = absurd (true≢false (sym h ∙ e))
+bad_at_last s calls c store earlier call result a b d w e f (with_place h) = f ∙ h
+
+-- the lowest bad call of a list
+
+call_there : (list : List Placed) (i : ℕ) (placed : Placed) → i < length list → placed ≡ get_or list i placed → slice_get list i ≡ Some placed
+call_there list i placed within at = slice_get_read list (length list) i placed refl within at
+
+pub bad_in : (s : Setup) (calls : List Call) (c : ℕ) (store : Contents) (p : ℕ) (list : List Placed) (i : ℕ) (placed : Placed) → i < length list → placed ≡ get_or list i placed → IsBad s calls c store (take i list) (record { placed = placed; port = p; index = i }) → IsBadIn s calls c store p list i
+bad_in s calls c store p list i placed within at bad = (placed, call_there list i placed within at, bad)
+
+pub judged_more : (s : Setup) (calls : List Call) (c : ℕ) (store : Contents) (p : ℕ) (list : List Placed) (i least more : ℕ) (placed : Placed) → i < length list → placed ≡ get_or list i placed → IsJudged s calls c store p list i least → (IsBad s calls c store (take i list) (record { placed = placed; port = p; index = i }) → ⊥) → IsLeast s calls (take i list ++ placed ∷ []) more → IsJudged s calls c store p list (i + 1) more
+judged_more s calls c store p list i least more placed within at judged good after = record {
+  least_is = subst (λ (l : List Placed). IsLeast s calls l more) (ap (λ (x : Placed). take i list ++ x ∷ []) at ∙ sym (take_more list i placed within)) after;
+  good = λ j l (bad : IsBadIn s calls c store p list j). ⊎_elim
+      (λ (lower : j < i). judged.good j lower bad)
+      (λ (past : i ≤ j).
+      let here : j ≡ i = omega (arith, l, past) in
+      let bad_here : IsBadIn s calls c store p list i = subst (λ m. IsBadIn s calls c store p list m) here bad in
+      let same : bad_here.0 ≡ placed = from_some bad_here.0 placed (sym bad_here.1 ∙ call_there list i placed within at) in
+      good (subst (λ (x : Placed). IsBad s calls c store (take i list) (record { placed = x; port = p; index = i })) same bad_here.2))
+      (cases_lt j i);
+}
+
+pub none_bad : (s : Setup) (calls : List Call) (c : ℕ) (store : Contents) (p : ℕ) (list : List Placed) (i least : ℕ) → length list ≤ i → IsJudged s calls c store p list i least → (j : ℕ) → IsBadIn s calls c store p list j → ⊥
+none_bad s calls c store p list i least over judged j bad =
+    let within : j < length list = slice_get_within list j bad.0 bad.1 in
+    judged.good j (omega (arith, within, over)) bad
+
+-- the note of the present call
+pub note_there : (s : Setup) (calls : List Call) (notes : List Note) (c : ℕ) (store : Contents) (several : Bool) (p before : ℕ) (list : List Placed) (i : ℕ) (placed : Placed) (note : Note) → ArePart calls p before list → IsFollowed s calls notes c store several → i < length list → placed ≡ get_or list i placed → note ≡ get_or notes (before + i) note → IsNote s calls (record { placed = placed; port = p; index = i }) note
+note_there s calls notes c store more p before list i placed note part followed within at note_at =
+    let call : Call = record { placed = placed; port = p; index = i } in
+    let there : slice_get calls (before + i) ≡ Some call = part i placed (call_there list i placed within at) in
+    let (own, own_there, own_is) = followed.each (before + i) call there in
+    let note_is : slice_get notes (before + i) ≡ Some note = slice_get_read notes (length notes) (before + i) note refl (slice_get_within notes (before + i) own own_there) note_at in
+    subst (λ (n : Note). IsNote s calls call n) (from_some own note (sym own_there ∙ note_is)) own_is

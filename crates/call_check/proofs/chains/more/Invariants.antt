@@ -1,0 +1,10 @@
+use Rattle.std.proofs.Common.{◌≡◌, ◌+◌, length}
+use Rattle.call_check.specs.Following.{AreNothing}
+use Rattle.call_check.proofs.chains.more.Given as goal
+
+-- so many places have come, with no call
+abbrev pub invariant-loop : goal.invariant-loop
+invariant-loop l = record {
+  size : length l.heads.items ≡ length l.fn.heads.items + l.counter;
+  nothing : AreNothing l.fn.heads.items → AreNothing l.heads.items;
+}

@@ -1,0 +1,12 @@
+use Rattle.std.proofs.Common.{◌≡◌, ℕ, ◌<◌, length, take}
+use Rattle.call_check.specs.Following.{IsFollowed}
+use Rattle.record.specs.CallLists.{lists_of}
+use Rattle.call_check.specs.Weighing.{IsBadAt, all_calls}
+use Rattle.call_check.proofs.weighing.weigh.Given as goal
+
+-- so many calls stand in the lists before the present one, and none of them is bad
+abbrev pub invariant-loop-port : goal.invariant-loop-port
+invariant-loop-port l = record {
+  before : l.before ≡ length (all_calls (lists_of (take l.port l.lists)));
+  good : (q j : ℕ) → q < l.port → IsBadAt l.setup (lists_of l.lists) l.followed.count l.followed.store q j → ⊥;
+}

@@ -1,0 +1,143 @@
+-- The calls by their places, the stores that they lead through, and what those tell of them.
+use Rattle.std.specs.Prelude.{◌≡◌, ◌≢◌, ◌↔◌, ℕ, suc, ◌+◌, ◌<◌, ◌≤◌, ◌==◌, nat_lt, nat_le, Bool, false, List, [], ◌∷◌, length, take, Option, slice_get, None, Some, All, IsTrue}
+use Rattle.std.specs.List.{list_any}
+use Rattle.std.specs.Global.{Vec}
+use Rattle.plain_store.specs.declared.Answer.TheVariants as answer
+use Rattle.plain_store.specs.declared.Caller.{Caller}
+use Rattle.plain_store.specs.declared.Command.{Command}
+use Rattle.plain_store.specs.declared.Reply.{Reply}
+use Rattle.plain_store.specs.declared.Setup.{Setup}
+use Rattle.plain_store.specs.Setups.{callers_of}
+use Rattle.plain_store.specs.Store.{Contents, changes, reply_to, after}
+use Rattle.call_check.specs.declared.calls.Call.{Call}
+use Rattle.record.specs.declared.calls.Placed.{Placed}
+use Rattle.call_check.specs.declared.chains.Link.{Link}
+use Rattle.call_check.specs.declared.notes.Changes.{Changes}
+use Rattle.call_check.specs.declared.notes.Changes.TheVariants.{Nothing, One, Several}
+use Rattle.call_check.specs.declared.notes.Note.{Note}
+use Rattle.call_check.specs.Weighing.{HasWrongReply, IsBadIn, caller_of, changes_at, changes_there, is_past, store_at}
+
+-- in version 2 a call is one of the first 16 lists, and among the first 65,535 of its list
+abbrev pub IsFew : Setup → Call → Type 0
+IsFew s call = (s.version == 1) ≡ false → (call.port < 16) × (call.index < 65535)
+
+-- all calls are such
+abbrev pub AreFew : Setup → List Call → Type 0
+AreFew s calls = All (IsFew s) calls
+
+-- a caller is as good as that of the call: each store that knows the setup's callers does the same for both
+pub record IsCaller (s : Setup) (call : Call) (caller : Caller) : Type 0 where
+  pub reply : (store : Contents) → length store.numbers ≡ callers_of s → (command : Command) → reply_to store command caller ≡ reply_to store command (caller_of s call)
+  pub after : (store : Contents) → length store.numbers ≡ callers_of s → (command : Command) → after store command caller ≡ after store command (caller_of s call)
+
+-- which changes there are
+abbrev pub changes_of : List Call → Changes
+changes_of [] = Nothing
+changes_of (call ∷ []) = One call
+changes_of (call ∷ other ∷ calls) = Several
+
+-- Chains of calls.
+
+-- Of the calls before the bound, call m - 1 is the last with place k. If m is 0, none of them has it.
+pub record IsLast (calls : List Call) (k bound m : ℕ) : Type 0 where
+  pub before : m ≤ bound
+  pub there : (j : ℕ) (call : Call) → m ≡ suc j → slice_get calls j ≡ Some call → call.placed.place ≡ Some k
+  pub none_later : (j : ℕ) (call : Call) → m ≤ j → j < bound → slice_get calls j ≡ Some call → call.placed.place ≢ Some k
+
+-- this link is that of call i, and leads to the last call before it with the same place, if that is one of the first n places
+pub record IsLink (calls : List Call) (n i : ℕ) (call : Call) (link : Link) : Type 0 where
+  pub port : link.port ≡ call.port
+  pub index : link.index ≡ call.index
+  pub before : link.earlier ≤ i
+  pub earlier : (k : ℕ) → k < n → call.placed.place ≡ Some k → IsLast calls k i link.earlier
+
+-- the links are those of the calls, and the heads lead to the last calls with the first n places
+pub record AreChains (calls : List Call) (n : ℕ) (heads : List ℕ) (links : List Link) : Type 0 where
+  pub places : length heads ≡ n
+  pub size : length links ≡ length calls
+  pub head : (k m : ℕ) → slice_get heads k ≡ Some m → IsLast calls k (length calls) m
+  pub link : (i : ℕ) (call : Call) → slice_get calls i ≡ Some call → (link : Link) × (slice_get links i ≡ Some link) × IsLink calls n i call link
+
+-- heads that lead to no call
+abbrev pub AreNothing : List ℕ → Type 0
+AreNothing heads = (k m : ℕ) → slice_get heads k ≡ Some m → m ≡ 0
+
+-- the link is that of this call, which is there in the lists
+pub record IsOf (vecs : List (Vec Placed)) (call : Call) (link : Link) : Type 0 where
+  pub list : Vec Placed
+  pub list_there : slice_get vecs call.port ≡ Some list
+  pub there : slice_get list.items call.index ≡ Some call.placed
+  pub port : link.port ≡ call.port
+  pub index : link.index ≡ call.index
+
+-- Notes of calls.
+
+-- the reply is not that of this store
+pub record IsWrongBy (s : Setup) (store : Contents) (call : Call) : Type 0 where
+  pub reply : Reply
+  pub answered : call.placed.answer ≡ Some (answer.Reply reply)
+  pub wrong : reply ≢ reply_to store call.placed.command (caller_of s call)
+
+-- what this store tells of a call
+pub record IsNoteBy (s : Setup) (store : Contents) (call : Call) (note : Note) : Type 0 where
+  pub changes : note.changes ≡ changes store call.placed.command
+  pub wrong : IsTrue note.is_wrong ↔ IsWrongBy s store call
+
+-- what the store at its place tells of a call, if there is one
+pub record IsNote (s : Setup) (calls : List Call) (call : Call) (note : Note) : Type 0 where
+  pub changes : (k : ℕ) → call.placed.place ≡ Some k → note.changes ≡ changes_there (store_at s calls k) call.placed
+  pub wrong : IsTrue note.is_wrong ↔ HasWrongReply s calls call
+
+-- neither is noted
+pub record IsBlank (note : Note) : Type 0 where
+  pub changes : note.changes ≡ false
+  pub is_wrong : note.is_wrong ≡ false
+
+-- n blank notes
+pub record AreBlank (n : ℕ) (notes : List Note) : Type 0 where
+  pub size : length notes ≡ n
+  pub each : (i : ℕ) (note : Note) → slice_get notes i ≡ Some note → IsBlank note
+
+-- the calls with place k are noted by this store, and the other notes are as before
+pub record AreNotedAt (s : Setup) (calls : List Call) (k : ℕ) (store : Contents) (before notes : List Note) : Type 0 where
+  pub own : (i : ℕ) (call : Call) → slice_get calls i ≡ Some call → call.placed.place ≡ Some k → (note : Note) × (slice_get notes i ≡ Some note) × IsNoteBy s store call note
+  pub others : (i : ℕ) (call : Call) → slice_get calls i ≡ Some call → call.placed.place ≢ Some k → slice_get notes i ≡ slice_get before i
+
+-- the same, of the calls with place k from call m on
+pub record AreNotedFrom (s : Setup) (calls : List Call) (k m : ℕ) (store : Contents) (before notes : List Note) : Type 0 where
+  pub own : (i : ℕ) (call : Call) → m ≤ i → slice_get calls i ≡ Some call → call.placed.place ≡ Some k → (note : Note) × (slice_get notes i ≡ Some note) × IsNoteBy s store call note
+  pub others : (i : ℕ) (call : Call) → slice_get calls i ≡ Some call → call.placed.place ≢ Some k → slice_get notes i ≡ slice_get before i
+
+-- the notes of the calls with places below k, and blank ones of the others
+pub record AreNotedBelow (s : Setup) (calls : List Call) (k : ℕ) (notes : List Note) : Type 0 where
+  pub size : length notes ≡ length calls
+  pub own : (i j : ℕ) (call : Call) → slice_get calls i ≡ Some call → call.placed.place ≡ Some j → j < k → (note : Note) × (slice_get notes i ≡ Some note) × IsNote s calls call note
+  pub others : (i : ℕ) (call : Call) → slice_get calls i ≡ Some call → ((j : ℕ) → j < k → call.placed.place ≢ Some j) → (note : Note) × (slice_get notes i ≡ Some note) × IsBlank note
+
+-- these are the notes of all calls, and the stores end with store c
+pub record IsFollowed (s : Setup) (calls : List Call) (notes : List Note) (c : ℕ) (store : Contents) (several : Bool) : Type 0 where
+  pub last : store_at s calls c ≡ Some store
+  pub ends : store_at s calls (suc c) ≡ None
+  pub several_is : several ≡ nat_le 2 (length (changes_at calls c store))
+  pub size : length notes ≡ length calls
+  pub each : (i : ℕ) (call : Call) → slice_get calls i ≡ Some call → (note : Note) × (slice_get notes i ≡ Some note) × IsNote s calls call note
+
+-- Lists that are judged.
+
+-- this list, which is list p, has the calls from call `before` on
+abbrev pub ArePart : List Call → ℕ → ℕ → List Placed → Type 0
+ArePart calls p before list = (i : ℕ) (placed : Placed) → slice_get list i ≡ Some placed → slice_get calls (before + i) ≡ Some (record { placed = placed; port = p; index = i })
+
+-- the earlier calls of a list leave no place below the least
+abbrev pub IsLeast : Setup → List Call → List Placed → ℕ → Type 0
+IsLeast s calls earlier least = (k : ℕ) → list_any (λ (e : Placed). is_past s calls k e e.place) earlier ≡ nat_lt k least
+
+-- the lowest bad call of this list, which is list p, if one is bad
+abbrev pub IsFirstBad : Setup → List Call → ℕ → Contents → ℕ → List Placed → Option ℕ → Type 0
+IsFirstBad s calls c store p list None = (i : ℕ) → IsBadIn s calls c store p list i → ⊥
+IsFirstBad s calls c store p list (Some i) = IsBadIn s calls c store p list i × ((j : ℕ) → j < i → IsBadIn s calls c store p list j → ⊥)
+
+-- the calls of this list, which is list p, before call i: what they leave as the least place, and that none is bad
+pub record IsJudged (s : Setup) (calls : List Call) (c : ℕ) (store : Contents) (p : ℕ) (list : List Placed) (i least : ℕ) : Type 0 where
+  pub least_is : IsLeast s calls (take i list) least
+  pub good : (j : ℕ) → j < i → IsBadIn s calls c store p list j → ⊥

@@ -1,0 +1,127 @@
+//! The calls of all lists in their order, chained by their places.
+ghost use Rattle.std.specs.Prelude.{◌≡◌, ◌+◌, ◌++◌, ◌∷◌, [], ℕ, List, Some, length, IfOk, OnOk};
+ghost use Rattle.call_check.specs.declared.calls.Call.{Call as Given};
+ghost use Rattle.call_check.specs.Following.{AreChains, AreNothing};
+ghost use Rattle.record.specs.CallLists.{lists_of};
+ghost use Rattle.call_check.specs.Weighing.{all_calls, calls_from};
+
+use record::Placed;
+use std::alloc::{AllocError, Global};
+
+/// A call: which list it stands in, its index there, and how many calls there are up to the one before it with the same
+/// place; 0 if there is none.
+#[derive(Clone, Copy)]
+pub(crate) struct Link {
+    pub port: usize,
+    pub index: usize,
+    pub earlier: usize,
+}
+
+/// The calls of all lists in their order, and for each place how many calls there are up to the last one with it; 0 if
+/// there is none. There are as many places as calls, since there are no more changes.
+#[derive(Drop)]
+pub(crate) struct Chains {
+    pub heads: Vec<usize>,
+    pub links: Vec<Link>,
+}
+
+/// The chains of the calls of all lists.
+pub(crate) fn chain(alloc: Global, lists: &[Vec<Placed>]) -> Result<Chains, AllocError>
+    ensures { IfOk result (λ chains. AreChains (all_calls (lists_of lists.now)) (length (all_calls (lists_of lists.now))) chains.heads.items chains.links.items) }
+{
+    let mut heads = nothing(alloc, lists)?;
+    let mut links = Vec::new(alloc);
+    for (port, list) in lists.iter().enumerate() {
+        chain_list(&mut heads, &mut links, port, list)?;
+    }
+    Ok(Chains { heads, links })
+}
+
+/// As many places as calls, with no call.
+fn nothing(alloc: Global, lists: &[Vec<Placed>]) -> Result<Vec<usize>, AllocError>
+    ensures size { IfOk result (λ heads. length heads.items ≡ length (all_calls (lists_of lists.now))) }
+    ensures nothing { IfOk result (λ heads. AreNothing heads.items) }
+{
+    let mut heads = Vec::new(alloc);
+    for list in lists {
+        more(&mut heads, list)?;
+    }
+    Ok(heads)
+}
+
+/// As many places more as the list has calls.
+fn more(heads: &mut Vec<usize>, list: &[Placed]) -> Result<(), AllocError>
+    ensures size { OnOk result (length heads.new.items ≡ length heads.old.items + length list.now) }
+    ensures nothing { OnOk result (AreNothing heads.old.items → AreNothing heads.new.items) }
+{
+    for _ in 0..list.len() {
+        heads.push(0)?;
+    }
+    Ok(())
+}
+
+/// Chains the calls of a list behind those of the lists before it.
+fn chain_list(
+    heads: &mut Vec<usize>,
+    links: &mut Vec<Link>,
+    port: usize,
+    list: &[Placed],
+) -> Result<(), AllocError>
+    ensures { OnOk result ((calls : List Given) (n : ℕ) → AreChains calls n heads.old.items links.old.items → AreChains (calls ++ calls_from port 0 list.now) n heads.new.items links.new.items) }
+{
+    for (index, placed) in list.iter().enumerate() {
+        put(heads, links, port, index, placed.place)?;
+    }
+    Ok(())
+}
+
+/// Chains one call more.
+fn put(
+    heads: &mut Vec<usize>,
+    links: &mut Vec<Link>,
+    port: usize,
+    index: usize,
+    place: Option<u32>,
+) -> Result<(), AllocError>
+    ensures { OnOk result ((calls : List Given) (n : ℕ) (call : Given) → call.port ≡ port → call.index ≡ index → call.placed.place ≡ place → AreChains calls n heads.old.items links.old.items → AreChains (calls ++ call ∷ []) n heads.new.items links.new.items) }
+{
+    match place {
+        None => {
+            links.push(Link {
+                port,
+                index,
+                earlier: 0,
+            })?;
+            Ok(())
+        }
+        Some(place) => put_at(heads, links, port, index, place as usize),
+    }
+}
+
+/// The same of a call with this place. A place past the last one has no chain.
+fn put_at(
+    heads: &mut Vec<usize>,
+    links: &mut Vec<Link>,
+    port: usize,
+    index: usize,
+    place: usize,
+) -> Result<(), AllocError>
+    ensures { OnOk result ((calls : List Given) (n : ℕ) (call : Given) → call.port ≡ port → call.index ≡ index → call.placed.place ≡ Some place → AreChains calls n heads.old.items links.old.items → AreChains (calls ++ call ∷ []) n heads.new.items links.new.items) }
+{
+    if heads.len() <= place {
+        links.push(Link {
+            port,
+            index,
+            earlier: 0,
+        })?;
+        return Ok(());
+    }
+    let earlier = heads[place];
+    links.push(Link {
+        port,
+        index,
+        earlier,
+    })?;
+    heads[place] = links.len();
+    Ok(())
+}

@@ -1,0 +1,120 @@
+//! Which calls are bad, by what the stores tell of them.
+ghost use Rattle.std.specs.Prelude.{◌≡◌, ◌↔◌, ◌≤◌, ◌+◌, ◌++◌, ◌∷◌, [], ℕ, List, length, IsTrue};
+ghost use Rattle.plain_store.specs.declared.Setup.{Setup as Made};
+ghost use Rattle.store_image.specs.Image.{image_of};
+ghost use Rattle.call_check.specs.declared.calls.Call.{Call as Given};
+ghost use Rattle.record.specs.declared.calls.Placed.{Placed as Finished};
+ghost use Rattle.call_check.specs.Following.{ArePart, IsFirstBad, IsFollowed, IsLeast, IsNote};
+ghost use Rattle.call_check.specs.Weighing.{IsBad, falls, is_above, is_one_of_several, is_other_with_place, is_reply_without_place};
+
+use crate::notes::{Followed, Note};
+use plain_store::Answer;
+use record::Placed;
+use store_image::Image;
+
+impl Followed {
+    /// The lowest call of a list that is bad; so many calls stand in the lists before it.
+    pub(crate) fn first_bad(&self, before: usize, list: &[Placed]) -> Option<usize>
+        requires { before + length list.now ≤ length self.now.notes.items }
+        ensures { (s : Made) (calls : List Given) (p : ℕ) → ArePart calls p before list.now → IsFollowed s calls self.now.notes.items self.now.count self.now.store self.now.several → IsFirstBad s calls self.now.count self.now.store p list.now result }
+    {
+        let mut least = 0;
+        for (index, placed) in list.iter().enumerate() {
+            let note = self.notes[before + index];
+            if self.is_bad(placed, note, least) {
+                return Some(index);
+            }
+            least = least_after(placed.place, note, least);
+        }
+        None
+    }
+
+    /// Whether a call is bad, where the calls of its list before it leave it no place below the least.
+    fn is_bad(&self, placed: &Placed, note: Note, least: u64) -> bool
+        ensures { (s : Made) (calls : List Given) (earlier : List Finished) (call : Given) → call.placed ≡ placed.now → IsFollowed s calls self.now.notes.items self.now.count self.now.store self.now.several → IsNote s calls call note → IsLeast s calls earlier least → IsTrue result ↔ IsBad s calls self.now.count self.now.store earlier call }
+    {
+        if self.is_above(placed.place) {
+            return true;
+        }
+        if self.is_one_of_several(placed.place, note) {
+            return true;
+        }
+        if is_below(placed.place, least) {
+            return true;
+        }
+        if note.is_wrong {
+            return true;
+        }
+        if is_reply_without_place(placed) {
+            return true;
+        }
+        is_other_with_place(placed)
+    }
+
+    /// Whether a place is past the last store.
+    fn is_above(&self, place: Option<u32>) -> bool
+        ensures { result ≡ is_above self.now.count place }
+    {
+        match place {
+            None => false,
+            Some(place) => self.count < place as usize,
+        }
+    }
+
+    /// Whether the call would change the last store, as several would.
+    fn is_one_of_several(&self, place: Option<u32>, note: Note) -> bool
+        ensures { (s : Made) (calls : List Given) (call : Given) → call.placed.place ≡ place → IsFollowed s calls self.now.notes.items self.now.count self.now.store self.now.several → IsNote s calls call note → result ≡ is_one_of_several calls self.now.count self.now.store call.placed }
+    {
+        match place {
+            None => false,
+            Some(place) => place as usize == self.count && note.changes && self.several,
+        }
+    }
+
+    /// Whether the image is that of the last store.
+    pub(crate) fn end_with(&self, image: &Image) -> bool
+        ensures { IsTrue result ↔ (image_of image.now ≡ image_of self.now.store) }
+    {
+        self.store == *image
+    }
+}
+
+/// The least place that a call may have after this one.
+fn least_after(place: Option<u32>, note: Note, least: u64) -> u64
+    ensures { (s : Made) (calls : List Given) (earlier : List Finished) (call : Given) → call.placed.place ≡ place → IsNote s calls call note → IsLeast s calls earlier least → IsLeast s calls (earlier ++ call.placed ∷ []) result }
+{
+    match place {
+        None => least,
+        Some(place) => {
+            let own = u64::from(place) + u64::from(note.changes);
+            least.max(own)
+        }
+    }
+}
+
+/// Whether a place is below the least.
+fn is_below(place: Option<u32>, least: u64) -> bool
+    ensures { (s : Made) (calls : List Given) (earlier : List Finished) → IsLeast s calls earlier least → result ≡ falls s calls earlier place }
+{
+    match place {
+        None => false,
+        Some(place) => u64::from(place) < least,
+    }
+}
+
+/// Whether a call has a reply and no place.
+fn is_reply_without_place(placed: &Placed) -> bool
+    ensures { result ≡ is_reply_without_place placed.now }
+{
+    matches!(placed.answer, Some(Answer::Reply(_))) && placed.place.is_none()
+}
+
+/// Whether a call has another answer and a place.
+fn is_other_with_place(placed: &Placed) -> bool
+    ensures { result ≡ is_other_with_place placed.now }
+{
+    match placed.answer {
+        None | Some(Answer::Reply(_)) => false,
+        Some(_) => placed.place.is_some(),
+    }
+}

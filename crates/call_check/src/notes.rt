@@ -1,0 +1,237 @@
+//! What the stores tell of the calls, one store after each change, up to the place where there is not exactly one change.
+ghost use Rattle.std.specs.Prelude.{◌≡◌, ◌≢◌, ◌↔◌, ◌<◌, ◌+◌, ◌∷◌, IfOk, IsTrue, Ok, List, Some, cond, length};
+ghost use Rattle.plain_store.specs.Setups.{callers_of, checked};
+ghost use Rattle.plain_store.specs.Store.{changes, reply_to};
+ghost use Rattle.call_check.specs.declared.calls.Call.{Call as Given};
+ghost use Rattle.call_check.specs.Following.{AreChains, AreFew, AreNotedAt, IsCaller, IsFew, AreBlank, IsFollowed, IsOf, IsWrongBy, changes_of};
+ghost use Rattle.record.specs.CallLists.{lists_of};
+ghost use Rattle.call_check.specs.Weighing.{all_calls, caller_of, changes_at};
+
+use crate::calls::Call;
+use crate::chains::{Chains, Link, chain};
+use plain_store::{Answer, Caller, Command, NestedTypes, Reply, Setup, Store, opened};
+use record::Placed;
+use std::alloc::{AllocError, Global};
+use store_image::Image;
+
+/// What the store at its place tells of a call.
+#[derive(Clone, Copy)]
+pub(crate) struct Note {
+    /// Whether the call would change the store.
+    pub changes: bool,
+    /// Whether the call has another reply than the store's.
+    pub is_wrong: bool,
+}
+
+/// The end of the stores, and what each tells of the calls with its place. Only one store is kept at a time.
+#[derive(Drop)]
+pub(crate) struct Followed {
+    /// A note of each call, in the order of the lists. Where there is no store at its place, neither is noted.
+    pub notes: Vec<Note>,
+    /// How many changes there are.
+    pub count: usize,
+    /// The store after them.
+    pub store: Image,
+    /// Whether several calls would change it.
+    pub several: bool,
+}
+
+/// The calls with a place that would change a store.
+#[derive(Clone, Copy)]
+pub(crate) enum Changes {
+    Nothing,
+    One(Call),
+    Several,
+}
+
+impl Changes {
+    /// With a call before them, if it is a change.
+    fn with(self, call: &Call, is_change: bool) -> Changes
+        ensures { (calls : List Given) → self ≡ changes_of calls → result ≡ changes_of (cond is_change (call.now ∷ calls) calls) }
+    {
+        if !is_change {
+            return self;
+        }
+        match self {
+            Changes::Nothing => Changes::One(*call),
+            _ => Changes::Several,
+        }
+    }
+}
+
+impl Followed {
+    /// Follows the stores over the places.
+    pub(crate) fn follow(
+        alloc: Global,
+        setup: &Setup,
+        lists: &[Vec<Placed>],
+    ) -> Result<Followed, AllocError>
+        requires { checked setup.now ≡ Ok tt }
+        ensures { IfOk result (λ found. AreFew setup.now (all_calls (lists_of lists.now)) → IsFollowed setup.now (all_calls (lists_of lists.now)) found.notes.items found.count found.store found.several) }
+    {
+        let _nested: NestedTypes = None;
+        let chains = chain(alloc, lists)?;
+        let mut notes = blank(alloc, chains.links.len())?;
+        let mut store = opened(Image::empty(setup.slots, setup.callers()), setup)?;
+        let places = chains.heads.len();
+        for place in 0..places {
+            match note_place(setup, lists, &chains, place, &store, &mut notes) {
+                Changes::Nothing => {
+                    return Ok(Followed {
+                        notes,
+                        count: place,
+                        store,
+                        several: false,
+                    });
+                }
+                Changes::One(call) => store.apply(&call.placed.command, caller(setup, &call))?,
+                Changes::Several => {
+                    return Ok(Followed {
+                        notes,
+                        count: place,
+                        store,
+                        several: true,
+                    });
+                }
+            };
+        }
+        Ok(Followed {
+            notes,
+            count: places,
+            store,
+            several: false,
+        })
+    }
+}
+
+/// Notes of so many calls that tell nothing.
+fn blank(alloc: Global, calls: usize) -> Result<Vec<Note>, AllocError>
+    ensures { IfOk result (λ notes. AreBlank calls notes.items) }
+{
+    let note = Note {
+        changes: false,
+        is_wrong: false,
+    };
+    vec![in alloc; note; calls]
+}
+
+/// Notes the calls with a place, from the last one to the first, by the store there; and tells which of them would change
+/// it.
+fn note_place(
+    setup: &Setup,
+    lists: &[Vec<Placed>],
+    chains: &Chains,
+    place: usize,
+    store: &Image,
+    notes: &mut Vec<Note>,
+) -> Changes
+    requires chains { AreChains (all_calls (lists_of lists.now)) (length (all_calls (lists_of lists.now))) chains.now.heads.items chains.now.links.items }
+    requires place { place < length (all_calls (lists_of lists.now)) }
+    requires notes { length notes.old.items ≡ length (all_calls (lists_of lists.now)) }
+    ensures changes { result ≡ changes_of (changes_at (all_calls (lists_of lists.now)) place store.now) }
+    ensures size { length notes.new.items ≡ length notes.old.items }
+    ensures notes { AreFew setup.now (all_calls (lists_of lists.now)) → length store.now.numbers ≡ callers_of setup.now → AreNotedAt setup.now (all_calls (lists_of lists.now)) place store.now notes.old.items notes.new.items }
+{
+    let mut found = Changes::Nothing;
+    let mut calls = chains.heads[place];
+    'chain: while 0 < calls {
+        let at = calls - 1;
+        let link = chains.links[at];
+        let call = call_of(lists, link);
+        let note = note_of(setup, &call, store);
+        found = found.with(&call, note.changes);
+        notes[at] = note;
+        calls = link.earlier;
+    }
+    found
+}
+
+/// The call of a link.
+fn call_of(lists: &[Vec<Placed>], link: Link) -> Call
+    requires { (call : Given) × IsOf lists.now call link }
+    ensures { (call : Given) → IsOf lists.now call link → result ≡ call }
+{
+    Call {
+        placed: lists[link.port][link.index],
+        port: link.port,
+        index: link.index,
+    }
+}
+
+/// What a store tells of a call.
+fn note_of(setup: &Setup, call: &Call, store: &Image) -> Note
+    ensures changes { result.changes ≡ changes store.now call.now.placed.command }
+    ensures wrong { IsFew setup.now call.now → length store.now.numbers ≡ callers_of setup.now → IsTrue result.is_wrong ↔ IsWrongBy setup.now store.now call.now }
+{
+    Note {
+        changes: would_change(store, &call.placed.command),
+        is_wrong: is_wrong(setup, call, store),
+    }
+}
+
+/// Whether a command would change a store.
+#[tactic(auto, using(plain_store::proofs::Changes::changes_differs))]
+fn would_change(store: &Image, command: &Command) -> bool
+    ensures { result ≡ changes store.now command.now }
+{
+    store.would_change(command)
+}
+
+/// Whether a call has another reply than that of a store.
+fn is_wrong(setup: &Setup, call: &Call, store: &Image) -> bool
+    ensures { IsFew setup.now call.now → length store.now.numbers ≡ callers_of setup.now → IsTrue result ↔ IsWrongBy setup.now store.now call.now }
+{
+    let Some(answer) = call.placed.answer else {
+        return false;
+    };
+    let Answer::Reply(reply) = answer else {
+        return false;
+    };
+    !replies(setup, store, call, &reply)
+}
+
+/// Whether this is the store's reply to the call.
+fn replies(setup: &Setup, store: &Image, call: &Call, reply: &Reply) -> bool
+    ensures { IsFew setup.now call.now → length store.now.numbers ≡ callers_of setup.now → IsTrue result ↔ (reply.now ≡ reply_to store.now call.now.placed.command (caller_of setup.now call.now)) }
+{
+    let mut after = *store;
+    match after.apply(&call.placed.command, caller(setup, call)) {
+        Ok(own) => is_same(reply, &own),
+        Err(_) => false,
+    }
+}
+
+/// Whether two replies are the same.
+fn is_same(reply: &Reply, other: &Reply) -> bool
+    ensures { IsTrue result ↔ (reply.now ≡ other.now) }
+{
+    reply == other
+}
+
+/// Who makes a call. No store of version 1 knows its callers.
+fn caller(setup: &Setup, call: &Call) -> Caller
+    ensures { IsFew setup.now call.now → IsCaller setup.now call.now result }
+{
+    if setup.version == 1 {
+        return Caller {
+            process: 0,
+            number: 0,
+        };
+    }
+    Caller {
+        process: process_at(call.port),
+        number: number_at(call.index),
+    }
+}
+
+fn process_at(port: usize) -> u8
+    ensures { port < 16 → result ≡ port }
+{
+    if port < 16 { port as u8 } else { 0 }
+}
+
+fn number_at(index: usize) -> u16
+    ensures { index < 65535 → result ≡ index + 1 }
+{
+    if index < 65_535 { index as u16 + 1 } else { 0 }
+}

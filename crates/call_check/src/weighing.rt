@@ -1,0 +1,41 @@
+ghost use Rattle.std.specs.Prelude.{◌≡◌, ◌≤◌, All, IfOk, List, Ok, length};
+ghost use Rattle.plain_store.specs.Setups.{checked};
+ghost use Rattle.record.specs.declared.calls.Placed.{Placed as Finished};
+ghost use Rattle.record.specs.CallLists.{lists_of};
+ghost use Rattle.call_check.specs.Weighing.{IsWeighed};
+
+use crate::notes::Followed;
+use crate::verdicts::Weighed;
+use plain_store::Setup;
+use record::Placed;
+use std::alloc::{AllocError, Global};
+use store_image::Image;
+
+/// Weighs the ports' lists of finished calls against the image at the end: whether they stand in one history of the
+/// one-thread store, with this image after it, and else which call is the first that does not. List p is that of
+/// process p. The one fault is want of memory.
+pub fn weigh(
+    alloc: Global,
+    setup: &Setup,
+    lists: &[Vec<Placed>],
+    image: &Image,
+) -> Result<Weighed, AllocError>
+    requires good { checked setup.now ≡ Ok tt }
+    requires few_lists { setup.now.version ≡ 2 → length lists.now ≤ setup.now.processes }
+    requires few_calls { setup.now.version ≡ 2 → All (λ (list : List Finished). length list ≤ 65535) (lists_of lists.now) }
+    ensures { IfOk result (λ weighed. IsWeighed setup.now (lists_of lists.now) image.now weighed) }
+{
+    let followed = Followed::follow(alloc, setup, lists)?;
+    let mut before = 0;
+    for (port, list) in lists.iter().enumerate() {
+        if let Some(index) = followed.first_bad(before, list) {
+            return Ok(Weighed::Bad(port, index));
+        }
+        before += list.len();
+    }
+    if followed.end_with(image) {
+        Ok(Weighed::Good)
+    } else {
+        Ok(Weighed::BadEnd)
+    }
+}

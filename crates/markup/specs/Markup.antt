@@ -1,0 +1,124 @@
+-- Tags and their attributes, as text.
+use Rattle.std.specs.Prelude.{ℕ, List, [], ◌++◌, codes, flat_map}
+use Rattle.std.specs.Fmt.{decimal}
+use Rattle.markup.specs.Escaping.{escaped}
+use Rattle.markup.specs.declared.names.Key.{Key}
+use Rattle.markup.specs.declared.names.Key.TheVariants as key
+use Rattle.markup.specs.declared.names.Tag.{Tag}
+use Rattle.markup.specs.declared.names.Tag.TheVariants as tag
+use Rattle.markup.specs.declared.attributes.Attribute.{Attribute}
+use Rattle.markup.specs.declared.attributes.Meaning.{Meaning}
+use Rattle.markup.specs.declared.attributes.Meaning.TheVariants as meaning
+
+-- the name of a tag
+abbrev pub tag_name : Tag → List ℕ
+tag_name tag.Svg = codes "svg"
+tag_name tag.Path = codes "path"
+tag_name tag.Rect = codes "rect"
+tag_name tag.Circle = codes "circle"
+tag_name tag.Text = codes "text"
+tag_name tag.Title = codes "title"
+tag_name tag.Desc = codes "desc"
+tag_name tag.Heading = codes "h1"
+tag_name tag.Item = codes "li"
+
+-- the name of an attribute
+abbrev pub key_name : Key → List ℕ
+key_name key.Class = codes "class"
+key_name key.X = codes "x"
+key_name key.Y = codes "y"
+key_name key.Width = codes "width"
+key_name key.Height = codes "height"
+key_name key.Rx = codes "rx"
+key_name key.Cx = codes "cx"
+key_name key.Cy = codes "cy"
+key_name key.R = codes "r"
+key_name key.Path = codes "d"
+key_name key.Fill = codes "fill"
+key_name key.ViewBox = codes "viewBox"
+key_name key.Role = codes "role"
+key_name key.Label = codes "aria-label"
+key_name key.LabelledBy = codes "aria-labelledby"
+key_name key.Namespace = codes "xmlns"
+key_name key.Id = codes "id"
+key_name key.Type = codes "type"
+key_name key.Least = codes "min"
+key_name key.Value = codes "value"
+key_name key.Place = codes "data-x"
+key_name key.Source = codes "data-l"
+key_name key.Store = codes "data-s"
+key_name key.Queue = codes "data-q"
+
+-- what an attribute says
+abbrev pub meant : Meaning → List ℕ
+meant (meaning.Words words) = words.now
+meant (meaning.Number n) = decimal n
+
+-- an attribute, and what it says
+abbrev pub Said : Type 0
+Said = Key × List ℕ
+
+-- it within a tag
+abbrev pub said_text : Said → List ℕ
+said_text said = codes " " ++ key_name said.0 ++ codes "=\"" ++ escaped said.1 ++ codes "\""
+
+abbrev pub attribute_text : Attribute → List ℕ
+attribute_text attribute = said_text (attribute.key, meant attribute.meaning)
+
+-- a tag with these attributes, without its end
+abbrev pub front_by : Tag → List ℕ → List ℕ
+front_by tag attributes = codes "<" ++ tag_name tag ++ attributes
+
+abbrev pub tag_front : Tag → List Attribute → List ℕ
+tag_front tag attributes = front_by tag (flat_map attribute_text attributes)
+
+-- the tag that ends another
+abbrev pub tag_end : Tag → List ℕ
+tag_end tag = codes "</" ++ tag_name tag ++ codes ">"
+
+-- a tag with nothing in it, and the end of its line
+abbrev pub standing_by : Tag → List ℕ → List ℕ
+standing_by tag attributes = front_by tag attributes ++ codes "/>\n"
+
+abbrev pub standing : Tag → List Attribute → List ℕ
+standing tag attributes = standing_by tag (flat_map attribute_text attributes)
+
+-- a tag whose content follows
+abbrev pub entering_by : Tag → List ℕ → List ℕ
+entering_by tag attributes = front_by tag attributes ++ codes ">"
+
+abbrev pub entering : Tag → List Attribute → List ℕ
+entering tag attributes = entering_by tag (flat_map attribute_text attributes)
+
+-- a tag around a text
+abbrev pub telling_by : Tag → List ℕ → List ℕ → List ℕ
+telling_by tag attributes text = entering_by tag attributes ++ escaped text ++ tag_end tag
+
+abbrev pub telling : Tag → List Attribute → List ℕ → List ℕ
+telling tag attributes = telling_by tag (flat_map attribute_text attributes)
+
+-- the tag of a mark
+abbrev pub mark_front_by : List ℕ → List ℕ
+mark_front_by attributes = codes "<g class=\"m\" role=\"img\"" ++ attributes ++ codes ">"
+
+abbrev pub mark_front : List Attribute → List ℕ
+mark_front attributes = mark_front_by (flat_map attribute_text attributes)
+
+-- a mark and its title, and the end of their line: the mark is still to be ended
+abbrev pub marking_by : List ℕ → List ℕ → List ℕ
+marking_by attributes title = mark_front_by attributes ++ telling tag.Title [] title ++ codes "\n"
+
+abbrev pub marking : List Attribute → List ℕ → List ℕ
+marking attributes = marking_by (flat_map attribute_text attributes)
+
+-- a group that is no mark and its title, and the end of their line: the group is still to be ended
+abbrev pub noting : List ℕ → List ℕ
+noting title = codes "<g class=\"r\">" ++ telling tag.Title [] title ++ codes "\n"
+
+-- a field for input, which has no content
+abbrev pub input_field : List Attribute → List ℕ
+input_field attributes = codes "<input" ++ flat_map attribute_text attributes ++ codes ">"
+
+-- a group whose shapes stand so far below their places: it is still to be ended
+abbrev pub lowering : ℕ → List ℕ
+lowering by = codes "<g transform=\"translate(0," ++ escaped (decimal by) ++ codes ")\">\n"

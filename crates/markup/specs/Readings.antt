@@ -1,0 +1,39 @@
+-- What is read of markup.
+use Rattle.std.specs.Prelude.{ℕ, List, [], ◌∷◌, ◌++◌, codes}
+use Rattle.markup.specs.Elements.{Stack, begun, ended, opens_in}
+use Rattle.markup.specs.Titles.{lines_in}
+
+-- what is read of markup: the lines that it tells, and the elements that are open behind it, by those that are open before it
+pub record Reading : Type 0 where
+  pub lines : List (List ℕ)
+  pub opens : Stack → Stack
+
+abbrev pub reading : List ℕ → Reading
+reading markup = record { lines = lines_in markup; opens = opens_in markup }
+
+-- one, and then the next
+abbrev pub joined : Reading → Reading → Reading
+joined read more = record { lines = read.lines ++ more.lines; opens = λ stack. more.opens (read.opens stack) }
+
+-- once these lines more are told
+abbrev pub with_lines : List (List ℕ) → Reading → Reading
+with_lines lines read = record { lines = read.lines ++ lines; opens = read.opens }
+
+-- once tags have followed that change the open elements so
+abbrev pub with_tags : (Stack → Stack) → Reading → Reading
+with_tags change read = record { lines = read.lines; opens = λ stack. change (read.opens stack) }
+
+-- once an element begins, or ends
+abbrev pub with_begun : List ℕ → Reading → Reading
+with_begun name = with_tags (begun name)
+
+abbrev pub with_ended : List ℕ → Reading → Reading
+with_ended name = with_tags (ended name)
+
+-- the name of a group
+abbrev pub group : List ℕ
+group = codes "g"
+
+-- once a mark begins that tells a line
+abbrev pub with_mark : List ℕ → Reading → Reading
+with_mark line read = with_begun group (with_lines (line ∷ []) read)

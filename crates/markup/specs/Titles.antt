@@ -1,0 +1,60 @@
+-- The titles of marks, read back from markup.
+use Rattle.std.specs.Prelude.{ℕ, Bool, true, false, ◌==◌, not, ◌&&◌, if◌then◌else◌, cond, is_some, List, [], ◌∷◌, ◌++◌, codes, Option, None, Some}
+use Rattle.std.specs.Option.{option_map}
+use Rattle.markup.specs.Escaping.{behind, unescaped}
+
+-- markup that begins with a byte, where what follows the byte is cut already
+abbrev pub cut_at : ℕ → List ℕ × List (List ℕ) → List ℕ × List (List ℕ)
+cut_at b parts = if b == 60 then ([], parts.0 ∷ parts.1) else (b ∷ parts.0, parts.1)
+
+-- markup, cut at each `<`: what stands before the first, and what follows each
+abbrev pub cut : List ℕ → List ℕ × List (List ℕ)
+cut [] = ([], [])
+cut (b ∷ markup) = cut_at b (cut markup)
+
+-- what follows each `<`, up to the next
+abbrev pub tags_of : List ℕ → List (List ℕ)
+tags_of markup = (cut markup).1
+
+-- what stands in a tag up to its `>`, if it has one
+abbrev pub inner : List ℕ → Option (List ℕ)
+inner [] = None
+inner (b ∷ tag) = if b == 62 then Some [] else option_map (λ rest. b ∷ rest) (inner tag)
+
+-- whether a tag is that of a mark
+abbrev pub is_mark : List ℕ → Bool
+is_mark tag = is_some (behind (codes "g class=\"m\"") tag)
+
+-- a text that was found, read back
+abbrev pub read_title : Option (List ℕ) → List (List ℕ)
+read_title None = []
+read_title (Some text) = unescaped text ∷ []
+
+-- the text of the first of these tags, if it is a title
+abbrev pub first_title : List (List ℕ) → List (List ℕ)
+first_title [] = []
+first_title (tag ∷ tags) = read_title (behind (codes "title>") tag)
+
+-- the titles that follow tags of marks
+abbrev pub titles : List (List ℕ) → List (List ℕ)
+titles [] = []
+titles (tag ∷ tags) = cond (is_mark tag) (first_title tags) [] ++ titles tags
+
+-- the lines that markup tells: the titles of its marks, in their order
+abbrev pub lines_in : List ℕ → List (List ℕ)
+lines_in markup = titles (tags_of markup)
+
+-- whether a tag, however it goes on, is neither that of a mark nor a title
+abbrev pub is_no_mark : List ℕ → Bool
+is_no_mark (a ∷ b ∷ c ∷ tag) = not (a == 116) && not ((a == 103) && (c == 99))
+is_no_mark _ = false
+
+-- whether a tag is whole, and neither that of a mark nor a title: however it goes on, it is read as it is
+abbrev pub is_settled : List ℕ → Bool
+is_settled tag = is_no_mark tag && is_some (inner tag)
+
+-- whether markup may go on in any way, and what was read of it stays as it is
+abbrev pub is_at_rest : List (List ℕ) → Bool
+is_at_rest [] = true
+is_at_rest (tag ∷ []) = is_settled tag
+is_at_rest (tag ∷ next ∷ tags) = is_at_rest (next ∷ tags)

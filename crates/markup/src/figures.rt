@@ -1,0 +1,137 @@
+//! Lines, boxes, paths and words, each on a line of its own.
+ghost use Rattle.std.specs.Prelude.{◌≡◌, ◌++◌, OnOk};
+ghost use Rattle.std.specs.Fmt.{decimal};
+ghost use Rattle.markup.specs.Figures.{Block, Label, Pill, Ring, drawn, line_from, path_from};
+ghost use Rattle.markup.specs.Readings.{reading};
+
+use crate::attributes::{class, number, words};
+use crate::markup::Markup;
+use crate::names::{Key, Tag};
+use std::alloc::AllocError;
+
+/// A place in a picture, in pixels from its left upper corner.
+#[derive(Clone, Copy, PartialEq, Eq)]
+pub struct Point {
+    pub x: u32,
+    pub y: u32,
+}
+
+impl Point {
+    /// The place with these two.
+    pub fn at(x: u32, y: u32) -> Point
+        ensures { result ≡ record { x = x; y = y } }
+    {
+        Point { x, y }
+    }
+}
+
+impl Markup {
+    /// A line from one place to another.
+    #[tactic(auto, using(crate::proofs::Runs::line_is), unfolding(crate::specs::Figures::line_from))]
+    pub fn line(&mut self, style: &str, from: Point, to: Point) -> Result<(), AllocError>
+        ensures draws { OnOk result (self.new ≡ self.old ++ drawn (line_from style.now from to)) }
+        ensures read { OnOk result (reading self.new ≡ reading self.old) }
+    {
+        let Point { x, y } = to;
+        let rest = format!(in self.alloc(); "L{x} {y}")?;
+        self.path(style, from, rest.as_str())
+    }
+
+    /// A path from a place on, by what follows the place in its description.
+    #[tactic(auto, using(crate::proofs::Runs::path_is), unfolding(crate::specs::Figures::drawn, crate::specs::Figures::path_from))]
+    pub fn path(&mut self, style: &str, from: Point, rest: &str) -> Result<(), AllocError>
+        ensures draws { OnOk result (self.new ≡ self.old ++ drawn (path_from style.now from rest.now)) }
+        ensures read { OnOk result (reading self.new ≡ reading self.old) }
+    {
+        let Point { x, y } = from;
+        let path = format!(in self.alloc(); "M{x} {y}{rest}")?;
+        self.stand(
+            Tag::Path,
+            &[class(style), words(Key::Path, path.as_bytes())],
+        )
+    }
+
+    /// A box, by its left upper corner.
+    #[tactic(auto, unfolding(crate::specs::Figures::drawn))]
+    pub fn block(
+        &mut self,
+        style: &str,
+        corner: Point,
+        width: u32,
+        height: u32,
+    ) -> Result<(), AllocError>
+        ensures draws { OnOk result (self.new ≡ self.old ++ drawn (Block style.now corner width height)) }
+        ensures read { OnOk result (reading self.new ≡ reading self.old) }
+    {
+        self.stand(
+            Tag::Rect,
+            &[
+                class(style),
+                number(Key::X, u64::from(corner.x)),
+                number(Key::Y, u64::from(corner.y)),
+                number(Key::Width, u64::from(width)),
+                number(Key::Height, u64::from(height)),
+            ],
+        )
+    }
+
+    /// A box 16 pixels high with round ends.
+    #[tactic(auto, unfolding(crate::specs::Figures::drawn))]
+    pub fn pill(&mut self, style: &str, corner: Point, width: u32) -> Result<(), AllocError>
+        ensures draws { OnOk result (self.new ≡ self.old ++ drawn (Pill style.now corner width)) }
+        ensures read { OnOk result (reading self.new ≡ reading self.old) }
+    {
+        self.stand(
+            Tag::Rect,
+            &[
+                class(style),
+                number(Key::X, u64::from(corner.x)),
+                number(Key::Y, u64::from(corner.y)),
+                number(Key::Width, u64::from(width)),
+                number(Key::Height, 16),
+                number(Key::Rx, 8),
+            ],
+        )
+    }
+
+    /// A ring of 5 pixels round a place.
+    #[tactic(auto, unfolding(crate::specs::Figures::drawn))]
+    pub fn ring(&mut self, style: &str, middle: Point) -> Result<(), AllocError>
+        ensures draws { OnOk result (self.new ≡ self.old ++ drawn (Ring style.now middle)) }
+        ensures read { OnOk result (reading self.new ≡ reading self.old) }
+    {
+        self.stand(
+            Tag::Circle,
+            &[
+                class(style),
+                number(Key::Cx, u64::from(middle.x)),
+                number(Key::Cy, u64::from(middle.y)),
+                number(Key::R, 5),
+            ],
+        )
+    }
+
+    /// Words that begin at a place.
+    #[tactic(auto, unfolding(crate::specs::Figures::drawn))]
+    pub fn label(&mut self, style: &str, at: Point, text: &[u8]) -> Result<(), AllocError>
+        ensures draws { OnOk result (self.new ≡ self.old ++ drawn (Label style.now at text.now)) }
+        ensures read { OnOk result (reading self.new ≡ reading self.old) }
+    {
+        let attributes = [
+            class(style),
+            number(Key::X, u64::from(at.x)),
+            number(Key::Y, u64::from(at.y)),
+        ];
+        self.tell(Tag::Text, &attributes, text)?;
+        self.constant("\n")
+    }
+
+    /// A number that begins at a place.
+    pub fn numeral(&mut self, style: &str, at: Point, numeral: u64) -> Result<(), AllocError>
+        ensures draws { OnOk result (self.new ≡ self.old ++ drawn (Label style.now at (decimal numeral))) }
+        ensures read { OnOk result (reading self.new ≡ reading self.old) }
+    {
+        let digits = numeral.to_string(self.alloc())?;
+        self.label(style, at, digits.as_bytes())
+    }
+}

@@ -1,0 +1,29 @@
+//! Groups of shapes.
+ghost use Rattle.std.specs.Prelude.{◌≡◌, ◌++◌, OnOk};
+ghost use Rattle.markup.specs.Figures.{End, drawn};
+ghost use Rattle.markup.specs.Markup.{lowering};
+ghost use Rattle.markup.specs.Readings.{group, reading, with_begun, with_ended};
+
+use crate::attributes::lowering_tag;
+use crate::markup::Markup;
+use std::alloc::AllocError;
+
+impl Markup {
+    /// Begins a group of shapes so far below their places.
+    pub fn lower(&mut self, by: u64) -> Result<(), AllocError>
+        ensures draws { OnOk result (self.new ≡ self.old ++ lowering by) }
+        ensures read { OnOk result (reading self.new ≡ with_begun group (reading self.old)) }
+    {
+        let bytes = lowering_tag(self.alloc(), by)?;
+        self.add(bytes.as_slice())
+    }
+
+    /// Ends a group.
+    #[tactic(auto, unfolding(crate::specs::Figures::drawn))]
+    pub fn end_group(&mut self) -> Result<(), AllocError>
+        ensures draws { OnOk result (self.new ≡ self.old ++ drawn End) }
+        ensures read { OnOk result (reading self.new ≡ with_ended group (reading self.old)) }
+    {
+        self.frame("</g>\n")
+    }
+}

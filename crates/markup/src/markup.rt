@@ -1,0 +1,151 @@
+//! Markup that grows.
+ghost use Rattle.std.specs.Prelude.{◌≡◌, ◌++◌, [], true, OnOk};
+ghost use Rattle.markup.specs.Elements.{is_even, opens_in};
+ghost use Rattle.markup.specs.Figures.{Note, drawn};
+ghost use Rattle.markup.specs.Markup.{entering, input_field, marking, standing, tag_name, telling};
+ghost use Rattle.markup.specs.Readings.{group, joined, reading, with_begun, with_mark, with_tags};
+ghost use Rattle.markup.specs.Titles.{is_at_rest, is_no_mark, lines_in, tags_of};
+
+use crate::attributes::{
+    Attribute, entering_tag, input_tag, marking_tags, noting_tags, standing_tag, telling_tag,
+};
+use crate::names::Tag;
+use std::alloc::{AllocError, Global};
+use std::marker::Model;
+
+/// Markup that grows. Contracts see its bytes, and what is read of them: the titles of its marks, which only `mark`
+/// adds, and which elements are open. Each tag is added whole, so what was read stays as it is, however it goes on.
+#[derive(Drop)]
+pub struct Markup {
+    alloc: Global,
+    bytes: Vec<u8>,
+}
+
+impl Model for Markup {
+    ghost use Rattle.std.specs.Prelude.{◌≡◌, ℕ, List, true};
+    ghost use Rattle.markup.specs.Titles.{is_at_rest, tags_of};
+
+    ghost Value = { List ℕ };
+
+    ghost view = { λ m. m.bytes.items };
+
+    ghost invariant = { λ m. is_at_rest (tags_of m.bytes.items) ≡ true };
+}
+
+impl Markup {
+    /// No markup yet.
+    pub fn new(alloc: Global) -> Markup
+        ensures { result ≡ [] }
+    {
+        Markup {
+            alloc,
+            bytes: Vec::new(alloc),
+        }
+    }
+
+    /// Its bytes.
+    pub fn as_slice(&self) -> &[u8]
+        ensures bytes { result.now ≡ self.now }
+        ensures rests { is_at_rest (tags_of self.now) ≡ true }
+    {
+        self.bytes.as_slice()
+    }
+
+    /// Where it allocates.
+    pub fn alloc(&self) -> Global {
+        self.alloc
+    }
+
+    /// Adds a tag with nothing in it, and ends the line.
+    pub fn stand(&mut self, tag: Tag, attributes: &[Attribute]) -> Result<(), AllocError>
+        requires { is_no_mark (tag_name tag) ≡ true }
+        ensures draws { OnOk result (self.new ≡ self.old ++ standing tag attributes.now) }
+        ensures read { OnOk result (reading self.new ≡ reading self.old) }
+    {
+        let bytes = standing_tag(self.alloc, tag, attributes)?;
+        self.add(bytes.as_slice())
+    }
+
+    /// Adds a tag whose content follows: an element begins.
+    pub fn enter(&mut self, tag: Tag, attributes: &[Attribute]) -> Result<(), AllocError>
+        requires { is_no_mark (tag_name tag) ≡ true }
+        ensures draws { OnOk result (self.new ≡ self.old ++ entering tag attributes.now) }
+        ensures read { OnOk result (reading self.new ≡ with_begun (tag_name tag) (reading self.old)) }
+    {
+        let bytes = entering_tag(self.alloc, tag, attributes)?;
+        self.add(bytes.as_slice())
+    }
+
+    /// Adds a tag around a text.
+    pub fn tell(
+        &mut self,
+        tag: Tag,
+        attributes: &[Attribute],
+        text: &[u8],
+    ) -> Result<(), AllocError>
+        ensures draws { OnOk result (self.new ≡ self.old ++ telling tag attributes.now text.now) }
+        ensures read { OnOk result (reading self.new ≡ reading self.old) }
+    {
+        let bytes = telling_tag(self.alloc, tag, attributes, text)?;
+        self.add(bytes.as_slice())
+    }
+
+    /// Adds a field for input, which has no content and, in HTML, no end.
+    pub fn input(&mut self, attributes: &[Attribute]) -> Result<(), AllocError>
+        ensures draws { OnOk result (self.new ≡ self.old ++ input_field attributes.now) }
+        ensures read { OnOk result (reading self.new ≡ reading self.old) }
+    {
+        let bytes = input_tag(self.alloc, attributes)?;
+        self.add(bytes.as_slice())
+    }
+
+    /// Begins a mark, which has a line of the run as its title.
+    pub fn mark(&mut self, attributes: &[Attribute], line: &[u8]) -> Result<(), AllocError>
+        ensures draws { OnOk result (self.new ≡ self.old ++ marking attributes.now line.now) }
+        ensures read { OnOk result (reading self.new ≡ with_mark line.now (reading self.old)) }
+    {
+        let bytes = marking_tags(self.alloc, attributes, line)?;
+        self.add(bytes.as_slice())
+    }
+
+    /// Begins a group that is no mark, with a title that is no line of the run.
+    #[tactic(auto, unfolding(crate::specs::Figures::drawn))]
+    pub fn note(&mut self, title: &[u8]) -> Result<(), AllocError>
+        ensures draws { OnOk result (self.new ≡ self.old ++ drawn (Note title.now)) }
+        ensures read { OnOk result (reading self.new ≡ with_begun group (reading self.old)) }
+    {
+        let bytes = noting_tags(self.alloc, title)?;
+        self.add(bytes.as_slice())
+    }
+
+    /// Adds markup that stands in the program's source, in which there is no mark, and each element that begins ends.
+    pub fn constant(&mut self, markup: &str) -> Result<(), AllocError>
+        requires rests { is_at_rest (tags_of markup.now) ≡ true }
+        requires lines { lines_in markup.now ≡ [] }
+        requires even { is_even markup.now ≡ true }
+        ensures draws { OnOk result (self.new ≡ self.old ++ markup.now) }
+        ensures read { OnOk result (reading self.new ≡ reading self.old) }
+    {
+        self.add(markup.as_bytes())
+    }
+
+    /// Adds markup that stands in the program's source, in which there is no mark. Elements may begin and end in it.
+    pub fn frame(&mut self, markup: &str) -> Result<(), AllocError>
+        requires rests { is_at_rest (tags_of markup.now) ≡ true }
+        requires lines { lines_in markup.now ≡ [] }
+        ensures draws { OnOk result (self.new ≡ self.old ++ markup.now) }
+        ensures read { OnOk result (reading self.new ≡ with_tags (opens_in markup.now) (reading self.old)) }
+    {
+        self.add(markup.as_bytes())
+    }
+
+    /// Adds bytes that are at rest.
+    #[tactic(auto, using(crate::proofs::Lines::rests_after, crate::proofs::Readings::reading_after))]
+    pub(crate) fn add(&mut self, bytes: &[u8]) -> Result<(), AllocError>
+        requires { is_at_rest (tags_of bytes.now) ≡ true }
+        ensures draws { OnOk result (self.new ≡ self.old ++ bytes.now) }
+        ensures read { OnOk result (reading self.new ≡ joined (reading self.old) (reading bytes.now)) }
+    {
+        self.bytes.extend_from_slice(bytes)
+    }
+}

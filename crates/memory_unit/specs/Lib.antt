@@ -1,0 +1,4 @@
+pub use Rattle.bakery.specs as bakery
+pub use Rattle.section.specs as section
+pub mod Memory
+pub mod Units

@@ -1,0 +1,132 @@
+-- What one more move makes of the end of a read.
+use Rattle.std.proofs.Common.{◌≡◌, Bool, true, false, not, ◌&&◌, List, [], ◌∷◌, Some, cond, refl, sym, ap, ◌∙◌, subst}
+use Rattle.record.specs.safe_bit.declared.Move.{Move}
+use Rattle.record.specs.safe_bit.declared.Move.TheVariants.{BeginWrite, EndWrite, BeginRead, EndRead, Settle}
+use Rattle.record.specs.safe_bit.SafeRule.{MayEndWith, before_read, is_overlapped, is_write_open, last_written}
+use Rattle.record.specs.declared.access.Access.{Access}
+use Rattle.plain_store.specs.declared.Setup.{Setup}
+use Rattle.record.specs.Entries.{Entry, Past}
+use Rattle.record.specs.Moves.{begins_read, moves_of}
+use Rattle.record.specs.Registers.{opening_bit}
+use Rattle.read_law.specs.declared.look.Ending.{Ending}
+use Rattle.read_law.specs.declared.look.Ending.TheVariants.{Free, Writing, Bound}
+use Rattle.read_law.specs.declared.look.Look.{Look}
+use Rattle.read_law.specs.Looks.{ending_of, look_of}
+use Rattle.read_law.specs.Safe.{KeepsSafe, MatchBool}
+
+-- while a write is open, the read that began last is overlapped
+pub open_overlaps : (moves : List Move) → is_write_open moves ≡ true → (begins_read moves && not (is_overlapped moves)) ≡ false
+open_overlaps [] h = refl
+open_overlaps (BeginWrite v ∷ moves) h = by (begins_read moves)
+  where
+    by : (b : Bool) → (b && false) ≡ false
+    by true = refl
+    by false = refl
+open_overlaps (EndWrite ∷ moves) h = cc
+open_overlaps (Settle v ∷ moves) h = cc
+open_overlaps (BeginRead ∷ moves) h = λ i. not (h i)
+open_overlaps (EndRead v ∷ moves) h = open_overlaps moves h
+
+-- once no write is open, a read that is overlapped stays so, and one that is bound too
+pub closed_then : (e : Ending) (opening : Bool) (moves : List Move) → e ≡ ending_of opening moves → elim e as (λ _. Ending) [ Free ↦ Free | Writing ↦ Free | Bound v ↦ Bound v ] ≡ cond (begins_read moves && not (is_overlapped moves)) (Bound (last_written opening (before_read moves))) Free
+closed_then e opening moves h = by e (is_write_open moves) (begins_read moves && not (is_overlapped moves)) (last_written opening (before_read moves)) (open_overlaps moves) h
+  where
+    by : (e : Ending) (w b x : Bool) → (w ≡ true → b ≡ false) → e ≡ cond w Writing (cond b (Bound x) Free) → elim e as (λ _. Ending) [ Free ↦ Free | Writing ↦ Free | Bound v ↦ Bound v ] ≡ cond b (Bound x) Free
+    by Free true b x calm h = cc
+    by Free false true x calm h = cc
+    by Free false false x calm h = refl
+    by Writing true b x calm h = sym (ap (λ t. cond t (Bound x) Free) (calm refl))
+    by Writing false true x calm h = cc
+    by Writing false false x calm h = cc
+    by (Bound v) true b x calm h = cc
+    by (Bound v) false true x calm h = h
+    by (Bound v) false false x calm h = cc
+
+-- a read that begins is bound, but while a write is open
+pub reading_then : (e : Ending) (written opening : Bool) (moves : List Move) → e ≡ ending_of opening moves → written ≡ last_written opening moves → elim e as (λ _. Ending) [ Free ↦ Bound written | Writing ↦ Writing | Bound v ↦ Bound written ] ≡ ending_of opening (BeginRead ∷ moves)
+reading_then e written opening moves h same = by e (is_write_open moves) (begins_read moves && not (is_overlapped moves)) (last_written opening (before_read moves)) h
+  where
+    by : (e : Ending) (w b x : Bool) → e ≡ cond w Writing (cond b (Bound x) Free) → elim e as (λ _. Ending) [ Free ↦ Bound written | Writing ↦ Writing | Bound v ↦ Bound written ] ≡ cond w Writing (cond (true && not w) (Bound (last_written opening moves)) Free)
+    by Free true b x h = cc
+    by Free false b x h = ap Bound same
+    by Writing true b x h = refl
+    by Writing false true x h = cc
+    by Writing false false x h = cc
+    by (Bound v) true b x h = cc
+    by (Bound v) false b x h = ap Bound same
+
+-- The end of a read.
+
+-- a read that is bound may end with one value
+pub bound_allows : (only v opening : Bool) (moves : List Move) → Bound only ≡ ending_of opening moves → v ≡ only → begins_read moves ≡ true → MayEndWith opening moves v
+bound_allows only v opening moves h same begins calm = by (is_write_open moves) (begins_read moves && not (is_overlapped moves)) (last_written opening (before_read moves)) h
+  where
+    by : (w b x : Bool) → Bound only ≡ cond w Writing (cond b (Bound x) Free) → v ≡ x
+    by true b x h = cc
+    by false true x h = cc
+    by false false x h = cc
+
+-- and with no other one
+pub bound_forbids : (only v opening : Bool) (moves : List Move) → Bound only ≡ ending_of opening moves → (v ≡ only → ⊥) → (begins_read moves ≡ true → MayEndWith opening moves v) → ⊥
+bound_forbids only v opening moves h other may = by (is_write_open moves) (begins_read moves) (is_overlapped moves) (last_written opening (before_read moves)) h may
+  where
+    by : (w b o x : Bool) → Bound only ≡ cond w Writing (cond (b && not o) (Bound x) Free) → (b ≡ true → o ≡ false → v ≡ x) → ⊥
+    by true b o x h may = cc
+    by false true true x h may = cc
+    by false true false x h may = let is : v ≡ x = may refl refl in other cc
+    by false false o x h may = cc
+
+-- one that is not bound may end with each
+pub free_allows : (e : Ending) (v opening : Bool) (moves : List Move) → e ≡ ending_of opening moves → ((only : Bool) → e ≡ Bound only → ⊥) → begins_read moves ≡ true → MayEndWith opening moves v
+free_allows e v opening moves h free begins calm = absurd (by (is_write_open moves) refl)
+  where
+    by : (w : Bool) → is_write_open moves ≡ w → ⊥
+    by true is = let none : (begins_read moves && not (is_overlapped moves)) ≡ false = open_overlaps moves is in
+        let some : (begins_read moves && not (is_overlapped moves)) ≡ true = λ i. begins i && not (calm i) in cc
+    by false is = free (last_written opening (before_read moves))
+        (h ∙ (λ i. cond (is i) Writing (cond (begins i && not (calm i)) (Bound (last_written opening (before_read moves))) Free)))
+
+-- a read that is bound was overlapped by no write
+pub bound_calm : (only opening : Bool) (moves : List Move) → Bound only ≡ ending_of opening moves → false ≡ is_overlapped moves
+bound_calm only opening moves h = by (is_write_open moves) (begins_read moves) (is_overlapped moves) (last_written opening (before_read moves)) h
+  where
+    by : (w b o x : Bool) → Bound only ≡ cond w Writing (cond (b && not o) (Bound x) Free) → false ≡ o
+    by true b o x h = cc
+    by false true true x h = cc
+    by false true false x h = refl
+    by false false o x h = cc
+
+-- and one that is not bound was overlapped, if it has begun
+pub free_overlapped : (e : Ending) (opening : Bool) (moves : List Move) → e ≡ ending_of opening moves → ((only : Bool) → e ≡ Bound only → ⊥) → begins_read moves ≡ true → true ≡ is_overlapped moves
+free_overlapped e opening moves h free begins = by (is_overlapped moves) refl
+  where
+    by : (o : Bool) → is_overlapped moves ≡ o → true ≡ o
+    by true is = refl
+    by false is =
+        let one : true ≡ last_written opening (before_read moves) = free_allows e true opening moves h free begins is in
+        let zero : false ≡ last_written opening (before_read moves) = free_allows e false opening moves h free begins is in cc
+
+-- What an entry's move may be.
+
+-- the move keeps the safe rule
+abbrev pub IsAllowed : Bool → List Move → Move → Type 0
+IsAllowed opening moves how = (v : Bool) → how ≡ EndRead v → begins_read moves ≡ true → MayEndWith opening moves v
+
+pub keeps_by : (s : Setup) (past : Past) (e : Entry) (a : Access) → e.access ≡ Some a → IsAllowed (opening_bit s a) (moves_of a past) a.how → KeepsSafe s past e
+keeps_by s past e a access allowed other v is = let same : a ≡ other = cc in subst (λ (x : Access). IsAllowed (opening_bit s x) (moves_of x past) x.how) same allowed v
+
+-- the end of a read is judged by what it may give
+pub ends_by : (s : Setup) (past : Past) (e : Entry) (a : Access) (v : Bool) (r : Bool) → e.access ≡ Some a → a.how ≡ EndRead v →
+    MatchBool r (begins_read (moves_of a past) ≡ true → MayEndWith (opening_bit s a) (moves_of a past) v) ((begins_read (moves_of a past) ≡ true → MayEndWith (opening_bit s a) (moves_of a past) v) → ⊥) →
+    MatchBool r (KeepsSafe s past e) (KeepsSafe s past e → ⊥)
+ends_by s past e a v true access how may = keeps_by s past e a access (λ u is. let same : v ≡ u = cc in subst (λ u. begins_read (moves_of a past) ≡ true → MayEndWith (opening_bit s a) (moves_of a past) u) same may)
+ends_by s past e a v false access how may = λ keeps. may (keeps a v access how)
+
+-- any other move keeps it
+pub other_keeps : (s : Setup) (past : Past) (e : Entry) (a : Access) → e.access ≡ Some a → ((v : Bool) → a.how ≡ EndRead v → ⊥) → KeepsSafe s past e
+other_keeps s past e a access other = keeps_by s past e a access (λ v is. absurd (other v is))
+
+-- an answer turned about
+pub turned : (r : Bool) (P Q : Type 0) → MatchBool r P Q → MatchBool (not r) Q P
+turned true P Q h = h
+turned false P Q h = h

@@ -1,0 +1,6 @@
+use Rattle.read_law.proofs.Opened.{AreOpened}
+use Rattle.read_law.proofs.watch.Watch.new.Given as goal
+
+-- the registers so far look as they open
+abbrev pub invariant-loop-number : goal.invariant-loop-number
+invariant-loop-number l = AreOpened l.setup l.registers.items l.number

@@ -1,0 +1,28 @@
+-- What the moves of one bit leave, as far as the safe rule looks back at them.
+use Rattle.std.specs.Prelude.{◌≡◌, Bool, true, false, not, ◌&&◌, List, ◌∷◌, cond}
+use Rattle.record.specs.safe_bit.declared.Move.{Move}
+use Rattle.record.specs.safe_bit.declared.Move.TheVariants.{EndRead}
+use Rattle.record.specs.safe_bit.SafeRule.{before_read, is_overlapped, is_write_open, last_begun, last_written}
+use Rattle.record.specs.Moves.{begins_read}
+use Rattle.read_law.specs.declared.look.Ending.{Ending}
+use Rattle.read_law.specs.declared.look.Ending.TheVariants.{Free, Writing, Bound}
+use Rattle.read_law.specs.declared.look.Look.{Look}
+
+-- What the read that began last may end with: anything while a write is open; if it began and no write overlapped it, what was last written or settled before it; else anything.
+abbrev pub ending_of : Bool → List Move → Ending
+ending_of opening moves =
+    cond (is_write_open moves) Writing
+    (cond (begins_read moves && not (is_overlapped moves)) (Bound (last_written opening (before_read moves))) Free)
+
+-- the look of a bit that opened so and on which these moves were made, the newest first
+abbrev pub look_of : Bool → List Move → Look
+look_of opening moves = record { begun = last_begun opening moves; written = last_written opening moves; ending = ending_of opening moves }
+
+-- the move ends a read that a write overlapped: one was open as the read that began last began, or has begun since
+abbrev pub ends_overlapped : List Move → Move → Bool
+ends_overlapped moves (EndRead v) = is_overlapped moves
+ends_overlapped moves _ = false
+
+-- so it is after one more move, whatever the moves were
+abbrev pub LooksOn : Look → Move → Look → Type 0
+LooksOn l how then = (opening : Bool) (moves : List Move) → l ≡ look_of opening moves → then ≡ look_of opening (how ∷ moves)

@@ -1,0 +1,26 @@
+-- How looks are packed: each in four bits, two in a byte.
+use Rattle.std.specs.Prelude.{ℕ, suc, ◌/◌, ◌%◌, ◌==◌, Bool, false, true, List, map, slice_index_or, cond}
+use Rattle.std.specs.List.{range_with_len}
+use Rattle.read_law.specs.declared.look.Ending.{Ending}
+use Rattle.read_law.specs.declared.look.Ending.TheVariants.{Free, Writing, Bound}
+use Rattle.read_law.specs.declared.look.Look.{Look}
+
+-- what the two high bits of four say
+abbrev pub ending_from : ℕ → Ending
+ending_from code = cond (code == 0) Free (cond (code == 1) Writing (Bound (code == 3)))
+
+-- what four bits say
+abbrev pub look_from : ℕ → Look
+look_from code = record { begun = code % 2 == 1; written = code / 2 % 2 == 1; ending = ending_from (code / 4) }
+
+-- the low four bits of a byte are at its even place, the high four at its odd one
+abbrev pub four_bits : ℕ → ℕ → ℕ
+four_bits byte k = cond (k % 2 == 0) (byte % 16) (byte / 16)
+
+-- look k of bytes
+abbrev pub look_in : List ℕ → ℕ → Look
+look_in bytes k = look_from (four_bits (slice_index_or bytes (k / 2) 0) k)
+
+-- the first n looks
+abbrev pub looks_of : List ℕ → ℕ → List Look
+looks_of bytes n = map (look_in bytes) (range_with_len 0 n)

@@ -1,0 +1,147 @@
+//! What the moves of one bit leave, kept up move by move.
+ghost use Rattle.std.specs.Prelude.{◌≡◌, [], ◌∷◌, Bool, true, List, Some};
+ghost use Rattle.record.specs.safe_bit.declared.Move.{Move as Moved};
+ghost use Rattle.record.specs.safe_bit.declared.Move.TheVariants.{BeginRead, EndWrite, Settle};
+ghost use Rattle.record.specs.safe_bit.SafeRule.{MayEndWith, is_overlapped, last_written};
+ghost use Rattle.record.specs.declared.access.Access.{Access as Made};
+ghost use Rattle.plain_store.specs.declared.Setup.{Setup as Given};
+ghost use Rattle.record.specs.Entries.{Entry as Noted, Past};
+ghost use Rattle.record.specs.Moves.{begins_read, moves_of};
+ghost use Rattle.record.specs.Registers.{opening_bit};
+ghost use Rattle.read_law.specs.Looks.{LooksOn, ending_of, ends_overlapped, look_of};
+ghost use Rattle.read_law.specs.Safe.{KeepsSafe, MatchBool};
+
+use record::Move;
+
+/// What the end of the read that began last may give.
+#[derive(Clone, Copy, PartialEq, Eq)]
+pub(crate) enum Ending {
+    /// Anything, and no write is open: a write overlapped the read, or no read has begun.
+    Free,
+    /// Anything: a write is open.
+    Writing,
+    /// This value alone: no write was open since the read began.
+    Bound(bool),
+}
+
+impl Ending {
+    /// Once no write is open.
+    #[inline]
+    fn closed(self) -> Ending
+        ensures ended { (opening : Bool) (moves : List Moved) → self ≡ ending_of opening moves → result ≡ ending_of opening (EndWrite ∷ moves) }
+        ensures settled { (opening : Bool) (moves : List Moved) (value : Bool) → self ≡ ending_of opening moves → result ≡ ending_of opening (Settle value ∷ moves) }
+    {
+        match self {
+            Ending::Writing => Ending::Free,
+            other => other,
+        }
+    }
+
+    /// Once one more read has begun, before which `written` was last written or settled.
+    #[inline]
+    fn reading(self, written: bool) -> Ending
+        ensures { (opening : Bool) (moves : List Moved) → self ≡ ending_of opening moves → written ≡ last_written opening moves → result ≡ ending_of opening (BeginRead ∷ moves) }
+    {
+        match self {
+            Ending::Writing => Ending::Writing,
+            _ => Ending::Bound(written),
+        }
+    }
+
+    /// Whether a read may end with this value, if one has begun.
+    #[inline]
+    fn allows(self, value: bool) -> bool
+        ensures { (opening : Bool) (moves : List Moved) → self ≡ ending_of opening moves → MatchBool result (begins_read moves ≡ true → MayEndWith opening moves value) ((begins_read moves ≡ true → MayEndWith opening moves value) → ⊥) }
+    {
+        match self {
+            Ending::Bound(only) => value == only,
+            _ => true,
+        }
+    }
+
+    /// Whether a write overlapped the read that began last, if one has begun.
+    #[inline]
+    fn is_overlapped(self) -> bool
+        ensures { (opening : Bool) (moves : List Moved) → self ≡ ending_of opening moves → begins_read moves ≡ true → result ≡ is_overlapped moves }
+    {
+        match self {
+            Ending::Bound(_) => false,
+            _ => true,
+        }
+    }
+}
+
+/// What the moves of one bit leave, as far as the safe rule looks back at them.
+#[derive(Clone, Copy)]
+pub(crate) struct Look {
+    /// What the write that began last writes.
+    pub begun: bool,
+    /// What was last written or settled.
+    pub written: bool,
+    /// What the end of the read that began last may give.
+    pub ending: Ending,
+}
+
+impl Look {
+    /// Before the first move of a bit that opens so.
+    pub fn opening(value: bool) -> Look
+        ensures { result ≡ look_of value [] }
+    {
+        Look {
+            begun: value,
+            written: value,
+            ending: Ending::Free,
+        }
+    }
+
+    /// After one more move.
+    #[inline]
+    pub fn with(self, how: Move) -> Look
+        ensures { LooksOn self how result }
+    {
+        match how {
+            Move::BeginWrite(value) => Look {
+                begun: value,
+                ending: Ending::Writing,
+                ..self
+            },
+            Move::EndWrite => Look {
+                written: self.begun,
+                ending: self.ending.closed(),
+                ..self
+            },
+            Move::Settle(value) => Look {
+                written: value,
+                ending: self.ending.closed(),
+                ..self
+            },
+            Move::BeginRead => Look {
+                ending: self.ending.reading(self.written),
+                ..self
+            },
+            Move::EndRead(_) => self,
+        }
+    }
+
+    /// Whether the next move keeps the safe rule.
+    #[inline]
+    pub fn allows(self, how: Move) -> bool
+        ensures { (s : Given) (past : Past) (e : Noted) (a : Made) → e.access ≡ Some a → a.how ≡ how → self ≡ look_of (opening_bit s a) (moves_of a past) → MatchBool result (KeepsSafe s past e) (KeepsSafe s past e → ⊥) }
+    {
+        match how {
+            Move::EndRead(value) => self.ending.allows(value),
+            _ => true,
+        }
+    }
+
+    /// Whether the next move ends a read that a write overlapped, if one has begun.
+    #[inline]
+    pub fn overlaps(self, how: Move) -> bool
+        ensures { (opening : Bool) (moves : List Moved) → self ≡ look_of opening moves → begins_read moves ≡ true → result ≡ ends_overlapped moves how }
+    {
+        match how {
+            Move::EndRead(_) => self.ending.is_overlapped(),
+            _ => false,
+        }
+    }
+}

@@ -1,0 +1,166 @@
+ghost use Rattle.std.specs.Prelude.{◌≡◌, ◌<◌, ◌*◌, ◌%◌, ℕ, IfOk, Ok, Some, [], ◌∷◌, length, slice_index_or, false, true};
+ghost use Rattle.plain_store.specs.Setups.{checked, opening_store};
+ghost use Rattle.store_image.specs.Image.{image_of};
+ghost use Rattle.record.specs.Entries.{Entry as Noted, Past};
+ghost use Rattle.record.specs.Moves.{begins_read, field_number, moves_of};
+ghost use Rattle.record.specs.Registers.{opening_bit, width};
+ghost use Rattle.record.specs.safe_number.Bytes.{bit_in};
+ghost use Rattle.record.specs.declared.access.Access.{Access as Made};
+ghost use Rattle.record.specs.declared.access.Field.{Field as Register};
+ghost use Rattle.laws.specs.Held.{IsThere};
+ghost use Rattle.read_law.specs.Looks.{ends_overlapped, look_of};
+ghost use Rattle.read_law.specs.Safe.{KeepsSafe, MatchBool};
+ghost use Rattle.read_law.specs.Watching.{AllAreOfThere, HasHeard, IsOfThere, copy_of, register_of};
+
+use crate::look::Look;
+use crate::opening::bit_of;
+use crate::packed::Looks;
+use crate::places::{FIELDS, copy_of, field_at, is_there, register_of, width};
+use plain_store::{Setup, opened};
+use record::{Access, Entry};
+use std::alloc::{AllocError, Global};
+use std::marker::Model;
+use store_image::Image;
+
+/// A watch on the law `Safe`. It takes the entries of a record one at a time and keeps of each single-reader bit
+/// what the safe rule looks back at, in four bits: so it needs the same memory however long the record is.
+#[derive(Drop)]
+pub struct Watch {
+    setup: Setup,
+    registers: Vec<Looks>,
+}
+
+impl Model for Watch {
+    ghost use Rattle.read_law.specs.Watching.{IsWatch, WatchState};
+
+    ghost Value = { WatchState };
+
+    ghost view = { λ w. record { setup = w.setup; registers = w.registers.items } };
+
+    ghost invariant = { λ w. IsWatch (record { setup = w.setup; registers = w.registers.items }) };
+}
+
+impl Watch {
+    /// Before the first entry. The one fault is want of memory.
+    pub fn new(alloc: Global, setup: &Setup) -> Result<Watch, AllocError>
+        requires { checked setup.now ≡ Ok tt }
+        ensures setup { IfOk result (λ w. w.setup ≡ setup.now) }
+        ensures heard { IfOk result (λ w. HasHeard w []) }
+    {
+        setup.opening.pairs_are_sound();
+        let image = opened(Image::empty(setup.slots, setup.callers()), setup)?;
+        let mut registers = Vec::new(alloc);
+        for number in 0..usize::from(setup.processes) * FIELDS {
+            let looks = opening_looks(alloc, setup, image.bytes(), number)?;
+            registers.push(looks)?;
+        }
+        Ok(Watch {
+            setup: *setup,
+            registers,
+        })
+    }
+
+    /// One more entry, whatever it is: whether it keeps the law, after the entries heard before. It takes no memory.
+    ///
+    /// An access of a bit that is not there leaves no trace, and its entry is said to keep the law. So it does, if no
+    /// entry before it was of such a bit.
+    pub fn hear(&mut self, entry: &Entry) -> bool
+        ensures setup { self.new.setup ≡ self.old.setup }
+        ensures heard { (past : Past) → HasHeard self.old past → HasHeard self.new (entry.now ∷ past) }
+        ensures there { (past : Past) → HasHeard self.old past → IsOfThere self.old.setup entry.now → MatchBool result (KeepsSafe self.old.setup past entry.now) (KeepsSafe self.old.setup past entry.now → ⊥) }
+        ensures stray { (a : Made) → entry.now.access ≡ Some a → (IsThere self.old.setup a → ⊥) → result ≡ true }
+        ensures first { (past : Past) → HasHeard self.old past → AllAreOfThere self.old.setup past → MatchBool result (KeepsSafe self.old.setup past entry.now) (KeepsSafe self.old.setup past entry.now → ⊥) }
+    {
+        match &entry.act.access {
+            Some(access) => self.hear_access(*access),
+            None => true,
+        }
+    }
+
+    /// The same of an entry with this access, whatever its process and its marks.
+    #[inline]
+    pub fn hear_access(&mut self, access: Access) -> bool
+        ensures setup { self.new.setup ≡ self.old.setup }
+        ensures heard { (past : Past) (e : Noted) → e.access ≡ Some access → HasHeard self.old past → HasHeard self.new (e ∷ past) }
+        ensures there { (past : Past) (e : Noted) → e.access ≡ Some access → HasHeard self.old past → IsThere self.old.setup access → MatchBool result (KeepsSafe self.old.setup past e) (KeepsSafe self.old.setup past e → ⊥) }
+        ensures stray { (IsThere self.old.setup access → ⊥) → result ≡ true }
+        ensures first { (past : Past) (e : Noted) → e.access ≡ Some access → HasHeard self.old past → AllAreOfThere self.old.setup past → MatchBool result (KeepsSafe self.old.setup past e) (KeepsSafe self.old.setup past e → ⊥) }
+    {
+        if !is_there(&self.setup, &access) {
+            return true;
+        }
+        self.hear_there(access)
+    }
+
+    /// Whether an access that is made now ends a read that a write overlapped. An access of a bit that is not there
+    /// is said to end none.
+    pub fn overlaps(&self, access: &Access) -> bool
+        ensures there { (past : Past) → HasHeard self.now past → IsThere self.now.setup access.now → begins_read (moves_of access.now past) ≡ true → result ≡ ends_overlapped (moves_of access.now past) access.now.how }
+        ensures stray { (IsThere self.now.setup access.now → ⊥) → result ≡ false }
+    {
+        is_there(&self.setup, access) && self.overlaps_there(access)
+    }
+
+    /// The same of a bit that there is.
+    #[inline]
+    fn overlaps_there(&self, access: &Access) -> bool
+        requires { IsThere self.now.setup access.now }
+        ensures { (past : Past) → HasHeard self.now past → begins_read (moves_of access.now past) ≡ true → result ≡ ends_overlapped (moves_of access.now past) access.now.how }
+    {
+        let place = copy_of(&self.setup, access);
+        let look = self.registers[register_of(access)].get(place);
+        look.overlaps(access.how)
+    }
+
+    /// One more access, of a bit that there is.
+    #[inline]
+    fn hear_there(&mut self, access: Access) -> bool
+        requires { IsThere self.old.setup access }
+        ensures setup { self.new.setup ≡ self.old.setup }
+        ensures heard { (past : Past) (e : Noted) → e.access ≡ Some access → HasHeard self.old past → HasHeard self.new (e ∷ past) }
+        ensures answer { (past : Past) (e : Noted) → e.access ≡ Some access → HasHeard self.old past → MatchBool result (KeepsSafe self.old.setup past e) (KeepsSafe self.old.setup past e → ⊥) }
+    {
+        let register = register_of(&access);
+        let place = copy_of(&self.setup, &access);
+        let looks = &mut self.registers[register];
+        let look = looks.get(place);
+        looks.set(place, look.with(access.how));
+        look.allows(access.how)
+    }
+}
+
+/// The looks of the bits of a register before the first entry, where the first image of process 0 opens at these bytes.
+fn opening_looks(
+    alloc: Global,
+    setup: &Setup,
+    image: &[u8],
+    number: usize,
+) -> Result<Looks, AllocError>
+    requires good { checked setup.now ≡ Ok tt }
+    requires image { image.now ≡ image_of (opening_store setup.now) }
+    ensures bits { (field : Register) → number % 7 ≡ field_number field → IfOk result (λ looks. length looks ≡ setup.now.processes * width setup.now field) }
+    ensures looks { (a : Made) → register_of a ≡ number → IsThere setup.now a → IfOk result (λ looks. slice_index_or looks (copy_of setup.now a) (look_of false []) ≡ look_of (opening_bit setup.now a) []) }
+{
+    let field = field_at(number % FIELDS);
+    let width = width(setup, field);
+    let mut looks = Looks::new(alloc, usize::from(setup.processes) * width)?;
+    if number != IMAGE0 {
+        return Ok(looks);
+    }
+    open_copies(&mut looks, image, width);
+    Ok(looks)
+}
+
+/// The number of the first image of process 0 among the registers.
+const IMAGE0: usize = 5;
+
+/// Each reader's copy of each bit opens as in these bytes.
+fn open_copies(looks: &mut Looks, bytes: &[u8], width: usize)
+    requires { 0 < width × width < 65536 }
+    ensures length { length looks.new ≡ length looks.old }
+    ensures each { (k : ℕ) → k < length looks.old → slice_index_or looks.new k (look_of false []) ≡ look_of (bit_in bytes.now (k % width)) [] }
+{
+    for k in 0..looks.len() {
+        looks.set(k, Look::opening(bit_of(bytes, (k % width) as u16)));
+    }
+}

@@ -1,0 +1,35 @@
+//! What callers get from the contracts of a world and of a replay alone: no law is called here, and no proof of
+//! the crates below is cited.
+ghost use Rattle.std.specs.Prelude.{◌-◌, ◌^◌, ◌<◌, IfOk, OnOk};
+ghost use Rattle.record.specs.Records.{process_of};
+ghost use Rattle.scenario_tests.specs.Uses.{AreAlone, InputPrintsTrueReplies};
+
+use engines::progress::Nobody;
+use engines::{Summary, replay};
+use record::{Act, Event, Refusal};
+use scenario::{Fault, Sink, Source};
+use std::alloc::Global;
+use world::World;
+
+/// Two events, one after the other: with the entry of each no two processes are inside the critical section.
+pub fn two_events(world: &mut World, first: Event, second: Event) -> Result<(Act, Act), Refusal>
+    ensures alone { IfOk result (λ acts. AreAlone (process_of first) acts.0 (process_of second) acts.1) }
+{
+    world.shown();
+    let one = world.event(first)?;
+    let two = world.event(second)?;
+    Ok((one, two))
+}
+
+/// A replay: each reply that it prints is the one-thread store's at its place in the history.
+pub fn printed_replies<R: Source, W: Sink>(
+    alloc: Global,
+    input: &mut R,
+    output: &mut W,
+) -> Result<Summary, Fault>
+    requires reads { R.failures input.old < 2 ^ 64 - 1 }
+    requires writes { W.failures output.old < 2 ^ 64 - 1 }
+    ensures replies { OnOk result (InputPrintsTrueReplies (R.to_come input.old) (W.taken output.old) (W.taken output.new)) }
+{
+    replay(alloc, input, output, &mut Nobody)
+}

@@ -1,0 +1,139 @@
+-- The registers as they open.
+use Rattle.std.proofs.Common.{◌≡◌, ◌⊎◌, ℕ, zero, suc, ◌+◌, ◌<◌, ◌≤◌, Bool, true, false, List, [], ◌∷◌, length, map, replicate, get_or, inl, inr, refl, sym, ap, ◌∙◌, subst, arith}
+use Rattle.std.proofs.lemmas.Bool.{cases_lt}
+use Rattle.std.proofs.lemmas.List.{get_or_past}
+use Rattle.std.proofs.lemmas.List.FromFn.{length-map-range_with_len, get_or-map-range_with_len}
+use Rattle.std.specs.List.{range_with_len}
+use Rattle.reader_copies.specs.safe_bit.Cell.{Cell, new_cell}
+use Rattle.reader_copies.specs.Row.{new_row, cell_at, IsClosed, IsRow}
+use Rattle.safe_number.specs.Bytes.{bit_in, bits_in}
+use Rattle.safe_number.specs.Runs.{preset_number}
+use Rattle.record.specs.declared.access.Access.{Access}
+use Rattle.record.specs.declared.access.Field.{Field}
+use Rattle.record.specs.declared.access.Field.TheVariants.{Choosing, Ticket, Commit, Stamp0, Stamp1, Image0, Image1}
+use Rattle.safe_number.proofs.Numbers.{range_same, get-bits}
+use Rattle.store_image.specs.Image.{image_of}
+use Rattle.plain_store.specs.Setups.{opening_store}
+use Rattle.plain_store.specs.declared.Setup.{Setup}
+use Rattle.record.specs.Newest.{copy}
+use Rattle.record.specs.Registers.{width, opening_bit}
+use Rattle.section.specs.Newest.{IsQuiet}
+use Rattle.section.specs.Registers.{Data, FitsSetup, is_data, no_data, register_of, register_at, data_from, row_from, register_from, opening_cell, zero_cell}
+
+-- a constant over a range
+pub const-range : {X : Type 0} (x : X) (a n : ℕ) → replicate n x ≡ map (λ (k : ℕ). x) (range_with_len a n)
+const-range x a zero = refl
+const-range x a (suc n) = ap (λ xs. x ∷ xs) (const-range x (a + 1) n)
+
+-- a register that is 0
+pub zero-register : (s : Setup) (owner : ℕ) (field : Field) → new_row (width s field) s.processes ≡ register_from zero_cell s owner field
+zero-register s owner field =
+    ap (replicate s.processes) (const-range (new_cell false) 0 (width s field))
+    ∙ const-range (map (λ (k : ℕ). new_cell false) (range_with_len 0 (width s field))) 0 s.processes
+
+-- all processes but the first open at 0
+pub open-other : (s : Setup) (p q : ℕ) → (p ≡ 0 → ⊥) → data_from zero_cell s q ≡ data_from (opening_cell s) s p
+open-other s zero q other = absurd (other refl)
+open-other s (suc p) q other = refl
+
+-- preset copies
+preset-copies : (bytes : List ℕ) (w a n : ℕ) → map (λ (copies : List Cell). map (λ k. new_cell (bit_in bytes k)) (range_with_len 0 (length copies))) (map (λ (reader : ℕ). map (λ (k : ℕ). new_cell false) (range_with_len 0 w)) (range_with_len a n))
+    ≡ map (λ (reader : ℕ). map (λ k. new_cell (get_or (bits_in bytes w) k false)) (range_with_len 0 w)) (range_with_len a n)
+preset-copies bytes w a zero = refl
+preset-copies bytes w a (suc n) = λ i. copies i ∷ preset-copies bytes w (a + 1) n i
+  where
+    copies : map (λ k. new_cell (bit_in bytes k)) (range_with_len 0 (length (map (λ (k : ℕ). new_cell false) (range_with_len 0 w)))) ≡ map (λ k. new_cell (get_or (bits_in bytes w) k false)) (range_with_len 0 w)
+    copies =
+        ap (λ m. map (λ k. new_cell (bit_in bytes k)) (range_with_len 0 m)) (length-map-range_with_len (λ (k : ℕ). new_cell false) 0 w)
+        ∙ range_same (λ k. new_cell (get_or (bits_in bytes w) k false)) (λ k. new_cell (bit_in bytes k)) w (new_cell false) (λ j inside. ap new_cell (sym (get-bits bytes w j inside)))
+
+-- the first process opens with the opening store's image
+pub open-first : (s : Setup) → (let d : Data = record (data_from zero_cell s 0) { image0 = preset_number (register_from zero_cell s 0 Image0) (image_of (opening_store s)) } in d) ≡ data_from (opening_cell s) s 0
+open-first s = ap (λ register. let d : Data = record (data_from zero_cell s 0) { image0 = register } in d) (preset-copies (image_of (opening_store s)) (width s Image0) 0 s.processes)
+
+-- no access to a copy of a row that opens is open
+closed-copies : (opens : ℕ → Bool) (a w bit : ℕ) → IsClosed (get_or (map (λ (k : ℕ). new_cell (opens k)) (range_with_len a w)) bit (new_cell false))
+closed-copies opens a zero bit = (refl, refl)
+closed-copies opens a (suc w) zero = (refl, refl)
+closed-copies opens a (suc w) (suc bit) = closed-copies opens (a + 1) w bit
+
+closed-row : (opens : ℕ → ℕ → Bool) (w a n bit reader : ℕ) → IsClosed (cell_at (map (λ (r : ℕ). map (λ (k : ℕ). new_cell (opens r k)) (range_with_len 0 w)) (range_with_len a n)) bit reader)
+closed-row opens w a zero bit reader = (refl, refl)
+closed-row opens w a (suc n) bit zero = closed-copies (opens a) 0 w bit
+closed-row opens w a (suc n) bit (suc reader) = closed-row opens w (a + 1) n bit reader
+
+-- no access to a register that is 0 is open
+pub zero-closed : (s : Setup) (owner : ℕ) (field : Field) (bit reader : ℕ) → IsClosed (cell_at (register_from zero_cell s owner field) bit reader)
+zero-closed s owner field bit reader = closed-row (λ r k. false) (width s field) 0 s.processes bit reader
+
+-- nor one to a register as it opens
+open-closed : (s : Setup) (owner : ℕ) (field : Field) (bit reader : ℕ) → IsClosed (cell_at (register_of (data_from (opening_cell s) s owner) field) bit reader)
+open-closed s owner Choosing bit reader = (refl, refl)
+open-closed s owner Ticket bit reader = (refl, refl)
+open-closed s owner Commit bit reader = closed-row (λ r k. opening_bit s (copy owner Commit r k)) 1 0 s.processes bit reader
+open-closed s owner Stamp0 bit reader = closed-row (λ r k. opening_bit s (copy owner Stamp0 r k)) s.stamp_bits 0 s.processes bit reader
+open-closed s owner Stamp1 bit reader = closed-row (λ r k. opening_bit s (copy owner Stamp1 r k)) s.stamp_bits 0 s.processes bit reader
+open-closed s owner Image0 bit reader = closed-row (λ r k. opening_bit s (copy owner Image0 r k)) (width s Image0) 0 s.processes bit reader
+open-closed s owner Image1 bit reader = closed-row (λ r k. opening_bit s (copy owner Image1 r k)) (width s Image1) 0 s.processes bit reader
+
+no-register : (field : Field) → register_of no_data field ≡ []
+no-register Choosing = refl
+no-register Ticket = refl
+no-register Commit = refl
+no-register Stamp0 = refl
+no-register Stamp1 = refl
+no-register Image0 = refl
+no-register Image1 = refl
+
+-- so no write is open as the registers open
+pub opens-quiet : (s : Setup) → IsQuiet (row_from (opening_cell s) s)
+opens-quiet s = record { closed = λ p field bit there. go p field bit (cases_lt p s.processes) }
+  where
+    parts : List Data
+    parts = map (data_from (opening_cell s) s) (range_with_len 0 s.processes)
+
+    go : (p : ℕ) (field : Field) (bit : ℕ) → (p < s.processes) ⊎ (s.processes ≤ p) → (cell_at (register_of (get_or parts p no_data) field) bit 0).writing ≡ false
+    go p field bit (inl inside) = ap (λ (d : Data). (cell_at (register_of d field) bit 0).writing) (get_or-map-range_with_len (data_from (opening_cell s) s) 0 s.processes p p no_data inside (omega arith)) ∙ (open-closed s p field bit 0).0
+    go p field bit (inr past) =
+        ap (λ (d : Data). (cell_at (register_of d field) bit 0).writing) (get_or_past parts p no_data (omega (arith, past, length-map-range_with_len (data_from (opening_cell s) s) 0 s.processes)))
+        ∙ ap (λ register. (cell_at register bit 0).writing) (no-register field)
+
+-- how many bits the copies of its first reader have
+pub zero-wide : (s : Setup) (owner : ℕ) (field : Field) → 0 < s.processes → length (get_or (register_from zero_cell s owner field) 0 []) ≡ width s field
+zero-wide s owner field some =
+    let copies : ℕ → List Cell = λ r. map (λ (k : ℕ). new_cell false) (range_with_len 0 (width s field)) in
+    let none : List Cell = [] in
+    ap length (get_or-map-range_with_len copies 0 s.processes 0 0 none some refl) ∙ length-map-range_with_len (λ (k : ℕ). new_cell false) 0 (width s field)
+
+-- a register that has these cells is one of its width, with a copy for each process
+row-wide : (cells : Access → Cell) (s : Setup) (owner : ℕ) (field : Field) → 0 < s.processes → IsRow (register_from cells s owner field) (width s field)
+row-wide cells s owner field some = record { readers = omega (arith, some, all); widths = λ reader inside. wide reader (omega (arith, inside, all)) }
+  where
+    copies : ℕ → List Cell
+    copies = λ reader. map (λ k. cells (copy owner field reader k)) (range_with_len 0 (width s field))
+
+    all : length (register_from cells s owner field) ≡ s.processes
+    all = length-map-range_with_len copies 0 s.processes
+
+    wide : (reader : ℕ) → reader < s.processes → length (get_or (register_from cells s owner field) reader []) ≡ width s field
+    wide reader inside = ap length (get_or-map-range_with_len copies 0 s.processes reader reader [] inside (omega arith)) ∙ length-map-range_with_len (λ k. cells (copy owner field reader k)) 0 (width s field)
+
+data-register : (cells : Access → Cell) (s : Setup) (owner : ℕ) (field : Field) → is_data field ≡ true → register_from cells s owner field ≡ register_of (data_from cells s owner) field
+data-register cells s owner Choosing is = cc
+data-register cells s owner Ticket is = cc
+data-register cells s owner Commit is = refl
+data-register cells s owner Stamp0 is = refl
+data-register cells s owner Stamp1 is = refl
+data-register cells s owner Image0 is = refl
+data-register cells s owner Image1 is = refl
+
+-- registers with these cells are those of their setup
+pub opens-fitting : (cells : Access → Cell) (s : Setup) → 0 < s.processes → FitsSetup s (row_from cells s)
+opens-fitting cells s some = record {
+  parts = length-map-range_with_len (data_from cells s) 0 s.processes;
+  widths = λ p field inside is. subst (λ register. IsRow register (width s field)) (found p field inside is) (row-wide cells s p field some);
+  readers = λ p field inside is. ap length (sym (found p field inside is)) ∙ length-map-range_with_len (λ reader. map (λ k. cells (copy p field reader k)) (range_with_len 0 (width s field))) 0 s.processes;
+}
+  where
+    found : (p : ℕ) (field : Field) → p < s.processes → is_data field ≡ true → register_from cells s p field ≡ register_at (row_from cells s) p field
+    found p field inside is = data-register cells s p field is ∙ sym (ap (λ (d : Data). register_of d field) (get_or-map-range_with_len (data_from cells s) 0 s.processes p p no_data inside (omega arith)))

@@ -1,0 +1,48 @@
+-- The widths of the registers of a good setup.
+use Rattle.std.proofs.Common.{◌≡◌, ℕ, ◌*◌, ◌≤◌, Bool, true, false, Ok, refl, arith}
+use Rattle.std.proofs.lemmas.Bool.Decides.{nat_tests}
+use Rattle.plain_store.specs.Setups.{checked}
+use Rattle.plain_store.specs.declared.Setup.{Setup}
+use Rattle.plain_store.proofs.GoodSetups.{good-checked}
+use Rattle.record.specs.Program.{stamp_field, image_field}
+use Rattle.record.specs.Registers.{width, image_bytes}
+use Rattle.section.specs.declared.change.Change.{Change}
+use Rattle.section.specs.declared.change.Written.{Written}
+use Rattle.section.specs.declared.change.Written.TheVariants.{Image, Stamp, Commit}
+use Rattle.section.specs.Changes.{FitsWidth, change_field}
+use Rattle.section.specs.Keeping.{IsChange}
+
+-- the ranges of a good setup
+pub record AreRanges (s : Setup) : Type 0 where
+  pub some_processes : 1 ≤ s.processes
+  pub few_processes : s.processes ≤ 16
+  pub some_bits : 1 ≤ s.stamp_bits
+  pub few_bits : s.stamp_bits ≤ 32
+  pub some_slots : 1 ≤ s.slots
+  pub few_slots : s.slots ≤ 8
+
+pub ranges : (s : Setup) → checked s ≡ Ok tt → AreRanges s
+ranges s good =
+    let g = good-checked s good in
+    record {
+      some_processes = grind (arith, nat_tests, g.processes);
+      few_processes = grind (arith, nat_tests, g.processes);
+      some_bits = grind (arith, nat_tests, g.stamp_bits);
+      few_bits = grind (arith, nat_tests, g.stamp_bits);
+      some_slots = grind (arith, nat_tests, g.slots);
+      few_slots = grind (arith, nat_tests, g.slots);
+    }
+
+pub width-stamp : (s : Setup) (b : Bool) → width s (stamp_field b) ≡ s.stamp_bits
+width-stamp s true = refl
+width-stamp s false = refl
+
+pub width-image : (s : Setup) (b : Bool) → width s (image_field b) ≡ 8 * image_bytes s
+width-image s true = refl
+width-image s false = refl
+
+-- a register of the width of its field takes a part of a change
+pub fits-change : (s : Setup) (part : Written) (change : Change) (w : ℕ) → checked s ≡ Ok tt → IsChange s change → w ≡ width s (change_field part change) → FitsWidth part change w
+fits-change s Image change w good is wide = omega (arith, wide, width-image s change.commit, is.slots, is.numbers)
+fits-change s Stamp change w good is wide = omega (arith, wide, width-stamp s change.commit, (ranges s good).few_bits)
+fits-change s Commit change w good is wide = omega (arith, wide)

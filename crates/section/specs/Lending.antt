@@ -1,0 +1,17 @@
+-- The lending of one process's part, and of one of its registers.
+use Rattle.std.specs.Prelude.{ℕ, List, slice_set}
+use Rattle.std.specs.Borrow.{Lends, MutBor, Fml}
+use Rattle.reader_copies.specs.safe_bit.Cell.{Cell}
+use Rattle.record.specs.declared.access.Field.{Field}
+use Rattle.safe_number.specs.contracts.register.Register as register
+use Rattle.section.specs.contracts.data.Data as part
+use Rattle.section.specs.contracts.data_row.DataRow as row
+use Rattle.section.specs.Registers.{Data, DataRow, with_register}
+
+-- r lends the part of p alone: what is last left behind r becomes that part, and all else stays
+abbrev pub LendsPart : MutBor DataRow → ℕ → MutBor Data → Fml
+LendsPart all p r = Lends row.the_row part.the_row all r (λ d. record all.now { parts = slice_set all.now.parts p d })
+
+-- r lends this register alone
+abbrev pub LendsRegister : MutBor Data → Field → MutBor (List (List Cell)) → Fml
+LendsRegister all field r = Lends part.the_row register.the_row all r (with_register all.now field)

@@ -1,6 +1,0 @@
-use Rattle.watch.proofs.Opened.{AreOpened}
-use Rattle.watch.proofs.watch.Watch.new.Given as goal
-
--- the registers so far look as they open
-abbrev pub invariant-loop-number : goal.invariant-loop-number
-invariant-loop-number l = AreOpened l.setup l.registers.items l.number

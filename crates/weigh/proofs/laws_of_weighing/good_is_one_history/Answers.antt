@@ -1,5 +1,0 @@
-use Rattle.weigh.proofs.Histories.{one_history}
-use Rattle.weigh.proofs.laws_of_weighing.good_is_one_history.Goals as goal
-
-pub returns : goal.returns
-returns x = one_history

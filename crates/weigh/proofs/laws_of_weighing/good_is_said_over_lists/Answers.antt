@@ -1,5 +1,0 @@
-use Rattle.weigh.proofs.SecondReading.{good_is_said}
-use Rattle.weigh.proofs.laws_of_weighing.good_is_said_over_lists.Goals as goal
-
-pub returns : goal.returns
-returns x = good_is_said

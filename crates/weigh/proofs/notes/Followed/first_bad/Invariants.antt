@@ -1,9 +1,0 @@
-use Rattle.std.proofs.Common.{ℕ, List}
-use Rattle.plain_store.specs.declared.Setup.{Setup}
-use Rattle.weigh.specs.declared.calls.Call.{Call}
-use Rattle.weigh.specs.Following.{ArePart, IsFollowed, IsJudged}
-use Rattle.weigh.proofs.notes.Followed.first_bad.Given as goal
-
--- no call before the present one is bad
-abbrev pub invariant-loop-index : goal.invariant-loop-index
-invariant-loop-index l = (s : Setup) (calls : List Call) (p : ℕ) → ArePart calls p l.before l.list → IsFollowed s calls l.self.notes.items l.self.count l.self.store l.self.several → IsJudged s calls l.self.count l.self.store p l.list l.index l.least
