@@ -8,9 +8,9 @@ use Rattle.any_lock.specs.Laws.{first_broken}
 use Rattle.any_lock.specs.Reasons.{AreReasons}
 use Rattle.any_lock.specs.Verdicts.{verdict_of, verdict_with}
 use Rattle.any_lock.specs.declared.reasons.Reasons.{Reasons}
-use Rattle.any_lock.specs.declared.verdicts.Law.{Law}
-use Rattle.any_lock.specs.declared.verdicts.Verdict.{Verdict}
-use Rattle.any_lock.specs.declared.verdicts.Verdict.TheVariants.{Good, Bad}
+use Rattle.any_lock.specs.declared.verdicts.AnyLockLaw.{AnyLockLaw}
+use Rattle.any_lock.specs.declared.verdicts.AnyLockVerdict.{AnyLockVerdict}
+use Rattle.any_lock.specs.declared.verdicts.AnyLockVerdict.TheVariants.{Good, Bad}
 use Rattle.any_lock.proofs.Told.{newest_first, verdict_bad, verdict_good}
 use Rattle.any_judge.specs.Explanations.{AreLinesAt, AreLinesOf, Explains, ExplainsIf, HasExplained, TellsReasons, is_good}
 use Rattle.any_judge.specs.Judgements.{TellsVerdict, status_of_verdict, verdict_line}
@@ -40,7 +40,7 @@ and_false : (b : Bool) → (b && not true) ≡ false
 and_false true = refl
 and_false false = refl
 
-pub good_is : (v : Verdict) → is_good v ≡ true → v ≡ Good
+pub good_is : (v : AnyLockVerdict) → is_good v ≡ true → v ≡ Good
 good_is Good is = refl
 good_is (Bad k l) is = absurd (true≢false (sym is))
 
@@ -50,9 +50,9 @@ pub explained_now : (j j' : JudgeState) (lines lines' : List ℕ) (n : ℕ) (e :
 explained_now j j' lines lines' n e s entries numbers explained good judged bad explains = by (first_broken s (reverse entries) e) (verdict_good s entries e (sym explained.judged.verdict ∙ good))
   where
     empty : lines ≡ []
-    empty = subst (λ (v : Verdict). AreLinesOf s entries numbers v lines) good explained.are
+    empty = subst (λ (v : AnyLockVerdict). AreLinesOf s entries numbers v lines) good explained.are
 
-    by : (broken : Option Law) → verdict_of s (entries ++ e ∷ []) ≡ verdict_with (length entries) broken → HasExplained j' lines' s (entries ++ e ∷ []) (numbers ++ n ∷ [])
+    by : (broken : Option AnyLockLaw) → verdict_of s (entries ++ e ∷ []) ≡ verdict_with (length entries) broken → HasExplained j' lines' s (entries ++ e ∷ []) (numbers ++ n ∷ [])
     by None is = absurd (true≢false (sym (ap is_good (judged.verdict ∙ is)) ∙ bad))
     by (Some l) is =
         let told = explains s (entries ++ e ∷ []) judged (length entries) l is in
@@ -67,7 +67,7 @@ explained_now j j' lines lines' n e s entries numbers explained good judged bad 
         record {
           judged = judged;
           counted = let had : length numbers ≡ length entries = explained.counted in omega (arith, had, length-append numbers (n ∷ []), length-append entries (e ∷ []));
-          are = subst (λ (v : Verdict). AreLinesOf s (entries ++ e ∷ []) (numbers ++ n ∷ []) v lines') (sym (judged.verdict ∙ is)) (record {
+          are = subst (λ (v : AnyLockVerdict). AreLinesOf s (entries ++ e ∷ []) (numbers ++ n ∷ []) v lines') (sym (judged.verdict ∙ is)) (record {
             entry = e;
             past = reverse entries;
             later = [];
@@ -94,13 +94,13 @@ explained_still j j' lines n e s entries numbers explained judged never = record
     not_not true is = refl
     not_not false is = absurd (true≢false is)
 
-    by : (v : Verdict) → j.verdict ≡ v → (is_good v && not (is_good j'.verdict)) ≡ false → AreLinesOf s (entries ++ e ∷ []) (numbers ++ n ∷ []) j'.verdict lines
+    by : (v : AnyLockVerdict) → j.verdict ≡ v → (is_good v && not (is_good j'.verdict)) ≡ false → AreLinesOf s (entries ++ e ∷ []) (numbers ++ n ∷ []) j'.verdict lines
     by Good is never =
-        subst (λ (v : Verdict). AreLinesOf s (entries ++ e ∷ []) (numbers ++ n ∷ []) v lines) (sym (good_is j'.verdict (not_not (is_good j'.verdict) never)))
-        (subst (λ (v : Verdict). AreLinesOf s entries numbers v lines) is explained.are)
+        subst (λ (v : AnyLockVerdict). AreLinesOf s (entries ++ e ∷ []) (numbers ++ n ∷ []) v lines) (sym (good_is j'.verdict (not_not (is_good j'.verdict) never)))
+        (subst (λ (v : AnyLockVerdict). AreLinesOf s entries numbers v lines) is explained.are)
     by (Bad k l) is never =
-        let at : AreLinesAt s entries numbers k l lines = subst (λ (v : Verdict). AreLinesOf s entries numbers v lines) is explained.are in
-        subst (λ (v : Verdict). AreLinesOf s (entries ++ e ∷ []) (numbers ++ n ∷ []) v lines) (sym (judged.verdict ∙ verdict_bad s entries e k l (sym explained.judged.verdict ∙ is))) (record {
+        let at : AreLinesAt s entries numbers k l lines = subst (λ (v : AnyLockVerdict). AreLinesOf s entries numbers v lines) is explained.are in
+        subst (λ (v : AnyLockVerdict). AreLinesOf s (entries ++ e ∷ []) (numbers ++ n ∷ []) v lines) (sym (judged.verdict ∙ verdict_bad s entries e k l (sym explained.judged.verdict ∙ is))) (record {
           entry = at.entry;
           past = at.past;
           later = e ∷ at.later;
@@ -129,18 +129,18 @@ explained_on j j' lines lines' n e s entries numbers explained judged explains =
 
 -- before the first entry
 pub explained_first : (j : JudgeState) (s : Setup) → HasJudged j s [] → HasExplained j [] s [] []
-explained_first j s judged = record { judged = judged; counted = refl; are = subst (λ (v : Verdict). AreLinesOf s [] [] v []) (sym judged.verdict) refl }
+explained_first j s judged = record { judged = judged; counted = refl; are = subst (λ (v : AnyLockVerdict). AreLinesOf s [] [] v []) (sym judged.verdict) refl }
 
 -- what is told
 pub tells : (j : JudgeState) (lines told : List ℕ) (status : ℕ) (s : Setup) (entries : List Entry) (numbers : List ℕ) → HasExplained j lines s entries numbers → status ≡ status_of_verdict (verdict_of s entries) → told ≡ verdict_line (length entries) (verdict_of s entries) ++ lines → TellsReasons s entries numbers told status
 tells j lines told status s entries numbers explained answer text = record {
   lines = lines;
-  are = subst (λ (v : Verdict). AreLinesOf s entries numbers v lines) explained.judged.verdict explained.are;
+  are = subst (λ (v : AnyLockVerdict). AreLinesOf s entries numbers v lines) explained.judged.verdict explained.are;
   answer = answer;
   text = text;
 }
 
-pub tells_verdict : (s : Setup) (entries : List Entry) (numbers told : List ℕ) (status n : ℕ) (v : Verdict) → v ≡ verdict_of s entries → n ≡ length entries → status ≡ status_of_verdict v → told ≡ verdict_line n v → TellsVerdict s entries numbers told status
+pub tells_verdict : (s : Setup) (entries : List Entry) (numbers told : List ℕ) (status n : ℕ) (v : AnyLockVerdict) → v ≡ verdict_of s entries → n ≡ length entries → status ≡ status_of_verdict v → told ≡ verdict_line n v → TellsVerdict s entries numbers told status
 tells_verdict s entries numbers told status n v is count answer line = record {
   answer = answer ∙ ap status_of_verdict is;
   line = line ∙ ap (λ k. verdict_line k v) count ∙ ap (verdict_line (length entries)) is;
@@ -154,8 +154,8 @@ ok_then (Err e) then p = tt
 -- whether reasons are there or not
 pub explains_none : (j : JudgeState) (n : ℕ) (e : Entry) (lines : List ℕ) → ((s : Setup) (entries : List Entry) → HasJudged j s entries → AreReasonsOf s entries (verdict_of s entries) None) → Explains j n e lines lines
 explains_none j n e lines none s entries judged k l is =
-    let at : AreReasonsAt s entries k l None = subst (λ (v : Verdict). AreReasonsOf s entries v None) is (none s entries judged) in
+    let at : AreReasonsAt s entries k l None = subst (λ (v : AnyLockVerdict). AreReasonsOf s entries v None) is (none s entries judged) in
     let no : None ≡ Some at.told = at.is in absurd (cc)
 
 pub explains_some : (j : JudgeState) (n : ℕ) (e : Entry) (lines lines' : List ℕ) (r : Reasons) → ((s : Setup) (entries : List Entry) → HasJudged j s entries → AreReasonsOf s entries (verdict_of s entries) (Some r)) → lines' ≡ lines ++ reason_lines n e r → Explains j n e lines lines'
-explains_some j n e lines lines' r reasons written s entries judged k l is = (r, subst (λ (v : Verdict). AreReasonsOf s entries v (Some r)) is (reasons s entries judged), written)
+explains_some j n e lines lines' r reasons written s entries judged k l is = (r, subst (λ (v : AnyLockVerdict). AreReasonsOf s entries v (Some r)) is (reasons s entries judged), written)

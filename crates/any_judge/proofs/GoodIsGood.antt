@@ -19,9 +19,9 @@ use Rattle.judge.specs.auditor.Verdicts as own
 use Rattle.judge.specs.auditor.declared.verdicts.Law.TheVariants as law
 use Rattle.judge.proofs.auditor.Recovers.{recovers}
 use Rattle.judge.proofs.auditor.Whole.{of_events}
-use Rattle.any_lock.specs.declared.verdicts.Law.TheVariants as any
-use Rattle.any_lock.specs.declared.verdicts.Verdict.{Verdict}
-use Rattle.any_lock.specs.declared.verdicts.Verdict.TheVariants.{Good, Bad}
+use Rattle.any_lock.specs.declared.verdicts.AnyLockLaw.TheVariants as any
+use Rattle.any_lock.specs.declared.verdicts.AnyLockVerdict.{AnyLockVerdict}
+use Rattle.any_lock.specs.declared.verdicts.AnyLockVerdict.TheVariants.{Good, Bad}
 use Rattle.any_lock.specs.Laws.{breaks_overtaken, breaks_safe, broken_later, first_broken}
 use Rattle.any_lock.specs.Refusals.{refusal_of_access, refusal_of_marks}
 use Rattle.any_lock.specs.Standings.{has_access}
@@ -70,7 +70,7 @@ good_past : (s : Setup) → checked s ≡ Ok tt → (past : Past) → own.AllKee
 good_past s good [] all = refl
 good_past s good (e ∷ past) all =
     let kept : AllKeep s (e ∷ past) = all_keep s good (e ∷ past) all in
-    ap (λ v. elim v as (λ _. Verdict) [ Good ↦ verdict_with (length past) (first_broken s past e) | Bad k l ↦ Bad k l ]) (good_past s good past all.1)
+    ap (λ v. elim v as (λ _. AnyLockVerdict) [ Good ↦ verdict_with (length past) (first_broken s past e) | Bad k l ↦ Bad k l ]) (good_past s good past all.1)
     ∙ ap (verdict_with (length past)) (breaks_none s past e (broken_by s past e (all.0 law.Safe)) kept.0)
 
 pub good_is_good : GoodIsGood

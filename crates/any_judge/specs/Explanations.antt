@@ -6,9 +6,9 @@ use Rattle.any_lock.specs.Judging.{AreReasonsAt, HasJudged, JudgeState}
 use Rattle.any_lock.specs.Reasons.{AreReasons}
 use Rattle.any_lock.specs.Verdicts.{verdict_of}
 use Rattle.any_lock.specs.declared.reasons.Reasons.{Reasons}
-use Rattle.any_lock.specs.declared.verdicts.Law.{Law}
-use Rattle.any_lock.specs.declared.verdicts.Verdict.{Verdict}
-use Rattle.any_lock.specs.declared.verdicts.Verdict.TheVariants.{Good, Bad}
+use Rattle.any_lock.specs.declared.verdicts.AnyLockLaw.{AnyLockLaw}
+use Rattle.any_lock.specs.declared.verdicts.AnyLockVerdict.{AnyLockVerdict}
+use Rattle.any_lock.specs.declared.verdicts.AnyLockVerdict.TheVariants.{Good, Bad}
 use Rattle.trial.specs.Ends.{TrialEnds}
 use Rattle.trial.specs.files.Engines.{Streams}
 use Rattle.trial.specs.files.declared.faults.Fault.{Fault}
@@ -16,7 +16,7 @@ use Rattle.any_judge.specs.Judgements.{TellsVerdict, status_of_verdict, verdict_
 use Rattle.any_judge.specs.ReasonLines.{reason_lines}
 
 -- these are the lines of the reasons of the bad entry of a record: entry k breaks law l first, and stands in the line with its number
-pub record AreLinesAt (s : Setup) (entries : List Entry) (numbers : List ℕ) (k : ℕ) (l : Law) (lines : List ℕ) : Type 0 where
+pub record AreLinesAt (s : Setup) (entries : List Entry) (numbers : List ℕ) (k : ℕ) (l : AnyLockLaw) (lines : List ℕ) : Type 0 where
   pub entry : Entry
   pub past : Past
   pub later : Past
@@ -29,7 +29,7 @@ pub record AreLinesAt (s : Setup) (entries : List Entry) (numbers : List ℕ) (k
   pub text : lines ≡ reason_lines number entry reasons
 
 -- these are the lines of the reasons of a verdict on a record: a good one has none
-abbrev pub AreLinesOf : Setup → List Entry → List ℕ → Verdict → List ℕ → Type 0
+abbrev pub AreLinesOf : Setup → List Entry → List ℕ → AnyLockVerdict → List ℕ → Type 0
 AreLinesOf s entries numbers Good lines = lines ≡ []
 AreLinesOf s entries numbers (Bad k l) lines = AreLinesAt s entries numbers k l lines
 
@@ -40,13 +40,13 @@ pub record HasExplained (j : JudgeState) (lines : List ℕ) (s : Setup) (entries
   pub are : AreLinesOf s entries numbers j.verdict lines
 
 -- a verdict is good
-abbrev pub is_good : Verdict → Bool
+abbrev pub is_good : AnyLockVerdict → Bool
 is_good Good = true
 is_good (Bad k l) = false
 
 -- the reasons of the verdict of a judge were written behind a text, for an entry that stands in line n
 abbrev pub Explains : JudgeState → ℕ → Entry → List ℕ → List ℕ → Type 0
-Explains j n e old new = (s : Setup) (entries : List Entry) → HasJudged j s entries → (k : ℕ) (l : Law) → verdict_of s entries ≡ Bad k l → (r : Reasons) × AreReasonsAt s entries k l (Some r) × (new ≡ old ++ reason_lines n e r)
+Explains j n e old new = (s : Setup) (entries : List Entry) → HasJudged j s entries → (k : ℕ) (l : AnyLockLaw) → verdict_of s entries ≡ Bad k l → (r : Reasons) × AreReasonsAt s entries k l (Some r) × (new ≡ old ++ reason_lines n e r)
 
 -- they were, if they are wanted; else nothing was
 abbrev pub ExplainsIf : Bool → JudgeState → ℕ → Entry → List ℕ → List ℕ → Type 0

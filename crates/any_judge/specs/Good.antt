@@ -8,7 +8,7 @@ use Rattle.record.specs.Places.{is_running}
 use Rattle.record.specs.Stages.{stage}
 use Rattle.judge.specs.auditor.Verdicts.{AllKeep, IsVerdict}
 use Rattle.judge.specs.auditor.declared.verdicts.Verdict.TheVariants as own
-use Rattle.any_lock.specs.declared.verdicts.Verdict.TheVariants as any
+use Rattle.any_lock.specs.declared.verdicts.AnyLockVerdict.TheVariants as any
 use Rattle.any_lock.specs.Laws.{breaks_history, breaks_safe, breaks_together}
 use Rattle.any_lock.specs.Standings.{has_access}
 use Rattle.any_lock.specs.Verdicts.{verdict_of}

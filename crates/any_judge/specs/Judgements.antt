@@ -4,15 +4,15 @@ use Rattle.plain_store.specs.declared.setups.Setup.{Setup}
 use Rattle.record.specs.Entries.{Entry}
 use Rattle.any_lock.specs.Shown.{verdict_text}
 use Rattle.any_lock.specs.Verdicts.{verdict_of}
-use Rattle.any_lock.specs.declared.verdicts.Verdict.{Verdict}
-use Rattle.any_lock.specs.declared.verdicts.Verdict.TheVariants.{Good, Bad}
+use Rattle.any_lock.specs.declared.verdicts.AnyLockVerdict.{AnyLockVerdict}
+use Rattle.any_lock.specs.declared.verdicts.AnyLockVerdict.TheVariants.{Good, Bad}
 
 -- the line of a verdict on so many entries
-abbrev pub verdict_line : ℕ → Verdict → List ℕ
+abbrev pub verdict_line : ℕ → AnyLockVerdict → List ℕ
 verdict_line entries verdict = verdict_text entries verdict ++ codes "\n"
 
 -- the exit status of a verdict
-abbrev pub status_of_verdict : Verdict → ℕ
+abbrev pub status_of_verdict : AnyLockVerdict → ℕ
 status_of_verdict Good = 0
 status_of_verdict (Bad entry law) = 3
 

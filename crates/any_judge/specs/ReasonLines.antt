@@ -5,13 +5,13 @@ use Rattle.record.specs.Entries.{Entry}
 use Rattle.trial.specs.ReasonLines.{bad_lines, named_entry, number_line, stage_line, word_line}
 use Rattle.any_lock.specs.Changes.{changed}
 use Rattle.any_lock.specs.Shown.{access_refusal_text, mark_refusal_text}
-use Rattle.any_lock.specs.declared.reasons.Change.{Change}
+use Rattle.any_lock.specs.declared.reasons.Remedy.{Remedy}
 use Rattle.any_lock.specs.declared.reasons.Reasons.{Reasons}
 use Rattle.any_lock.specs.declared.reasons.Refused.{Refused}
 use Rattle.any_lock.specs.declared.reasons.Refused.TheVariants as by
 
 -- the entry as it would keep all laws
-abbrev pub may_line : Entry → Option Change → List ℕ
+abbrev pub may_line : Entry → Option Remedy → List ℕ
 may_line e None = []
 may_line e (Some change) = named_entry (codes "may") (changed change e)
 

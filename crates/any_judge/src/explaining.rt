@@ -4,7 +4,7 @@ ghost use Rattle.any_judge.specs.Explanations.{Explains, ExplainsIf, HasExplaine
 
 use crate::reason_lines::reason_lines;
 use crate::verdicts::{status_of, verdict_line};
-use any_lock::{Judge, Verdict};
+use any_lock::{Judge, AnyLockVerdict};
 use plain_store::Setup;
 use record::{Access, Entry};
 use std::alloc::{AllocError, Global};
@@ -12,20 +12,20 @@ use trial::{Hearer, Telling, step_entry};
 
 /// A judge, and the lines of the reasons once his verdict is bad.
 #[derive(Drop)]
-pub(crate) struct Explaining {
+pub(crate) struct ExplainingAnyLock {
     pub judge: Judge,
     pub reasons: Vec<u8>,
 }
 
-impl Hearer for Explaining {
+impl Hearer for ExplainingAnyLock {
     ghost HasHeard = { λ e s entries numbers. HasExplained e.judge e.reasons.items s entries numbers };
 
     ghost count = { λ e. e.judge.entries };
 
     ghost Tells = { TellsReasons };
 
-    fn begin(alloc: Global, setup: &Setup) -> Result<Explaining, AllocError> {
-        Ok(Explaining {
+    fn begin(alloc: Global, setup: &Setup) -> Result<ExplainingAnyLock, AllocError> {
+        Ok(ExplainingAnyLock {
             judge: Judge::new(alloc, setup)?,
             reasons: Vec::new(alloc),
         })
@@ -78,7 +78,7 @@ impl Hearer for Explaining {
 fn is_good(judge: &Judge) -> bool
     ensures { result ≡ is_good judge.now.verdict }
 {
-    matches!(judge.judged().verdict, Verdict::Good)
+    matches!(judge.judged().verdict, AnyLockVerdict::Good)
 }
 
 /// Writes the reasons of an entry, which stands in this line, if it is the bad one: the verdict was good, and is bad now.

@@ -2,8 +2,8 @@
 ghost use Rattle.std.specs.Prelude.{◌≡◌, ◌-◌, ◌^◌, ◌<◌};
 ghost use Rattle.any_judge.specs.Explanations.{JudgeEnds};
 
-use crate::explaining::Explaining;
-use crate::plain::Plain;
+use crate::explaining::ExplainingAnyLock;
+use crate::plain::PlainHearer;
 use std::alloc::Global;
 use trial::{Fault, Sink, Source, run_trial};
 
@@ -23,8 +23,8 @@ pub fn judge_any_lock<R: Source, W: Sink>(
         (record { to_come = R.to_come input.new; taken = W.taken output.new; read_failures = R.failures input.new; write_failures = W.failures output.new }) }
 {
     if asked {
-        run_trial::<Explaining, R, W>(alloc, input, output)
+        run_trial::<ExplainingAnyLock, R, W>(alloc, input, output)
     } else {
-        run_trial::<Plain, R, W>(alloc, input, output)
+        run_trial::<PlainHearer, R, W>(alloc, input, output)
     }
 }

@@ -10,19 +10,19 @@ use std::alloc::{AllocError, Global};
 use trial::{Hearer, Telling};
 
 #[derive(Drop)]
-pub(crate) struct Plain {
+pub(crate) struct PlainHearer {
     pub judge: Judge,
 }
 
-impl Hearer for Plain {
+impl Hearer for PlainHearer {
     ghost HasHeard = { λ plain s entries numbers. HasJudged plain.judge s entries };
 
     ghost count = { λ plain. plain.judge.entries };
 
     ghost Tells = { TellsVerdict };
 
-    fn begin(alloc: Global, setup: &Setup) -> Result<Plain, AllocError> {
-        Ok(Plain {
+    fn begin(alloc: Global, setup: &Setup) -> Result<PlainHearer, AllocError> {
+        Ok(PlainHearer {
             judge: Judge::new(alloc, setup)?,
         })
     }

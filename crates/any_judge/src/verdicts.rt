@@ -3,7 +3,7 @@ ghost use Rattle.std.specs.Prelude.{◌≡◌, IfOk};
 ghost use Rattle.std.specs.String.{string_bytes};
 ghost use Rattle.any_judge.specs.Judgements.{status_of_verdict, verdict_line as line_of_verdict};
 
-use any_lock::{Judged, Verdict};
+use any_lock::{Judged, AnyLockVerdict};
 use std::alloc::{AllocError, Global};
 use trial::DONE;
 
@@ -11,12 +11,12 @@ use trial::DONE;
 const BAD: u8 = 3;
 
 /// The exit status that a verdict stands for: 0 for a good one, 3 for a bad one.
-pub(crate) fn status_of(verdict: &Verdict) -> u8
+pub(crate) fn status_of(verdict: &AnyLockVerdict) -> u8
     ensures { result ≡ status_of_verdict verdict.now }
 {
     match verdict {
-        Verdict::Good => DONE,
-        Verdict::Bad(..) => BAD,
+        AnyLockVerdict::Good => DONE,
+        AnyLockVerdict::Bad(..) => BAD,
     }
 }
 

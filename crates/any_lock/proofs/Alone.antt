@@ -16,9 +16,9 @@ use Rattle.record.specs.Headline.{IsAlone, TakesItsPlace}
 use Rattle.record.specs.Histories.{history}
 use Rattle.record.specs.Spans.{takings}
 use Rattle.record.specs.Stages.{inside, inside_after, stage as stage_at, stage_after}
-use Rattle.any_lock.specs.declared.verdicts.Law.TheVariants as law
-use Rattle.any_lock.specs.declared.verdicts.Verdict.{Verdict}
-use Rattle.any_lock.specs.declared.verdicts.Verdict.TheVariants.{Good, Bad}
+use Rattle.any_lock.specs.declared.verdicts.AnyLockLaw.TheVariants as law
+use Rattle.any_lock.specs.declared.verdicts.AnyLockVerdict.{AnyLockVerdict}
+use Rattle.any_lock.specs.declared.verdicts.AnyLockVerdict.TheVariants.{Good, Bad}
 use Rattle.any_lock.specs.Headline.{OvertakesNobody}
 use Rattle.any_lock.specs.Laws.{breaks_access, breaks_history, breaks_marks, breaks_overtaken, breaks_together, first_broken, is_that, lowest_below, right_reply, waits_before}
 use Rattle.any_lock.specs.Refusals.{refusal_of_access, refusal_of_marks, same_reply}
@@ -58,13 +58,13 @@ pub all_keep : (s : Setup) (past : Past) → verdict_after s past ≡ Good → A
 all_keep s [] good = tt
 all_keep s (e ∷ past) good = go (verdict_after s past) refl (all_keep s past)
   where
-    go : (v : Verdict) → verdict_after s past ≡ v → (verdict_after s past ≡ Good → AllKeep s past) → AllKeep s (e ∷ past)
+    go : (v : AnyLockVerdict) → verdict_after s past ≡ v → (verdict_after s past ≡ Good → AllKeep s past) → AllKeep s (e ∷ past)
     go Good is before = (
       keeps s past e (found_good (length past) (first_broken s past e)
-          (ap (λ v. elim v as (λ _. Verdict) [ Good ↦ verdict_with (length past) (first_broken s past e) | Bad k l ↦ Bad k l ]) (sym is) ∙ good)),
+          (ap (λ v. elim v as (λ _. AnyLockVerdict) [ Good ↦ verdict_with (length past) (first_broken s past e) | Bad k l ↦ Bad k l ]) (sym is) ∙ good)),
       before is,
     )
-    go (Bad k l) is before = let both : Bad k l ≡ Good = ap (λ v. elim v as (λ _. Verdict) [ Good ↦ verdict_with (length past) (first_broken s past e) | Bad k l ↦ Bad k l ]) (sym is) ∙ good in absurd (cc)
+    go (Bad k l) is before = let both : Bad k l ≡ Good = ap (λ v. elim v as (λ _. AnyLockVerdict) [ Good ↦ verdict_with (length past) (first_broken s past e) | Bad k l ↦ Bad k l ]) (sym is) ∙ good in absurd (cc)
 
 -- A process that is not there does nothing.
 

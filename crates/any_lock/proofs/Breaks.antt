@@ -15,7 +15,7 @@ use Rattle.read_law.specs.Watching.{IsOfThere}
 use Rattle.any_lock.specs.declared.refusals.AccessRefusal.{AccessRefusal}
 use Rattle.any_lock.specs.declared.refusals.AccessRefusal.TheVariants as access
 use Rattle.any_lock.specs.declared.refusals.MarkRefusal.{MarkRefusal}
-use Rattle.any_lock.specs.declared.verdicts.Law.TheVariants as law
+use Rattle.any_lock.specs.declared.verdicts.AnyLockLaw.TheVariants as law
 use Rattle.any_lock.specs.Laws.{breaks_access, breaks_history, breaks_marks, breaks_overtaken, breaks_safe, breaks_together, broken_inside, broken_later, ends_wrongly, first_broken}
 use Rattle.any_lock.specs.Refusals.{access_refusal, first_that, is_there, refusal_of_access, refusal_of_marks, same_truth}
 use Rattle.any_lock.specs.Standings.{standing}

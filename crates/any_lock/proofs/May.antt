@@ -21,10 +21,10 @@ use Rattle.record.specs.Histories.{history}
 use Rattle.record.specs.Moves.{begins_read, moves_of}
 use Rattle.record.specs.Registers.{opening_bit}
 use Rattle.record.specs.Spans.{takings}
-use Rattle.any_lock.specs.declared.reasons.Change.{Change}
-use Rattle.any_lock.specs.declared.reasons.Change.TheVariants.{Value, Taking}
-use Rattle.any_lock.specs.declared.verdicts.Law.{Law}
-use Rattle.any_lock.specs.declared.verdicts.Law.TheVariants as law
+use Rattle.any_lock.specs.declared.reasons.Remedy.{Remedy}
+use Rattle.any_lock.specs.declared.reasons.Remedy.TheVariants.{Value, Taking}
+use Rattle.any_lock.specs.declared.verdicts.AnyLockLaw.{AnyLockLaw}
+use Rattle.any_lock.specs.declared.verdicts.AnyLockLaw.TheVariants as law
 use Rattle.any_lock.specs.Changes.{MaysKeepAllLaws, changed, mark_with}
 use Rattle.any_lock.specs.declared.refusals.MarkRefusal.{MarkRefusal}
 use Rattle.any_lock.specs.declared.refusals.MarkRefusal.TheVariants as refusal
@@ -63,26 +63,26 @@ other_is_right opening moves v wrong = by (begins_read moves) (is_overlapped mov
     by true false false false wrong = absurd (true≢false (sym wrong))
 
 -- the entry with the other value
-with_other_value : (s : Setup) (past : Past) (e : Entry) (c : Change) → breaks_safe s past e ≡ true → other_value s past e ≡ Some c → first_broken s past (changed c e) ≡ None
+with_other_value : (s : Setup) (past : Past) (e : Entry) (c : Remedy) → breaks_safe s past e ≡ true → other_value s past e ≡ Some c → first_broken s past (changed c e) ≡ None
 with_other_value s past e c breaks may = by e.access refl breaks may
   where
     safe_of : Option Access → Bool
     safe_of o = elim o as (λ _. Bool) [ None ↦ false | Some a ↦ ends_wrongly (opening_bit s a) (moves_of a past) a.how ]
 
     whole : (v : Bool) → safe_of (ends_with (not v) e.access) ≡ false → broken_later s past (with_value (not v) e) ≡ None → Value (not v) ≡ c → first_broken s past (changed c e) ≡ None
-    whole v safe later is = subst (λ (c : Change). first_broken s past (changed c e) ≡ None) is
+    whole v safe later is = subst (λ (c : Remedy). first_broken s past (changed c e) ≡ None) is
         (subst (λ (x : Entry). first_broken s past x ≡ None) (sym (value_changed (not v) e)) (ap (λ b. if b then Some law.Safe else broken_later s past (with_value (not v) e)) safe ∙ later))
 
     told : (v : Bool) → safe_of (ends_with (not v) e.access) ≡ false → (b : Bool) → is_none (broken_later s past (with_value (not v) e)) ≡ b → cond b (Some (Value (not v))) None ≡ Some c → first_broken s past (changed c e) ≡ None
     told v safe true none may = let same : Value (not v) ≡ c = cc in whole v safe (unnone (broken_later s past (with_value (not v) e)) none) same
       where
-        unnone : (o : Option Law) → is_none o ≡ true → o ≡ None
+        unnone : (o : Option AnyLockLaw) → is_none o ≡ true → o ≡ None
         unnone None is = refl
         unnone (Some l) is = absurd (true≢false (sym is))
     told v safe false none may = absurd (cc)
 
     ending : (a : Access) (m : Move) → a.how ≡ m → e.access ≡ Some a → ends_wrongly (opening_bit s a) (moves_of a past) m ≡ true →
-        elim (elim m as (λ _. Option Bool) [ EndRead v ↦ Some v | BeginWrite v ↦ None | EndWrite ↦ None | BeginRead ↦ None | Settle v ↦ None ]) as (λ _. Option Change) [ None ↦ None | Some v ↦ cond (is_none (broken_later s past (with_value (not v) e))) (Some (Value (not v))) None ] ≡ Some c →
+        elim (elim m as (λ _. Option Bool) [ EndRead v ↦ Some v | BeginWrite v ↦ None | EndWrite ↦ None | BeginRead ↦ None | Settle v ↦ None ]) as (λ _. Option Remedy) [ None ↦ None | Some v ↦ cond (is_none (broken_later s past (with_value (not v) e))) (Some (Value (not v))) None ] ≡ Some c →
         first_broken s past (changed c e) ≡ None
     ending a (EndRead v) how is breaks may = told v (ap (λ (o : Option Access). safe_of (ends_with (not v) o)) is ∙ other_is_right (opening_bit s a) (moves_of a past) v breaks) (is_none (broken_later s past (with_value (not v) e))) refl may
     ending a (BeginWrite v) how is breaks may = absurd (true≢false (sym breaks))
@@ -91,7 +91,7 @@ with_other_value s past e c breaks may = by e.access refl breaks may
     ending a (Settle v) how is breaks may = absurd (true≢false (sym breaks))
 
     by : (o : Option Access) → e.access ≡ o → safe_of o ≡ true →
-        elim (value_in o) as (λ _. Option Change) [ None ↦ None | Some v ↦ cond (is_none (broken_later s past (with_value (not v) e))) (Some (Value (not v))) None ] ≡ Some c → first_broken s past (changed c e) ≡ None
+        elim (value_in o) as (λ _. Option Remedy) [ None ↦ None | Some v ↦ cond (is_none (broken_later s past (with_value (not v) e))) (Some (Value (not v))) None ] ≡ Some c → first_broken s past (changed c e) ≡ None
     by None is breaks may = absurd (true≢false (sym breaks))
     by (Some a) is breaks may = ending a a.how refl is breaks may
 
@@ -352,9 +352,9 @@ mays_keep s past good e l c breaks may = by l breaks may
     taking true is = cc
     taking false is = absurd (cc)
 
-    by : (l : Law) → first_broken s past e ≡ Some l → change_of s past e l ≡ Some c → first_broken s past (changed c e) ≡ None
+    by : (l : AnyLockLaw) → first_broken s past e ≡ Some l → change_of s past e l ≡ Some c → first_broken s past (changed c e) ≡ None
     by law.Safe breaks may = with_other_value s past e c (safe (breaks_safe s past e) refl breaks) may
-    by law.History breaks may = subst (λ (c : Change). first_broken s past (changed c e) ≡ None) (taking (nat_lt e.process s.processes) may) (with_right_taking s past e (all_keep s past good) breaks)
+    by law.History breaks may = subst (λ (c : Remedy). first_broken s past (changed c e) ≡ None) (taking (nat_lt e.process s.processes) may) (with_right_taking s past e (all_keep s past good) breaks)
     by law.Access breaks may = absurd (cc)
     by law.Marks breaks may = absurd (cc)
     by law.Together breaks may = absurd (cc)

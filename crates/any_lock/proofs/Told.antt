@@ -5,9 +5,9 @@ use Rattle.plain_store.specs.declared.Setup.{Setup}
 use Rattle.record.specs.Entries.{Entry, Past}
 use Rattle.read_law.specs.Watching.{AllAreOfThere, WatchState}
 use Rattle.read_law.specs.Watching.{HasHeard as HasWatched}
-use Rattle.any_lock.specs.declared.verdicts.Law.{Law}
-use Rattle.any_lock.specs.declared.verdicts.Verdict.{Verdict}
-use Rattle.any_lock.specs.declared.verdicts.Verdict.TheVariants.{Good, Bad}
+use Rattle.any_lock.specs.declared.verdicts.AnyLockLaw.{AnyLockLaw}
+use Rattle.any_lock.specs.declared.verdicts.AnyLockVerdict.{AnyLockVerdict}
+use Rattle.any_lock.specs.declared.verdicts.AnyLockVerdict.TheVariants.{Good, Bad}
 use Rattle.any_lock.specs.declared.reasons.Reasons.{Reasons}
 use Rattle.any_lock.specs.Judging.{AreReasonsAt, AreReasonsIf, AreReasonsOf, BothHeard, HasJudged, JudgeState}
 use Rattle.any_lock.specs.Keeping.{KeptState, Knows}
@@ -23,22 +23,22 @@ newest_first entries e = reverse-append entries (e ∷ [])
 pub verdict_good : (s : Setup) (entries : List Entry) (e : Entry) → verdict_of s entries ≡ Good → verdict_of s (entries ++ e ∷ []) ≡ verdict_with (length entries) (first_broken s (reverse entries) e)
 verdict_good s entries e good =
     ap (verdict_after s) (newest_first entries e)
-    ∙ ap (λ v. elim v as (λ _. Verdict) [ Good ↦ verdict_with (length (reverse entries)) (first_broken s (reverse entries) e) | Bad k l ↦ Bad k l ]) good
+    ∙ ap (λ v. elim v as (λ _. AnyLockVerdict) [ Good ↦ verdict_with (length (reverse entries)) (first_broken s (reverse entries) e) | Bad k l ↦ Bad k l ]) good
     ∙ ap (λ n. verdict_with n (first_broken s (reverse entries) e)) (length-reverse entries)
 
 -- a bad one stays
-pub verdict_bad : (s : Setup) (entries : List Entry) (e : Entry) (k : ℕ) (l : Law) → verdict_of s entries ≡ Bad k l → verdict_of s (entries ++ e ∷ []) ≡ Bad k l
+pub verdict_bad : (s : Setup) (entries : List Entry) (e : Entry) (k : ℕ) (l : AnyLockLaw) → verdict_of s entries ≡ Bad k l → verdict_of s (entries ++ e ∷ []) ≡ Bad k l
 verdict_bad s entries e k l bad =
     ap (verdict_after s) (newest_first entries e)
-    ∙ ap (λ v. elim v as (λ _. Verdict) [ Good ↦ verdict_with (length (reverse entries)) (first_broken s (reverse entries) e) | Bad k l ↦ Bad k l ]) bad
+    ∙ ap (λ v. elim v as (λ _. AnyLockVerdict) [ Good ↦ verdict_with (length (reverse entries)) (first_broken s (reverse entries) e) | Bad k l ↦ Bad k l ]) bad
 
 -- a verdict is good where no law is broken
-pub found_good : (k : ℕ) (law : Option Law) → verdict_with k law ≡ Good → law ≡ None
+pub found_good : (k : ℕ) (law : Option AnyLockLaw) → verdict_with k law ≡ Good → law ≡ None
 found_good k (Some l) is = absurd (cc)
 found_good k None is = refl
 
 -- what a watch, and what is kept beside it, make of one more entry
-pub record AreTold (j : JudgeState) (e : Entry) (is_safe : Bool) (w : WatchState) (found : Option Law) (k : KeptState) : Type 0 where
+pub record AreTold (j : JudgeState) (e : Entry) (is_safe : Bool) (w : WatchState) (found : Option AnyLockLaw) (k : KeptState) : Type 0 where
   pub watched : w.setup ≡ j.watch.setup
   pub watch : (past : Past) → HasWatched j.watch past → HasWatched w (e ∷ past)
   pub safe : (past : Past) → HasWatched j.watch past → AllAreOfThere j.watch.setup past → breaks_safe j.watch.setup past e ≡ not is_safe
@@ -46,14 +46,14 @@ pub record AreTold (j : JudgeState) (e : Entry) (is_safe : Bool) (w : WatchState
   pub law : (past : Past) → breaks_safe j.kept.setup past e ≡ not is_safe → Knows j.kept past → found ≡ first_broken j.kept.setup past e
   pub knows : (past : Past) → found ≡ None → Knows j.kept past → Knows k (e ∷ past)
 
-pub told_law : (j : JudgeState) (e : Entry) (is_safe : Bool) (w : WatchState) (law : Option Law) (k : KeptState) → AreTold j e is_safe w law k →
+pub told_law : (j : JudgeState) (e : Entry) (is_safe : Bool) (w : WatchState) (law : Option AnyLockLaw) (k : KeptState) → AreTold j e is_safe w law k →
     (s : Setup) (past : Past) → BothHeard j s past → law ≡ first_broken s past e
 told_law j e is_safe w law k told s past both =
     let there : AllAreOfThere j.watch.setup past = subst (λ (t : Setup). AllAreOfThere t past) (sym both.watched) both.there in
     let safe : breaks_safe j.kept.setup past e ≡ not is_safe = subst (λ (t : Setup). breaks_safe t past e ≡ not is_safe) (both.watched ∙ sym both.kept) (told.safe past both.watch there) in
     told.law past safe both.knows ∙ ap (λ t. first_broken t past e) both.kept
 
-pub told_on : (j : JudgeState) (e : Entry) (is_safe : Bool) (w : WatchState) (law : Option Law) (k : KeptState) (r : Option Reasons) → AreTold j e is_safe w law k →
+pub told_on : (j : JudgeState) (e : Entry) (is_safe : Bool) (w : WatchState) (law : Option AnyLockLaw) (k : KeptState) (r : Option Reasons) → AreTold j e is_safe w law k →
     (s : Setup) (past : Past) → BothHeard j s past → law ≡ None → BothHeard (record { watch = w; kept = k; verdict = j.verdict; entries = j.entries; reasons = r }) s (e ∷ past)
 told_on j e is_safe w law k r told s past both none =
     let first : first_broken s past e ≡ None = sym (told_law j e is_safe w law k told s past both) ∙ none in
@@ -70,12 +70,12 @@ pub with_entries : (j : JudgeState) (n : ℕ) (s : Setup) (past : Past) → Both
 with_entries j n s past both = record { watched = both.watched; watch = both.watch; kept = both.kept; knows = both.knows; there = both.there }
 
 -- the reasons of an entry that is the first that breaks a law
-reasons_at : (s : Setup) (entries : List Entry) (e : Entry) (law : Option Law) (r : Option Reasons) → AreReasonsIf s (reverse entries) e law r → AreReasonsOf s (entries ++ e ∷ []) (verdict_with (length entries) law) r
+reasons_at : (s : Setup) (entries : List Entry) (e : Entry) (law : Option AnyLockLaw) (r : Option Reasons) → AreReasonsIf s (reverse entries) e law r → AreReasonsOf s (entries ++ e ∷ []) (verdict_with (length entries) law) r
 reasons_at s entries e None r are = are
 reasons_at s entries e (Some l) r are = record { entry = e; past = reverse entries; later = []; splits = newest_first entries e; number = length-reverse entries; told = are.0; is = are.1; are = are.2 }
 
 -- a judge with a good verdict and one more entry
-pub hears_on : (old new : JudgeState) (e : Entry) (found : Verdict) (s : Setup) (entries : List Entry) → HasJudged old s entries → old.verdict ≡ Good → new.entries ≡ old.entries + 1 →
+pub hears_on : (old new : JudgeState) (e : Entry) (found : AnyLockVerdict) (s : Setup) (entries : List Entry) → HasJudged old s entries → old.verdict ≡ Good → new.entries ≡ old.entries + 1 →
     ((past : Past) → BothHeard old s past → found ≡ verdict_with old.entries (first_broken s past e)) →
     ((past : Past) → BothHeard old s past → AreReasonsIf s past e (first_broken s past e) new.reasons) →
     ((past : Past) → BothHeard old s past → found ≡ Good → BothHeard new s (e ∷ past)) →
@@ -96,7 +96,7 @@ hears_on old new e found s entries judged good more heard reasons on =
 pub hears_bad : (old : JudgeState) (e : Entry) (s : Setup) (entries : List Entry) → HasJudged old s entries → (old.verdict ≡ Good → ⊥) → HasJudged (record old { entries = old.entries + 1 }) s (entries ++ e ∷ [])
 hears_bad old e s entries judged bad = by old.verdict refl judged.reasons
   where
-    by : (v : Verdict) → old.verdict ≡ v → AreReasonsOf s entries old.verdict old.reasons → HasJudged (record old { entries = old.entries + 1 }) s (entries ++ e ∷ [])
+    by : (v : AnyLockVerdict) → old.verdict ≡ v → AreReasonsOf s entries old.verdict old.reasons → HasJudged (record old { entries = old.entries + 1 }) s (entries ++ e ∷ [])
     by Good is reasons = absurd (bad is)
     by (Bad k l) is reasons =
         let at : AreReasonsAt s entries k l old.reasons = subst (λ v. AreReasonsOf s entries v old.reasons) is reasons in
@@ -110,8 +110,8 @@ hears_bad old e s entries judged bad = by old.verdict refl judged.reasons
         }
 
 -- the reasons that are given by what is kept after an entry: where it breaks a law nothing was changed
-pub reasons_given : (k then : KeptState) (s : Setup) (past : Past) (e : Entry) (law : Option Law) (r : Option Reasons) → k.setup ≡ s → Knows k past →
-    ((l : Law) → law ≡ Some l → then ≡ k) → (law ≡ None → r ≡ None) → (Knows then past → AreReasonsIf then.setup past e law r) → AreReasonsIf s past e law r
+pub reasons_given : (k then : KeptState) (s : Setup) (past : Past) (e : Entry) (law : Option AnyLockLaw) (r : Option Reasons) → k.setup ≡ s → Knows k past →
+    ((l : AnyLockLaw) → law ≡ Some l → then ≡ k) → (law ≡ None → r ≡ None) → (Knows then past → AreReasonsIf then.setup past e law r) → AreReasonsIf s past e law r
 reasons_given k then s past e None r setup knows same none some = none refl
 reasons_given k then s past e (Some l) r setup knows same none some =
     let is : then ≡ k = same l refl in

@@ -8,7 +8,7 @@ use Rattle.record.specs.declared.marks.Mark.{Mark}
 use Rattle.record.specs.Entries.{Entry, Past}
 use Rattle.any_lock.specs.declared.refusals.MarkRefusal.TheVariants as refusal
 use Rattle.any_lock.specs.declared.standings.Standing.{Standing}
-use Rattle.any_lock.specs.declared.verdicts.Law.TheVariants as law
+use Rattle.any_lock.specs.declared.verdicts.AnyLockLaw.TheVariants as law
 use Rattle.any_lock.specs.Keeping.{KeptState, Knows, accessed, is_taken}
 use Rattle.any_lock.specs.Laws.{breaks_history, breaks_overtaken, breaks_together, broken_later}
 use Rattle.any_lock.specs.Refusals.{refusal_of_access, refusal_of_marks}

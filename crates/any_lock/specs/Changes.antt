@@ -6,28 +6,28 @@ use Rattle.record.specs.declared.access.Access.{Access}
 use Rattle.record.specs.declared.marks.Mark.{Mark}
 use Rattle.record.specs.declared.marks.Mark.TheVariants.{Answered, Taken}
 use Rattle.record.specs.Entries.{Entry, Past}
-use Rattle.any_lock.specs.declared.reasons.Change.{Change}
-use Rattle.any_lock.specs.declared.reasons.Change.TheVariants.{Value, Taking}
-use Rattle.any_lock.specs.declared.verdicts.Law.{Law}
-use Rattle.any_lock.specs.declared.verdicts.Verdict.TheVariants.{Good}
+use Rattle.any_lock.specs.declared.reasons.Remedy.{Remedy}
+use Rattle.any_lock.specs.declared.reasons.Remedy.TheVariants.{Value, Taking}
+use Rattle.any_lock.specs.declared.verdicts.AnyLockLaw.{AnyLockLaw}
+use Rattle.any_lock.specs.declared.verdicts.AnyLockVerdict.TheVariants.{Good}
 use Rattle.any_lock.specs.Laws.{first_broken}
 use Rattle.any_lock.specs.Reasons.{change_of, ends_with}
 use Rattle.any_lock.specs.Verdicts.{verdict_after}
 
 -- its access: a read that it ends does so with the other value
-abbrev pub access_with : Change → Option Access → Option Access
+abbrev pub access_with : Remedy → Option Access → Option Access
 access_with (Value v) access = ends_with v access
 access_with (Taking place reply) access = access
 
 -- a mark: a command that it takes has its right place and reply, which is the answer too
-abbrev pub mark_with : Change → Mark → Mark
+abbrev pub mark_with : Remedy → Mark → Mark
 mark_with (Taking place reply) (Taken n r) = Taken place reply
 mark_with (Taking place reply) (Answered (Reply r)) = Answered (Reply reply)
 mark_with change m = m
 
-abbrev pub changed : Change → Entry → Entry
+abbrev pub changed : Remedy → Entry → Entry
 changed change e = record { process = e.process; access = access_with change e.access; marks = map (mark_with change) e.marks }
 
 -- Behind a good record: an entry that breaks a law, with the change that is told of it, keeps all laws.
 abbrev pub MaysKeepAllLaws : Type 0
-MaysKeepAllLaws = (s : Setup) (past : Past) → verdict_after s past ≡ Good → (e : Entry) (l : Law) (c : Change) → first_broken s past e ≡ Some l → change_of s past e l ≡ Some c → first_broken s past (changed c e) ≡ None
+MaysKeepAllLaws = (s : Setup) (past : Past) → verdict_after s past ≡ Good → (e : Entry) (l : AnyLockLaw) (c : Remedy) → first_broken s past e ≡ Some l → change_of s past e l ≡ Some c → first_broken s past (changed c e) ≡ None

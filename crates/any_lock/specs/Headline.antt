@@ -6,7 +6,7 @@ use Rattle.record.specs.Headline.{AnswersNoCutCall, CallsTakeOnce, IsAlone, IsAn
 use Rattle.record.specs.Spans.{all_takings}
 use Rattle.record.specs.declared.marks.Mark.TheVariants.{Answered}
 use Rattle.plain_store.specs.declared.Answer.{Answer}
-use Rattle.any_lock.specs.declared.verdicts.Verdict.TheVariants.{Good}
+use Rattle.any_lock.specs.declared.verdicts.AnyLockVerdict.TheVariants.{Good}
 use Rattle.any_lock.specs.Laws.{waits_before}
 use Rattle.any_lock.specs.Standings.{its_call, standing}
 use Rattle.any_lock.specs.Verdicts.{verdict_of}

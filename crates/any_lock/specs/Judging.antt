@@ -6,9 +6,9 @@ use Rattle.record.specs.Entries.{Entry, Past}
 use Rattle.read_law.specs.Watching.{AllAreOfThere, WatchState}
 use Rattle.read_law.specs.Watching.{HasHeard as HasWatched}
 use Rattle.any_lock.specs.declared.reasons.Reasons.{Reasons}
-use Rattle.any_lock.specs.declared.verdicts.Law.{Law}
-use Rattle.any_lock.specs.declared.verdicts.Verdict.{Verdict}
-use Rattle.any_lock.specs.declared.verdicts.Verdict.TheVariants.{Good, Bad}
+use Rattle.any_lock.specs.declared.verdicts.AnyLockLaw.{AnyLockLaw}
+use Rattle.any_lock.specs.declared.verdicts.AnyLockVerdict.{AnyLockVerdict}
+use Rattle.any_lock.specs.declared.verdicts.AnyLockVerdict.TheVariants.{Good, Bad}
 use Rattle.any_lock.specs.Keeping.{KeptState, Knows}
 use Rattle.any_lock.specs.Reasons.{AreReasons}
 use Rattle.any_lock.specs.Verdicts.{verdict_of}
@@ -17,7 +17,7 @@ use Rattle.any_lock.specs.Verdicts.{verdict_of}
 pub record JudgeState : Type 0 where
   pub watch : WatchState
   pub kept : KeptState
-  pub verdict : Verdict
+  pub verdict : AnyLockVerdict
   pub entries : ℕ
   pub reasons : Option Reasons
 
@@ -30,7 +30,7 @@ pub record BothHeard (j : JudgeState) (s : Setup) (past : Past) : Type 0 where
   pub there : AllAreOfThere s past
 
 -- these are the reasons of the bad entry of a record
-pub record AreReasonsAt (s : Setup) (entries : List Entry) (k : ℕ) (l : Law) (reasons : Option Reasons) : Type 0 where
+pub record AreReasonsAt (s : Setup) (entries : List Entry) (k : ℕ) (l : AnyLockLaw) (reasons : Option Reasons) : Type 0 where
   pub entry : Entry
   pub past : Past
   pub later : Past
@@ -41,12 +41,12 @@ pub record AreReasonsAt (s : Setup) (entries : List Entry) (k : ℕ) (l : Law) (
   pub are : AreReasons s past entry l told
 
 -- these are the reasons of a verdict on a record: a good one has none
-abbrev pub AreReasonsOf : Setup → List Entry → Verdict → Option Reasons → Type 0
+abbrev pub AreReasonsOf : Setup → List Entry → AnyLockVerdict → Option Reasons → Type 0
 AreReasonsOf s entries Good reasons = reasons ≡ None
 AreReasonsOf s entries (Bad k l) reasons = AreReasonsAt s entries k l reasons
 
 -- these are the reasons of an entry that breaks this law first, if it breaks one
-abbrev pub AreReasonsIf : Setup → Past → Entry → Option Law → Option Reasons → Type 0
+abbrev pub AreReasonsIf : Setup → Past → Entry → Option AnyLockLaw → Option Reasons → Type 0
 AreReasonsIf s past e None reasons = reasons ≡ None
 AreReasonsIf s past e (Some l) reasons = (told : Reasons) × (reasons ≡ Some told) × AreReasons s past e l told
 

@@ -13,8 +13,8 @@ use Rattle.record.specs.Histories.{history, store_after}
 use Rattle.record.specs.Moves.{begins_read, moves_of}
 use Rattle.record.specs.Registers.{opening_bit}
 use Rattle.record.specs.Spans.{takings}
-use Rattle.any_lock.specs.declared.verdicts.Law.{Law}
-use Rattle.any_lock.specs.declared.verdicts.Law.TheVariants as law
+use Rattle.any_lock.specs.declared.verdicts.AnyLockLaw.{AnyLockLaw}
+use Rattle.any_lock.specs.declared.verdicts.AnyLockLaw.TheVariants as law
 use Rattle.any_lock.specs.declared.standings.Standing.{Standing}
 use Rattle.any_lock.specs.Refusals.{first_that, refusal_of_access, refusal_of_marks, same_reply, same_truth}
 use Rattle.any_lock.specs.Standings.{standing}
@@ -70,7 +70,7 @@ abbrev pub breaks_history : Setup → Past → Entry → Bool
 breaks_history s past e = not (list_all (is_that (length (history s past)) (right_reply s past e.process)) (takings e.marks))
 
 -- the first law that an entry breaks whose access and marks are not refused
-abbrev pub broken_inside : Setup → Past → Entry → Option Law
+abbrev pub broken_inside : Setup → Past → Entry → Option AnyLockLaw
 broken_inside s past e = first_that (
     (breaks_together s past e, law.Together)
     ∷ (breaks_overtaken s past e, law.Overtaken)
@@ -78,12 +78,12 @@ broken_inside s past e = first_that (
     ∷ [])
 
 -- the first law after `Safe` that an entry breaks
-abbrev pub broken_later : Setup → Past → Entry → Option Law
+abbrev pub broken_later : Setup → Past → Entry → Option AnyLockLaw
 broken_later s past e =
     if breaks_access s past e then Some law.Access else
     if breaks_marks s past e then Some law.Marks else
     broken_inside s past e
 
 -- the first law that it breaks
-abbrev pub first_broken : Setup → Past → Entry → Option Law
+abbrev pub first_broken : Setup → Past → Entry → Option AnyLockLaw
 first_broken s past e = if breaks_safe s past e then Some law.Safe else broken_later s past e

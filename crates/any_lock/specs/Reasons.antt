@@ -6,15 +6,15 @@ use Rattle.record.specs.declared.access.Access.{Access}
 use Rattle.record.specs.Doorways.{first_of}
 use Rattle.record.specs.Entries.{Entry, Past}
 use Rattle.record.specs.Histories.{history}
-use Rattle.any_lock.specs.declared.reasons.Change.{Change}
-use Rattle.any_lock.specs.declared.reasons.Change.TheVariants.{Value, Taking}
+use Rattle.any_lock.specs.declared.reasons.Remedy.{Remedy}
+use Rattle.any_lock.specs.declared.reasons.Remedy.TheVariants.{Value, Taking}
 use Rattle.any_lock.specs.declared.reasons.Reasons.{Reasons}
 use Rattle.any_lock.specs.declared.reasons.Refused.{Refused}
 use Rattle.any_lock.specs.declared.reasons.Refused.TheVariants as by
 use Rattle.any_lock.specs.declared.standings.Begun.{Begun}
 use Rattle.any_lock.specs.declared.standings.Standing.{Standing}
-use Rattle.any_lock.specs.declared.verdicts.Law.{Law}
-use Rattle.any_lock.specs.declared.verdicts.Law.TheVariants as law
+use Rattle.any_lock.specs.declared.verdicts.AnyLockLaw.{AnyLockLaw}
+use Rattle.any_lock.specs.declared.verdicts.AnyLockLaw.TheVariants as law
 use Rattle.any_lock.specs.Laws.{broken_later, lowest_other, right_reply, waits_before}
 use Rattle.any_lock.specs.Refusals.{refusal_of_access, refusal_of_marks}
 use Rattle.any_lock.specs.Standings.{has_access, standing}
@@ -76,29 +76,29 @@ abbrev pub with_value : Bool → Entry → Entry
 with_value v e = record { process = e.process; access = ends_with v e.access; marks = e.marks }
 
 -- the other value, if the entry keeps all later laws with it; the law `Safe` allows the one where it forbids the other
-abbrev pub other_value : Setup → Past → Entry → Option Change
+abbrev pub other_value : Setup → Past → Entry → Option Remedy
 other_value s past e = elim (value_in e.access) [
   | None ↦ None
   | Some v ↦ cond (is_none (broken_later s past (with_value (not v) e))) (Some (Value (not v))) None
 ]
 
 -- how the entry would keep all laws
-abbrev pub change_of : Setup → Past → Entry → Law → Option Change
+abbrev pub change_of : Setup → Past → Entry → AnyLockLaw → Option Remedy
 change_of s past e law.Safe = other_value s past e
 change_of s past e law.History = cond (nat_lt e.process s.processes) (Some (Taking (length (history s past)) (right_reply s past e.process))) None
 change_of s past e _ = None
 
 -- the law is this one
-abbrev pub is_together : Law → Bool
+abbrev pub is_together : AnyLockLaw → Bool
 is_together law.Together = true
 is_together _ = false
 
-abbrev pub is_overtaken : Law → Bool
+abbrev pub is_overtaken : AnyLockLaw → Bool
 is_overtaken law.Overtaken = true
 is_overtaken _ = false
 
 -- these are the reasons of an entry that breaks this law first
-pub record AreReasons (s : Setup) (past : Past) (e : Entry) (l : Law) (r : Reasons) : Type 0 where
+pub record AreReasons (s : Setup) (past : Past) (e : Entry) (l : AnyLockLaw) (r : Reasons) : Type 0 where
   pub may : r.may ≡ change_of s past e l
   pub refused : r.refused ≡ refused s past e
   pub stage : r.stage ≡ of_standing (λ k. Some k.stage) (stands s past e.process)

@@ -1,17 +1,17 @@
 -- How laws, refusals and verdicts are printed.
 use Rattle.std.specs.Prelude.{ℕ, List, ◌++◌, codes}
 use Rattle.std.specs.Fmt.{decimal}
-use Rattle.any_lock.specs.declared.verdicts.Law.{Law}
-use Rattle.any_lock.specs.declared.verdicts.Law.TheVariants as law
+use Rattle.any_lock.specs.declared.verdicts.AnyLockLaw.{AnyLockLaw}
+use Rattle.any_lock.specs.declared.verdicts.AnyLockLaw.TheVariants as law
 use Rattle.any_lock.specs.declared.refusals.AccessRefusal.{AccessRefusal}
 use Rattle.any_lock.specs.declared.refusals.AccessRefusal.TheVariants as access
 use Rattle.any_lock.specs.declared.refusals.MarkRefusal.{MarkRefusal}
 use Rattle.any_lock.specs.declared.refusals.MarkRefusal.TheVariants as mark
-use Rattle.any_lock.specs.declared.verdicts.Verdict.{Verdict}
-use Rattle.any_lock.specs.declared.verdicts.Verdict.TheVariants.{Good, Bad}
+use Rattle.any_lock.specs.declared.verdicts.AnyLockVerdict.{AnyLockVerdict}
+use Rattle.any_lock.specs.declared.verdicts.AnyLockVerdict.TheVariants.{Good, Bad}
 
 -- a law
-abbrev pub law_text : Law → List ℕ
+abbrev pub law_text : AnyLockLaw → List ℕ
 law_text law.Safe = codes "safe"
 law_text law.Access = codes "access"
 law_text law.Marks = codes "marks"
@@ -56,6 +56,6 @@ mark_refusal_text mark.Torn = codes "torn"
 mark_refusal_text mark.StillInside = codes "still-inside"
 
 -- the verdict on a record of so many entries
-abbrev pub verdict_text : ℕ → Verdict → List ℕ
+abbrev pub verdict_text : ℕ → AnyLockVerdict → List ℕ
 verdict_text entries Good = codes "good " ++ decimal entries
 verdict_text entries (Bad entry law) = codes "bad " ++ decimal entry ++ codes " " ++ law_text law

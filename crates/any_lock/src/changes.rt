@@ -2,14 +2,14 @@
 ghost use Rattle.std.specs.Prelude.{◌≡◌, IfOk, map};
 ghost use Rattle.any_lock.specs.Changes.{access_with, changed as entry_with, mark_with};
 
-use crate::reasons::Change;
+use crate::reasons::Remedy;
 use plain_store::{Answer, NestedTypes};
 use record::{Access, Act, Entry, Mark, Move};
 use smallvec::SmallVec;
 use std::alloc::{AllocError, Global};
 
 /// An entry with a change. The one fault is want of memory.
-pub fn changed(alloc: Global, entry: &Entry, change: &Change) -> Result<Entry, AllocError>
+pub fn changed(alloc: Global, entry: &Entry, change: &Remedy) -> Result<Entry, AllocError>
     ensures { IfOk result (λ with. with ≡ entry_with change.now entry.now) }
 {
     let _nested: NestedTypes = None;
@@ -23,12 +23,12 @@ pub fn changed(alloc: Global, entry: &Entry, change: &Change) -> Result<Entry, A
 }
 
 /// Its access with a change.
-fn changed_access(access: &Option<Access>, change: &Change) -> Option<Access>
+fn changed_access(access: &Option<Access>, change: &Remedy) -> Option<Access>
     ensures { result ≡ access_with change.now access.now }
 {
     let _nested: NestedTypes = None;
     match (access, change) {
-        (Some(access), Change::Value(value)) => Some(Access {
+        (Some(access), Remedy::Value(value)) => Some(Access {
             how: Move::EndRead(*value),
             ..*access
         }),
@@ -40,7 +40,7 @@ fn changed_access(access: &Option<Access>, change: &Change) -> Option<Access>
 fn changed_marks(
     alloc: Global,
     marks: &[Mark],
-    change: &Change,
+    change: &Remedy,
 ) -> Result<SmallVec<Mark, 3>, AllocError>
     ensures { IfOk result (λ with. with.items ≡ map (mark_with change.now) marks.now) }
 {
@@ -53,13 +53,13 @@ fn changed_marks(
 }
 
 /// A mark with a change.
-fn changed_mark(mark: &Mark, change: &Change) -> Mark
+fn changed_mark(mark: &Mark, change: &Remedy) -> Mark
     ensures { result ≡ mark_with change.now mark.now }
 {
     let _nested: NestedTypes = None;
     match (mark, change) {
-        (Mark::Taken(..), Change::Taking(place, reply)) => Mark::Taken(*place, *reply),
-        (Mark::Answered(Answer::Reply(_)), Change::Taking(_, reply)) => {
+        (Mark::Taken(..), Remedy::Taking(place, reply)) => Mark::Taken(*place, *reply),
+        (Mark::Answered(Answer::Reply(_)), Remedy::Taking(_, reply)) => {
             Mark::Answered(Answer::Reply(*reply))
         }
         (mark, _) => *mark,

@@ -4,7 +4,7 @@ ghost use Rattle.std.specs.List.{list_all, list_any};
 ghost use Rattle.record.specs.Entries.{Entry as Noted, Past, is_entered};
 ghost use Rattle.record.specs.Histories.{history};
 ghost use Rattle.record.specs.Spans.{takings};
-ghost use Rattle.any_lock.specs.declared.verdicts.Law.{Law as Named};
+ghost use Rattle.any_lock.specs.declared.verdicts.AnyLockLaw.{AnyLockLaw as Named};
 ghost use Rattle.any_lock.specs.Keeping.{Knows, is_taken_as};
 ghost use Rattle.any_lock.specs.Laws.{breaks_overtaken, breaks_safe, breaks_together, broken_inside, broken_later, first_broken, is_that, right_reply};
 ghost use Rattle.any_lock.specs.Standings.{standing as standing_of};
@@ -12,7 +12,7 @@ ghost use Rattle.any_lock.specs.Standings.{standing as standing_of};
 use crate::kept::{Kept, takes};
 use crate::mark_rules::same_reply;
 use crate::standings::Standing;
-use crate::verdicts::Law;
+use crate::verdicts::AnyLockLaw;
 use plain_store::{NestedTypes, Reply};
 use record::{Access, Mark};
 
@@ -24,19 +24,19 @@ impl Kept {
         process: u8,
         access: &Option<Access>,
         marks: &[Mark],
-    ) -> Result<Standing, Law>
+    ) -> Result<Standing, AnyLockLaw>
         ensures there { IfOk result (λ _. process < self.now.setup.processes) }
         ensures laws { (past : Past) (e : Noted) → e.process ≡ process → e.access ≡ access.now → e.marks ≡ marks.now → Knows self.now past → MatchResult result (λ k. (broken_later self.now.setup past e ≡ None) × (k ≡ standing_of self.now.setup process (e ∷ past))) (λ law. broken_later self.now.setup past e ≡ Some law) }
     {
         let _nested: NestedTypes = None;
         if let Some(_refusal) = self.refusal_of_access(process, access) {
-            return Err(Law::Access);
+            return Err(AnyLockLaw::Access);
         }
         if process >= self.processes() {
-            return Err(Law::Access);
+            return Err(AnyLockLaw::Access);
         }
         let Ok(standing) = self.marked(process, access, marks) else {
-            return Err(Law::Marks);
+            return Err(AnyLockLaw::Marks);
         };
         match self.broken_by(process, marks) {
             None => Ok(standing),
@@ -45,16 +45,16 @@ impl Kept {
     }
 
     /// The first law that an entry breaks whose access and marks are not refused.
-    fn broken_by(&self, process: u8, marks: &[Mark]) -> Option<Law>
+    fn broken_by(&self, process: u8, marks: &[Mark]) -> Option<AnyLockLaw>
         requires { process < self.now.setup.processes }
         ensures { (past : Past) (e : Noted) → e.process ≡ process → e.marks ≡ marks.now → Knows self.now past → result ≡ broken_inside self.now.setup past e }
     {
         if self.joins_another(process, marks) {
-            Some(Law::Together)
+            Some(AnyLockLaw::Together)
         } else if self.overtakes(process, marks) {
-            Some(Law::Overtaken)
+            Some(AnyLockLaw::Overtaken)
         } else if !self.takes_rightly(process, marks) {
-            Some(Law::History)
+            Some(AnyLockLaw::History)
         } else {
             None
         }
@@ -96,7 +96,7 @@ impl Kept {
         process: u8,
         access: &Option<Access>,
         marks: &[Mark],
-    ) -> Option<Law>
+    ) -> Option<AnyLockLaw>
         requires { self.old.entries < 2 ^ 64 - 1 }
         ensures setup { self.new.setup ≡ self.old.setup }
         ensures entries { self.new.entries ≤ self.old.entries + 1 }
@@ -106,7 +106,7 @@ impl Kept {
     {
         let _nested: NestedTypes = None;
         if !is_safe {
-            return Some(Law::Safe);
+            return Some(AnyLockLaw::Safe);
         }
         match marks {
             [] => self.hear_unmarked(process, access),
@@ -117,7 +117,7 @@ impl Kept {
     /// An entry that keeps the law `Safe`, whatever its marks: where its process stands is worked out beside what is kept,
     /// since a mark may be refused behind others.
     #[inline(never)]
-    fn hear_marked(&mut self, process: u8, access: &Option<Access>, marks: &[Mark]) -> Option<Law>
+    fn hear_marked(&mut self, process: u8, access: &Option<Access>, marks: &[Mark]) -> Option<AnyLockLaw>
         requires { self.old.entries < 2 ^ 64 - 1 }
         ensures setup { self.new.setup ≡ self.old.setup }
         ensures entries { self.new.entries ≤ self.old.entries + 1 }
@@ -137,7 +137,7 @@ impl Kept {
 
     /// The same of an entry with no mark, as nearly all are: where its process stands is changed in its place.
     #[inline]
-    fn hear_unmarked(&mut self, process: u8, access: &Option<Access>) -> Option<Law>
+    fn hear_unmarked(&mut self, process: u8, access: &Option<Access>) -> Option<AnyLockLaw>
         requires { self.old.entries < 2 ^ 64 - 1 }
         ensures setup { self.new.setup ≡ self.old.setup }
         ensures entries { self.new.entries ≤ self.old.entries + 1 }
@@ -146,13 +146,13 @@ impl Kept {
         ensures knows { (past : Past) (e : Noted) → e.process ≡ process → e.access ≡ access.now → e.marks ≡ [] → result ≡ None → Knows self.old past → Knows self.new (e ∷ past) }
     {
         if let Some(_refusal) = self.refusal_of_access(process, access) {
-            return Some(Law::Access);
+            return Some(AnyLockLaw::Access);
         }
         if process >= self.processes() {
-            return Some(Law::Access);
+            return Some(AnyLockLaw::Access);
         }
         let Some(access) = access else {
-            return Some(Law::Marks);
+            return Some(AnyLockLaw::Marks);
         };
         self.make(process, *access);
         None

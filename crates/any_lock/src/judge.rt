@@ -3,7 +3,7 @@ ghost use Rattle.plain_store.specs.declared.Setup.{Setup as Given};
 ghost use Rattle.plain_store.specs.Setups.{checked};
 ghost use Rattle.record.specs.Entries.{Entry as Noted, Past};
 ghost use Rattle.read_law.specs.Watching.{AllAreOfThere, HasHeard as HasWatched};
-ghost use Rattle.any_lock.specs.declared.verdicts.Verdict.TheVariants.{Good};
+ghost use Rattle.any_lock.specs.declared.verdicts.AnyLockVerdict.TheVariants.{Good};
 ghost use Rattle.any_lock.specs.Headline.{KeepsHeadlineThroughout};
 ghost use Rattle.any_lock.specs.Judging.{AreReasonsIf, AreReasonsOf, BothHeard, HasJudged};
 ghost use Rattle.any_lock.specs.Laws.{breaks_safe, first_broken};
@@ -11,7 +11,7 @@ ghost use Rattle.any_lock.specs.Verdicts.{verdict_of, verdict_with};
 
 use crate::kept::Kept;
 use crate::reasons::Reasons;
-use crate::verdicts::{Judged, Law, Verdict};
+use crate::verdicts::{Judged, AnyLockLaw, AnyLockVerdict};
 use plain_store::{NestedTypes, Setup};
 use record::{Access, Entry, Mark};
 use std::alloc::{AllocError, Global};
@@ -25,7 +25,7 @@ use read_law::Watch;
 pub struct Judge {
     watch: Watch,
     kept: Kept,
-    verdict: Verdict,
+    verdict: AnyLockVerdict,
     entries: u64,
     reasons: Option<Reasons>,
 }
@@ -50,7 +50,7 @@ impl Judge {
         Ok(Judge {
             watch: Watch::new(alloc, setup)?,
             kept: Kept::new(alloc, setup)?,
-            verdict: Verdict::Good,
+            verdict: AnyLockVerdict::Good,
             entries: 0,
             reasons: None,
         })
@@ -73,7 +73,7 @@ impl Judge {
     {
         let number = self.entries;
         self.entries += 1;
-        if self.verdict == Verdict::Good {
+        if self.verdict == AnyLockVerdict::Good {
             self.verdict = self.verdict_with(number, process, access, marks);
         }
     }
@@ -95,7 +95,7 @@ impl Judge {
         process: u8,
         access: &Option<Access>,
         marks: &[Mark],
-    ) -> Verdict
+    ) -> AnyLockVerdict
         requires few { self.old.kept.entries < self.old.entries }
         ensures verdict { self.new.verdict ≡ self.old.verdict }
         ensures entries { self.new.entries ≡ self.old.entries }
@@ -145,11 +145,11 @@ fn keeps_safe(watch: &mut Watch, access: &Option<Access>) -> bool
 }
 
 /// The verdict with an entry, by the first law that it breaks.
-fn found(number: u64, law: Option<Law>) -> Verdict
+fn found(number: u64, law: Option<AnyLockLaw>) -> AnyLockVerdict
     ensures { result ≡ verdict_with number law }
 {
     match law {
-        None => Verdict::Good,
-        Some(law) => Verdict::Bad(number, law),
+        None => AnyLockVerdict::Good,
+        Some(law) => AnyLockVerdict::Bad(number, law),
     }
 }

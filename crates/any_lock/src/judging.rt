@@ -1,6 +1,6 @@
 ghost use Rattle.std.specs.Prelude.{◌≡◌, IfOk, Ok, length, reverse};
 ghost use Rattle.plain_store.specs.Setups.{checked};
-ghost use Rattle.any_lock.specs.declared.verdicts.Verdict.TheVariants.{Good};
+ghost use Rattle.any_lock.specs.declared.verdicts.AnyLockVerdict.TheVariants.{Good};
 ghost use Rattle.any_lock.specs.Changes.{MaysKeepAllLaws};
 ghost use Rattle.any_lock.specs.Headline.{GoodSaysTheHeadline, KeepsHeadlineThroughout};
 ghost use Rattle.any_lock.specs.Verdicts.{verdict_of};

@@ -1,7 +1,7 @@
 //! The reasons of a verdict: what is looked up for the bad entry.
 ghost use Rattle.std.specs.Prelude.{◌≡◌, ◌<◌, ℕ, None, Some, cond, slice_index_or};
 ghost use Rattle.record.specs.Entries.{Entry as Noted, Past};
-ghost use Rattle.any_lock.specs.declared.verdicts.Law.TheVariants as broken;
+ghost use Rattle.any_lock.specs.declared.verdicts.AnyLockLaw.TheVariants as broken;
 ghost use Rattle.any_lock.specs.Judging.{AreReasonsIf};
 ghost use Rattle.any_lock.specs.Keeping.{Knows};
 ghost use Rattle.any_lock.specs.Standings.{standing as standing_of};
@@ -10,13 +10,13 @@ ghost use Rattle.any_lock.specs.Reasons.{AreReasons, change_of, doorway_with, en
 use crate::kept::Kept;
 use crate::refusals::{AccessRefusal, MarkRefusal};
 use crate::standings::{Begun, Standing};
-use crate::verdicts::Law;
+use crate::verdicts::AnyLockLaw;
 use plain_store::{NestedTypes, Reply};
 use record::{Access, Mark, Move, Stage};
 
 /// How an entry has to be changed to keep all laws.
 #[derive(Clone, Copy, Debug, PartialEq, Eq)]
-pub enum Change {
+pub enum Remedy {
     /// Its read ends with this value.
     Value(bool),
     /// Its command is taken at this place, with this reply, which is its answer too.
@@ -38,7 +38,7 @@ const MOST_PROCESSES: usize = 16;
 pub struct Reasons {
     /// How the entry would keep all laws: with the other value (`Safe`), or with the right place and reply
     /// (`History`).
-    pub may: Option<Change>,
+    pub may: Option<Remedy>,
     /// Why it is refused, whatever the law.
     pub refused: Option<Refused>,
     /// The stage of its process; none if that is not there.
@@ -60,7 +60,7 @@ impl Kept {
     #[inline]
     pub(crate) fn reasons_of(
         &self,
-        law: Option<Law>,
+        law: Option<AnyLockLaw>,
         process: u8,
         access: &Option<Access>,
         marks: &[Mark],
@@ -76,7 +76,7 @@ impl Kept {
 
     /// The reasons of an entry that breaks this law first.
     #[inline(never)]
-    fn reasons(&self, law: Law, process: u8, access: &Option<Access>, marks: &[Mark]) -> Reasons
+    fn reasons(&self, law: AnyLockLaw, process: u8, access: &Option<Access>, marks: &[Mark]) -> Reasons
         ensures { (past : Past) (e : Noted) → e.process ≡ process → e.access ≡ access.now → e.marks ≡ marks.now → Knows self.now past → AreReasons self.now.setup past e law result }
     {
         let _nested: NestedTypes = None;
@@ -152,22 +152,22 @@ impl Kept {
     /// How it would keep all laws.
     fn change(
         &self,
-        law: Law,
+        law: AnyLockLaw,
         process: u8,
         access: &Option<Access>,
         marks: &[Mark],
-    ) -> Option<Change>
+    ) -> Option<Remedy>
         ensures { (past : Past) (e : Noted) → e.process ≡ process → e.access ≡ access.now → e.marks ≡ marks.now → Knows self.now past → result ≡ change_of self.now.setup past e law }
     {
         match law {
-            Law::Safe => self.other_value(process, access, marks),
-            Law::History => self.right_change(process),
-            Law::Access | Law::Marks | Law::Together | Law::Overtaken => None,
+            AnyLockLaw::Safe => self.other_value(process, access, marks),
+            AnyLockLaw::History => self.right_change(process),
+            AnyLockLaw::Access | AnyLockLaw::Marks | AnyLockLaw::Together | AnyLockLaw::Overtaken => None,
         }
     }
 
     /// The right place and reply of a command that is taken, if its process is there.
-    fn right_change(&self, process: u8) -> Option<Change>
+    fn right_change(&self, process: u8) -> Option<Remedy>
         ensures { (past : Past) (e : Noted) → e.process ≡ process → Knows self.now past → result ≡ change_of self.now.setup past e broken.History }
     {
         let _nested: NestedTypes = None;
@@ -175,11 +175,11 @@ impl Kept {
             return None;
         }
         let (place, reply) = self.right_taking(process);
-        Some(Change::Taking(place, reply))
+        Some(Remedy::Taking(place, reply))
     }
 
     /// The other value of a read's end, if the entry would keep all later laws with it.
-    fn other_value(&self, process: u8, access: &Option<Access>, marks: &[Mark]) -> Option<Change>
+    fn other_value(&self, process: u8, access: &Option<Access>, marks: &[Mark]) -> Option<Remedy>
         ensures { (past : Past) (e : Noted) → e.process ≡ process → e.access ≡ access.now → e.marks ≡ marks.now → Knows self.now past → result ≡ other_value self.now.setup past e }
     {
         let Some(told) = access else {
@@ -193,16 +193,16 @@ impl Kept {
             ..*told
         };
         match self.after(process, &Some(turned), marks) {
-            Ok(_) => Some(Change::Value(!value)),
+            Ok(_) => Some(Remedy::Value(!value)),
             Err(_) => None,
         }
     }
 
     /// `Together`: who but a process is inside, and since which entry.
-    fn inside(&self, law: Law, process: u8) -> Option<(u8, u64)>
+    fn inside(&self, law: AnyLockLaw, process: u8) -> Option<(u8, u64)>
         ensures { (past : Past) → Knows self.now past → result ≡ cond (is_together law) (inside_since self.now.setup past process) None }
     {
-        if !matches!(law, Law::Together) {
+        if !matches!(law, AnyLockLaw::Together) {
             return None;
         }
         self.inside_since(process)
@@ -229,10 +229,10 @@ impl Kept {
     }
 
     /// `Overtaken`: of each process that is ahead of this one the entry of its `wait`.
-    fn waits(&self, law: Law, process: u8) -> [Option<u64>; MOST_PROCESSES]
+    fn waits(&self, law: AnyLockLaw, process: u8) -> [Option<u64>; MOST_PROCESSES]
         ensures { (past : Past) → Knows self.now past → (q : ℕ) → q < 16 → slice_index_or result q None ≡ cond (is_overtaken law) (wait_ahead self.now.setup past process q) None }
     {
-        if !matches!(law, Law::Overtaken) {
+        if !matches!(law, AnyLockLaw::Overtaken) {
             return [None; MOST_PROCESSES];
         }
         self.waits_ahead(process)
@@ -263,10 +263,10 @@ impl Kept {
     }
 
     /// `Overtaken`: where the doorway of a process began, in the past or with this access.
-    fn doorway(&self, law: Law, process: u8, access: &Option<Access>) -> Option<u64>
+    fn doorway(&self, law: AnyLockLaw, process: u8, access: &Option<Access>) -> Option<u64>
         ensures { (past : Past) (e : Noted) → e.process ≡ process → e.access ≡ access.now → Knows self.now past → result ≡ cond (is_overtaken law) (of_standing (doorway_with past e) (stands self.now.setup past process)) None }
     {
-        if !matches!(law, Law::Overtaken) {
+        if !matches!(law, AnyLockLaw::Overtaken) {
             return None;
         }
         self.doorway_with(process, access)

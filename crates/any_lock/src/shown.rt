@@ -2,22 +2,22 @@
 ghost use Rattle.any_lock.specs.Shown.{access_refusal_text, law_text, mark_refusal_text, verdict_text};
 
 use crate::refusals::{AccessRefusal, MarkRefusal};
-use crate::verdicts::{Judged, Law, Verdict};
+use crate::verdicts::{Judged, AnyLockLaw, AnyLockVerdict};
 use std::fmt;
 
-impl fmt::Display for Law {
+impl fmt::Display for AnyLockLaw {
     ghost use Rattle.std.specs.Prelude.{Some};
 
     ghost output = { λ law. Some (law_text law) };
 
     fn fmt<W: fmt::Write>(&self, f: &mut fmt::Formatter<W>) -> fmt::Result {
         f.write_str(match self {
-            Law::Safe => "safe",
-            Law::Access => "access",
-            Law::Marks => "marks",
-            Law::Together => "together",
-            Law::Overtaken => "overtaken",
-            Law::History => "history",
+            AnyLockLaw::Safe => "safe",
+            AnyLockLaw::Access => "access",
+            AnyLockLaw::Marks => "marks",
+            AnyLockLaw::Together => "together",
+            AnyLockLaw::Overtaken => "overtaken",
+            AnyLockLaw::History => "history",
         })
     }
 }
@@ -81,8 +81,8 @@ impl fmt::Display for Judged {
 
     fn fmt<W: fmt::Write>(&self, f: &mut fmt::Formatter<W>) -> fmt::Result {
         match self.verdict {
-            Verdict::Good => write!(f, "good {}", self.entries),
-            Verdict::Bad(entry, law) => write!(f, "bad {entry} {law}"),
+            AnyLockVerdict::Good => write!(f, "good {}", self.entries),
+            AnyLockVerdict::Bad(entry, law) => write!(f, "bad {entry} {law}"),
         }
     }
 }

@@ -1,6 +1,6 @@
 /// A law that each entry of the record of any lock keeps, by the entries before it. They are looked at in this order.
 #[derive(Clone, Copy, Debug, PartialEq, Eq)]
-pub enum Law {
+pub enum AnyLockLaw {
     /// A read that no write overlapped ends with the value last written or settled (Lamport 1986: the safe register).
     Safe,
     /// There is no refusal of the access.
@@ -17,16 +17,16 @@ pub enum Law {
 
 /// What a judge finds.
 #[derive(Clone, Copy, Debug, PartialEq, Eq)]
-pub enum Verdict {
+pub enum AnyLockVerdict {
     /// Each entry keeps each law.
     Good,
     /// The lowest entry that breaks a law, counted from 0, and the first law that it breaks.
-    Bad(u64, Law),
+    Bad(u64, AnyLockLaw),
 }
 
 /// A verdict on a record of so many entries. It is printed as `good <entries>` or `bad <entry> <law>`.
 #[derive(Clone, Copy, Debug, PartialEq, Eq)]
 pub struct Judged {
-    pub verdict: Verdict,
+    pub verdict: AnyLockVerdict,
     pub entries: u64,
 }

@@ -23,8 +23,8 @@ use Rattle.record.specs.declared.history.Taken.{Taken}
 use Rattle.record.specs.Histories.{reply_taken}
 use Rattle.world.specs.process.declared.told.Effect.{Effect}
 use Rattle.world.specs.process.declared.told.Effect.TheVariants.{Steps, Calls, Fails, Withdraws, Restarts}
-use Rattle.world.specs.process.declared.told.Told.{Told}
-use Rattle.world.specs.process.declared.told.Told.TheVariants.{Nothing, Waits, WaitsAndEnters, Enters, Took, Leaves, Answers, Settles, SettlesAndTakes, Lies}
+use Rattle.world.specs.process.declared.told.StepTold.{StepTold}
+use Rattle.world.specs.process.declared.told.StepTold.TheVariants.{Nothing, Waits, WaitsAndEnters, Enters, Took, Leaves, Answers, Settles, SettlesAndTakes, Lies}
 use Rattle.world.specs.Changes.{with_taken}
 use Rattle.world.specs.Cores.{CoreMakes, CoreRefuses, CoreState, CoreSteps, call_in, with_history}
 use Rattle.world.specs.Events.{Adds, entry_with}
@@ -75,22 +75,22 @@ at-placed n (mark.Taken j q ∷ ms) k r (suc i, l, e) = at-placed n ms k r (i, o
 at-placed n (_ ∷ ms) k r h = at-placed n ms k r h
 
 -- the entry of a step with this place
-abbrev step_entry : ℕ → ℕ → Access → Told → Entry
+abbrev step_entry : ℕ → ℕ → Access → StepTold → Entry
 step_entry n p a t = record { process = p; access = Some a; marks = map (placed n) (marks_told t) }
 
-alike-open : (n : ℕ) (e : Entry) (a : Access) (t : Told) → IsAlike e (step_entry n e.process a t) → IsAlike e (stepped_as e.process a t)
+alike-open : (n : ℕ) (e : Entry) (a : Access) (t : StepTold) → IsAlike e (step_entry n e.process a t) → IsAlike e (stepped_as e.process a t)
 alike-open n e a t h = record { process = h.process; access = h.access; marks = h.marks ∙ all_placed-again 0 n (marks_told t) }
 
-alike-placed : (n : ℕ) (e : Entry) (a : Access) (t : Told) → IsAlike e (stepped_as e.process a t) → IsAlike e (step_entry n e.process a t)
+alike-placed : (n : ℕ) (e : Entry) (a : Access) (t : StepTold) → IsAlike e (stepped_as e.process a t) → IsAlike e (step_entry n e.process a t)
 alike-placed n e a t h = record { process = h.process; access = h.access; marks = h.marks ∙ sym (all_placed-again 0 n (marks_told t)) }
 
 -- what the auditor knows of the step that it has made
-pub record StepMade (a : AuditorState) (past : Past) (e : Entry) (access : Access) (told : Told) : Type 0 where
+pub record StepMade (a : AuditorState) (past : Past) (e : Entry) (access : Access) (told : StepTold) : Type 0 where
   pub heard : HasHeard a past
   pub none : event_in e ≡ None
   pub adds : (taken : List Taken) → Adds (with_history a.core taken) (event.Step e.process (flick_in e.access)) e.process (act_of (length taken) (record { access = Some access; effect = Steps told }))
 
-made_try : (a : AuditorState) (past : Past) (e : Entry) (access : Access) (told : Told) (h : StepMade a past e access told) →
+made_try : (a : AuditorState) (past : Past) (e : Entry) (access : Access) (told : StepTold) (h : StepMade a past e access told) →
     IsTried a.core.setup h.heard.events e (step_entry (length (history a.core.setup past)) e.process access told)
 made_try a past e access told h = record {
   good = h.heard.shows.good;
@@ -102,7 +102,7 @@ pub heard_refused : (a : AuditorState) (past : Past) (e : Entry) (r : Refusal) �
 heard_refused a past e r h none refuses = subst (λ past. BreaksNext law.Program a.core.setup past e) h.past_is
     (refused_step a.core.setup h.shows.good h.events e r (refuses (history a.core.setup past) h.events h.shows) none)
 
-pub heard_wrong : (a : AuditorState) (past : Past) (e : Entry) (access : Access) (told : Told) (settles : Bool) → (h : StepMade a past e access told) → (IsAlike e (stepped_as e.process access told) → ⊥) →
+pub heard_wrong : (a : AuditorState) (past : Past) (e : Entry) (access : Access) (told : StepTold) (settles : Bool) → (h : StepMade a past e access told) → (IsAlike e (stepped_as e.process access told) → ⊥) →
     (nat_lt e.process a.core.setup.processes ≡ true → IsTrue settles ↔ (stage e.process (past_of a.core.setup h.heard.events) ≡ stages.Settling)) → BreaksNext (law_of_wrong (has tells_event e) settles) a.core.setup past e
 heard_wrong a past e access told settles h wrong at = subst (λ past. BreaksNext (law_of_wrong (has tells_event e) settles) s past e) h.heard.past_is (go (has tells_event e) refl settles refl)
   where
@@ -126,7 +126,7 @@ heard_wrong a past e access told settles h wrong at = subst (λ past. BreaksNext
     go false k true l = wrong_unit s h.heard.events e (step_entry n e.process access told) t no_match k (settling.0 l)
     go false k false l = wrong_step s h.heard.events e (step_entry n e.process access told) t no_match k (λ st. true≢false (sym (settling.1 st) ∙ l))
 
-pub heard_misplaced : (a : AuditorState) (past : Past) (e : Entry) (access : Access) (told : Told) → StepMade a past e access told → IsAlike e (stepped_as e.process access told) → (AreAt (length (history a.core.setup past)) e.marks → ⊥) →
+pub heard_misplaced : (a : AuditorState) (past : Past) (e : Entry) (access : Access) (told : StepTold) → StepMade a past e access told → IsAlike e (stepped_as e.process access told) → (AreAt (length (history a.core.setup past)) e.marks → ⊥) →
     BreaksNext (law_of_misplaced (has tells_event e)) a.core.setup past e
 heard_misplaced a past e access told h alike wrong = subst (λ past. BreaksNext (law_of_misplaced (has tells_event e)) s past e) h.heard.past_is (go (has tells_event e) refl)
   where
@@ -150,7 +150,7 @@ count-more : (taken : List Taken) (p : ℕ) (command : Rattle.plain_store.specs.
 count-more taken p command number None = refl
 count-more taken p command number (Some r) = sym (length_push taken (record { process = p; command = command; reply = r; number = number }))
 
-pub heard_step : (a : AuditorState) (past : Past) (e : Entry) (access : Access) (told : Told) (new : CoreState) (after : Option ℕ) → StepMade a past e access told → IsAlike e (stepped_as e.process access told) → AreAt (length (history a.core.setup past)) e.marks →
+pub heard_step : (a : AuditorState) (past : Past) (e : Entry) (access : Access) (told : StepTold) (new : CoreState) (after : Option ℕ) → StepMade a past e access told → IsAlike e (stepped_as e.process access told) → AreAt (length (history a.core.setup past)) e.marks →
     new.setup ≡ a.core.setup → CoreSteps a.core e.process (flick_in e.access) told new → ((n : ℕ) → IsCount a.taken n → IsCount after (with_reply n (reply_taken (marks_told told)))) →
     IsHeard a.core.setup past e (record { core = new; taken = after }) None
 heard_step a past e access told new after h alike at same steps counts =

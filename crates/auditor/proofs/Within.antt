@@ -6,7 +6,7 @@ use Rattle.record.specs.declared.events.Event.TheVariants as event
 use Rattle.record.specs.declared.history.Taken.{Taken}
 use Rattle.record.specs.Entries.{Entry, Past}
 use Rattle.record.specs.Histories.{history}
-use Rattle.world.specs.process.declared.told.Told.TheVariants.{Nothing}
+use Rattle.world.specs.process.declared.told.StepTold.TheVariants.{Nothing}
 use Rattle.world.specs.Cores.{CoreState, CoreStepsQuietly, with_history}
 use Rattle.world.specs.Events.{Adds}
 use Rattle.world.specs.Walks.{bits_within_at}

@@ -14,7 +14,7 @@ use Rattle.record.specs.Spans.{takings}
 use Rattle.plain_store.specs.declared.Reply.{Reply}
 use Rattle.world.specs.Cores.{CoreState, with_history}
 use Rattle.world.specs.Shows.{Shows}
-use Rattle.world.specs.process.declared.told.Told.{Told}
+use Rattle.world.specs.process.declared.told.StepTold.{StepTold}
 use Rattle.world.specs.process.Telling.{marks_told}
 use Rattle.auditor.specs.declared.verdicts.Law.{Law}
 use Rattle.auditor.specs.declared.verdicts.Law.TheVariants as law
@@ -86,5 +86,5 @@ law_of_misplaced true = law.Program
 law_of_misplaced false = law.History
 
 -- the entry of a step that has this access and leads to this, its place left open
-abbrev pub stepped_as : ℕ → Access → Told → Entry
+abbrev pub stepped_as : ℕ → Access → StepTold → Entry
 stepped_as p a t = record { process = p; access = Some a; marks = marks_told t }

@@ -18,7 +18,7 @@ use plain_store::Setup;
 use record::{Access, Entry, Event, Mark, Stage};
 use std::alloc::{AllocError, Global};
 use std::marker::Model;
-use world::{Core, Effect, Told};
+use world::{Core, Effect, StepTold};
 
 /// An audit that goes on. It takes the entries of a record one at a time and keeps what a world keeps beside its
 /// history, and how many commands were taken: so it needs the same memory however long the record is.
@@ -140,7 +140,7 @@ impl Auditor {
         ensures setup { result ≡ None → self.new.core.setup ≡ self.old.core.setup }
         ensures heard { (past : Past) (e : Noted) → event_in e ≡ Some event.now → HasHeard self.old past → IsHeard self.old.core.setup past e self.new result }
     {
-        let mut effect = Effect::Steps(Told::Nothing);
+        let mut effect = Effect::Steps(StepTold::Nothing);
         let Ok(_access) = self.core.event(event, &mut effect) else {
             return Some(Law::Program);
         };
@@ -154,7 +154,7 @@ impl Auditor {
         ensures heard { (past : Past) → HasHeard self.old past → IsHeard self.old.core.setup past (record { process = process; access = access.now; marks = marks.now }) self.new result }
     {
         let settles = settles(&self.core, process);
-        let mut told = Told::Nothing;
+        let mut told = StepTold::Nothing;
         let Ok(made) = self.core.step(process, flick_in(access), &mut told) else {
             return Some(Law::Program);
         };

@@ -24,4 +24,4 @@ pub use laws_of_verdicts::{
 pub use record::{Entry, Record};
 pub use verdicts::{Audited, Law, Verdict};
 pub use read_law::Watch;
-pub use world::{Flicks, Told, World};
+pub use world::{Flicks, StepTold, World};

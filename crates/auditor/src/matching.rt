@@ -13,7 +13,7 @@ ghost use Rattle.auditor.specs.Verdicts.{IsAlike};
 use plain_store::{Answer, Command, Name, Reply, Text, Value};
 use record::{Access, Entry, Event, Field, Mark, Move};
 use std::alloc::Global;
-use world::Told;
+use world::StepTold;
 
 /// The flick that an access tells, if there is one.
 #[inline]
@@ -74,7 +74,7 @@ pub(crate) fn is_alike(
     access: &Option<Access>,
     marks: &[Mark],
     made: &Access,
-    told: &Told,
+    told: &StepTold,
 ) -> bool
     ensures { (p : ℕ) → IsTrue result ↔ IsAlike (record { process = p; access = access.now; marks = marks.now }) (stepped_as p made.now told.now) }
 {
@@ -101,18 +101,18 @@ pub(crate) fn is_that(access: Access, that: Access) -> bool
 
 /// Whether the marks are those that a step leads to, but for places.
 #[inline]
-fn are_told(alloc: Global, marks: &[Mark], told: &Told) -> bool
+fn are_told(alloc: Global, marks: &[Mark], told: &StepTold) -> bool
     ensures { IsTrue result ↔ (map (placed 0) marks.now ≡ map (placed 0) (marks_told told.now)) }
 {
     match told {
-        Told::Nothing => marks.is_empty(),
+        StepTold::Nothing => marks.is_empty(),
         _ => are_those_of(alloc, marks, told),
     }
 }
 
 /// The same of a step which leads to something. Few do, and the others are to have no room made for marks.
 #[inline(never)]
-fn are_those_of(alloc: Global, marks: &[Mark], told: &Told) -> bool
+fn are_those_of(alloc: Global, marks: &[Mark], told: &StepTold) -> bool
     ensures { IsTrue result ↔ (map (placed 0) marks.now ≡ map (placed 0) (marks_told told.now)) }
 {
     are_alike(marks, &told.marks(alloc, 0))
@@ -177,7 +177,7 @@ pub(crate) fn are_at(marks: &[Mark], taken: Option<u64>) -> bool
 
 /// How many commands were taken, after what a step leads to.
 #[inline]
-pub(crate) fn more(taken: Option<u64>, told: &Told) -> Option<u64>
+pub(crate) fn more(taken: Option<u64>, told: &StepTold) -> Option<u64>
     ensures { (n : ℕ) → IsCount taken n → IsCount result (with_reply n (reply_taken (marks_told told.now))) }
 {
     if told.reply().is_none() {

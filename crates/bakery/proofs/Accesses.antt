@@ -21,13 +21,13 @@ use Rattle.record.specs.Scripts.{Call}
 use Rattle.bakery.specs.Doors.{DoorState, KeepsDoor, IsKnown, IsNamed, bits_at, call_of, door_at, standing_at, next_of, torn_of, run_shown}
 use Rattle.bakery.specs.Locks.{LockRows, answer_to, answered}
 use Rattle.bakery.specs.Standings.{part_of, number_written}
-use Rattle.bakery.specs.declared.standing.Standing.{Standing}
-use Rattle.bakery.specs.declared.standing.Standing.TheVariants.{Away, Raises, Asks, TakesTicket, Lowers, Refuses, AwaitsChoosing, AwaitsTicket}
+use Rattle.bakery.specs.declared.standing.DoorPart.{DoorPart}
+use Rattle.bakery.specs.declared.standing.DoorPart.TheVariants.{Away, Raises, Asks, TakesTicket, Lowers, Refuses, AwaitsChoosing, AwaitsTicket}
 use Rattle.bakery.proofs.Going.{is-some, bits-read, bits-written, width-written, shown-read, shown-written, made-same}
 use Rattle.bakery.proofs.Passage.{IsOnTheWay, IsShown, shown-at, kept-run}
 
 -- a door with these fields
-abbrev pub door_with : Setup → ℕ → Standing → NumberWrite → NumberRead → DoorState
+abbrev pub door_with : Setup → ℕ → DoorPart → NumberWrite → NumberRead → DoorState
 door_with s p standing w r = record { setup = s; process = p; standing = standing; run = run_shown standing w r }
 
 -- what a choice gave
@@ -36,7 +36,7 @@ the-some true x y e = ap (λ o. unwrap_or o x) e
 the-some false x y e = absurd (cc)
 
 -- the next access of a read
-pub next-read : (s : Setup) (p : ℕ) (standing : Standing) (w : NumberWrite) (r : NumberRead) (v : Bool) (register : ℕ × Field) → Some register ≡ cond (is_read (part_of standing)) (Some (read_at (call_of s p) (part_of standing))) None →
+pub next-read : (s : Setup) (p : ℕ) (standing : DoorPart) (w : NumberWrite) (r : NumberRead) (v : Bool) (register : ℕ × Field) → Some register ≡ cond (is_read (part_of standing)) (Some (read_at (call_of s p) (part_of standing))) None →
     access_of register.0 register.1 (next_of_read p r v) ≡ next_of (door_with s p standing w r) v
 next-read s p standing w r v register e =
     ap (λ (x : ℕ × Field). access_of x.0 x.1 (next_of_read p r v)) (the-some (is_read (part_of standing)) register (read_at (call_of s p) (part_of standing)) e)
@@ -46,7 +46,7 @@ next-read s p standing w r v register e =
     by true = refl
     by false = refl
 
-written-field : (c : Call) (standing : Standing) → is_read (part_of standing) ≡ false → (written_at c (part_of standing)).0 ≡ (number_written standing).0
+written-field : (c : Call) (standing : DoorPart) → is_read (part_of standing) ≡ false → (written_at c (part_of standing)).0 ≡ (number_written standing).0
 written-field c Away e = refl
 written-field c Raises e = refl
 written-field c (Asks j m full) e = absurd (cc)
@@ -65,7 +65,7 @@ no-value p field bits w v = by ((bit_written bits w).made % 2 == 0)
     by false = refl
 
 -- the next access of a write
-pub next-write : (s : Setup) (p : ℕ) (standing : Standing) (w : NumberWrite) (r : NumberRead) (v : Bool) (field : Field) (number : ℕ) → is_read (part_of standing) ≡ false → is_over (part_of standing) ≡ false → w.width ≡ bits_at s standing →
+pub next-write : (s : Setup) (p : ℕ) (standing : DoorPart) (w : NumberWrite) (r : NumberRead) (v : Bool) (field : Field) (number : ℕ) → is_read (part_of standing) ≡ false → is_over (part_of standing) ≡ false → w.width ≡ bits_at s standing →
     field ≡ (number_written standing).0 → number ≡ (number_written standing).1 → access_of p field (next_written (bits_of_number w.width number) w) ≡ next_of (door_with s p standing w r) v
 next-write s p standing w r v field number e going wide fields numbers =
     ap (λ f. access_of p f (next_written (bits_of_number w.width number) w)) (fields ∙ sym (written-field (call_of s p) standing e))
@@ -76,7 +76,7 @@ next-write s p standing w r v field number e going wide fields numbers =
     ∙ sym (ap (λ run. ended_with v (access_at (call_of s p) (part_of standing) run)) (shown-written standing w r e))
 
 -- who is read is there
-owner-read : (s : Setup) (p : ℕ) (standing : Standing) → IsKnown s standing → is_read (part_of standing) ≡ true → (read_at (call_of s p) (part_of standing)).0 < s.processes
+owner-read : (s : Setup) (p : ℕ) (standing : DoorPart) → IsKnown s standing → is_read (part_of standing) ≡ true → (read_at (call_of s p) (part_of standing)).0 < s.processes
 owner-read s p Away known e = absurd (cc)
 owner-read s p Raises known e = absurd (cc)
 owner-read s p (Asks j m full) known e = known.0
@@ -87,7 +87,7 @@ owner-read s p (AwaitsChoosing t j) known e = known.1
 owner-read s p (AwaitsTicket t j) known e = known.1
 
 -- it names what is there
-pub next-named : (s : Setup) (p : ℕ) (standing : Standing) (w : NumberWrite) (r : NumberRead) (v : Bool) → KeepsDoor s p standing w r → IsNamed s (next_of (door_with s p standing w r) v)
+pub next-named : (s : Setup) (p : ℕ) (standing : DoorPart) (w : NumberWrite) (r : NumberRead) (v : Bool) → KeepsDoor s p standing w r → IsNamed s (next_of (door_with s p standing w r) v)
 next-named s p standing w r v keeps = by (is_read (part_of standing)) refl
   where
     named-as : (run : Run) → run_shown standing w r ≡ run → IsNamed s (ended_with v (access_at (call_of s p) (part_of standing) run)) → IsNamed s (next_of (door_with s p standing w r) v)
@@ -106,10 +106,10 @@ next-named s p standing w r v keeps = by (is_read (part_of standing)) refl
     })
 
 -- the torn bit of a read and of a write
-pub torn-read : (s : Setup) (p : ℕ) (standing : Standing) (w : NumberWrite) (r : NumberRead) → is_read (part_of standing) ≡ true → torn_of (door_with s p standing w r) ≡ None
+pub torn-read : (s : Setup) (p : ℕ) (standing : DoorPart) (w : NumberWrite) (r : NumberRead) → is_read (part_of standing) ≡ true → torn_of (door_with s p standing w r) ≡ None
 torn-read s p standing w r e = ap (torn_run (call_of s p) (part_of standing)) (shown-read standing w r e)
 
-pub torn-written : (s : Setup) (p : ℕ) (standing : Standing) (w : NumberWrite) (r : NumberRead) → is_read (part_of standing) ≡ false → torn_of (door_with s p standing w r) ≡ torn_in (number_written standing).0 w
+pub torn-written : (s : Setup) (p : ℕ) (standing : DoorPart) (w : NumberWrite) (r : NumberRead) → is_read (part_of standing) ≡ false → torn_of (door_with s p standing w r) ≡ torn_in (number_written standing).0 w
 torn-written s p standing w r e = ap (torn_run (call_of s p) (part_of standing)) (shown-written standing w r e) ∙ ap (λ f. torn_in f w) (written-field (call_of s p) standing e)
 
 -- the torn bit of a write names a bit and a copy that there are
@@ -121,7 +121,7 @@ write-known s f bit (Some x) inside some = by ((x.made == 0) || x.ended)
     by true = tt
     by false = (inside, some)
 
-pub torn-known : (s : Setup) (p : ℕ) (standing : Standing) (w : NumberWrite) (r : NumberRead) → KeepsDoor s p standing w r → is_read (part_of standing) ≡ false → IfSome (torn_of (door_with s p standing w r)) (IsTornOf s)
+pub torn-known : (s : Setup) (p : ℕ) (standing : DoorPart) (w : NumberWrite) (r : NumberRead) → KeepsDoor s p standing w r → is_read (part_of standing) ≡ false → IfSome (torn_of (door_with s p standing w r)) (IsTornOf s)
 torn-known s p standing w r keeps e =
     let P : Option TornBit → Type 0 = λ o. IfSome o (IsTornOf s) in
     let inside : w.bit < width s (number_written standing).0 = omega (arith, keeps.write_bit, keeps.write_width, width-written (call_of s p) standing e, ap (width s) (written-field (call_of s p) standing e)) in

@@ -11,8 +11,8 @@ use Rattle.record.specs.Registers.{width}
 use Rattle.record.specs.Scripts.{Call}
 use Rattle.bakery.specs.Doors.{run_shown, ended_number, bits_at}
 use Rattle.bakery.specs.Standings.{part_of, number_written}
-use Rattle.bakery.specs.declared.standing.Standing.{Standing}
-use Rattle.bakery.specs.declared.standing.Standing.TheVariants.{Away, Raises, Asks, TakesTicket, Lowers, Refuses, AwaitsChoosing, AwaitsTicket}
+use Rattle.bakery.specs.declared.standing.DoorPart.{DoorPart}
+use Rattle.bakery.specs.declared.standing.DoorPart.TheVariants.{Away, Raises, Asks, TakesTicket, Lowers, Refuses, AwaitsChoosing, AwaitsTicket}
 
 -- which of two a choice gave
 pub is-some : {A : Type 0} (b : Bool) (x : A) (o : Option A) → Some x ≡ cond b o None → b ≡ true
@@ -45,7 +45,7 @@ moved-stays n bits w inside fits = by ((bit_written bits w).made + 1 == 2 * n) r
     by false e = record { width = refl; bit = omega arith; made = let same : (bit_written bits w).made ≡ (bit_written [] w).made = made-same bits w in grind (arith, nat_tests) }
 
 -- the register that is read has the bits of its field
-pub bits-read : (c : Call) (standing : Standing) → is_read (part_of standing) ≡ true → bits_at c.setup standing ≡ width c.setup (read_at c (part_of standing)).1
+pub bits-read : (c : Call) (standing : DoorPart) → is_read (part_of standing) ≡ true → bits_at c.setup standing ≡ width c.setup (read_at c (part_of standing)).1
 bits-read c Away e = absurd (cc)
 bits-read c Raises e = absurd (cc)
 bits-read c (Asks j m full) e = refl
@@ -56,7 +56,7 @@ bits-read c (AwaitsChoosing t j) e = refl
 bits-read c (AwaitsTicket t j) e = refl
 
 -- and so has the one that is written, with the bits of its number
-pub bits-written : (c : Call) (standing : Standing) → is_read (part_of standing) ≡ false → is_over (part_of standing) ≡ false → (written_at c (part_of standing)).1 ≡ bits_of_number (bits_at c.setup standing) (number_written standing).1
+pub bits-written : (c : Call) (standing : DoorPart) → is_read (part_of standing) ≡ false → is_over (part_of standing) ≡ false → (written_at c (part_of standing)).1 ≡ bits_of_number (bits_at c.setup standing) (number_written standing).1
 bits-written c Away e going = absurd (cc)
 bits-written c Raises e going = refl
 bits-written c (Asks j m full) e going = absurd (cc)
@@ -66,7 +66,7 @@ bits-written c (Refuses full) e going = refl
 bits-written c (AwaitsChoosing t j) e going = absurd (cc)
 bits-written c (AwaitsTicket t j) e going = absurd (cc)
 
-pub width-written : (c : Call) (standing : Standing) → is_read (part_of standing) ≡ false → width c.setup (written_at c (part_of standing)).0 ≡ bits_at c.setup standing
+pub width-written : (c : Call) (standing : DoorPart) → is_read (part_of standing) ≡ false → width c.setup (written_at c (part_of standing)).0 ≡ bits_at c.setup standing
 width-written c Away e = refl
 width-written c Raises e = refl
 width-written c (Asks j m full) e = absurd (cc)
@@ -77,10 +77,10 @@ width-written c (AwaitsChoosing t j) e = absurd (cc)
 width-written c (AwaitsTicket t j) e = absurd (cc)
 
 -- what is shown where a register is read, and where one is written
-pub shown-read : (standing : Standing) (w : NumberWrite) (r : NumberRead) → is_read (part_of standing) ≡ true → run_shown standing w r ≡ Reading r.bits r.begun
+pub shown-read : (standing : DoorPart) (w : NumberWrite) (r : NumberRead) → is_read (part_of standing) ≡ true → run_shown standing w r ≡ Reading r.bits r.begun
 shown-read standing w r e = ap (λ b. cond b (Reading r.bits r.begun) (Writing w)) e
 
-pub shown-written : (standing : Standing) (w : NumberWrite) (r : NumberRead) → is_read (part_of standing) ≡ false → run_shown standing w r ≡ Writing w
+pub shown-written : (standing : DoorPart) (w : NumberWrite) (r : NumberRead) → is_read (part_of standing) ≡ false → run_shown standing w r ≡ Writing w
 shown-written standing w r e = ap (λ b. cond b (Reading r.bits r.begun) (Writing w)) e
 
 -- whether a read has ended
@@ -93,13 +93,13 @@ read-last c part r v going wide = by r.begun
     by false = grind (arith, nat_tests)
 
 -- a read, gone on
-pub read-ended : (c : Call) (standing : Standing) (w : NumberWrite) (r : NumberRead) (v : Bool) → is_read (part_of standing) ≡ true → length r.bits < r.width → r.width ≡ bits_at c.setup standing →
+pub read-ended : (c : Call) (standing : DoorPart) (w : NumberWrite) (r : NumberRead) (v : Bool) → is_read (part_of standing) ≡ true → length r.bits < r.width → r.width ≡ bits_at c.setup standing →
     cond (length (number_read_after r v).bits == r.width) (Some (number_of_bits (number_read_after r v).bits)) None ≡ ended_number (is_last c (part_of standing) (run_shown standing w r)) (bits_with (run_shown standing w r) v)
 read-ended c standing w r v e going wide =
     ap (λ b. cond b (Some (number_of_bits (number_read_after r v).bits)) None) (read-last c (part_of standing) r v going (wide ∙ bits-read c standing e))
     ∙ sym (ap (λ run. ended_number (is_last c (part_of standing) run) (bits_with run v)) (shown-read standing w r e))
 
-pub read-goes : (c : Call) (standing : Standing) (w w' : NumberWrite) (r : NumberRead) (v : Bool) → is_read (part_of standing) ≡ true →
+pub read-goes : (c : Call) (standing : DoorPart) (w w' : NumberWrite) (r : NumberRead) (v : Bool) → is_read (part_of standing) ≡ true →
     run_shown standing w' (number_read_after r v) ≡ run_after c (part_of standing) (run_shown standing w r) v
 read-goes c standing w w' r v e =
     shown-read standing w' (number_read_after r v) e ∙ by r.begun ∙ sym (ap (λ run. run_after c (part_of standing) run v) (shown-read standing w r e))
@@ -109,7 +109,7 @@ read-goes c standing w w' r v e =
     by false = refl
 
 -- a write, gone on
-pub write-goes : (c : Call) (standing : Standing) (w : NumberWrite) (r r' : NumberRead) (n : ℕ) (v : Bool) → is_read (part_of standing) ≡ false → is_over (part_of standing) ≡ false → n ≡ c.setup.processes → w.width ≡ bits_at c.setup standing →
+pub write-goes : (c : Call) (standing : DoorPart) (w : NumberWrite) (r r' : NumberRead) (n : ℕ) (v : Bool) → is_read (part_of standing) ≡ false → is_over (part_of standing) ≡ false → n ≡ c.setup.processes → w.width ≡ bits_at c.setup standing →
     run_shown standing (write_moved n (bits_of_number w.width (number_written standing).1) w) r' ≡ run_after c (part_of standing) (run_shown standing w r) v
 write-goes c standing w r r' n v e going all wide =
     shown-written standing _ r' e
@@ -118,7 +118,7 @@ write-goes c standing w r r' n v e going all wide =
     ∙ ap (λ k. Writing (write_moved k (written_at c (part_of standing)).1 w)) all
     ∙ sym (ap (λ run. run_after c (part_of standing) run v) (shown-written standing w r e))
 
-pub write-ended : (c : Call) (standing : Standing) (w : NumberWrite) (r : NumberRead) (n : ℕ) (v : Bool) → is_read (part_of standing) ≡ false → is_over (part_of standing) ≡ false → n ≡ c.setup.processes → w.width ≡ bits_at c.setup standing →
+pub write-ended : (c : Call) (standing : DoorPart) (w : NumberWrite) (r : NumberRead) (n : ℕ) (v : Bool) → is_read (part_of standing) ≡ false → is_over (part_of standing) ≡ false → n ≡ c.setup.processes → w.width ≡ bits_at c.setup standing →
     cond ((write_moved n (bits_of_number w.width (number_written standing).1) w).bit == w.width) (Some 0) None ≡ ended_number (is_last c (part_of standing) (run_shown standing w r)) (bits_with (run_shown standing w r) v)
 write-ended c standing w r n v e going all wide =
     ap (λ k. cond ((write_moved n (bits_of_number k (number_written standing).1) w).bit == w.width) (Some 0) None) wide

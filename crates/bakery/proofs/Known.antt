@@ -11,8 +11,8 @@ use Rattle.plain_store.specs.declared.Setup.{Setup}
 use Rattle.record.specs.Program.{max_of, is_below}
 use Rattle.bakery.specs.Doors.{IsKnown, IsFullKnown, KeepsDoor, bits_at}
 use Rattle.bakery.specs.Standings.{other_from, ask, await, full_with, standing_after}
-use Rattle.bakery.specs.declared.standing.Standing.{Standing}
-use Rattle.bakery.specs.declared.standing.Standing.TheVariants.{Away, Raises, Asks, TakesTicket, Lowers, Refuses, AwaitsChoosing, AwaitsTicket}
+use Rattle.bakery.specs.declared.standing.DoorPart.{DoorPart}
+use Rattle.bakery.specs.declared.standing.DoorPart.TheVariants.{Away, Raises, Asks, TakesTicket, Lowers, Refuses, AwaitsChoosing, AwaitsTicket}
 use Rattle.bakery.proofs.Reached.{max-pos}
 
 known-choose : (s : Setup) (m : ℕ) (full : Option ℕ) → IsFullKnown s m full → IsKnown s (ask None m full)
@@ -49,7 +49,7 @@ known-full s j m v full inside old new there = by (v == max_of s.ticket_bits) fu
     by false (Some f) e there = there
 
 -- what comes after is known too
-pub known-after : (s : Setup) (p v : ℕ) (standing : Standing) → 1 ≤ s.ticket_bits → v ≤ max_of s.ticket_bits → IsKnown s standing → IsKnown s (standing_after s.processes s.ticket_bits p standing v)
+pub known-after : (s : Setup) (p v : ℕ) (standing : DoorPart) → 1 ≤ s.ticket_bits → v ≤ max_of s.ticket_bits → IsKnown s standing → IsKnown s (standing_after s.processes s.ticket_bits p standing v)
 known-after s p v Away some new known = tt
 known-after s p v Raises some new known = known-ask s p 0 0 None (omega arith) (max-pos s.ticket_bits some)
 known-after s p v (Asks j m full) some new known =
@@ -68,7 +68,7 @@ known-after s p v (AwaitsTicket t j) some new known = by ((v == 0) || is_below t
     by true = known-await s p (j + 1) t known.0
     by false = known
 
-bits-pos : (s : Setup) (standing : Standing) → 1 ≤ s.ticket_bits → 0 < bits_at s standing
+bits-pos : (s : Setup) (standing : DoorPart) → 1 ≤ s.ticket_bits → 0 < bits_at s standing
 bits-pos s Away some = omega arith
 bits-pos s Raises some = omega arith
 bits-pos s (Asks j m full) some = omega arith
@@ -79,7 +79,7 @@ bits-pos s (AwaitsChoosing t j) some = omega arith
 bits-pos s (AwaitsTicket t j) some = omega arith
 
 -- a door that begins a number access keeps its fields
-pub begins-keeps : (s : Setup) (p : ℕ) (old standing : Standing) (w' w : NumberWrite) (r' r : NumberRead) (n room : ℕ) → KeepsDoor s p old w' r' → IsKnown s standing →
+pub begins-keeps : (s : Setup) (p : ℕ) (old standing : DoorPart) (w' w : NumberWrite) (r' r : NumberRead) (n room : ℕ) → KeepsDoor s p old w' r' → IsKnown s standing →
     n ≡ bits_at s standing → w ≡ new_write n → r ≡ new_read n room → room ≡ s.ticket_bits → KeepsDoor s p standing w r
 begins-keeps s p old standing w' w r' r n room keeps known bits writes reads rooms = record {
   process_in = keeps.process_in;
@@ -95,7 +95,7 @@ begins-keeps s p old standing w' w r' r n room keeps known bits writes reads roo
   read_bits = omega (arith, ap (λ (x : NumberRead). x.width) reads, ap (λ (x : NumberRead). length x.bits) reads, bits, bits-pos s standing keeps.some_bits);
 }
 
-bits-most : (s : Setup) (standing : Standing) → 1 ≤ s.ticket_bits → bits_at s standing ≤ s.ticket_bits
+bits-most : (s : Setup) (standing : DoorPart) → 1 ≤ s.ticket_bits → bits_at s standing ≤ s.ticket_bits
 bits-most s Away some = some
 bits-most s Raises some = some
 bits-most s (Asks j m full) some = omega arith
@@ -106,7 +106,7 @@ bits-most s (AwaitsChoosing t j) some = some
 bits-most s (AwaitsTicket t j) some = omega arith
 
 -- a number that was read whole fits a ticket
-pub read-fits : (s : Setup) (standing : Standing) (r : NumberRead) (o : Option ℕ) → 1 ≤ s.ticket_bits → r.width ≡ bits_at s standing → o ≡ cond (length r.bits == r.width) (Some (number_of_bits r.bits)) None → IfSome o (λ n. n ≤ max_of s.ticket_bits)
+pub read-fits : (s : Setup) (standing : DoorPart) (r : NumberRead) (o : Option ℕ) → 1 ≤ s.ticket_bits → r.width ≡ bits_at s standing → o ≡ cond (length r.bits == r.width) (Some (number_of_bits r.bits)) None → IfSome o (λ n. n ≤ max_of s.ticket_bits)
 read-fits s standing r o some wide is = let P : Option ℕ → Type 0 = λ x. IfSome x (λ n. n ≤ max_of s.ticket_bits) in subst P (sym is) (by (length r.bits == r.width) refl)
   where
     by : (b : Bool) → (length r.bits == r.width) ≡ b → IfSome (cond b (Some (number_of_bits r.bits)) None) (λ n. n ≤ max_of s.ticket_bits)

@@ -19,7 +19,7 @@ use Rattle.record.specs.Registers.{width}
 use Rattle.record.specs.Scripts.{Call}
 use Rattle.bakery.specs.Doors.{DoorState, standing_at, run_kept, door_at, next_of, run_shown, bits_at}
 use Rattle.bakery.specs.Standings.{part_of, standing_after}
-use Rattle.bakery.specs.declared.standing.Standing.{Standing}
+use Rattle.bakery.specs.declared.standing.DoorPart.{DoorPart}
 use Rattle.bakery.proofs.Going.{width-written}
 use Rattle.bakery.proofs.Reached.{IsReached, Fits, IsWhole, after-reached, after-standing}
 
@@ -152,7 +152,7 @@ same-after c shown part (Writing w) v is = ap (λ (y : Field × List Bool). Writ
 same-after c shown part (Reading bits begun) v is = refl
 
 -- where a door is going, it keeps the run
-pub kept-run : (c : Call) (standing : Standing) (run : Run) → is_over (part_of standing) ≡ false → run_kept c standing run ≡ run
+pub kept-run : (c : Call) (standing : DoorPart) (run : Run) → is_over (part_of standing) ≡ false → run_kept c standing run ≡ run
 kept-run c standing run going = ap (λ b. cond b (new_run c Over) run) going
 
 -- the next access of a door is that of its place
@@ -206,7 +206,7 @@ ends-at c at v some on going last =
     )
 
 -- a run that is begun for a standing shows as a new one of its part
-pub begun-shown : (c : Call) (standing : Standing) (room : ℕ) → run_shown standing (new_write (bits_at c.setup standing)) (new_read (bits_at c.setup standing) room) ≡ new_run c (part_of standing)
+pub begun-shown : (c : Call) (standing : DoorPart) (room : ℕ) → run_shown standing (new_write (bits_at c.setup standing)) (new_read (bits_at c.setup standing) room) ≡ new_run c (part_of standing)
 begun-shown c standing room = by (is_read (part_of standing)) refl
   where
     by : (b : Bool) → is_read (part_of standing) ≡ b → cond b (Reading [] false) (Writing (new_write (bits_at c.setup standing))) ≡ cond b (Reading [] false) (Writing (new_write (width c.setup (written_at c (part_of standing)).0)))
@@ -226,7 +226,7 @@ stays-door c at v d run is on going more moves =
     (λ i. record { setup = (is i).setup; process = (is i).process; standing = stands i; run = moved i }) ∙ ap (door_at c) (sym next.0)
 
 -- and gone on to the next one
-pub ends-door : (c : Call) (at : Place) (v : Bool) (d : DoorState) (number : ℕ) (after : Standing) (run : Run) → d ≡ door_at c at → IsOnTheWay c at → 1 ≤ c.setup.ticket_bits → is_over (part_of d.standing) ≡ false →
+pub ends-door : (c : Call) (at : Place) (v : Bool) (d : DoorState) (number : ℕ) (after : DoorPart) (run : Run) → d ≡ door_at c at → IsOnTheWay c at → 1 ≤ c.setup.ticket_bits → is_over (part_of d.standing) ≡ false →
     is_last c (part_of d.standing) d.run ≡ true → number ≡ number_of_bits (bits_with d.run v) → after ≡ standing_after d.setup.processes d.setup.ticket_bits d.process d.standing number → run ≡ new_run c (part_of after) →
     record { setup = d.setup; process = d.process; standing = after; run = run } ≡ door_at c (place_after c at v)
 ends-door c at v d number after run is on some going last reads follows begins =

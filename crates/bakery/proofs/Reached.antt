@@ -15,7 +15,7 @@ use Rattle.record.specs.Registers.{processes, others}
 use Rattle.record.specs.Scripts.{Call}
 use Rattle.bakery.specs.Doors.{standing_at, full_among}
 use Rattle.bakery.specs.Standings.{part_of, other_from, choose, ask, await, full_with, standing_after}
-use Rattle.bakery.specs.declared.standing.Standing.TheVariants as standing
+use Rattle.bakery.specs.declared.standing.DoorPart.TheVariants as standing
 use Rattle.bakery.proofs.Greatest.{place-stays, place-behind, at-place, after-place}
 use Rattle.bakery.proofs.Others.{others_of, listed, past-all, others-next}
 

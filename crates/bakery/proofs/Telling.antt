@@ -11,8 +11,8 @@ use Rattle.record.specs.Scripts.{Call}
 use Rattle.bakery.specs.Doors.{standing_at, is_waiting_at, tells_wait, told_at, progress_at, marks_told}
 use Rattle.bakery.specs.Standings.{part_of, other_from, ask, await, full_with, standing_after, told_before, told_with}
 use Rattle.bakery.specs.declared.progress.DoorProgress.TheVariants as told
-use Rattle.bakery.specs.declared.standing.Standing.{Standing}
-use Rattle.bakery.specs.declared.standing.Standing.TheVariants as standing
+use Rattle.bakery.specs.declared.standing.DoorPart.{DoorPart}
+use Rattle.bakery.specs.declared.standing.DoorPart.TheVariants as standing
 
 -- on to D: the process waits, or is inside
 waits-on : (c : Call) (t : ℕ) (w : Wait) (ws : List Wait) (b : Bool) (next : Part) → told_with t (standing_at c (Waits t w ws)) ≡ told.Waiting t
@@ -41,7 +41,7 @@ waits-told c t x xs [] fresh = by (processes c.setup)
     by (k ∷ ks) = refl
 
 -- what a standing that waits tells
-waiting-before : (c : Call) (t : ℕ) (w : Wait) (ws : List Wait) (next : Standing) → told_before (standing_at c (Waits t w ws)) next ≡ told_with t next
+waiting-before : (c : Call) (t : ℕ) (w : Wait) (ws : List Wait) (next : DoorPart) → told_before (standing_at c (Waits t w ws)) next ≡ told_with t next
 waiting-before c t (j, Choosing) ws next = refl
 waiting-before c t (j, Ticket) ws next = refl
 waiting-before c t (j, Commit) ws next = refl
@@ -184,7 +184,7 @@ marks-told c at v going =
     by false = stays-marked c at.part (is_fresh at.run) (is_fresh (run_after c at.part at.run v)) going
 
 -- a process waits exactly where it is told so: within a number access, and at its end
-pub stays-waiting : (s : Standing) → is_over (part_of s) ≡ false → is_waiting_at s ≡ tells_wait (told_before s s)
+pub stays-waiting : (s : DoorPart) → is_over (part_of s) ≡ false → is_waiting_at s ≡ tells_wait (told_before s s)
 stays-waiting standing.Away going = absurd (cc)
 stays-waiting standing.Raises going = refl
 stays-waiting (standing.Asks j m full) going = refl
@@ -203,7 +203,7 @@ await-waiting : (t : ℕ) (o : Option ℕ) → is_waiting_at (await t o) ≡ tel
 await-waiting t None = refl
 await-waiting t (Some j) = refl
 
-pub ends-waiting : (n bits p v : ℕ) (s : Standing) → is_over (part_of s) ≡ false → is_waiting_at (standing_after n bits p s v) ≡ tells_wait (told_before s (standing_after n bits p s v))
+pub ends-waiting : (n bits p v : ℕ) (s : DoorPart) → is_over (part_of s) ≡ false → is_waiting_at (standing_after n bits p s v) ≡ tells_wait (told_before s (standing_after n bits p s v))
 ends-waiting n bits p v standing.Away going = absurd (cc)
 ends-waiting n bits p v standing.Raises going = ask-waiting (other_from n p 0) 0 None
 ends-waiting n bits p v (standing.Asks j m full) going = ask-waiting (other_from n p (j + 1)) (max m v) (full_with bits j v full)

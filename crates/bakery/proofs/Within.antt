@@ -21,8 +21,8 @@ use Rattle.record.specs.Scripts.{Call}
 use Rattle.bakery.specs.Doors.{DoorState, GoesOnWithin, IsDoorAfter, KeepsDoor, bits_at, bits_before_last, bits_within, call_of, door_at, next_after, next_of, run_shown, standing_at}
 use Rattle.bakery.specs.Locks.{CanAccess, LockRows, answer_to, answered, lock_of, locks_after}
 use Rattle.bakery.specs.Standings.{number_written, part_of}
-use Rattle.bakery.specs.declared.standing.Standing.{Standing}
-use Rattle.bakery.specs.declared.standing.Standing.TheVariants as stands
+use Rattle.bakery.specs.declared.standing.DoorPart.{DoorPart}
+use Rattle.bakery.specs.declared.standing.DoorPart.TheVariants as stands
 use Rattle.bakery.proofs.Accesses.{answered-again, door_with, next-again, next-read, next-write, place-by-access}
 use Rattle.bakery.proofs.Going.{is-none, moved-stays, bits-read, read-goes, shown-read, write-goes}
 use Rattle.bakery.proofs.Passage.{kept-run, next-at, on-the-way, same-last, shown-at, stays-door}
@@ -122,7 +122,7 @@ read-fewer wide r v = by r.begun
     by true = omega (arith, length-append r.bits (v ∷ []))
     by false = omega arith
 
-pub reads-within : (s : Setup) (p owner : ℕ) (standing : Standing) (w : NumberWrite) (r now : NumberRead) (locks locks_then : List LockRows) (flick : Bool) →
+pub reads-within : (s : Setup) (p owner : ℕ) (standing : DoorPart) (w : NumberWrite) (r now : NumberRead) (locks locks_then : List LockRows) (flick : Bool) →
     ((c : Call) → Some (owner, Ticket) ≡ cond (is_read (part_of standing)) (Some (read_at c (part_of standing))) None) → is_read (part_of standing) ≡ true → is_over (part_of standing) ≡ false →
     length r.bits + 1 < bits_at s standing → now ≡ number_read_after r (loaded (lock_of locks owner).ticket p r flick) → locks_then ≡ locks_after locks (access_of owner Ticket (next_of_read p r (loaded (lock_of locks owner).ticket p r flick))) →
     MovesWithin (door_with s p standing w r) locks flick (run_shown standing w now) locks_then
@@ -184,7 +184,7 @@ turn-read cell true v may = may.0
 turn-read cell false v may = may
 
 -- a standing at which a ticket is read
-pub record ReadsTicket (standing : Standing) (owner : ℕ) : Type 0 where
+pub record ReadsTicket (standing : DoorPart) (owner : ℕ) : Type 0 where
   pub register : (c : Call) → Some (owner, Ticket) ≡ cond (is_read (part_of standing)) (Some (read_at c (part_of standing))) None
   pub reads : is_read (part_of standing) ≡ true
   pub going : is_over (part_of standing) ≡ false
@@ -195,7 +195,7 @@ one-bit (Writing w) h = omega (arith, h)
 one-bit (Reading bits begun) h = omega (arith, h)
 
 -- so what is read within a number access is a ticket
-of-standing : (s : Setup) (p owner : ℕ) (field : Field) (standing : Standing) (run : Run) → 0 < bits_before_last (bits_at s standing) run →
+of-standing : (s : Setup) (p owner : ℕ) (field : Field) (standing : DoorPart) (run : Run) → 0 < bits_before_last (bits_at s standing) run →
     Some (owner, field) ≡ cond (is_read (part_of standing)) (Some (read_at (call_of s p) (part_of standing))) None → ReadsTicket standing owner
 of-standing s p owner field stands.Away run h e = absurd (cc)
 of-standing s p owner field stands.Raises run h e = absurd (cc)
@@ -206,12 +206,12 @@ of-standing s p owner field (stands.Refuses full) run h e = absurd (cc)
 of-standing s p owner field (stands.AwaitsChoosing t j) run h e = absurd (one-bit run h)
 of-standing s p owner field (stands.AwaitsTicket t j) run h e = record { register = λ c. ap (λ o. Some ((unwrap_or o (owner, field)).0, Ticket)) e; reads = refl; going = refl }
 
-pub reads-ticket : (s : Setup) (p owner : ℕ) (field : Field) (standing : Standing) (w : NumberWrite) (r : NumberRead) → 0 < bits_within (door_with s p standing w r) →
+pub reads-ticket : (s : Setup) (p owner : ℕ) (field : Field) (standing : DoorPart) (w : NumberWrite) (r : NumberRead) → 0 < bits_within (door_with s p standing w r) →
     ((c : Call) → Some (owner, field) ≡ cond (is_read (part_of standing)) (Some (read_at c (part_of standing))) None) → ReadsTicket standing owner
 reads-ticket s p owner field standing w r h e = of-standing s p owner field standing (run_shown standing w r) h (e (call_of s p))
 
 -- and so is what is written
-taken : (s : Setup) (standing : Standing) (run : Run) → 0 < bits_before_last (bits_at s standing) run → is_read (part_of standing) ≡ false → standing ≡ stands.TakesTicket (number_written standing).1
+taken : (s : Setup) (standing : DoorPart) (run : Run) → 0 < bits_before_last (bits_at s standing) run → is_read (part_of standing) ≡ false → standing ≡ stands.TakesTicket (number_written standing).1
 taken s stands.Away run h e = absurd (one-bit run h)
 taken s stands.Raises run h e = absurd (one-bit run h)
 taken s (stands.Asks j greatest full) run h e = absurd (cc)
@@ -221,19 +221,19 @@ taken s (stands.Refuses full) run h e = absurd (one-bit run h)
 taken s (stands.AwaitsChoosing t j) run h e = absurd (cc)
 taken s (stands.AwaitsTicket t j) run h e = absurd (cc)
 
-pub takes-ticket : (s : Setup) (p : ℕ) (standing : Standing) (w : NumberWrite) (r : NumberRead) (written : Field × ℕ) → 0 < bits_within (door_with s p standing w r) →
+pub takes-ticket : (s : Setup) (p : ℕ) (standing : DoorPart) (w : NumberWrite) (r : NumberRead) (written : Field × ℕ) → 0 < bits_within (door_with s p standing w r) →
     ((c : Call) → None ≡ cond (is_read (part_of standing)) (Some (read_at c (part_of standing))) None) → written ≡ number_written standing → standing ≡ stands.TakesTicket written.1
 takes-ticket s p standing w r written h e is =
     taken s standing (run_shown standing w r) h (is-none (is_read (part_of standing)) (read_at (call_of s p) (part_of standing)) (e (call_of s p))) ∙ ap (λ (x : Field × ℕ). stands.TakesTicket x.1) (sym is)
 
 -- within it, one bit more at least is to come
-pub read-less : (s : Setup) (p : ℕ) (standing : Standing) (w : NumberWrite) (r : NumberRead) → is_read (part_of standing) ≡ true → 0 < bits_within (door_with s p standing w r) → length r.bits + 1 < bits_at s standing
+pub read-less : (s : Setup) (p : ℕ) (standing : DoorPart) (w : NumberWrite) (r : NumberRead) → is_read (part_of standing) ≡ true → 0 < bits_within (door_with s p standing w r) → length r.bits + 1 < bits_at s standing
 read-less s p standing w r reads h =
     let more : 0 < bits_at s standing - (length r.bits + 1) = subst (λ run. 0 < bits_before_last (bits_at s standing) run) (shown-read standing w r reads) h in
     omega (arith, more)
 
 -- the read is in its turn
-pub read-turn : (s : Setup) (p owner : ℕ) (standing : Standing) (w : NumberWrite) (r : NumberRead) (locks : List LockRows) (flick : Bool) → ReadsTicket standing owner →
+pub read-turn : (s : Setup) (p owner : ℕ) (standing : DoorPart) (w : NumberWrite) (r : NumberRead) (locks : List LockRows) (flick : Bool) → ReadsTicket standing owner →
     ((next_of (door_with s p standing w r) false).field ≡ Ticket → let next : Access = answered locks flick (next_of (door_with s p standing w r) false) in CanAccess (lock_of locks next.owner) next) →
     CanAccess (lock_of locks owner) (access_of owner Ticket (next_of_read p r (loaded (lock_of locks owner).ticket p r flick)))
 read-turn s p owner standing w r locks flick is turn =
@@ -245,20 +245,20 @@ read-turn s p owner standing w r locks flick is turn =
     (turn (ap (λ (a : Access). a.field) (sym asks)))
 
 -- and so is the write
-pub write-turn : (s : Setup) (p ticket : ℕ) (standing : Standing) (w : NumberWrite) (r : NumberRead) (locks : List LockRows) (flick : Bool) → standing ≡ stands.TakesTicket ticket → w.width ≡ s.ticket_bits →
+pub write-turn : (s : Setup) (p ticket : ℕ) (standing : DoorPart) (w : NumberWrite) (r : NumberRead) (locks : List LockRows) (flick : Bool) → standing ≡ stands.TakesTicket ticket → w.width ≡ s.ticket_bits →
     ((next_of (door_with s p standing w r) false).field ≡ Ticket → let next : Access = answered locks flick (next_of (door_with s p standing w r) false) in CanAccess (lock_of locks next.owner) next) →
     CanAccess (lock_of locks p) (access_of p Ticket (next_written (bits_of_number w.width ticket) w))
 write-turn s p ticket standing w r locks flick is wide turn =
     let d : DoorState = door_with s p (stands.TakesTicket ticket) w r in
     let asks = λ (v : Bool). next-write s p (stands.TakesTicket ticket) w r v Ticket ticket refl refl wide refl refl in
     let v : Bool = answer_to locks (next_of d false) flick in
-    let Turn : Standing → Type 0 = λ standing. (next_of (door_with s p standing w r) false).field ≡ Ticket → let next : Access = answered locks flick (next_of (door_with s p standing w r) false) in CanAccess (lock_of locks next.owner) next in
+    let Turn : DoorPart → Type 0 = λ standing. (next_of (door_with s p standing w r) false).field ≡ Ticket → let next : Access = answered locks flick (next_of (door_with s p standing w r) false) in CanAccess (lock_of locks next.owner) next in
     subst (λ (a : Access). CanAccess (lock_of locks a.owner) a)
     (sym (answered-is d locks flick (access_of p Ticket (next_written (bits_of_number w.width ticket) w)) v (asks v) refl))
     (subst Turn is turn (ap (λ (a : Access). a.field) (sym (asks false))))
 
 -- what a write makes, wherever its standing is kept
-pub taking-within : (s : Setup) (p ticket : ℕ) (standing : Standing) (w now : NumberWrite) (r : NumberRead) (locks locks_then : List LockRows) (flick : Bool) → standing ≡ stands.TakesTicket ticket →
+pub taking-within : (s : Setup) (p ticket : ℕ) (standing : DoorPart) (w now : NumberWrite) (r : NumberRead) (locks locks_then : List LockRows) (flick : Bool) → standing ≡ stands.TakesTicket ticket →
     w.width ≡ s.ticket_bits → 0 < bits_within (door_with s p standing w r) → now ≡ write_moved s.processes (bits_of_number w.width ticket) w → locks_then ≡ locks_after locks (access_of p Ticket (next_written (bits_of_number w.width ticket) w)) →
     MovesWithin (door_with s p standing w r) locks flick (run_shown standing now r) locks_then
 taking-within s p ticket standing w now r locks locks_then flick is wide h moved made =
@@ -267,7 +267,7 @@ taking-within s p ticket standing w now r locks locks_then flick is wide h moved
     (writes-within s p ticket w now r locks locks_then flick wide (omega (arith, more, wide)) moved made)
 
 -- a door keeps what it kept
-pub read-keeps : (s : Setup) (p : ℕ) (standing : Standing) (w : NumberWrite) (r now : NumberRead) (v : Bool) → KeepsDoor s p standing w r → length r.bits + 1 < bits_at s standing → now ≡ number_read_after r v → KeepsDoor s p standing w now
+pub read-keeps : (s : Setup) (p : ℕ) (standing : DoorPart) (w : NumberWrite) (r now : NumberRead) (v : Bool) → KeepsDoor s p standing w r → length r.bits + 1 < bits_at s standing → now ≡ number_read_after r v → KeepsDoor s p standing w now
 read-keeps s p standing w r now v keeps less moved = subst (KeepsDoor s p standing w) (sym moved) (record {
   process_in = keeps.process_in;
   processes_in = keeps.processes_in;
@@ -296,7 +296,7 @@ write-stays w run less = by run.ended
     by true = less
     by false = omega (arith, less)
 
-pub write-keeps : (s : Setup) (p ticket : ℕ) (standing : Standing) (w now : NumberWrite) (r : NumberRead) → KeepsDoor s p standing w r → standing ≡ stands.TakesTicket ticket → 0 < bits_within (door_with s p standing w r) →
+pub write-keeps : (s : Setup) (p ticket : ℕ) (standing : DoorPart) (w now : NumberWrite) (r : NumberRead) → KeepsDoor s p standing w r → standing ≡ stands.TakesTicket ticket → 0 < bits_within (door_with s p standing w r) →
     now ≡ write_moved s.processes (bits_of_number w.width ticket) w → KeepsDoor s p standing now r
 write-keeps s p ticket standing w now r keeps is h moved =
     let wide : w.width ≡ s.ticket_bits = keeps.write_width ∙ ap (bits_at s) is in

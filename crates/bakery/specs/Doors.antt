@@ -23,8 +23,8 @@ use Rattle.record.specs.Registers.{width}
 use Rattle.record.specs.Scripts.{Call}
 use Rattle.bakery.specs.declared.progress.DoorProgress.{DoorProgress}
 use Rattle.bakery.specs.declared.progress.DoorProgress.TheVariants as told
-use Rattle.bakery.specs.declared.standing.Standing.{Standing}
-use Rattle.bakery.specs.declared.standing.Standing.TheVariants.{Away, Raises, Asks, TakesTicket, Lowers, Refuses, AwaitsChoosing, AwaitsTicket}
+use Rattle.bakery.specs.declared.standing.DoorPart.{DoorPart}
+use Rattle.bakery.specs.declared.standing.DoorPart.TheVariants.{Away, Raises, Asks, TakesTicket, Lowers, Refuses, AwaitsChoosing, AwaitsTicket}
 use Rattle.bakery.specs.Locks.{LockRows, answered, row_in, lock_of, locks_after, locks_without_reads}
 use Rattle.bakery.specs.Standings.{part_of}
 
@@ -32,7 +32,7 @@ use Rattle.bakery.specs.Standings.{part_of}
 pub record DoorState : Type 0 where
   pub setup : Setup
   pub process : ℕ
-  pub standing : Standing
+  pub standing : DoorPart
   pub run : Run
 
 -- the lowest process whose ticket was read as the greatest that there is
@@ -40,7 +40,7 @@ abbrev pub full_among : Call → List ℕ → Option ℕ
 full_among c tickets = cond (greatest tickets == max_of c.setup.ticket_bits) (Some (first_full c tickets)) None
 
 -- what is kept of a part of a call; nothing past the door
-abbrev pub standing_at : Call → Part → Standing
+abbrev pub standing_at : Call → Part → DoorPart
 standing_at c part.Raises = Raises
 standing_at c (part.Asks j js tickets) = Asks j (greatest tickets) (full_among c tickets)
 standing_at c (part.TakesTicket t) = TakesTicket t
@@ -55,7 +55,7 @@ abbrev pub call_of : Setup → ℕ → Call
 call_of s p = record { setup = s; process = p; command = Ask; number = 0 }
 
 -- what is kept of how far the number access has come; nothing past the door
-abbrev pub run_kept : Call → Standing → Run → Run
+abbrev pub run_kept : Call → DoorPart → Run → Run
 run_kept c standing run = cond (is_over (part_of standing)) (new_run c part.Over) run
 
 -- what a door keeps of a place of a call
@@ -79,7 +79,7 @@ abbrev pub is_going : DoorState → Bool
 is_going d = not (is_over (part_of d.standing))
 
 -- the process has its ticket, and waits
-abbrev pub is_waiting_at : Standing → Bool
+abbrev pub is_waiting_at : DoorPart → Bool
 is_waiting_at (AwaitsChoosing t j) = true
 is_waiting_at (AwaitsTicket t j) = true
 is_waiting_at _ = false
@@ -151,7 +151,7 @@ IsFullKnown s greatest None = greatest < max_of s.ticket_bits
 IsFullKnown s greatest (Some full) = full < s.processes
 
 -- what is known of a standing: the processes that it names are there, and its tickets fit
-abbrev pub IsKnown : Setup → Standing → Type 0
+abbrev pub IsKnown : Setup → DoorPart → Type 0
 IsKnown s (Asks j greatest full) = (j < s.processes) × (greatest ≤ max_of s.ticket_bits) × IsFullKnown s greatest full
 IsKnown s (TakesTicket t) = t ≤ max_of s.ticket_bits
 IsKnown s (Lowers t) = t ≤ max_of s.ticket_bits
@@ -161,7 +161,7 @@ IsKnown s (AwaitsTicket t j) = (t ≤ max_of s.ticket_bits) × (j < s.processes)
 IsKnown s _ = Unit {0}
 
 -- how far the number access has come, as the run that serves it shows
-abbrev pub run_shown : Standing → NumberWrite → NumberRead → Run
+abbrev pub run_shown : DoorPart → NumberWrite → NumberRead → Run
 run_shown standing w r = cond (is_read (part_of standing)) (Reading r.bits r.begun) (Writing w)
 
 -- the number whose bits were read, once the number access has ended; 0 of a write
@@ -169,7 +169,7 @@ abbrev pub ended_number : Bool → List Bool → Option ℕ
 ended_number last bits = cond last (Some (number_of_bits bits)) None
 
 -- the bits of the register that a standing reads or writes
-abbrev pub bits_at : Setup → Standing → ℕ
+abbrev pub bits_at : Setup → DoorPart → ℕ
 bits_at s (Asks j greatest full) = s.ticket_bits
 bits_at s (TakesTicket t) = s.ticket_bits
 bits_at s (AwaitsTicket t j) = s.ticket_bits
@@ -196,7 +196,7 @@ pub record GoesOnWithin (d : DoorState) (locks : List LockRows) (flick : Bool) (
   pub fewer : bits_within d ≤ bits_within then + 1
 
 -- what the fields of a door keep
-pub record KeepsDoor (s : Setup) (p : ℕ) (standing : Standing) (w : NumberWrite) (r : NumberRead) : Type 0 where
+pub record KeepsDoor (s : Setup) (p : ℕ) (standing : DoorPart) (w : NumberWrite) (r : NumberRead) : Type 0 where
   pub process_in : p < s.processes
   pub processes_in : s.processes ≤ 16
   pub some_bits : 1 ≤ s.ticket_bits

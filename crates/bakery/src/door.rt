@@ -12,7 +12,7 @@ ghost use Rattle.bakery.specs.Locks.{lock_of, CanAccess, answered, locks_after};
 use crate::lock::Locks;
 use crate::progress::DoorProgress;
 use crate::runs::{self, Runs};
-use crate::standing::Standing;
+use crate::standing::DoorPart;
 use plain_store::Setup;
 use record::{Access, Field, TornBit};
 use safe_number::{Pace, bits_of};
@@ -30,7 +30,7 @@ use std::marker::Model;
 pub struct Door {
     setup: Setup,
     process: u8,
-    standing: Standing,
+    standing: DoorPart,
     runs: Runs,
 }
 
@@ -55,7 +55,7 @@ impl Door {
         Ok(Door {
             setup: *setup,
             process,
-            standing: Standing::Away,
+            standing: DoorPart::Away,
             runs: Runs::new(alloc, u16::from(setup.ticket_bits))?,
         })
     }
@@ -65,7 +65,7 @@ impl Door {
         ensures door { (c : Call) → self.old.setup ≡ c.setup → self.old.process ≡ c.process → IsDoorAfter self.new c [] }
         ensures going { is_going self.new ≡ true }
     {
-        self.standing = Standing::Raises;
+        self.standing = DoorPart::Raises;
         self.runs.begin(1);
     }
 
@@ -139,8 +139,8 @@ impl Door {
         ensures { result ≡ bits_within self.now }
     {
         match self.standing {
-            Standing::Asks { .. } | Standing::AwaitsTicket { .. } => self.runs.read.bits_within(),
-            Standing::TakesTicket(_) => self.runs.write.bits_within(),
+            DoorPart::Asks { .. } | DoorPart::AwaitsTicket { .. } => self.runs.read.bits_within(),
+            DoorPart::TakesTicket(_) => self.runs.write.bits_within(),
             _ => 0,
         }
     }
@@ -190,7 +190,7 @@ impl Door {
     pub fn quit(&mut self)
         ensures door { self.new ≡ new_door self.old.setup self.old.process }
     {
-        self.standing = Standing::Away;
+        self.standing = DoorPart::Away;
         self.runs.begin(1);
     }
 

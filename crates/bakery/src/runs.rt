@@ -9,7 +9,7 @@ ghost use Rattle.record.specs.Scripts.{Call};
 ghost use Rattle.bakery.specs.Doors.{KeepsDoor, run_shown, ended_number};
 ghost use Rattle.bakery.specs.Standings.{part_of};
 
-use crate::standing::Standing;
+use crate::standing::DoorPart;
 use plain_store::Setup;
 use reader_copies::{Made, Progress};
 use safe_number::{ReadRun, WriteRun, bits_of, number_of};
@@ -64,7 +64,7 @@ impl Runs {
         &mut self,
         setup: &Setup,
         process: u8,
-        standing: Standing,
+        standing: DoorPart,
         value: bool,
     ) -> Option<u32>
         requires keeps { KeepsDoor setup.now process standing self.old.write self.old.read }

@@ -12,7 +12,7 @@ use record::Field;
 
 /// A number access, with what the process keeps of the numbers that it has read.
 #[derive(Clone, Copy, PartialEq, Eq)]
-pub enum Standing {
+pub enum DoorPart {
     /// None: the door was not started, or the process has passed it.
     Away,
     /// Writes `Choosing` 1.
@@ -42,17 +42,17 @@ pub enum Standing {
     },
 }
 
-impl Standing {
+impl DoorPart {
     /// The register that is read: whose, and which field.
     #[inline]
     pub fn read(self) -> Option<(u8, Field)>
         ensures { (c : Call) → result ≡ cond (is_read (part_of self)) (Some (read_at c (part_of self))) None }
     {
         match self {
-            Standing::Asks { owner, .. } | Standing::AwaitsTicket { owner, .. } => {
+            DoorPart::Asks { owner, .. } | DoorPart::AwaitsTicket { owner, .. } => {
                 Some((owner, Field::Ticket))
             }
-            Standing::AwaitsChoosing { owner, .. } => Some((owner, Field::Choosing)),
+            DoorPart::AwaitsChoosing { owner, .. } => Some((owner, Field::Choosing)),
             _ => None,
         }
     }
@@ -63,8 +63,8 @@ impl Standing {
         ensures { result ≡ number_written self }
     {
         match self {
-            Standing::Raises => (Field::Choosing, 1),
-            Standing::TakesTicket(ticket) => (Field::Ticket, ticket),
+            DoorPart::Raises => (Field::Choosing, 1),
+            DoorPart::TakesTicket(ticket) => (Field::Ticket, ticket),
             _ => (Field::Choosing, 0),
         }
     }
@@ -75,7 +75,7 @@ impl Standing {
         ensures { result ≡ bits_at setup.now self }
     {
         match self {
-            Standing::Asks { .. } | Standing::TakesTicket(_) | Standing::AwaitsTicket { .. } => {
+            DoorPart::Asks { .. } | DoorPart::TakesTicket(_) | DoorPart::AwaitsTicket { .. } => {
                 u16::from(setup.ticket_bits)
             }
             _ => 1,
@@ -83,7 +83,7 @@ impl Standing {
     }
 
     /// What comes after the number access, whose read gave `number`, for this process.
-    pub fn after(self, setup: &Setup, process: u8, number: u32) -> Standing
+    pub fn after(self, setup: &Setup, process: u8, number: u32) -> DoorPart
         requires known { IsKnown setup.now self }
         requires number { number ≤ max_of setup.now.ticket_bits }
         requires bits { setup.now.ticket_bits ≤ 32 }
@@ -91,9 +91,9 @@ impl Standing {
         ensures { result ≡ standing_after setup.now.processes setup.now.ticket_bits process self number }
     {
         match self {
-            Standing::Away | Standing::Refuses(_) => Standing::Away,
-            Standing::Raises => ask(other_from(setup, process, 0), 0, None),
-            Standing::Asks {
+            DoorPart::Away | DoorPart::Refuses(_) => DoorPart::Away,
+            DoorPart::Raises => ask(other_from(setup, process, 0), 0, None),
+            DoorPart::Asks {
                 owner,
                 greatest,
                 full,
@@ -102,12 +102,12 @@ impl Standing {
                 greatest.max(number),
                 full_with(setup, owner, number, full),
             ),
-            Standing::TakesTicket(ticket) => Standing::Lowers(ticket),
-            Standing::Lowers(ticket) => await_from(setup, process, ticket, 0),
-            Standing::AwaitsChoosing { ticket, owner } if number == 0 => {
-                Standing::AwaitsTicket { ticket, owner }
+            DoorPart::TakesTicket(ticket) => DoorPart::Lowers(ticket),
+            DoorPart::Lowers(ticket) => await_from(setup, process, ticket, 0),
+            DoorPart::AwaitsChoosing { ticket, owner } if number == 0 => {
+                DoorPart::AwaitsTicket { ticket, owner }
             }
-            Standing::AwaitsTicket { ticket, owner }
+            DoorPart::AwaitsTicket { ticket, owner }
                 if number == 0 || (ticket, process) < (number, owner) => {
                 await_from(setup, process, ticket, owner + 1)
             }
@@ -117,19 +117,19 @@ impl Standing {
 
     /// What the last access leads to, if this one comes next.
     #[inline]
-    pub fn told(self, next: Standing) -> DoorProgress
+    pub fn told(self, next: DoorPart) -> DoorProgress
         ensures { result ≡ told_before self next }
     {
         match self {
-            Standing::Lowers(ticket)
-            | Standing::AwaitsChoosing { ticket, .. }
-            | Standing::AwaitsTicket { ticket, .. } => match next {
-                Standing::Away => DoorProgress::Inside(ticket),
-                Standing::Lowers(_) => DoorProgress::Doorway,
+            DoorPart::Lowers(ticket)
+            | DoorPart::AwaitsChoosing { ticket, .. }
+            | DoorPart::AwaitsTicket { ticket, .. } => match next {
+                DoorPart::Away => DoorProgress::Inside(ticket),
+                DoorPart::Lowers(_) => DoorProgress::Doorway,
                 _ => DoorProgress::Waiting(ticket),
             },
-            Standing::Refuses(full) => match next {
-                Standing::Away => DoorProgress::Full { process: full },
+            DoorPart::Refuses(full) => match next {
+                DoorPart::Away => DoorProgress::Full { process: full },
                 _ => DoorProgress::Doorway,
             },
             _ => DoorProgress::Doorway,
@@ -138,29 +138,29 @@ impl Standing {
 }
 
 /// On to the ticket of this process, or of none: then a ticket is taken, if one fits.
-fn ask(owner: Option<u8>, greatest: u32, full: Option<u8>) -> Standing
+fn ask(owner: Option<u8>, greatest: u32, full: Option<u8>) -> DoorPart
     requires { owner ≡ None → full ≡ None → greatest < 2 ^ 32 - 1 }
     ensures { result ≡ ask owner greatest full }
 {
     match (owner, full) {
-        (Some(owner), full) => Standing::Asks {
+        (Some(owner), full) => DoorPart::Asks {
             owner,
             greatest,
             full,
         },
-        (None, Some(full)) => Standing::Refuses(full),
-        (None, None) => Standing::TakesTicket(greatest + 1),
+        (None, Some(full)) => DoorPart::Refuses(full),
+        (None, None) => DoorPart::TakesTicket(greatest + 1),
     }
 }
 
 /// On to the wait for the first other process from `first` on, or for none: then the process is inside.
-fn await_from(setup: &Setup, process: u8, ticket: u32, first: u8) -> Standing
+fn await_from(setup: &Setup, process: u8, ticket: u32, first: u8) -> DoorPart
     requires { first ≤ setup.now.processes × setup.now.processes ≤ 16 }
     ensures { result ≡ await ticket (other_from setup.now.processes process first) }
 {
     match other_from(setup, process, first) {
-        None => Standing::Away,
-        Some(owner) => Standing::AwaitsChoosing { ticket, owner },
+        None => DoorPart::Away,
+        Some(owner) => DoorPart::AwaitsChoosing { ticket, owner },
     }
 }
 

@@ -4,13 +4,13 @@
 ghost use Rattle.std.specs.Prelude.{◌≡◌, ◌-◌, ◌<◌, ◌^◌, IfOk};
 
 use command_line::{
-    Asked, Engine, Fault, FromRead, Intake, IntoWrite, LineFault, Output, Request, Sink, Source,
+    Invocation, Engine, Fault, FromRead, Intake, IntoWrite, LineFault, Output, Request, Sink, Source,
     Terminals, Uninterrupted, WatchedInput, Watcher, all_words, ended, read_words,
 };
 use drawer::progress::Onlooker;
 use drawer::{Reads, draw, draw_svg};
 use engines::{replay, run_audit, run_bits, run_judge, run_plain, run_record, run_sweep};
-use inspect::{FileKind, Kept, KeptInput, explanation, run_calls};
+use inspect::{FileKind, KeptFile, KeptInput, explanation, run_calls};
 use race::{RunFault, run_fault_status, run_race};
 use record_drawer::{Opened, draw_record, draw_record_svg, judge_any_lock};
 use std::alloc::Global;
@@ -49,8 +49,8 @@ fn do_asked<T: Env + Files + Input + Print + Eprint + Clock + AllocGlobal + Thre
         let _ = eprintln!(rt; "{NO_WORDS}");
     }
     match read_words(rt.alloc(), words.as_slice()) {
-        Ok(Asked::Run(request)) => run(rt, &request, terminals),
-        Ok(Asked::Tell(page)) => Ok(page.tell(rt)?),
+        Ok(Invocation::Run(request)) => run(rt, &request, terminals),
+        Ok(Invocation::Tell(page)) => Ok(page.tell(rt)?),
         Err(notice) => Ok(notice.tell(rt)?),
     }
 }
@@ -115,7 +115,7 @@ fn run_on<T: Print + Eprint + Clock + AllocGlobal + Threads + Wait + Sync, R: Re
 fn told_with_place<T: Eprint + AllocGlobal>(
     rt: &T,
     wanted: Wanted,
-    kept: &Kept,
+    kept: &KeptFile,
     fault: LineFault,
 ) -> u8 {
     let status = told(rt, Err(Fault::Line(fault).into()));

@@ -7,8 +7,8 @@ use Rattle.record.specs.declared.stages.Stage.TheVariants as stage
 use Rattle.process.specs.Processes as kept
 use Rattle.process.specs.Processes.{Kept, stage_kept}
 use Rattle.process.specs.Steps.{may_step}
-use Rattle.process.specs.declared.told.Told.{Told}
-use Rattle.process.specs.declared.told.Told.TheVariants as tells
+use Rattle.process.specs.declared.told.StepTold.{StepTold}
+use Rattle.process.specs.declared.told.StepTold.TheVariants as tells
 use Rattle.board.specs.declared.driving.Driven.TheVariants as driven
 use Rattle.board.specs.Driving.{Drives, Walks, flicks_after}
 use Rattle.board.specs.Ports.{PortState, SamePort}
@@ -27,7 +27,7 @@ goes_unless (kept.Settles inside taken value unit) idle down = refl
 goes_unless (kept.Frees inside unit) idle down = refl
 
 -- so has one whose word step neither answers its call nor brings it down
-pub leads_on : (s : Setup) (told : Told) (o after : OwnView) → LeadsTo s told o after → ((answer : Answer) → told ≡ tells.Answers answer → ⊥) → (told ≡ tells.Lies → ⊥) → goes s after ≡ true
+pub leads_on : (s : Setup) (told : StepTold) (o after : OwnView) → LeadsTo s told o after → ((answer : Answer) → told ≡ tells.Answers answer → ⊥) → (told ≡ tells.Lies → ⊥) → goes s after ≡ true
 leads_on s tells.Nothing o after h answers lies = h
 leads_on s (tells.Waits t) o after h answers lies = h
 leads_on s (tells.WaitsAndEnters t) o after h answers lies = h
@@ -56,7 +56,7 @@ pub step_on : (old now new : PortState) (flicks flicks_now : FlickState) (made :
 step_on old now new flicks flicks_now made flick d flick_is step =
     subst (λ s. WordStep s (flick_of (flicks_after made flicks)) now.view new.view) d.same.2 (subst (λ f. WordStep now.setup f now.view new.view) (flick_is ∙ ap flick_of d.taken) step)
 
-pub driven_on : (old now new : PortState) (flicks flicks_now flicks_then : FlickState) (made : ℕ) (flick : Bool) (told : Told) → IsDriven old flicks made now flicks_now → flick ≡ flick_of flicks_now → flicks_then ≡ after_flick flicks_now →
+pub driven_on : (old now new : PortState) (flicks flicks_now flicks_then : FlickState) (made : ℕ) (flick : Bool) (told : StepTold) → IsDriven old flicks made now flicks_now → flick ≡ flick_of flicks_now → flicks_then ≡ after_flick flicks_now →
     SamePort now new → WordStep now.setup flick now.view new.view → LeadsTo now.setup told now.view.own new.view.own → ((answer : Answer) → told ≡ tells.Answers answer → ⊥) → (told ≡ tells.Lies → ⊥) → IsDriven old flicks (suc made) new flicks_then
 driven_on old now new flicks flicks_now flicks_then made flick told d flick_is then_is same step leads answers lies = record {
   same = same_on old now new d.same same;

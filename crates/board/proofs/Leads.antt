@@ -19,8 +19,8 @@ use Rattle.process.specs.laws.Steps.{marks_with, next_of}
 use Rattle.process.specs.Processes.{Kept, kept_at, stage_kept}
 use Rattle.process.specs.Steps.{may_step}
 use Rattle.process.specs.Telling.{marks_told}
-use Rattle.process.specs.declared.told.Told.{Told}
-use Rattle.process.specs.declared.told.Told.TheVariants as told
+use Rattle.process.specs.declared.told.StepTold.{StepTold}
+use Rattle.process.specs.declared.told.StepTold.TheVariants as told
 use Rattle.process.proofs.Turns.{step-refused, steps-may}
 use Rattle.board.specs.Calls.{Calls, calls_after}
 use Rattle.board.specs.Views.{OwnView, stage_in}
@@ -44,7 +44,7 @@ left-goes stage.Settling = refl
 left-goes stage.Down = refl
 
 -- what a step leads to; the calls are those of its marks
-pub leads : (s : Setup) (told : Told) (o middle after : OwnView) (place : ℕ) → goes s middle ≡ true → stage_in s after ≡ fold stage_after (stage_in s middle) (marks_told told) → middle.calls ≡ o.calls → after.calls ≡ fold (calls_after place) middle.calls (marks_told told) →
+pub leads : (s : Setup) (told : StepTold) (o middle after : OwnView) (place : ℕ) → goes s middle ≡ true → stage_in s after ≡ fold stage_after (stage_in s middle) (marks_told told) → middle.calls ≡ o.calls → after.calls ≡ fold (calls_after place) middle.calls (marks_told told) →
     LeadsTo s told o after
 leads s told.Nothing o middle after place go stage_is same calls = goes-on (kept_at s middle.process middle.doing) (kept_at s after.process after.doing) stage_is go
 leads s (told.Waits t) o middle after place go stage_is same calls = goes-at (kept_at s after.process after.doing) stage.Waiting stage_is refl

@@ -12,7 +12,7 @@ use Rattle.process.specs.laws.Steps.{does_then, marks_with}
 use Rattle.process.specs.Processes.{ProcessState}
 use Rattle.process.specs.Steps.{IsAt, changes_pending, changes_read}
 use Rattle.process.specs.Telling.{changes_told, marks_told}
-use Rattle.process.specs.declared.told.Told.{Told}
+use Rattle.process.specs.declared.told.StepTold.{StepTold}
 use Rattle.board.specs.declared.pending.Pending.{Pending}
 use Rattle.board.specs.Calls.{calls_after}
 use Rattle.board.specs.Listing.{KnowsPlace, Lists, may_take}
@@ -27,13 +27,13 @@ use Rattle.board.proofs.Ties.{GoneOn, begun_at, is_at, next_own, process_step}
 -- A word step.
 
 -- what a step tells, in the words of its process
-abbrev pub Tells : Told → ProcessState → Bool → Bool → Type 0
+abbrev pub Tells : StepTold → ProcessState → Bool → Bool → Type 0
 Tells told now flick value = (d : Doing) → IsAt now d → marks_told told ≡ marks_with now.setup now.process d flick value
 
-abbrev pub TellsStamp : Told → ProcessState → Type 0
+abbrev pub TellsStamp : StepTold → ProcessState → Type 0
 TellsStamp told now = (d : Doing) → IsAt now d → IfSome (changes_told told) (λ changes. changes ≡ changes_read d)
 
-pub lists_stored : (s : Setup) (pending : Pending) (process : ProcessState) (value flick : Bool) (v w : ViewState) (told : Told) (stamp : Option ℕ) → IsTied s pending process value v → Stores s flick (with_pending s pending v) w →
+pub lists_stored : (s : Setup) (pending : Pending) (process : ProcessState) (value flick : Bool) (v w : ViewState) (told : StepTold) (stamp : Option ℕ) → IsTied s pending process value v → Stores s flick (with_pending s pending v) w →
     Tells told process flick false → TellsStamp told process → KnowsPlace stamp (with_pending s pending v) → Lists stamp told (with_pending s pending v) w
 lists_stored s pending process value flick v w told stamp t stored marks read known =
     let b = with_pending s pending v in
@@ -53,7 +53,7 @@ lists_stored s pending process value flick v w told stamp t stored marks read kn
       };
     }
 
-pub lists_loaded : (s : Setup) (pending : Pending) (process middle : ProcessState) (value flick : Bool) (word found : ℕ) (n : Access) (v w : ViewState) (told : Told) (stamp : Option ℕ) → IsTied s pending process value v → IsNext s process flick word n → n.how ≡ BeginRead →
+pub lists_loaded : (s : Setup) (pending : Pending) (process middle : ProcessState) (value flick : Bool) (word found : ℕ) (n : Access) (v w : ViewState) (told : StepTold) (stamp : Option ℕ) → IsTied s pending process value v → IsNext s process flick word n → n.how ≡ BeginRead →
     Loads s flick (with_pending s pending v) found w → GoneOn process middle flick false → Tells told middle flick (loaded flick found) → TellsStamp told middle → KnowsPlace stamp (with_pending s pending v) → Lists stamp told (with_pending s pending v) w
 lists_loaded s pending process middle value flick word found n v w told stamp t h how l goes marks read known =
     let b = with_pending s pending v in

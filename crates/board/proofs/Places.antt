@@ -26,8 +26,8 @@ use Rattle.process.specs.section.Sections.{changes_at}
 use Rattle.process.specs.laws.Doings.{Doing, Rests, Lies, Runs, Closes, call, closes, is_inside, is_inside_at, is_inside_closing}
 use Rattle.process.specs.laws.Steps.{cut_of, does_then, marks_with, next_of}
 use Rattle.history_laws.specs.Stamps.{stamp_at, stamp_read}
-use Rattle.process.specs.declared.told.Told.{Told}
-use Rattle.process.specs.declared.told.Told.TheVariants as told
+use Rattle.process.specs.declared.told.StepTold.{StepTold}
+use Rattle.process.specs.declared.told.StepTold.TheVariants as told
 use Rattle.process.specs.Steps.{changes_pending, changes_read}
 use Rattle.process.specs.Telling.{changes_told, marks_told}
 use Rattle.board.specs.Listing.{IsPlace, may_take}
@@ -312,7 +312,7 @@ cut_takes s p x n (Closes y m at) h = absurd (cut-closing (call s p y m) x n (to
 
 -- The place of what a step takes.
 
-pub is_place : (s : Setup) (seen : List Taken) (flick value : Bool) (o then : OwnView) (m : Makes s seen flick value o then) (stamp : Option ℕ) (told : Told) → marks_told told ≡ marks_with s o.process o.doing flick value → IfSome (changes_told told) (λ changes. changes ≡ changes_read o.doing) →
+pub is_place : (s : Setup) (seen : List Taken) (flick value : Bool) (o then : OwnView) (m : Makes s seen flick value o then) (stamp : Option ℕ) (told : StepTold) → marks_told told ≡ marks_with s o.process o.doing flick value → IfSome (changes_told told) (λ changes. changes ≡ changes_read o.doing) →
     (may_take o.doing ≡ true → is_inside o.doing ≡ true) → (may_take o.doing ≡ true → stamp ≡ Some (length seen)) → IsPlace told stamp m.place
 is_place s seen flick value o then m stamp told.Nothing marks read inside kept = tt
 is_place s seen flick value o then m stamp (told.Waits t) marks read inside kept = tt

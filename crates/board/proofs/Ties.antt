@@ -14,7 +14,7 @@ use Rattle.process.specs.laws.Steps.{being_written, does_then, marks_with, next_
 use Rattle.process.specs.Processes.{ProcessState, kept_at}
 use Rattle.process.specs.Steps.{IsAt, may_step}
 use Rattle.process.specs.Telling.{marks_told}
-use Rattle.process.specs.declared.told.Told.{Told}
+use Rattle.process.specs.declared.told.StepTold.{StepTold}
 use Rattle.board.specs.Agreement.{Agree}
 use Rattle.board.specs.Calls.{calls_after}
 use Rattle.board.specs.declared.pending.Pending.{Pending}
@@ -50,21 +50,21 @@ next_before s pending v flick n h = ap (λ p. next_of s p (with_pending s pendin
 abbrev Load : Setup → ℕ → ℕ → Bool → Me (Unit {0}) ViewState → Pending → ℕ → Type 0
 Load s slots id flick me pending word = Allows (λ (t : State (Unit {0}) ViewState). Agree s t.words t.views) slots id me word (λ k. k) (λ found after. Loads s flick (with_pending s pending me.0) found after.0 × (after.1 ≡ me.1))
 
-abbrev Store : Setup → ℕ → ℕ → Bool → Me (Unit {0}) ViewState → Pending → ℕ → ℕ → Type 0
-Store s slots id flick me pending word new = Allows (λ (t : State (Unit {0}) ViewState). Agree s t.words t.views) slots id me word (λ _. new) (λ _ after. Stores s flick (with_pending s pending me.0) after.0 × (after.1 ≡ me.1))
+abbrev WordStore : Setup → ℕ → ℕ → Bool → Me (Unit {0}) ViewState → Pending → ℕ → ℕ → Type 0
+WordStore s slots id flick me pending word new = Allows (λ (t : State (Unit {0}) ViewState). Agree s t.words t.views) slots id me word (λ _. new) (λ _ after. Stores s flick (with_pending s pending me.0) after.0 × (after.1 ≡ me.1))
 
 pub may_load : (s : Setup) (slots id word : ℕ) (flick value : Bool) (me : Me (Unit {0}) ViewState) (pending : Pending) (process : ProcessState) (n : Access) → IsTied s pending process value me.0 → IsNext s process flick word n → n.how ≡ BeginRead → Load s slots id flick me pending word
 may_load s slots id word flick value me pending process n t h how =
     subst (Load s slots id flick me pending) (sym h.at) (loads s slots id flick me.0 me.1 (events_of me.0.own.process pending) n t.live t.may (next_before s pending me.0 flick n (next_own s pending process value me.0 t flick word n h)) how)
 
-pub may_store : (s : Setup) (slots id word new : ℕ) (flick value : Bool) (me : Me (Unit {0}) ViewState) (pending : Pending) (process : ProcessState) (n : Access) → IsTied s pending process value me.0 → IsNext s process flick word n → IsWrite n.how → new ≡ stored value n.how → Store s slots id flick me pending word new
+pub may_store : (s : Setup) (slots id word new : ℕ) (flick value : Bool) (me : Me (Unit {0}) ViewState) (pending : Pending) (process : ProcessState) (n : Access) → IsTied s pending process value me.0 → IsNext s process flick word n → IsWrite n.how → new ≡ stored value n.how → WordStore s slots id flick me pending word new
 may_store s slots id word new flick value me pending process n t h writes new_is =
     let b = (with_pending s pending me.0).own in
     let next = next_own s pending process value me.0 t flick word n h in
     let p_is = same_process_all s me.0.own (events_of me.0.own.process pending) in
     let same : new ≡ stored (being_written s me.0.own.process b.doing) n.how = new_is ∙ truly n.how (λ e. (t.between flick n next).0 e ∙ ap (λ p. being_written s p b.doing) p_is) in
-    subst (λ w. Store s slots id flick me pending w new) (sym h.at)
-    (subst (Store s slots id flick me pending (word_of s n)) (sym same)
+    subst (λ w. WordStore s slots id flick me pending w new) (sym h.at)
+    (subst (WordStore s slots id flick me pending (word_of s n)) (sym same)
     (stores s slots id flick me.0 me.1 (events_of me.0.own.process pending) n t.live t.may (next_before s pending me.0 flick n next) writes))
   where
     truly : (m : Move) {x : Bool} → (m ≡ EndWrite → value ≡ x) → stored value m ≡ stored x m
@@ -150,7 +150,7 @@ tied_loaded s pending process middle new value flick word found n v w t h how to
 
 -- What it leads to.
 
-pub leads_stored : (s : Setup) (pending : Pending) (process : ProcessState) (value flick : Bool) (word : ℕ) (n : Access) (v w : ViewState) (told : Told) → IsTied s pending process value v → IsNext s process flick word n → Stores s flick (with_pending s pending v) w →
+pub leads_stored : (s : Setup) (pending : Pending) (process : ProcessState) (value flick : Bool) (word : ℕ) (n : Access) (v w : ViewState) (told : StepTold) → IsTied s pending process value v → IsNext s process flick word n → Stores s flick (with_pending s pending v) w →
     ((d : Doing) → IsAt process d → marks_told told ≡ marks_with process.setup process.process d flick false) → LeadsTo s told (with_pending s pending v).own w.own
 leads_stored s pending process value flick word n v w told t h stored_ marks =
     let b = (with_pending s pending v).own in
@@ -159,7 +159,7 @@ leads_stored s pending process value flick word n v w told t h stored_ marks =
     (stored_.makes.stage ∙ ap (fold stage_after (stage_in s b)) (sym is)) refl
     (ap (λ (o : OwnView). o.calls) stored_.makes.is ∙ ap (fold (calls_after stored_.makes.place) b.calls) (sym is))
 
-pub leads_loaded : (s : Setup) (pending : Pending) (process middle : ProcessState) (value flick : Bool) (word found : ℕ) (n : Access) (v w : ViewState) (told : Told) → IsTied s pending process value v → IsNext s process flick word n → n.how ≡ BeginRead →
+pub leads_loaded : (s : Setup) (pending : Pending) (process middle : ProcessState) (value flick : Bool) (word found : ℕ) (n : Access) (v w : ViewState) (told : StepTold) → IsTied s pending process value v → IsNext s process flick word n → n.how ≡ BeginRead →
     Loads s flick (with_pending s pending v) found w → GoneOn process middle flick false → ((d : Doing) → IsAt middle d → marks_told told ≡ marks_with middle.setup middle.process d flick (loaded flick found)) → LeadsTo s told (with_pending s pending v).own w.own
 leads_loaded s pending process middle value flick word found n v w told t h how loaded_ goes marks =
     let b = (with_pending s pending v).own in

@@ -63,7 +63,7 @@ in_row s Stamp1 k h = omega arith
 in_row s Image0 k h = omega arith
 in_row s Image1 k h = omega arith
 
--- Words.
+-- SharedWords.
 
 -- the word of a bit tells it
 pub bit_of_word : (s : Setup) (a : Access) → IsThere s a → bit_of s (word_of s a) ≡ record a { how = BeginRead }

@@ -5,7 +5,7 @@ use Rattle.atomic_table.specs.Seated.{TableId}
 use Rattle.plain_store.specs.declared.Setup.{Setup}
 use Rattle.plain_store.specs.Setups.{checked}
 use Rattle.plain_store.specs.Store.{are_pairs}
-use Rattle.board.specs.declared.layout.Layout.{Layout}
+use Rattle.board.specs.declared.layout.WordLayout.{WordLayout}
 use Rattle.board.specs.Ports.{PortState}
 use Rattle.board.specs.Words.{layout_of, words_in}
 use Rattle.record.specs.declared.calls.Placed.{Placed}
@@ -16,7 +16,7 @@ pub record BoardState : Type 0 where
   pub setup : Setup
 
 -- what the fields of a board keep: the setup is good, with opening pairs that are given, and the layout is that of it; the table was made with it, has its words, and has no slots; and there is room for the lists of all ports
-pub record KeepsBoard (s : Setup) (layout : Layout) (key : Setup) (id : TableId) (answers : Vec (Vec Placed)) : Type 0 where
+pub record KeepsBoard (s : Setup) (layout : WordLayout) (key : Setup) (id : TableId) (answers : Vec (Vec Placed)) : Type 0 where
   pub good : checked s ≡ Ok tt
   pub pairs : are_pairs s.opening ≡ true
   pub laid : layout ≡ layout_of s

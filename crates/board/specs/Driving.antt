@@ -4,7 +4,7 @@ use Rattle.plain_store.specs.declared.Answer.{Answer}
 use Rattle.plain_store.specs.declared.Setup.{Setup}
 use Rattle.process.specs.flicks.Flicks.{FlickState, after_flick, flick_of}
 use Rattle.record.specs.declared.stages.Stage.TheVariants.{Down, Idle}
-use Rattle.process.specs.declared.told.Told.TheVariants as told
+use Rattle.process.specs.declared.told.StepTold.TheVariants as told
 use Rattle.board.specs.declared.driving.Driven.{Driven}
 use Rattle.board.specs.declared.driving.Driven.TheVariants as driven
 use Rattle.board.specs.Views.{ViewState, stage_in}

@@ -3,14 +3,14 @@ use Rattle.std.specs.Prelude.{◌≡◌, ℕ, Bool, true, false, length, fold, O
 use Rattle.record.specs.Closings.{Settles}
 use Rattle.process.specs.laws.Doings.{Doing, Closes, is_inside}
 use Rattle.history_laws.specs.Stamps.{stamp_read}
-use Rattle.process.specs.declared.told.Told.{Told}
-use Rattle.process.specs.declared.told.Told.TheVariants as told
+use Rattle.process.specs.declared.told.StepTold.{StepTold}
+use Rattle.process.specs.declared.told.StepTold.TheVariants as told
 use Rattle.process.specs.Telling.{marks_told}
 use Rattle.board.specs.Calls.{calls_after}
 use Rattle.board.specs.Views.{ViewState}
 
 -- this is the place of the command that is taken, if one is; the stamp is what was kept for a memory unit
-abbrev pub IsPlace : Told → (stamp : Option ℕ) → ℕ → Type 0
+abbrev pub IsPlace : StepTold → (stamp : Option ℕ) → ℕ → Type 0
 IsPlace (told.Took reply changes) stamp place = changes ≡ place
 IsPlace (told.SettlesAndTakes value reply) stamp place = stamp ≡ Some place
 IsPlace _ stamp place = Unit {0}
@@ -27,7 +27,7 @@ pub record KnowsPlace (stamp : Option ℕ) (v : ViewState) : Type 0 where
   pub kept : may_take v.own.doing ≡ true → stamp ≡ Some (length v.seen)
 
 -- what a word step that leads to this makes of the calls that a view knows
-pub record Lists (stamp : Option ℕ) (told : Told) (v w : ViewState) : Type 0 where
+pub record Lists (stamp : Option ℕ) (told : StepTold) (v w : ViewState) : Type 0 where
   pub place : ℕ
   pub is : IsPlace told stamp place
   pub calls : w.own.calls ≡ fold (calls_after place) v.own.calls (marks_told told)

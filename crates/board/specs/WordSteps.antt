@@ -13,8 +13,8 @@ use Rattle.record.specs.Stages.{stage_after}
 use Rattle.process.specs.laws.Doings.{is_inside}
 use Rattle.process.specs.laws.Steps.{being_written, marks_with, next_of}
 use Rattle.history_laws.specs.Stamps.{stamp_read}
-use Rattle.process.specs.declared.told.Told.{Told}
-use Rattle.process.specs.declared.told.Told.TheVariants as told
+use Rattle.process.specs.declared.told.StepTold.{StepTold}
+use Rattle.process.specs.declared.told.StepTold.TheVariants as told
 use Rattle.process.specs.Processes.{kept_at}
 use Rattle.process.specs.Steps.{IsAt, may_step}
 use Rattle.board.specs.Calls.{IsPrefix, calls_after}
@@ -67,7 +67,7 @@ abbrev pub goes : Setup → OwnView → Bool
 goes s o = may_step (kept_at s o.process o.doing)
 
 -- what a word step leads to: its call is answered; the process is down; or there is a next access
-abbrev pub LeadsTo : Setup → Told → OwnView → OwnView → Type 0
+abbrev pub LeadsTo : Setup → StepTold → OwnView → OwnView → Type 0
 LeadsTo s (told.Answers answer) o then = (stage_in s then ≡ stage.Idle) × (then.calls ≡ calls_after 0 o.calls (Answered answer))
 LeadsTo s told.Lies o then = (stage_in s then ≡ stage.Down) × (then.calls ≡ calls_after 0 o.calls Down)
 LeadsTo s _ o then = goes s then ≡ true

@@ -9,7 +9,7 @@ use Rattle.record.specs.declared.access.Field.TheVariants.{Choosing, Ticket, Com
 use Rattle.plain_store.specs.declared.Setup.{Setup}
 use Rattle.record.specs.Moves.{field_number}
 use Rattle.record.specs.Registers.{opening_bit, width}
-use Rattle.board.specs.declared.layout.Layout.{Layout}
+use Rattle.board.specs.declared.layout.WordLayout.{WordLayout}
 
 -- the registers of an owner, in order
 abbrev pub fields : List Field
@@ -33,7 +33,7 @@ abbrev pub word_of : Setup → Access → ℕ
 word_of s a = (a.owner * s.processes + a.reader) * row_bits s + (first_bit s a.field + a.bit)
 
 -- what the word goes by, worked out once
-abbrev pub layout_of : Setup → Layout
+abbrev pub layout_of : Setup → WordLayout
 layout_of s = record { processes = s.processes; row = row_bits s; firsts = map (first_bit s) fields }
 
 -- how many words there are

@@ -4,11 +4,11 @@ ghost use Rattle.board.specs.Ports.{PortState};
 ghost use Rattle.board.specs.Views.{first_view};
 ghost use Rattle.plain_store.specs.Setups.{checked};
 
-use crate::layout::Layout;
+use crate::layout::WordLayout;
 use crate::opening::opening_words;
 use crate::port::Port;
 use crate::rule::{Agreement, Newcomer, View};
-use crate::steps::Place;
+use crate::steps::WordSeat;
 use atomic_table::Table;
 use plain_store::Setup;
 use process::Process;
@@ -22,7 +22,7 @@ pub struct Board {
     pub(crate) table: Table<(), View, Setup, Agreement, Global>,
     pub(crate) setup: Setup,
     /// Where the words of its bits lie.
-    pub(crate) layout: Layout,
+    pub(crate) layout: WordLayout,
     /// Room for the lists of all ports, which are handed over when it is closed.
     pub(crate) answers: Vec<Vec<Placed>>,
 }
@@ -56,7 +56,7 @@ impl Board {
     }
 
     /// The ports of all processes but the first, made beside that one's seat.
-    fn others(&self, alloc: Global, first: &mut Place) -> Result<Vec<Port>, AllocError>
+    fn others(&self, alloc: Global, first: &mut WordSeat) -> Result<Vec<Port>, AllocError>
         requires board { first.old.table_id ≡ self.now.table_id }
         requires first { first.old.me ≡ (first_view, []) }
         ensures board { OnOk result (first.new.table_id ≡ self.now.table_id) }
@@ -74,7 +74,7 @@ impl Board {
     }
 
     /// The next port's seat, made beside port 0's, which knows how many were made.
-    fn newcomer(&self, first: &mut Place) -> Place
+    fn newcomer(&self, first: &mut WordSeat) -> WordSeat
         requires board { first.old.table_id ≡ self.now.table_id }
         requires first { first.old.me ≡ (new_view 0 first.old.me.0.made, []) }
         requires made { first.old.me.0.made < self.now.setup.processes }
@@ -86,7 +86,7 @@ impl Board {
 }
 
 /// The words of a board at their opening values, and port 0's seat.
-fn opened(alloc: Global, setup: &Setup) -> Result<(Board, Place), AllocError>
+fn opened(alloc: Global, setup: &Setup) -> Result<(Board, WordSeat), AllocError>
     requires { checked setup.now ≡ Ok tt }
     ensures { IfOk result (λ made. (made.0.setup ≡ setup.now) × (made.1.table_id ≡ made.0.table_id) × (made.1.me ≡ (first_view, []))) }
 {
@@ -98,7 +98,7 @@ fn opened(alloc: Global, setup: &Setup) -> Result<(Board, Place), AllocError>
         Board {
             table,
             setup: *setup,
-            layout: Layout::of(setup),
+            layout: WordLayout::of(setup),
             answers,
         },
         seat,

@@ -7,7 +7,7 @@ ghost use Rattle.board.specs.Listing.{IsPlace};
 ghost use Rattle.record.specs.declared.calls.Placed.{Placed as Call};
 
 use plain_store::{Answer, Command, NestedTypes};
-use process::Told;
+use process::StepTold;
 use record::Placed;
 use std::alloc::{AllocError, Global};
 use std::marker::Model;
@@ -72,17 +72,17 @@ impl CallList {
 
     /// Goes on by what a word step leads to. `stamp` is the place of a command that a memory unit takes.
     #[inline]
-    pub fn tell(&mut self, told: &Told, stamp: Option<u32>)
+    pub fn tell(&mut self, told: &StepTold, stamp: Option<u32>)
         ensures { (place : ℕ) → IsPlace told.now stamp place → self.new ≡ fold (calls_after place) self.old (marks_told told.now) }
     {
         match *told {
-            Told::Took { changes, .. } => self.take(Some(changes)),
-            Told::SettlesAndTakes(..) => self.take(stamp),
-            Told::Answers(answer) => {
+            StepTold::Took { changes, .. } => self.take(Some(changes)),
+            StepTold::SettlesAndTakes(..) => self.take(stamp),
+            StepTold::Answers(answer) => {
                 self.answer(answer);
                 self.finish();
             }
-            Told::Lies => self.finish(),
+            StepTold::Lies => self.finish(),
             _ => {}
         }
     }

@@ -6,7 +6,7 @@ ghost use Rattle.board.specs.Ports.{SamePort};
 use crate::board::Board;
 use crate::port::Port;
 use plain_store::Answer;
-use process::{Flicks, Told};
+use process::{Flicks, StepTold};
 use record::Stage;
 
 /// What driving a port has led to.
@@ -40,8 +40,8 @@ impl Port {
         for made in 0..turns {
             let flick = flicks.flick();
             match self.turn(board, flick) {
-                Told::Answers(answer) => return Driven::Answered(answer),
-                Told::Lies => return Driven::Down,
+                StepTold::Answers(answer) => return Driven::Answered(answer),
+                StepTold::Lies => return Driven::Down,
                 _ => {}
             }
         }

@@ -10,7 +10,7 @@ use record::{Access, Field};
 
 /// What the word of a bit goes by.
 #[derive(Clone, Copy)]
-pub(crate) struct Layout {
+pub(crate) struct WordLayout {
     pub(crate) processes: u8,
     /// How many bits one owner has for one reader.
     pub(crate) row: u16,
@@ -43,13 +43,13 @@ fn number_of(field: Field) -> usize
     }
 }
 
-impl Layout {
+impl WordLayout {
     /// That of a setup.
-    pub(crate) fn of(setup: &Setup) -> Layout
+    pub(crate) fn of(setup: &Setup) -> WordLayout
         requires { checked setup.now ≡ Ok tt }
         ensures { result ≡ layout_of setup.now }
     {
-        Layout {
+        WordLayout {
             processes: setup.processes,
             row: row_bits(setup) as u16,
             firsts: [

@@ -13,9 +13,9 @@ ghost use Rattle.process.specs.Processes.{process_after};
 use crate::board::Board;
 use crate::calls::CallList;
 use crate::pending::Pending;
-use crate::steps::{Place, step_within, word_step};
+use crate::steps::{WordSeat, step_within, word_step};
 use plain_store::Command;
-use process::{Process, Told};
+use process::{Process, StepTold};
 use record::{Event, Placed, Refusal, Stage};
 use std::alloc::Global;
 use std::marker::Model;
@@ -24,7 +24,7 @@ use std::marker::Model;
 /// its calls.
 #[derive(Drop)]
 pub struct Port {
-    seat: Place,
+    seat: WordSeat,
     process: Process,
     pending: Pending,
     /// What it is writing to a bit.
@@ -47,7 +47,7 @@ impl Model for Port {
 
 impl Port {
     /// A port of a process that has done nothing, at a seat that knows nothing yet. It takes no memory.
-    pub(crate) fn new(alloc: Global, seat: Place, process: Process) -> Port
+    pub(crate) fn new(alloc: Global, seat: WordSeat, process: Process) -> Port
         requires process { process ≡ process_after process.setup [] process.process }
         requires seat { (made : ℕ) × (seat.me ≡ (new_view process.process made, [])) }
         requires pairs { are_pairs process.setup.opening ≡ true }
@@ -71,7 +71,7 @@ impl Port {
     }
 
     /// Its seat and its finished calls, once its process is idle or down.
-    pub(crate) fn into_parts(self) -> (Place, Vec<Placed>)
+    pub(crate) fn into_parts(self) -> (WordSeat, Vec<Placed>)
         requires still { IsStill self.setup self.view.own }
         ensures table { result.0.table_id ≡ self.table_id }
         ensures holds { result.0.me.1 ≡ [] }
@@ -109,7 +109,7 @@ impl Port {
 
     /// One word step. Nearly all are within a number access at the data, and lead to nothing.
     #[inline(always)]
-    pub(crate) fn turn(&mut self, board: &Board, flick: bool) -> Told
+    pub(crate) fn turn(&mut self, board: &Board, flick: bool) -> StepTold
         requires board { IsOf board.now self.old }
         requires goes { goes self.old.setup self.old.view.own ≡ true }
         ensures same { SamePort self.old self.new }
@@ -128,7 +128,7 @@ impl Port {
                 flick,
             );
             self.pending.clear();
-            return Told::Nothing;
+            return StepTold::Nothing;
         }
         let told = word_step(
             &board.table.shared,

@@ -4,7 +4,6 @@ ghost use Rattle.plain_store.specs.declared.Setup.{Setup};
 ghost use Rattle.board.specs.Views.{ViewState};
 
 use atomic_table::{Join, Play, Split, TableRule};
-use plain_store::Setup as Made;
 use std::marker::{Brand, Model, PhantomData};
 
 /// What a seat knows. No value of it is made.
@@ -27,7 +26,7 @@ impl Model for View {
 /// The rule: words and views agree.
 pub struct Agreement;
 
-impl TableRule<(), View, Made> for Agreement {
+impl TableRule<(), View, plain_store::Setup> for Agreement {
     ghost use Rattle.board.specs.Agreement.{Agree};
     ghost use Rattle.board.specs.Views.{first_view};
 
@@ -71,11 +70,11 @@ impl<T: Turn> Play<(), View> for Load<T> {
 }
 
 /// What a store tells.
-pub struct Store<T> {
+pub struct WordStore<T> {
     turn: PhantomData<T>,
 }
 
-impl<T: Turn> Play<(), View> for Store<T> {
+impl<T: Turn> Play<(), View> for WordStore<T> {
     ghost use Rattle.board.specs.WordSteps.{Stores};
     ghost use Rattle.std.specs.Prelude.{◌≡◌};
 

@@ -9,7 +9,7 @@ ghost use Rattle.record.specs.Registers.{bytes_of_bits, image_bytes, width};
 ghost use Rattle.board.specs.Closings.{bits_shown, bytes_shown, version_shown, versions_shown};
 ghost use Rattle.board.specs.Words.{words_in};
 
-use crate::layout::Layout;
+use crate::layout::WordLayout;
 use atomic_table::Closed;
 use plain_store::Setup;
 use record::{Access, Field};
@@ -18,13 +18,13 @@ use std::alloc::Global;
 use store_image::Image;
 
 /// The words of a board that no thread shares any more.
-pub(crate) type Words = Closed<(), Global>;
+pub(crate) type ClosedWords = Closed<(), Global>;
 
 /// The bytes of the longest image: 8 slots, and 16 callers.
 const MOST_IMAGE_BYTES: usize = 216;
 
 /// A bit of a register.
-fn bit_shown(setup: &Setup, words: &Words, owner: u8, field: Field, bit: u16) -> bool
+fn bit_shown(setup: &Setup, words: &ClosedWords, owner: u8, field: Field, bit: u16) -> bool
     requires good { checked setup.now ≡ Ok tt }
     requires words { (slots_len words.now.words ≡ words_in setup.now) × IsFull words.now.words }
     requires there { (owner < setup.now.processes) × (bit < width setup.now field) }
@@ -37,11 +37,11 @@ fn bit_shown(setup: &Setup, words: &Words, owner: u8, field: Field, bit: u16) ->
         reader: 0,
         how: Move::BeginRead,
     };
-    words.word(Layout::of(setup).word_of(setup, &access)) == 1
+    words.word(WordLayout::of(setup).word_of(setup, &access)) == 1
 }
 
 /// The number of some bits of a register, from a bit on.
-fn number_shown(setup: &Setup, words: &Words, owner: u8, field: Field, from: u16, count: u16) -> u32
+fn number_shown(setup: &Setup, words: &ClosedWords, owner: u8, field: Field, from: u16, count: u16) -> u32
     requires good { checked setup.now ≡ Ok tt }
     requires words { (slots_len words.now.words ≡ words_in setup.now) × IsFull words.now.words }
     requires few { count ≤ 32 }
@@ -60,7 +60,7 @@ fn number_shown(setup: &Setup, words: &Words, owner: u8, field: Field, from: u16
 /// The first bytes of a register, of each byte the least significant bit first; zeros follow them.
 fn bytes_of(
     setup: &Setup,
-    words: &Words,
+    words: &ClosedWords,
     owner: u8,
     field: Field,
     count: u16,
@@ -80,7 +80,7 @@ fn bytes_of(
 }
 
 /// The commit bit of a process, and the stamp of the version that it chooses.
-fn version_shown(setup: &Setup, words: &Words, owner: u8) -> (bool, u32)
+fn version_shown(setup: &Setup, words: &ClosedWords, owner: u8) -> (bool, u32)
     requires good { checked setup.now ≡ Ok tt }
     requires words { (slots_len words.now.words ≡ words_in setup.now) × IsFull words.now.words }
     requires there { owner < setup.now.processes }
@@ -101,7 +101,7 @@ fn version_shown(setup: &Setup, words: &Words, owner: u8) -> (bool, u32)
 }
 
 /// The process with the greatest stamp, the lowest on a tie, and its commit bit.
-fn newest_shown(setup: &Setup, words: &Words) -> (u8, bool)
+fn newest_shown(setup: &Setup, words: &ClosedWords) -> (u8, bool)
     requires good { checked setup.now ≡ Ok tt }
     requires words { (slots_len words.now.words ≡ words_in setup.now) × IsFull words.now.words }
     ensures process { result.0 ≡ newest_process (versions_shown setup.now (slots_items words.now.words)) }
@@ -136,7 +136,7 @@ fn image_in(setup: &Setup, bytes: &[u8]) -> Image
 }
 
 /// The store whose image the words show as committed, with the greatest stamp, of the lowest process on a tie.
-pub(crate) fn image_shown(setup: &Setup, words: &Words) -> Image
+pub(crate) fn image_shown(setup: &Setup, words: &ClosedWords) -> Image
     requires good { checked setup.now ≡ Ok tt }
     requires words { (slots_len words.now.words ≡ words_in setup.now) × IsFull words.now.words }
     ensures { result ≡ store_in setup.now.slots (callers_of setup.now) (bytes_shown setup.now (slots_items words.now.words)) }

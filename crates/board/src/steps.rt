@@ -5,7 +5,7 @@ ghost use Rattle.record.specs.reader_copies.Written.{IsWrite};
 ghost use Rattle.safe_bit.specs.declared.Move.TheVariants.{BeginRead};
 ghost use Rattle.record.specs.declared.access.Access.{Access as Made};
 ghost use Rattle.process.specs.Steps.{bits_within, may_step};
-ghost use Rattle.process.specs.declared.told.Told.TheVariants as tells;
+ghost use Rattle.process.specs.declared.told.StepTold.TheVariants as tells;
 ghost use Rattle.board.specs.Agreement.{Agree};
 ghost use Rattle.board.specs.Listing.{KnowsPlace, Lists};
 ghost use Rattle.board.specs.Lists.{StandsInSeen};
@@ -14,26 +14,26 @@ ghost use Rattle.board.specs.Ports.{IsNext, IsTied, with_pending};
 ghost use Rattle.board.specs.Words.{layout_of, loaded, stored, words_in};
 ghost use Rattle.board.specs.WordSteps.{LeadsTo, Loads, Stores, WordStep, value_after};
 
-use crate::layout::Layout;
+use crate::layout::WordLayout;
 use crate::pending::Pending;
-use crate::rule::{Agreement, Load, Store, Turn, View};
+use crate::rule::{Agreement, Load, WordStore, Turn, View};
 use atomic_table::{Seat, Shared};
 use plain_store::Setup;
-use process::{Process, Told};
+use process::{Process, StepTold};
 use safe_bit::Move;
 use std::marker::Brand;
 
 /// The words of a board, as its ports share them.
-pub(crate) type Words = Shared<(), View, Setup, Agreement>;
+pub(crate) type SharedWords = Shared<(), View, Setup, Agreement>;
 
 /// A port's seat at them.
-pub(crate) type Place = Seat<(), View>;
+pub(crate) type WordSeat = Seat<(), View>;
 
 // A load. The last two parameters are for the proof alone.
 #[inline]
 fn load<T: Turn>(
-    words: &Words,
-    seat: &mut Place,
+    words: &SharedWords,
+    seat: &mut WordSeat,
     word: usize,
     _flick: bool,
     _pending: Pending,
@@ -49,8 +49,8 @@ fn load<T: Turn>(
 // A store. The last two parameters are for the proof alone.
 #[inline]
 fn store<T: Turn>(
-    words: &Words,
-    seat: &mut Place,
+    words: &SharedWords,
+    seat: &mut WordSeat,
     word: usize,
     new: u64,
     _flick: bool,
@@ -61,7 +61,7 @@ fn store<T: Turn>(
     ensures same { (seat.new.table_id ≡ seat.old.table_id) × (seat.new.id ≡ seat.old.id) × (seat.new.me.1 ≡ seat.old.me.1) }
     ensures told { Stores T.setup T.flick T.view seat.new.me.0 }
 {
-    words.store::<Store<T>>(seat, word, new);
+    words.store::<WordStore<T>>(seat, word, new);
 }
 
 /// What a load that found this word gives a read.
@@ -74,11 +74,11 @@ fn loaded(flick: bool, word: u64) -> bool
 
 /// The same. Nearly all steps lead to nothing, and then no room for an answer is copied.
 #[inline]
-fn briefly(told: Told) -> Told
+fn briefly(told: StepTold) -> StepTold
     ensures { result ≡ told }
 {
     match told {
-        Told::Nothing => Told::Nothing,
+        StepTold::Nothing => StepTold::Nothing,
         told => told,
     }
 }
@@ -86,13 +86,13 @@ fn briefly(told: Told) -> Told
 /// A read of one bit: one load, for its begin and its end.
 #[inline]
 fn read(
-    words: &Words,
-    seat: &mut Place,
+    words: &SharedWords,
+    seat: &mut WordSeat,
     process: &mut Process,
     word: usize,
     pending: Pending,
     flick: bool,
-) -> Told
+) -> StepTold
     requires place { (seat.old.table_id ≡ words.now.table_id) × (word < words.now.table_id.words) }
     requires tied { (value : Bool) × IsTied words.now.key pending process.old value seat.old.me.0 }
     requires next { (access : Made) × IsNext words.now.key process.old flick word access × (access.how ≡ BeginRead) }
@@ -112,8 +112,8 @@ fn read(
 /// The same within a number access at the data, where it leads to nothing.
 #[inline(always)]
 fn read_within(
-    words: &Words,
-    seat: &mut Place,
+    words: &SharedWords,
+    seat: &mut WordSeat,
     process: &mut Process,
     word: usize,
     pending: Pending,
@@ -138,14 +138,14 @@ fn read_within(
 /// One access of a write of one bit: one store.
 #[inline]
 fn write(
-    words: &Words,
-    seat: &mut Place,
+    words: &SharedWords,
+    seat: &mut WordSeat,
     process: &mut Process,
     word: usize,
     new: u64,
     pending: Pending,
     flick: bool,
-) -> Told
+) -> StepTold
     requires place { (seat.old.table_id ≡ words.now.table_id) × (word < words.now.table_id.words) }
     requires next { (value : Bool) × ((access : Made) × IsTied words.now.key pending process.old value seat.old.me.0 × IsNext words.now.key process.old flick word access × IsWrite access.how × (new ≡ stored value access.how)) }
     requires goes { may_step process.old.kept ≡ true }
@@ -163,8 +163,8 @@ fn write(
 /// The same within a number access at the data, where it leads to nothing.
 #[inline(always)]
 fn write_within(
-    words: &Words,
-    seat: &mut Place,
+    words: &SharedWords,
+    seat: &mut WordSeat,
     process: &mut Process,
     word: usize,
     new: u64,
@@ -206,15 +206,15 @@ fn stored(how: Move, value: &mut bool) -> u64
 /// One word step: the next access of the port's process, or of its memory unit; of a read, begin and end.
 #[inline(never)]
 pub(crate) fn word_step(
-    words: &Words,
+    words: &SharedWords,
     setup: &Setup,
-    layout: &Layout,
-    seat: &mut Place,
+    layout: &WordLayout,
+    seat: &mut WordSeat,
     process: &mut Process,
     pending: Pending,
     value: &mut bool,
     flick: bool,
-) -> Told
+) -> StepTold
     requires laid { layout.now ≡ layout_of setup.now }
     requires table { (seat.old.table_id ≡ words.now.table_id) × (words.now.table_id.words ≡ words_in setup.now) × (words.now.key ≡ setup.now) }
     requires tied { IsTied words.now.key pending process.old value.old seat.old.me.0 }
@@ -241,10 +241,10 @@ pub(crate) fn word_step(
 /// The same within a number access at the data, where nearly all word steps are: it leads to nothing.
 #[inline(always)]
 pub(crate) fn step_within(
-    words: &Words,
+    words: &SharedWords,
     setup: &Setup,
-    layout: &Layout,
-    seat: &mut Place,
+    layout: &WordLayout,
+    seat: &mut WordSeat,
     process: &mut Process,
     pending: Pending,
     value: &mut bool,

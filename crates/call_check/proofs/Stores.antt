@@ -10,8 +10,8 @@ use Rattle.plain_store.specs.declared.Setup.{Setup}
 use Rattle.plain_store.specs.Setups.{callers_of}
 use Rattle.plain_store.specs.Store.{Contents, after, changes, reply_to}
 use Rattle.call_check.specs.declared.calls.Call.{Call}
-use Rattle.call_check.specs.declared.notes.Changes.{Changes}
-use Rattle.call_check.specs.declared.notes.Changes.TheVariants.{Nothing, One, Several}
+use Rattle.call_check.specs.declared.notes.Changers.{Changers}
+use Rattle.call_check.specs.declared.notes.Changers.TheVariants.{Nothing, One, Several}
 use Rattle.call_check.specs.declared.notes.Note.{Note}
 use Rattle.call_check.specs.Following.{AreBlank, AreFew, AreNotedAt, AreNotedBelow, IsBlank, IsCaller, IsFew, IsFollowed, IsNote, IsNoteBy, changes_of}
 use Rattle.call_check.specs.Weighing.{HasWrongReply, after_one, caller_of, calls_at, changes_at, changes_there, is_place, store_after, store_at}
@@ -21,12 +21,12 @@ use Rattle.call_check.proofs.Walking.{is_there}
 
 -- how many changes there are, up to two
 
-abbrev pub kind : Changes → ℕ
+abbrev pub kind : Changers → ℕ
 kind Nothing = 0
 kind (One call) = 1
 kind Several = 2
 
-abbrev pub call_or : Call → Changes → Call
+abbrev pub call_or : Call → Changers → Call
 call_or d Nothing = d
 call_or d (One call) = call
 call_or d Several = d

@@ -12,8 +12,8 @@ use Rattle.plain_store.specs.Store.{Contents, changes, reply_to, after}
 use Rattle.call_check.specs.declared.calls.Call.{Call}
 use Rattle.record.specs.declared.calls.Placed.{Placed}
 use Rattle.call_check.specs.declared.chains.Link.{Link}
-use Rattle.call_check.specs.declared.notes.Changes.{Changes}
-use Rattle.call_check.specs.declared.notes.Changes.TheVariants.{Nothing, One, Several}
+use Rattle.call_check.specs.declared.notes.Changers.{Changers}
+use Rattle.call_check.specs.declared.notes.Changers.TheVariants.{Nothing, One, Several}
 use Rattle.call_check.specs.declared.notes.Note.{Note}
 use Rattle.call_check.specs.Weighing.{HasWrongReply, IsBadIn, caller_of, changes_at, changes_there, is_past, store_at}
 
@@ -31,7 +31,7 @@ pub record IsCaller (s : Setup) (call : Call) (caller : Caller) : Type 0 where
   pub after : (store : Contents) → length store.numbers ≡ callers_of s → (command : Command) → after store command caller ≡ after store command (caller_of s call)
 
 -- which changes there are
-abbrev pub changes_of : List Call → Changes
+abbrev pub changes_of : List Call → Changers
 changes_of [] = Nothing
 changes_of (call ∷ []) = One call
 changes_of (call ∷ other ∷ calls) = Several

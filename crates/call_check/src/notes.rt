@@ -38,23 +38,23 @@ pub(crate) struct Followed {
 
 /// The calls with a place that would change a store.
 #[derive(Clone, Copy)]
-pub(crate) enum Changes {
+pub(crate) enum Changers {
     Nothing,
     One(Call),
     Several,
 }
 
-impl Changes {
+impl Changers {
     /// With a call before them, if it is a change.
-    fn with(self, call: &Call, is_change: bool) -> Changes
+    fn with(self, call: &Call, is_change: bool) -> Changers
         ensures { (calls : List Given) → self ≡ changes_of calls → result ≡ changes_of (cond is_change (call.now ∷ calls) calls) }
     {
         if !is_change {
             return self;
         }
         match self {
-            Changes::Nothing => Changes::One(*call),
-            _ => Changes::Several,
+            Changers::Nothing => Changers::One(*call),
+            _ => Changers::Several,
         }
     }
 }
@@ -76,7 +76,7 @@ impl Followed {
         let places = chains.heads.len();
         for place in 0..places {
             match note_place(setup, lists, &chains, place, &store, &mut notes) {
-                Changes::Nothing => {
+                Changers::Nothing => {
                     return Ok(Followed {
                         notes,
                         count: place,
@@ -84,8 +84,8 @@ impl Followed {
                         several: false,
                     });
                 }
-                Changes::One(call) => store.apply(&call.placed.command, caller(setup, &call))?,
-                Changes::Several => {
+                Changers::One(call) => store.apply(&call.placed.command, caller(setup, &call))?,
+                Changers::Several => {
                     return Ok(Followed {
                         notes,
                         count: place,
@@ -124,7 +124,7 @@ fn note_place(
     place: usize,
     store: &Image,
     notes: &mut Vec<Note>,
-) -> Changes
+) -> Changers
     requires chains { AreChains (all_calls (lists_of lists.now)) (length (all_calls (lists_of lists.now))) chains.now.heads.items chains.now.links.items }
     requires place { place < length (all_calls (lists_of lists.now)) }
     requires notes { length notes.old.items ≡ length (all_calls (lists_of lists.now)) }
@@ -132,7 +132,7 @@ fn note_place(
     ensures size { length notes.new.items ≡ length notes.old.items }
     ensures notes { AreFew setup.now (all_calls (lists_of lists.now)) → length store.now.numbers ≡ callers_of setup.now → AreNotedAt setup.now (all_calls (lists_of lists.now)) place store.now notes.old.items notes.new.items }
 {
-    let mut found = Changes::Nothing;
+    let mut found = Changers::Nothing;
     let mut calls = chains.heads[place];
     'chain: while 0 < calls {
         let at = calls - 1;

@@ -7,7 +7,7 @@ use Rattle.record.specs.Calls.{called_in}
 use Rattle.record.specs.Doorways.{first_of}
 use Rattle.record.specs.Entries.{is_called, is_entered, is_failed, is_waiting}
 use Rattle.calls.specs.declared.called.Marked.{Marked}
-use Rattle.calls.specs.declared.standing.Standing.{Standing}
+use Rattle.calls.specs.declared.standing.CallStanding.{CallStanding}
 use Rattle.calls.specs.Columns.{answer_after, ends_waiting, goes_on_after, is_answered, is_left, is_taken, is_withdrawal, place_after, ticket_after}
 use Rattle.calls.specs.Stepping.{first_if, marked_all, marked_on, with_mark}
 use Rattle.calls.proofs.InCall.{first_none, if_there}
@@ -83,10 +83,10 @@ answer-on n k (mark.Answered a) = refl
 answer-on n k _ = refl
 
 -- what marks make of all that is kept
-abbrev pub with_marks : ℕ → Standing → List Mark → Standing
+abbrev pub with_marks : ℕ → CallStanding → List Mark → CallStanding
 with_marks n k ms = record { calling = fold goes_on_after k.calling ms; last = record k.last { marks = fold (with_mark n) k.last.marks ms } }
 
-pub marked_all-is : (n : ℕ) (k : Standing) (ms : List Mark) → marked_all n k ms ≡ with_marks n k ms
+pub marked_all-is : (n : ℕ) (k : CallStanding) (ms : List Mark) → marked_all n k ms ≡ with_marks n k ms
 marked_all-is n k [] = refl
 marked_all-is n k (m ∷ ms) = marked_all-is n (marked_on n k m) ms
 

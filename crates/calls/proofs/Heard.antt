@@ -12,7 +12,7 @@ use Rattle.record.specs.Entries.{Entry, Past}
 use Rattle.read_law.specs.Watching.{WatchState}
 use Rattle.read_law.specs.Watching.{HasHeard as HasWatched}
 use Rattle.calls.specs.declared.called.Called.{Called}
-use Rattle.calls.specs.declared.standing.Standing.{Standing}
+use Rattle.calls.specs.declared.standing.CallStanding.{CallStanding}
 use Rattle.calls.specs.Columns.{ends_overlapped_read, is_read, is_write, makes_itself}
 use Rattle.calls.specs.Hearing.{ComesInTurn, GoesOn, HasHeard, TableState, ended_call}
 use Rattle.calls.specs.Stepping.{AreFew, at_rest, heard, standing}
@@ -20,11 +20,11 @@ use Rattle.calls.proofs.InCall.{calls-few, count-few}
 use Rattle.calls.proofs.Steps.{standing-heard, standing-other}
 
 -- a look into a list that was set
-slice_get-set_same : (xs : List Standing) (i : ℕ) (x : Standing) → i < length xs → slice_get (slice_set xs i x) i ≡ Some x
+slice_get-set_same : (xs : List CallStanding) (i : ℕ) (x : CallStanding) → i < length xs → slice_get (slice_set xs i x) i ≡ Some x
 slice_get-set_same xs i x within =
     slice_get-get_or (slice_set xs i x) i x (subst (λ n. i < n) (sym (length-set xs i x)) within) ∙ ap Some (get_or-set_same xs i x x within)
 
-slice_get-set_other : (xs : List Standing) (i j : ℕ) (x : Standing) → j ≢ i → slice_get (slice_set xs i x) j ≡ slice_get xs j
+slice_get-set_other : (xs : List CallStanding) (i j : ℕ) (x : CallStanding) → j ≢ i → slice_get (slice_set xs i x) j ≡ slice_get xs j
 slice_get-set_other xs i j x apart = elim (cases_lt j (length xs)) [
   | inl within ↦ slice_get-get_or (slice_set xs i x) j x (subst (λ n. j < n) (sym (length-set xs i x)) within)
       ∙ ap Some (get_or-set_other xs i j x x apart) ∙ sym (slice_get-get_or xs j x within)
@@ -42,9 +42,9 @@ at_rest-there n p below =
     ∙ ap Some (get_or-map-range_with_len at_rest 0 n p p (at_rest p) below same)
 
 -- what there is no entry of has room for one more
-pub has_room : (s : Setup) (p : ℕ) (past : Past) (k : Standing) → k ≡ standing s p past → length past < 2 ^ 64 - 1 → (k.last.call < 2 ^ 64 - 1) × AreFew k.last.accesses
+pub has_room : (s : Setup) (p : ℕ) (past : Past) (k : CallStanding) → k ≡ standing s p past → length past < 2 ^ 64 - 1 → (k.last.call < 2 ^ 64 - 1) × AreFew k.last.accesses
 has_room s p past k is few =
-    subst (λ (k : Standing). (k.last.call < 2 ^ 64 - 1) × AreFew k.last.accesses) (sym is) (
+    subst (λ (k : CallStanding). (k.last.call < 2 ^ 64 - 1) × AreFew k.last.accesses) (sym is) (
       omega (arith, calls-few p past, few),
       record {
         reads = omega (arith, count-few p (makes_itself p is_read) past, few);
@@ -54,10 +54,10 @@ has_room s p past k is few =
     )
 
 -- the state with an entry
-abbrev pub table_with : TableState → ℕ → WatchState → Standing → TableState
+abbrev pub table_with : TableState → ℕ → WatchState → CallStanding → TableState
 table_with t p w k = record { setup = t.setup; watch = w; standings = slice_set t.standings p k; entries = t.entries + 1 }
 
-pub hears_on : (t : TableState) (past : Past) (e : Entry) (w : WatchState) (before then : Standing) (b : Bool) → e.process < t.setup.processes → slice_get t.standings e.process ≡ Some before →
+pub hears_on : (t : TableState) (past : Past) (e : Entry) (w : WatchState) (before then : CallStanding) (b : Bool) → e.process < t.setup.processes → slice_get t.standings e.process ≡ Some before →
     b ≡ ends_overlapped_read past e → t.entries < 2 ^ 64 - 1 →
     (before.last.call < 2 ^ 64 - 1 → AreFew before.last.accesses → then ≡ heard t.setup t.entries b e.access e.marks before) → HasWatched w (e ∷ past) → HasHeard t past →
     HasHeard (table_with t e.process w then) (e ∷ past) × (before ≡ standing t.setup e.process past) × (then ≡ standing t.setup e.process (e ∷ past))
@@ -84,7 +84,7 @@ hears_on t past e w before then b below there is few on watched h = (record { wa
     ]
 
 -- the call that ended
-pub ended_is : (s : Setup) (past : Past) (e : Entry) (before then : Standing) → before ≡ standing s e.process past → then ≡ standing s e.process (e ∷ past) →
+pub ended_is : (s : Setup) (past : Past) (e : Entry) (before then : CallStanding) → before ≡ standing s e.process past → then ≡ standing s e.process (e ∷ past) →
     cond (before.calling && not then.calling) (Some then.last) None ≡ ended_call s past e
 ended_is s past e before then was now = λ i. cond ((was i).calling && not (now i).calling) (Some (now i).last) None
 
@@ -97,12 +97,12 @@ pub hears_entry : (old new : TableState) (q : ℕ) (access : Option Access) (mar
     ((past : Past) (e : Entry) → e.access ≡ access → HasWatched old.watch past → ComesInTurn old.watch.setup past e → b ≡ ends_overlapped_read past e) →
     ((past : Past) (e : Entry) → e.access ≡ access → HasWatched old.watch past → HasWatched w (e ∷ past)) →
     new.setup ≡ old.setup → new.watch ≡ w → new.entries ≡ old.entries + 1 → old.entries < 2 ^ 64 - 1 →
-    ((before : Standing) → slice_get old.standings q ≡ Some before → GoesOn (record old { watch = w }) q b access marks before ended new.standings) → Hears old new q access marks ended
+    ((before : CallStanding) → slice_get old.standings q ≡ Some before → GoesOn (record old { watch = w }) q b access marks before ended new.standings) → Hears old new q access marks ended
 hears_entry old new q access marks w b ended watched overlapped heard setup watch count few goes past e p a m h turn =
     let s : Setup = old.setup in
     let e0 : Entry = record { process = q; access = access; marks = marks } in
     let whole : e ≡ e0 = λ i. record { process = p i; access = a i; marks = m i } in
-    let before : Standing = standing s q past in
+    let before : CallStanding = standing s q past in
     let below : q < s.processes = subst (λ n. n < s.processes) p turn.process in
     let there : slice_get old.standings q ≡ Some before = h.standings q below in
     let g : GoesOn (record old { watch = w }) q b access marks before ended new.standings = goes before there in

@@ -12,7 +12,7 @@ use Rattle.record.specs.Moves.{moves_of}
 use Rattle.read_law.specs.Looks.{ends_overlapped}
 use Rattle.calls.specs.declared.called.Accesses.{Accesses}
 use Rattle.calls.specs.declared.called.Marked.{Marked}
-use Rattle.calls.specs.declared.standing.Standing.{Standing}
+use Rattle.calls.specs.declared.standing.CallStanding.{CallStanding}
 use Rattle.calls.specs.Columns.{accesses, answer_after, called, called_at, count_in_call, ends_overlapped_read, ends_waiting, has_access, is_answered, is_calling, is_left, is_read, is_taken, is_withdrawal, is_write, makes_itself, marked, more_if, number_after, number_read, over_call, place_after, tells_waiting, ticket_after, ticket_in_call, waited_for}
 use Rattle.calls.specs.Stepping.{accessed_by, begun, first_if, heard, marked_all, no_accesses, no_marks, standing, with_access, with_mark}
 use Rattle.calls.proofs.Folds.{answer-on, answered-on, called_has, door_end-on, entered-on, failed-on, fold-field, fold-first, left-on, marked_all-is, place-on, taken-on, ticket-on, wait_end-on, with_marks, withdrew-on}
@@ -175,7 +175,7 @@ accesses-other s p e past h =
 
 -- All that is kept.
 
-standing_by : (k m : Standing) → k.calling ≡ m.calling → k.last.process ≡ m.last.process → k.last.call ≡ m.last.call → k.last.command ≡ m.last.command → k.last.called ≡ m.last.called →
+standing_by : (k m : CallStanding) → k.calling ≡ m.calling → k.last.process ≡ m.last.process → k.last.call ≡ m.last.call → k.last.command ≡ m.last.command → k.last.called ≡ m.last.called →
     k.last.accesses ≡ m.last.accesses → k.last.marks ≡ m.last.marks → k ≡ m
 standing_by k m a b c d e f g = λ i. record { calling = a i; last = record { process = b i; call = c i; command = d i; called = e i; accesses = f i; marks = g i } }
 
@@ -247,7 +247,7 @@ pub standing-heard : (s : Setup) (p : ℕ) (e : Entry) (past : Past) → e.proce
     standing s p (e ∷ past) ≡ heard s (length past) b e.access e.marks (standing s p past)
 standing-heard s p e past h b overlapped = go (called_in e.marks) refl
   where
-    go : (o : Option Command) → called_in e.marks ≡ o → standing s p (e ∷ past) ≡ elim o as (λ _. Standing) [
+    go : (o : Option Command) → called_in e.marks ≡ o → standing s p (e ∷ past) ≡ elim o as (λ _. CallStanding) [
       | Some c ↦ begun (length past) c (standing s p past)
       | None ↦ marked_all (length past) (accessed_by s (length past) b e.access (standing s p past)) e.marks
     ]

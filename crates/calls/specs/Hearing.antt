@@ -11,7 +11,7 @@ use Rattle.read_law.specs.laws.Held.{IsThere}
 use Rattle.read_law.specs.Watching.{WatchState}
 use Rattle.read_law.specs.Watching.{HasHeard as HasWatched}
 use Rattle.calls.specs.declared.called.Called.{Called}
-use Rattle.calls.specs.declared.standing.Standing.{Standing}
+use Rattle.calls.specs.declared.standing.CallStanding.{CallStanding}
 use Rattle.calls.specs.Columns.{called, is_calling}
 use Rattle.calls.specs.Stepping.{AreFew, heard, standing}
 
@@ -33,7 +33,7 @@ pub record ComesInTurn (s : Setup) (past : Past) (e : Entry) : Type 0 where
 pub record TableState : Type 0 where
   pub setup : Setup
   pub watch : WatchState
-  pub standings : List Standing
+  pub standings : List CallStanding
   pub entries : ℕ
 
 -- there is something kept for each process of a good setup
@@ -49,8 +49,8 @@ pub record HasHeard (t : TableState) (past : Past) : Type 0 where
   pub entries : t.entries ≡ length past
 
 -- what is kept of p goes on with an entry, where it was this before, and this call ends with it
-pub record GoesOn (t : TableState) (p : ℕ) (overlapped : Bool) (access : Option Access) (marks : List Mark) (before : Standing) (ended : Option Called) (standings : List Standing) : Type 0 where
-  pub then : Standing
+pub record GoesOn (t : TableState) (p : ℕ) (overlapped : Bool) (access : Option Access) (marks : List Mark) (before : CallStanding) (ended : Option Called) (standings : List CallStanding) : Type 0 where
+  pub then : CallStanding
   pub set : standings ≡ slice_set t.standings p then
   pub heard : before.last.call < 2 ^ 64 - 1 → AreFew before.last.accesses → then ≡ heard t.setup t.entries overlapped access marks before
   pub is : ended ≡ cond (before.calling && not then.calling) (Some then.last) None

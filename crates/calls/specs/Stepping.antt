@@ -11,11 +11,11 @@ use Rattle.record.specs.Doorways.{first_of}
 use Rattle.record.specs.Entries.{Past}
 use Rattle.calls.specs.declared.called.Accesses.{Accesses}
 use Rattle.calls.specs.declared.called.Marked.{Marked}
-use Rattle.calls.specs.declared.standing.Standing.{Standing}
+use Rattle.calls.specs.declared.standing.CallStanding.{CallStanding}
 use Rattle.calls.specs.Columns.{answer_after, called, goes_on_after, is_calling, is_read, is_write, more_if, number_after, tells_waiting}
 
 -- what is kept of p
-abbrev pub standing : Setup → ℕ → Past → Standing
+abbrev pub standing : Setup → ℕ → Past → CallStanding
 standing s p past = record { calling = is_calling p past; last = called s p past }
 
 -- no marks
@@ -27,11 +27,11 @@ abbrev pub no_accesses : Accesses
 no_accesses = record { doorway = None; reads = 0; writes = 0; overlapped = 0; number = 0; waited_for = None }
 
 -- without an entry
-abbrev pub at_rest : ℕ → Standing
+abbrev pub at_rest : ℕ → CallStanding
 at_rest p = record { calling = false; last = record { process = p; call = 0; command = Ask; called = 0; accesses = no_accesses; marks = no_marks } }
 
 -- with a call
-abbrev pub begun : ℕ → Command → Standing → Standing
+abbrev pub begun : ℕ → Command → CallStanding → CallStanding
 begun number c k = record {
   calling = true;
   last = record { process = k.last.process; call = k.last.call + 1; command = c; called = number; accesses = no_accesses; marks = no_marks };
@@ -67,24 +67,24 @@ with_mark number k mark.Withdrew = record k { withdrew = first_of k.withdrew (So
 with_mark number k mark.Restarted = k
 
 -- the same of what is kept
-abbrev pub marked_on : ℕ → Standing → Mark → Standing
+abbrev pub marked_on : ℕ → CallStanding → Mark → CallStanding
 marked_on number k m = record { calling = goes_on_after k.calling m; last = record k.last { marks = with_mark number k.last.marks m } }
 
 -- with these marks
-abbrev pub marked_all : ℕ → Standing → List Mark → Standing
+abbrev pub marked_all : ℕ → CallStanding → List Mark → CallStanding
 marked_all number = fold (marked_on number)
 
 -- with an access
-abbrev pub accessed : Setup → ℕ → Bool → Access → Standing → Standing
+abbrev pub accessed : Setup → ℕ → Bool → Access → CallStanding → CallStanding
 accessed s number overlapped a k = record k { last = record k.last { accesses = with_access s k.last.process number overlapped k.last.marks a k.last.accesses } }
 
 -- the same, if there is one
-abbrev pub accessed_by : Setup → ℕ → Bool → Option Access → Standing → Standing
+abbrev pub accessed_by : Setup → ℕ → Bool → Option Access → CallStanding → CallStanding
 accessed_by s number overlapped None k = k
 accessed_by s number overlapped (Some a) k = accessed s number overlapped a k
 
 -- with an entry of this number: its call, or else its access and its marks
-abbrev pub heard : Setup → ℕ → Bool → Option Access → List Mark → Standing → Standing
+abbrev pub heard : Setup → ℕ → Bool → Option Access → List Mark → CallStanding → CallStanding
 heard s number overlapped access marks k = elim (called_in marks) [
   | Some c ↦ begun number c k
   | None ↦ marked_all number (accessed_by s number overlapped access k) marks

@@ -9,4 +9,4 @@ mod table;
 
 pub use called::{Accesses, Called, Marked};
 pub use printed::{HEADER, print_call};
-pub use table::Table;
+pub use table::CallTable;

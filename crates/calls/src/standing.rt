@@ -14,17 +14,17 @@ use record::{Access, Field, Mark, Move};
 
 /// What is kept of a process: its last call, and whether that goes on.
 #[derive(Clone, Copy, Debug)]
-pub(crate) struct Standing {
+pub(crate) struct CallStanding {
     pub calling: bool,
     pub last: Called,
 }
 
-impl Standing {
+impl CallStanding {
     /// Of a process without an entry.
-    pub fn at_rest(process: u8) -> Standing
+    pub fn at_rest(process: u8) -> CallStanding
         ensures { result ≡ at_rest process }
     {
-        Standing {
+        CallStanding {
             calling: false,
             last: Called {
                 process,

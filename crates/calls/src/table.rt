@@ -3,11 +3,11 @@ ghost use Rattle.plain_store.specs.Setups.{checked};
 ghost use Rattle.record.specs.Entries.{Entry as Noted, Past};
 ghost use Rattle.read_law.specs.Watching.{HasHeard as HasWatched};
 ghost use Rattle.calls.specs.Columns.{ends_overlapped_read, is_read_end};
-ghost use Rattle.calls.specs.declared.standing.Standing.{Standing as Stood};
+ghost use Rattle.calls.specs.declared.standing.CallStanding.{CallStanding as Stood};
 ghost use Rattle.calls.specs.Hearing.{ComesInTurn, GoesOn, HasHeard, ended_call, open_call};
 
 use crate::called::{Accesses, Called, Marked};
-use crate::standing::{Standing, called_in};
+use crate::standing::{CallStanding, called_in};
 use plain_store::{NestedTypes, Setup};
 use record::{Access, Mark, Move};
 use std::alloc::{AllocError, Global};
@@ -17,17 +17,17 @@ use read_law::Watch;
 /// The calls of a run, whose entries it takes one at a time. It keeps the last call of each process, and of each bit what
 /// the safe rule looks back at: so it needs the same memory however long the run is, and however many calls it has.
 #[derive(Drop)]
-pub struct Table {
+pub struct CallTable {
     setup: Setup,
     watch: Watch,
-    standings: Vec<Standing>,
+    standings: Vec<CallStanding>,
     entries: u64,
 }
 
-impl Model for Table {
+impl Model for CallTable {
     ghost use Rattle.read_law.specs.Watching.{HasHeard as HasWatched};
     ghost use Rattle.calls.specs.Columns.{ends_overlapped_read, is_read_end};
-    ghost use Rattle.calls.specs.declared.standing.Standing.{Standing as Stood};
+    ghost use Rattle.calls.specs.declared.standing.CallStanding.{CallStanding as Stood};
     ghost use Rattle.calls.specs.Hearing.{IsTable, TableState};
 
     ghost Value = { TableState };
@@ -37,10 +37,10 @@ impl Model for Table {
     ghost invariant = { λ t. IsTable (record { setup = t.setup; watch = t.watch; standings = t.standings.items; entries = t.entries }) };
 }
 
-impl Table {
+impl CallTable {
     /// Before the first entry. The one fault is want of memory; no later call takes any.
     #[tactic(auto, using(crate::proofs::Heard::at_rest_more))]
-    pub fn new(alloc: Global, setup: &Setup) -> Result<Table, AllocError>
+    pub fn new(alloc: Global, setup: &Setup) -> Result<CallTable, AllocError>
         requires { checked setup.now ≡ Ok tt }
         ensures setup { IfOk result (λ table. table.setup ≡ setup.now) }
         ensures heard { IfOk result (λ table. HasHeard table []) }
@@ -49,10 +49,10 @@ impl Table {
         let _calls: Option<(Accesses, Called, Marked)> = None;
         let mut standings = Vec::new(alloc);
         for process in 0..setup.processes {
-            standings.push(Standing::at_rest(process))?;
+            standings.push(CallStanding::at_rest(process))?;
         }
         let watch = Watch::new(alloc, setup)?;
-        Ok(Table {
+        Ok(CallTable {
             setup: *setup,
             watch,
             standings,

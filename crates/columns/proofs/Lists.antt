@@ -8,7 +8,7 @@ use Rattle.columns.specs.Layouts.{has_changes, has_notes}
 use Rattle.columns.specs.Placings.{drawn_apart, last_of, moved_to}
 use Rattle.columns.specs.Told.{told_in}
 use Rattle.columns.specs.declared.columns.Column.{Column}
-use Rattle.columns.specs.declared.told.Line.{Line}
+use Rattle.columns.specs.declared.told.RunLine.{RunLine}
 
 -- what the columns of a band need below its knots, where so much is needed already
 abbrev pub room_left : ℕ → List Seen → ℕ
@@ -99,7 +99,7 @@ only_one : (o : Option Wording) → cons_option o [] ≡ option_to_list o
 only_one None = refl
 only_one (Some row) = refl
 
-pub shared_more : (lines : List Line) (k : ℕ) (line : Line) → k < length lines → line ≡ get_or lines k line → filter_map row_shared (take (k + 1) lines) ≡ filter_map row_shared (take k lines) ++ option_to_list (row_shared line)
+pub shared_more : (lines : List RunLine) (k : ℕ) (line : RunLine) → k < length lines → line ≡ get_or lines k line → filter_map row_shared (take (k + 1) lines) ≡ filter_map row_shared (take k lines) ++ option_to_list (row_shared line)
 shared_more lines k line within is =
     ap (filter_map row_shared) (take_more lines k line within) ∙ filter_map-append row_shared (take k lines) (get_or lines k line ∷ [])
-    ∙ ap (λ l. filter_map row_shared (take k lines) ++ l) (only_one (row_shared (get_or lines k line)) ∙ ap (λ (l : Line). option_to_list (row_shared l)) (sym is))
+    ∙ ap (λ l. filter_map row_shared (take k lines) ++ l) (only_one (row_shared (get_or lines k line)) ∙ ap (λ (l : RunLine). option_to_list (row_shared l)) (sym is))

@@ -9,11 +9,11 @@ use Rattle.record.specs.declared.marks.Mark.TheVariants.{Answered, Called, Taken
 use Rattle.columns.specs.Overlaps.{bit_text, saw_text}
 use Rattle.columns.specs.Told.{change_told, event_told, mark_told, place_told, process_told}
 use Rattle.columns.specs.declared.columns.Column.{Column}
-use Rattle.columns.specs.declared.columns.Row.{Row}
+use Rattle.columns.specs.declared.columns.TextRow.{TextRow}
 use Rattle.columns.specs.declared.reads.OverlappedRead.{OverlappedRead}
 use Rattle.columns.specs.declared.state.State.{State}
-use Rattle.columns.specs.declared.told.Change.{Change}
-use Rattle.columns.specs.declared.told.Line.{Line}
+use Rattle.columns.specs.declared.told.TakenChange.{TakenChange}
+use Rattle.columns.specs.declared.told.RunLine.{RunLine}
 use Rattle.columns.specs.declared.told.Saying.{Saying}
 use Rattle.columns.specs.declared.told.Saying.TheVariants.{Ended, Marked, Refused, Shown, Tired}
 
@@ -29,7 +29,7 @@ pub record Seen : Type 0 where
   pub event : Option ℕ
   pub lane : Option ℕ
   pub gap : ℕ
-  pub lines : List Line
+  pub lines : List RunLine
   pub read : Option OverlappedRead
   pub rows : List Wording
   pub frees : Option ℕ
@@ -37,7 +37,7 @@ pub record Seen : Type 0 where
   pub x : ℕ
 
 -- a row as a list
-abbrev pub wording : Row → Wording
+abbrev pub wording : TextRow → Wording
 wording row = record { is_verb = row.is_verb; text = row.text.items; characters = row.characters }
 
 -- a column as lists
@@ -90,7 +90,7 @@ rows_told in_lane (Shown words) = verb (codes "show") ∷ row_shortened words.it
 rows_told in_lane (Ended events taken refused) = verb (codes "end events " ++ decimal events) ∷ rest (codes "taken " ++ decimal taken ++ codes " refused " ++ decimal refused) ∷ []
 
 -- the row of a line that shares its column
-abbrev pub row_shared : Line → Option Wording
+abbrev pub row_shared : RunLine → Option Wording
 row_shared line = option_map (λ mark. verb (mark_text mark)) (mark_told line.saying)
 
 -- the lane of a process, if there are more processes than its number
@@ -98,7 +98,7 @@ abbrev pub lane_among : ℕ → Option ℕ → Option ℕ
 lane_among processes = option_and_then (λ p. cond (nat_lt p processes) (Some p) None)
 
 -- the column of a line alone, before it is placed
-abbrev pub alone : Line → ℕ → Option ℕ → State → Seen
+abbrev pub alone : RunLine → ℕ → Option ℕ → State → Seen
 alone line gap frees after = record {
   at = line.at;
   event = event_told line;
@@ -134,11 +134,11 @@ is_same_event (Some e) None = false
 is_same_event None event = false
 
 -- whether a line is a mark of a column's event
-abbrev pub joins : Seen → Line → Bool
+abbrev pub joins : Seen → RunLine → Bool
 joins column line = elim column.read [ Some read ↦ false | None ↦ is_same_event column.event (event_told line) ]
 
 -- the column once the second mark of its event has joined it: each mark has a row
-abbrev pub joined : Seen → Line → Option ℕ → State → Seen
+abbrev pub joined : Seen → RunLine → Option ℕ → State → Seen
 joined column line frees after = record column {
   lines = column.lines ++ line ∷ [];
   rows = filter_map row_shared (column.lines ++ line ∷ []);
@@ -147,7 +147,7 @@ joined column line frees after = record column {
 }
 
 -- the line that tells a place in the history, if one does
-abbrev pub taken_in : Seen → Option Line
+abbrev pub taken_in : Seen → Option RunLine
 taken_in column = find (λ line. is_some (place_told line.saying)) column.lines
 
 -- so many pixels, of which 65535 at most are told apart
@@ -169,12 +169,12 @@ abbrev pub width_of : Seen → ℕ
 width_of column = capped (max (6 * digits_of column.event) (7 * longest_row column.rows) + 9)
 
 -- how many characters the pair has that a command changed
-abbrev pub pair_of : Option Change → ℕ
+abbrev pub pair_of : Option TakenChange → ℕ
 pair_of None = 0
 pair_of (Some change) = length (string_bytes change.pair)
 
 -- how many pixels a line takes in the lane of the history that tells a place in it
-abbrev pub knot_width : Line → ℕ
+abbrev pub knot_width : RunLine → ℕ
 knot_width line = capped (max (6 * digits_of (place_told line.saying) + 14) (7 * pair_of (change_told line.saying) + 2) + 9)
 
 -- how many pixels a column takes in the lane of the history, if it stands there or a line of it does

@@ -3,7 +3,7 @@ use Rattle.std.specs.Prelude.{ℕ, ◌+◌, ◌-◌, ◌*◌, ◌/◌, max, min,
 use Rattle.std.specs.Int.{leading_zeros, w64}
 use Rattle.columns.specs.Columns.{Seen, capped, width_below_of, width_of}
 use Rattle.columns.specs.Overlaps.{between}
-use Rattle.columns.specs.declared.placing.Place.{Place}
+use Rattle.columns.specs.declared.placing.ColumnPlace.{ColumnPlace}
 use Rattle.columns.specs.declared.placing.Placing.{Placing}
 
 -- how many binary digits a number of 64 bits has, and none if it is 0
@@ -30,11 +30,11 @@ left_of placing column =
     (elim (width_below_of column) [ None ↦ 0 | Some width ↦ placing.below ])
 
 -- its place: where it stands, and where its words end
-abbrev pub place_of : Placing → Seen → Place
+abbrev pub place_of : Placing → Seen → ColumnPlace
 place_of placing column = record { x = left_of placing column; end = capped (left_of placing column + room_of column) }
 
 -- whether a band has room for it, as an empty one always has
-abbrev pub has_room_at : Placing → Place → Bool
+abbrev pub has_room_at : Placing → ColumnPlace → Bool
 has_room_at placing place = is_none placing.last || nat_le place.end 1188
 
 -- the ends of words in lanes, once they end there in one of them

@@ -6,7 +6,7 @@ use Rattle.record.specs.declared.stages.Stage.{Stage}
 use Rattle.record.specs.declared.stages.Stage.TheVariants as stage
 use Rattle.columns.specs.Stages.{nothing_told, stage_among, stages_marked}
 use Rattle.columns.specs.declared.state.Group.{Group}
-use Rattle.columns.specs.declared.seats.Seat.{Seat}
+use Rattle.columns.specs.declared.seats.KnownProcess.{KnownProcess}
 use Rattle.columns.specs.declared.state.State.{State}
 use Rattle.columns.specs.declared.state.Word.{Word}
 use Rattle.columns.specs.declared.state.Word.TheVariants as word
@@ -14,7 +14,7 @@ use Rattle.columns.specs.declared.told.Saying.{Saying}
 use Rattle.columns.specs.declared.told.Saying.TheVariants.{Marked}
 
 -- what is known of a process before it has a ticket
-abbrev pub no_seat : Seat
+abbrev pub no_seat : KnownProcess
 no_seat = record { ticket = 0; awaits = replicate 16 false }
 
 -- before the first line
@@ -99,15 +99,15 @@ abbrev pub word_of : State → ℕ → Word
 word_of state p = word_by (stage_among state.stages p) (word_of_waiting (before_in p (queue_of state)) (awaited_in state p))
 
 -- once nobody awaits a process any more
-abbrev pub not_awaiting : ℕ → Seat → Seat
+abbrev pub not_awaiting : ℕ → KnownProcess → KnownProcess
 not_awaiting p seat = record { ticket = seat.ticket; awaits = set seat.awaits p false }
 
 -- once it has another ticket
-abbrev pub ticket_set : List Seat → ℕ → ℕ → List Seat
+abbrev pub ticket_set : List KnownProcess → ℕ → ℕ → List KnownProcess
 ticket_set seats p ticket = set seats p (record { ticket = ticket; awaits = (get_or seats p no_seat).awaits })
 
 -- what a mark of a process makes of the tickets and of whom each awaits, where the stages are these behind it
-abbrev pub seats_by : List Stage → List Seat → ℕ → Mark → List Seat
+abbrev pub seats_by : List Stage → List KnownProcess → ℕ → Mark → List KnownProcess
 seats_by stages seats p (mark.Waiting ticket) = set seats p (record { ticket = ticket; awaits = map is_in_doorway stages })
 seats_by stages seats p mark.Left = ticket_set seats p 0
 seats_by stages seats p (mark.Answered answer) = ticket_set seats p 0
@@ -121,7 +121,7 @@ goes_on (mark.Settled value) = false
 goes_on _ = true
 
 -- the same, where nobody awaits a process that goes on
-abbrev pub seats_marked : List Stage → List Seat → ℕ → Mark → List Seat
+abbrev pub seats_marked : List Stage → List KnownProcess → ℕ → Mark → List KnownProcess
 seats_marked stages seats p mark = cond (goes_on mark) (seats_by stages (map (not_awaiting p) seats) p mark) seats
 
 -- who is inside after a mark of a process

@@ -5,8 +5,8 @@ use Rattle.record.specs.Shown.{mark_text, refusal_text}
 use Rattle.record.specs.declared.marks.Mark.{Mark}
 use Rattle.record.specs.declared.marks.Mark.TheVariants.{Taken}
 use Rattle.columns.specs.declared.columns.Column.{Column}
-use Rattle.columns.specs.declared.told.Change.{Change}
-use Rattle.columns.specs.declared.told.Line.{Line}
+use Rattle.columns.specs.declared.told.TakenChange.{TakenChange}
+use Rattle.columns.specs.declared.told.RunLine.{RunLine}
 use Rattle.columns.specs.declared.told.Saying.{Saying}
 use Rattle.columns.specs.declared.told.Saying.TheVariants.{Marked, Refused, Tired, Shown, Ended}
 
@@ -19,11 +19,11 @@ saying_text at (Shown words) = codes "show " ++ words.items
 saying_text at (Ended events taken refused) = codes "end events " ++ decimal events ++ codes " taken " ++ decimal taken ++ codes " refused " ++ decimal refused
 
 -- a line, without its end
-abbrev pub text_of : Line → List ℕ
+abbrev pub text_of : RunLine → List ℕ
 text_of line = saying_text line.at line.saying
 
 -- lines, without their ends
-abbrev pub texts : List Line → List (List ℕ)
+abbrev pub texts : List RunLine → List (List ℕ)
 texts = map text_of
 
 -- the lines of a column
@@ -44,7 +44,7 @@ mark_told (Marked p mark change) = Some mark
 mark_told _ = None
 
 -- what the command changed that is told of
-abbrev pub change_told : Saying → Option Change
+abbrev pub change_told : Saying → Option TakenChange
 change_told (Marked p mark change) = change
 change_told _ = None
 
@@ -64,5 +64,5 @@ tells_refusal (Refused p refusal) = true
 tells_refusal _ = false
 
 -- the number of an event that has a mark
-abbrev pub event_told : Line → Option ℕ
+abbrev pub event_told : RunLine → Option ℕ
 event_told line = option_map (λ mark. line.at) (mark_told line.saying)

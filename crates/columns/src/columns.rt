@@ -7,13 +7,13 @@ ghost use Rattle.columns.specs.Told.{change_told, text_of, told_in};
 use crate::measures::{CHARACTER, DIGIT, LONGEST, PAD, room};
 use crate::reads::OverlappedRead;
 use crate::state::State;
-use crate::told::{Line, Saying};
+use crate::told::{RunLine, Saying};
 use record::Mark;
 use std::alloc::{AllocError, Global};
 
 /// Words of a column, in one row.
 #[derive(Drop)]
-pub struct Row {
+pub struct TextRow {
     /// Whether it stands out.
     pub is_verb: bool,
     /// Its bytes.
@@ -34,11 +34,11 @@ pub struct Column {
     /// Events since the column before.
     pub gap: u64,
     /// One line, or the two marks of an event; none of a read.
-    pub lines: Vec<Line>,
+    pub lines: Vec<RunLine>,
     /// The read that it shows; none of lines.
     pub read: Option<OverlappedRead>,
     /// One row or two.
-    pub rows: Vec<Row>,
+    pub rows: Vec<TextRow>,
     /// Whom its process frees.
     pub frees: Option<u8>,
     /// What was told when its last line was.
@@ -47,12 +47,12 @@ pub struct Column {
     pub x: u16,
 }
 
-impl Row {
+impl TextRow {
     /// Words that are drawn whole: each byte is a character.
-    pub(crate) fn new(is_verb: bool, text: String) -> Row
+    pub(crate) fn new(is_verb: bool, text: String) -> TextRow
         ensures { wording result ≡ worded is_verb (string_bytes text) }
     {
-        Row {
+        TextRow {
             is_verb,
             characters: text.len(),
             text: text.into_bytes(),
@@ -64,7 +64,7 @@ impl Column {
     /// The column of a line alone, before it is placed.
     pub fn new(
         alloc: Global,
-        line: Line,
+        line: RunLine,
         gap: u64,
         frees: Option<u8>,
         after: State,
@@ -117,7 +117,7 @@ impl Column {
     }
 
     /// Whether a line is a mark of this column's event.
-    pub fn has_room_for(&self, line: &Line) -> bool
+    pub fn has_room_for(&self, line: &RunLine) -> bool
         ensures { result ≡ joins (seen self.now) line.now }
     {
         self.read.is_none() && self.event.is_some() && self.event == line.event()
@@ -127,7 +127,7 @@ impl Column {
     pub fn join(
         &mut self,
         alloc: Global,
-        line: Line,
+        line: RunLine,
         frees: Option<u8>,
         after: State,
     ) -> Result<(), AllocError>
@@ -142,7 +142,7 @@ impl Column {
     }
 
     /// The line that tells a place in the history, if one does.
-    pub fn taken(&self) -> Option<&Line>
+    pub fn taken(&self) -> Option<&RunLine>
         ensures { option_copied result ≡ taken_in (seen self.now) }
     {
         self.lines.iter().find(|line| line.place().is_some())
@@ -199,7 +199,7 @@ fn digits(alloc: Global, number: Option<u64>) -> Result<usize, AllocError>
 }
 
 /// How many characters the longest of these rows has.
-fn longest(rows: &[Row]) -> usize
+fn longest(rows: &[TextRow]) -> usize
     ensures { result ≡ longest_row (map wording rows.now) }
 {
     let mut longest: usize = 0;
@@ -210,7 +210,7 @@ fn longest(rows: &[Row]) -> usize
 }
 
 /// How many characters the pair has that the command of a line changed.
-fn pair_length(line: &Line) -> usize
+fn pair_length(line: &RunLine) -> usize
     ensures { result ≡ pair_of (change_told line.now.saying) }
 {
     match line.change() {
@@ -220,7 +220,7 @@ fn pair_length(line: &Line) -> usize
 }
 
 /// How many pixels a line takes in the lane of the history that tells a place in it.
-fn width_of_knot(alloc: Global, line: &Line) -> Result<u16, AllocError>
+fn width_of_knot(alloc: Global, line: &RunLine) -> Result<u16, AllocError>
     ensures { IfOk result (λ width. width ≡ knot_width line.now) }
 {
     let knot = room(digits(alloc, line.place())?, DIGIT).saturating_add(14);
@@ -229,7 +229,7 @@ fn width_of_knot(alloc: Global, line: &Line) -> Result<u16, AllocError>
 }
 
 /// The rows of lines that share a column: each mark has one.
-fn rows_shared(alloc: Global, lines: &[Line]) -> Result<Vec<Row>, AllocError>
+fn rows_shared(alloc: Global, lines: &[RunLine]) -> Result<Vec<TextRow>, AllocError>
     ensures { IfOk result (λ rows. map wording rows.items ≡ filter_map row_shared lines.now) }
 {
     let mut rows = Vec::new(alloc);
@@ -240,17 +240,17 @@ fn rows_shared(alloc: Global, lines: &[Line]) -> Result<Vec<Row>, AllocError>
 }
 
 /// The row of one more of them, if it tells a mark.
-fn push_shared(alloc: Global, line: &Line, rows: &mut Vec<Row>) -> Result<(), AllocError>
+fn push_shared(alloc: Global, line: &RunLine, rows: &mut Vec<TextRow>) -> Result<(), AllocError>
     ensures { OnOk result (map wording rows.new.items ≡ map wording rows.old.items ++ option_to_list (row_shared line.now)) }
 {
     if let Some(mark) = line.mark() {
-        rows.push(Row::new(true, mark.to_string(alloc)?))?;
+        rows.push(TextRow::new(true, mark.to_string(alloc)?))?;
     }
     Ok(())
 }
 
 /// The rows of a line alone in its column, in the lane of its process or in that of the history.
-fn rows_alone(alloc: Global, line: &Line, in_lane: bool) -> Result<Vec<Row>, AllocError>
+fn rows_alone(alloc: Global, line: &RunLine, in_lane: bool) -> Result<Vec<TextRow>, AllocError>
     ensures { IfOk result (λ rows. map wording rows.items ≡ rows_told in_lane line.now.saying) }
 {
     match &line.saying {
@@ -293,36 +293,36 @@ fn counts(alloc: Global, taken: u64, refused: u64) -> Result<String, AllocError>
 }
 
 /// The rows of the newest store.
-fn shown_rows(alloc: Global, words: &[u8]) -> Result<Vec<Row>, AllocError>
+fn shown_rows(alloc: Global, words: &[u8]) -> Result<Vec<TextRow>, AllocError>
     ensures { IfOk result (λ rows. map wording rows.items ≡ verb (codes "show") ∷ row_shortened words.now ∷ []) }
 {
     let mut rows = Vec::new(alloc);
-    rows.push(Row::new(true, String::from_str(alloc, "show")?))?;
+    rows.push(TextRow::new(true, String::from_str(alloc, "show")?))?;
     rows.push(cut_row(alloc, words)?)?;
     Ok(rows)
 }
 
 /// Words that stand out, and others below them.
-fn two_rows(alloc: Global, verb: String, rest: String) -> Result<Vec<Row>, AllocError>
+fn two_rows(alloc: Global, verb: String, rest: String) -> Result<Vec<TextRow>, AllocError>
     ensures { IfOk result (λ rows. map wording rows.items ≡ worded true (string_bytes verb) ∷ worded false (string_bytes rest) ∷ []) }
 {
     let mut rows = Vec::new(alloc);
-    rows.push(Row::new(true, verb))?;
-    rows.push(Row::new(false, rest))?;
+    rows.push(TextRow::new(true, verb))?;
+    rows.push(TextRow::new(false, rest))?;
     Ok(rows)
 }
 
 /// Words that stand out, alone.
-fn one_row(alloc: Global, verb: String) -> Result<Vec<Row>, AllocError>
+fn one_row(alloc: Global, verb: String) -> Result<Vec<TextRow>, AllocError>
     ensures { IfOk result (λ rows. map wording rows.items ≡ worded true (string_bytes verb) ∷ []) }
 {
     let mut rows = Vec::new(alloc);
-    rows.push(Row::new(true, verb))?;
+    rows.push(TextRow::new(true, verb))?;
     Ok(rows)
 }
 
 /// The rows of a mark alone in its column.
-fn mark_rows(alloc: Global, mark: &Mark) -> Result<Vec<Row>, AllocError>
+fn mark_rows(alloc: Global, mark: &Mark) -> Result<Vec<TextRow>, AllocError>
     ensures { IfOk result (λ rows. map wording rows.items ≡ rows_marked mark.now) }
 {
     match mark {
@@ -346,10 +346,10 @@ fn mark_rows(alloc: Global, mark: &Mark) -> Result<Vec<Row>, AllocError>
 }
 
 /// A row of words, of which at most so many characters are drawn.
-fn cut_row(alloc: Global, words: &[u8]) -> Result<Row, AllocError>
+fn cut_row(alloc: Global, words: &[u8]) -> Result<TextRow, AllocError>
     ensures { IfOk result (λ row. wording row ≡ row_shortened words.now) }
 {
-    Ok(Row {
+    Ok(TextRow {
         is_verb: false,
         characters: words.len().min(LONGEST),
         text: cut(alloc, words)?,

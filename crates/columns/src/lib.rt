@@ -13,11 +13,11 @@ mod seats;
 mod state;
 mod told;
 
-pub use columns::{Column, Row, cut};
+pub use columns::{Column, TextRow, cut};
 pub use laws::stages_are_the_records;
 pub use layout::{AXIS, Lane, Layout};
 pub use measures::{DIGIT, LEFT, RIGHT, room};
-pub use placing::{Place, Placing, event_place, stretch};
+pub use placing::{ColumnPlace, Placing, event_place, stretch};
 pub use reads::OverlappedRead;
 pub use state::{Group, State, Word};
-pub use told::{Change, Line, Saying};
+pub use told::{TakenChange, RunLine, Saying};

@@ -20,7 +20,7 @@ pub struct Placing {
 
 /// Where a column would stand, and where its words would end.
 #[derive(Clone, Copy)]
-pub struct Place {
+pub struct ColumnPlace {
     /// Its left edge.
     pub x: u16,
     /// Where the words end.
@@ -45,12 +45,12 @@ impl Placing {
     }
 
     /// The place of a column, behind the words that stand in its lanes.
-    pub fn place(&self, alloc: Global, column: &Column) -> Result<Place, AllocError>
+    pub fn place(&self, alloc: Global, column: &Column) -> Result<ColumnPlace, AllocError>
         ensures { IfOk result (λ place. place ≡ place_of self.now (seen column.now)) }
     {
         let x = self.left(alloc, column)?;
         let room = room_needed(alloc, column)?;
-        Ok(Place {
+        Ok(ColumnPlace {
             x,
             end: x.saturating_add(room),
         })
@@ -83,7 +83,7 @@ impl Placing {
     }
 
     /// Whether the band has room for it; an empty one always has.
-    pub fn has_room(&self, place: Place) -> bool
+    pub fn has_room(&self, place: ColumnPlace) -> bool
         ensures { result ≡ has_room_at self.now place }
     {
         self.last.is_none() || place.end <= RIGHT
@@ -94,7 +94,7 @@ impl Placing {
         &mut self,
         alloc: Global,
         column: &mut Column,
-        place: Place,
+        place: ColumnPlace,
     ) -> Result<(), AllocError>
         ensures told { OnOk result (told_in column.new ≡ told_in column.old) }
         ensures stands { OnOk result (seen column.new ≡ moved_to (seen column.old) place.x) }

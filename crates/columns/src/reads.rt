@@ -3,7 +3,7 @@ ghost use Rattle.std.specs.Prelude.{◌≡◌, [], ◌∷◌, IfOk, map, string_
 ghost use Rattle.columns.specs.Columns.{rest, verb, wording};
 ghost use Rattle.columns.specs.Overlaps.{bit_text, field_text, read_text, saw_text, title_text};
 
-use crate::columns::Row;
+use crate::columns::TextRow;
 use record::Field;
 use std::alloc::{AllocError, Global};
 
@@ -28,12 +28,12 @@ pub struct OverlappedRead {
 
 impl OverlappedRead {
     /// The rows of its column.
-    pub(crate) fn rows(&self, alloc: Global) -> Result<Vec<Row>, AllocError>
+    pub(crate) fn rows(&self, alloc: Global) -> Result<Vec<TextRow>, AllocError>
         ensures { IfOk result (λ rows. map wording rows.items ≡ verb (saw_text self.now) ∷ rest (bit_text self.now) ∷ []) }
     {
         let mut rows = Vec::new(alloc);
-        rows.push(Row::new(true, self.saw(alloc)?))?;
-        rows.push(Row::new(false, self.bit_words(alloc)?))?;
+        rows.push(TextRow::new(true, self.saw(alloc)?))?;
+        rows.push(TextRow::new(false, self.bit_words(alloc)?))?;
         Ok(rows)
     }
 

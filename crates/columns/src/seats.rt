@@ -4,7 +4,7 @@ ghost use Rattle.columns.specs.States.{not_awaiting};
 
 /// What is known of a process beside its stage.
 #[derive(Clone, Copy)]
-pub(crate) struct Seat {
+pub(crate) struct KnownProcess {
     /// Its ticket, or 0.
     pub ticket: u32,
     /// Whose doorways were open when its wait began, and are open still.
@@ -12,7 +12,7 @@ pub(crate) struct Seat {
 }
 
 /// Nobody awaits a process any more.
-pub(crate) fn forget(seats: &mut [Seat], process: u8)
+pub(crate) fn forget(seats: &mut [KnownProcess], process: u8)
     ensures { seats.new ≡ map (not_awaiting process) seats.old }
 {
     for seat in seats.iter_mut() {
@@ -21,7 +21,7 @@ pub(crate) fn forget(seats: &mut [Seat], process: u8)
 }
 
 /// A process awaits another one no more.
-fn without(seat: Seat, process: u8) -> Seat
+fn without(seat: KnownProcess, process: u8) -> KnownProcess
     ensures { result ≡ not_awaiting process seat }
 {
     let mut awaits = seat.awaits;
@@ -29,7 +29,7 @@ fn without(seat: Seat, process: u8) -> Seat
     if place < awaits.len() {
         awaits[place] = false;
     }
-    Seat {
+    KnownProcess {
         ticket: seat.ticket,
         awaits,
     }

@@ -4,8 +4,8 @@ ghost use Rattle.columns.specs.Stages.{stage_among, stages_marked, stages_told, 
 ghost use Rattle.columns.specs.States.{at_first, awaited_in, before_in, behind_in, first_waiting, freed_by, freed_in, group_of, is_in_doorway, lined_up, places_from, queue_of, seats_by, seats_marked, state_marked, state_told, ticket_in, is_waiting, ticket_set, word_of, word_of_waiting};
 
 use crate::marks::{inside_after, leads_on, places_after, stage_after};
-use crate::seats::{Seat, forget};
-use crate::told::{Line, Saying};
+use crate::seats::{KnownProcess, forget};
+use crate::told::{RunLine, Saying};
 use record::{Mark, Stage};
 use std::alloc::{AllocError, Global};
 
@@ -16,7 +16,7 @@ pub struct State {
     pub processes: u8,
     /// The stage of each.
     pub stages: [Stage; 16],
-    seats: [Seat; 16],
+    seats: [KnownProcess; 16],
     /// Who is inside, if somebody is.
     pub inside: Option<u8>,
     /// How many places of the history were given.
@@ -81,7 +81,7 @@ impl State {
         ensures processes { result.processes ≡ processes }
         ensures whole { result ≡ at_first processes }
     {
-        let seat = Seat {
+        let seat = KnownProcess {
             ticket: 0,
             awaits: [false; 16],
         };
@@ -174,7 +174,7 @@ impl State {
     }
 
     /// Takes in a line; answers whom its process frees. The stages go on as the line tells.
-    pub fn take(&mut self, alloc: Global, line: &Line) -> Result<Option<u8>, AllocError>
+    pub fn take(&mut self, alloc: Global, line: &RunLine) -> Result<Option<u8>, AllocError>
         ensures stages { OnOk result (self.new.stages ≡ stages_told self.old.processes self.old.stages line.now.saying) }
         ensures processes { self.new.processes ≡ self.old.processes }
         ensures whole { OnOk result (self.new ≡ state_told self.old line.now.saying) }
@@ -271,7 +271,7 @@ impl State {
         let place = usize::from(process);
         if place < self.seats.len() {
             let awaits = self.seats[place].awaits;
-            self.seats[place] = Seat { ticket, awaits };
+            self.seats[place] = KnownProcess { ticket, awaits };
         }
     }
 
@@ -282,7 +282,7 @@ impl State {
         let awaits = self.in_doorways();
         let place = usize::from(process);
         if place < self.seats.len() {
-            self.seats[place] = Seat { ticket, awaits };
+            self.seats[place] = KnownProcess { ticket, awaits };
         }
     }
 

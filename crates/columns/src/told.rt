@@ -10,7 +10,7 @@ use std::alloc::{AllocError, Global};
 
 /// What a command changed that was taken.
 #[derive(Drop)]
-pub struct Change {
+pub struct TakenChange {
     /// The pair that it changed or added, as `NAME=VALUE`.
     pub pair: String,
     /// The store after it: its pairs, with single spaces between them.
@@ -24,7 +24,7 @@ pub enum Saying {
     Marked {
         process: u8,
         mark: Mark,
-        change: Option<Change>,
+        change: Option<TakenChange>,
     },
     /// An event of the process was refused.
     Refused {
@@ -45,7 +45,7 @@ pub enum Saying {
 
 /// A line of a run's text.
 #[derive(Drop)]
-pub struct Line {
+pub struct RunLine {
     /// The number of the line of the printed scenario that made it, from 1.
     pub source: u64,
     /// How many events were accepted before it; of a mark, the number of its event.
@@ -53,7 +53,7 @@ pub struct Line {
     pub saying: Saying,
 }
 
-impl Line {
+impl RunLine {
     /// The process that it tells of.
     pub fn process(&self) -> Option<u8>
         ensures { result ≡ process_told self.now.saying }
@@ -87,7 +87,7 @@ impl Line {
     }
 
     /// What its command changed.
-    pub fn change(&self) -> Option<&Change>
+    pub fn change(&self) -> Option<&TakenChange>
         ensures { option_copied result ≡ change_told self.now.saying }
     {
         match &self.saying {

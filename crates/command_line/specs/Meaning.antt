@@ -9,13 +9,13 @@ use Rattle.clap.specs.Words.{App, Row as Found, Rule, Text, first_of, matches_of
 use Rattle.clap.specs.Words.{subcommand_of, takes, with_rule, with_subcommand}
 use Rattle.clap.specs.declared.builder.action.ArgAction.TheVariants.{SetTrue}
 use Rattle.command_line.specs.declared.commands.Engine.{Engine}
-use Rattle.command_line.specs.declared.commands.Entry.{Entry}
+use Rattle.command_line.specs.declared.commands.CommandEntry.{CommandEntry}
 use Rattle.command_line.specs.declared.commands.Intake.{Intake}
 use Rattle.command_line.specs.declared.commands.TheConstants.{COMMANDS as table}
-use Rattle.command_line.specs.declared.words.Asked.{Asked}
-use Rattle.command_line.specs.declared.words.Asked.TheVariants.{Run, Tell}
-use Rattle.command_line.specs.declared.pages.Page.{Page}
-use Rattle.command_line.specs.declared.pages.Page.TheVariants.{Words, Run as OfRun, Faults, Command as OfCommand}
+use Rattle.command_line.specs.declared.words.Invocation.{Invocation}
+use Rattle.command_line.specs.declared.words.Invocation.TheVariants.{Run, Tell}
+use Rattle.command_line.specs.declared.pages.HelpPage.{HelpPage}
+use Rattle.command_line.specs.declared.pages.HelpPage.TheVariants.{Words, Run as OfRun, Faults, Command as OfCommand}
 
 -- ---- the command line
 
@@ -43,7 +43,7 @@ pub record Listed : Type 0 where
   pub engine : Engine
   pub options : List Text
 
-abbrev pub says : Entry → Listed
+abbrev pub says : CommandEntry → Listed
 says e = record {
   name = e.name.now;
   engine = e.engine;
@@ -51,10 +51,10 @@ says e = record {
 }
 
 -- a row of the table
-abbrev pub Row : Type 0
-Row = Bor Text × Engine × Intake × Bor (List (Bor Text)) × Bor Text × Bor Text × Bor Text
+abbrev pub CommandRow : Type 0
+CommandRow = Bor Text × Engine × Intake × Bor (List (Bor Text)) × Bor Text × Bor Text × Bor Text
 
-abbrev pub listed : Row → Listed
+abbrev pub listed : CommandRow → Listed
 listed r = record { name = r.0.now; engine = r.1; options = map (λ o. o.now) r.3.now }
 
 -- the rows of the table
@@ -77,7 +77,7 @@ command_app c = fold with_flag (plain_app c.name) c.options
 abbrev pub with_command : App → Listed → App
 with_command a c = with_subcommand a (command_app c).top
 
-abbrev pub with_row : App → Row → App
+abbrev pub with_row : App → CommandRow → App
 with_row a r = with_command a (listed r)
 
 abbrev pub help_app : App
@@ -106,13 +106,13 @@ pub data Meant : Type 0 where
   tells_faults : Meant
   tells_command : Engine → Meant
 
-abbrev pub told_by : Page → Meant
+abbrev pub told_by : HelpPage → Meant
 told_by Words = tells_words
 told_by OfRun = tells_run
 told_by Faults = tells_faults
 told_by (OfCommand e) = tells_command e.engine
 
-abbrev pub asked_by : Asked → Meant
+abbrev pub asked_by : Invocation → Meant
 asked_by (Run r) = runs (record {
   engine = r.command.engine;
   file = r.file.now;

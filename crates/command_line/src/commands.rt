@@ -44,7 +44,7 @@ pub enum Intake {
 
 /// A command that runs a file.
 #[derive(Clone, Copy, Debug)]
-pub struct Entry {
+pub struct CommandEntry {
     /// What it is called by.
     pub name: &'static str,
     /// What runs the file.
@@ -61,8 +61,8 @@ pub struct Entry {
     pub page: &'static str,
 }
 
-/// A row of the table: the fields of an `Entry`, one by one. (A definition reads no constant of a struct with texts.)
-pub type Row = (
+/// A row of the table: the fields of an `CommandEntry`, one by one. (A definition reads no constant of a struct with texts.)
+pub type CommandRow = (
     &'static str,
     Engine,
     Intake,
@@ -176,13 +176,13 @@ pub const COMMANDS: [(&str, Engine, Intake, &[&str], &str, &str, &str); 11] = [
     ),
 ];
 
-impl Entry {
+impl CommandEntry {
     /// What a row says.
-    pub fn of(row: &Row) -> Entry
+    pub fn of(row: &CommandRow) -> CommandEntry
         ensures { says result ≡ listed row.now }
     {
         let (name, engine, intake, options, about, example, page) = *row;
-        Entry {
+        CommandEntry {
             name,
             engine,
             intake,
@@ -195,9 +195,9 @@ impl Entry {
 }
 
 /// Two lines of the page of all words: what the command is, and an example.
-impl Display for Entry {
+impl Display for CommandEntry {
     fn fmt<W: fmt::Write>(&self, f: &mut Formatter<W>) -> fmt::Result {
-        let Entry {
+        let CommandEntry {
             name,
             about,
             example,
@@ -209,7 +209,7 @@ impl Display for Entry {
 }
 
 /// The first of some rows that has this name.
-fn first_named<'a>(rows: &'a [Row], name: &str) -> Option<&'a Row>
+fn first_named<'a>(rows: &'a [CommandRow], name: &str) -> Option<&'a CommandRow>
     ensures { option_map (λ e. e.now) result
         ≡ find (λ e. bytes_eq e.0.now name.now) rows.now }
 {
@@ -217,7 +217,7 @@ fn first_named<'a>(rows: &'a [Row], name: &str) -> Option<&'a Row>
 }
 
 /// The same, by what each of them says.
-fn first_listed<'a>(rows: &'a [Row], name: &str) -> Option<&'a Row>
+fn first_listed<'a>(rows: &'a [CommandRow], name: &str) -> Option<&'a CommandRow>
     ensures { option_map (λ e. listed e.now) result
         ≡ find (λ e. bytes_eq e.name name.now) (map listed rows.now) }
 {
@@ -226,9 +226,9 @@ fn first_listed<'a>(rows: &'a [Row], name: &str) -> Option<&'a Row>
 
 /// The command of this name.
 #[tactic(auto, unfolding(crate::specs::Meaning::command_named))]
-pub fn command_named(name: &str) -> Option<Entry>
+pub fn command_named(name: &str) -> Option<CommandEntry>
     ensures { option_map says result ≡ command_named name.now }
 {
     let row = first_listed(&COMMANDS, name)?;
-    Some(Entry::of(row))
+    Some(CommandEntry::of(row))
 }

@@ -11,11 +11,11 @@ mod retries;
 mod terminal;
 mod words;
 
-pub use commands::{Engine, Entry, Intake};
+pub use commands::{Engine, CommandEntry, Intake};
 pub use files::{Fault, FromRead, IntoWrite, LineFault, Sink, Source, ended};
 pub use notices::{Notice, USAGE_STATUS};
-pub use pages::Page;
+pub use pages::HelpPage;
 pub use progress::{WatchedInput, Watcher};
 pub use retries::Uninterrupted;
 pub use terminal::{Output, Terminals};
-pub use words::{Asked, Request, all_words, each_file_runs, read_words};
+pub use words::{Invocation, Request, all_words, each_file_runs, read_words};

@@ -2,7 +2,7 @@
 ghost use Rattle.std.specs.Prelude.{◌≡◌, ◌⊎◌, IfOk};
 ghost use Rattle.clap.specs.Words.{kind_of};
 
-use crate::pages::{Page, tell};
+use crate::pages::{HelpPage, tell};
 use crate::program::{matched, program};
 use clap::Error;
 use clap::error::ErrorKind;
@@ -42,8 +42,8 @@ impl Notice {
     /// Tells the page that `clap` names: the help of each command is the name of its page (`program`).
     fn tell_page<T: Print + AllocGlobal>(&self, rt: &T) -> Result<u8, Fault> {
         let name = self.text(rt.alloc())?;
-        let page = Page::named(name.as_str().trim_end());
-        page.unwrap_or(Page::Words).tell(rt)
+        let page = HelpPage::named(name.as_str().trim_end());
+        page.unwrap_or(HelpPage::Words).tell(rt)
     }
 
     /// The text that `clap` has for it.

@@ -2,7 +2,7 @@
 ghost use Rattle.std.specs.Prelude.{◌≡◌, option_map};
 ghost use Rattle.command_line.specs.Meaning.{page_named, told_by};
 
-use crate::commands::{COMMANDS, Entry, command_named};
+use crate::commands::{COMMANDS, CommandEntry, command_named};
 use crate::help::{FAULTS, MORE_WORDS, RUN, WORDS};
 use crate::program::{file_command, program};
 use files::{DONE, Fault};
@@ -10,27 +10,27 @@ use std::alloc::{AllocError, Global};
 
 /// A page that tells the program's words.
 #[derive(Clone, Copy, Debug)]
-pub enum Page {
+pub enum HelpPage {
     /// All words, the statuses, and where to read on.
     Words,
     /// The words that a run prints.
     Run,
     /// One command.
-    Command(Entry),
+    Command(CommandEntry),
     /// The faults that are told, with their causes.
     Faults,
 }
 
-impl Page {
+impl HelpPage {
     /// The page of this name: of a command, or `help`, `run` or `faults`.
-    pub fn named(name: &str) -> Option<Page>
+    pub fn named(name: &str) -> Option<HelpPage>
         ensures { option_map told_by result ≡ page_named name.now }
     {
         match name {
-            "help" => Some(Page::Words),
-            "run" => Some(Page::Run),
-            "faults" => Some(Page::Faults),
-            _ => Some(Page::Command(command_named(name)?)),
+            "help" => Some(HelpPage::Words),
+            "run" => Some(HelpPage::Run),
+            "faults" => Some(HelpPage::Faults),
+            _ => Some(HelpPage::Command(command_named(name)?)),
         }
     }
 
@@ -45,10 +45,10 @@ impl Page {
     /// Its text.
     fn text(self, alloc: Global) -> Result<String, AllocError> {
         match self {
-            Page::Words => page_of_words(alloc),
-            Page::Run => String::from_str(alloc, RUN),
-            Page::Command(command) => page_of(alloc, command),
-            Page::Faults => String::from_str(alloc, FAULTS),
+            HelpPage::Words => page_of_words(alloc),
+            HelpPage::Run => String::from_str(alloc, RUN),
+            HelpPage::Command(command) => page_of(alloc, command),
+            HelpPage::Faults => String::from_str(alloc, FAULTS),
         }
     }
 }
@@ -67,7 +67,7 @@ fn page_of_words(alloc: Global) -> Result<String, AllocError> {
     text.push_str("\n")?;
     text.push_str(WORDS)?;
     for row in &COMMANDS {
-        let command = Entry::of(row);
+        let command = CommandEntry::of(row);
         write!(text, "{command}")?;
     }
     text.push_str(MORE_WORDS)?;
@@ -75,7 +75,7 @@ fn page_of_words(alloc: Global) -> Result<String, AllocError> {
 }
 
 /// The page of a command.
-fn page_of(alloc: Global, command: Entry) -> Result<String, AllocError> {
+fn page_of(alloc: Global, command: CommandEntry) -> Result<String, AllocError> {
     let name = command.name;
     let name = format!(in alloc; "bakerystore {name}")?;
     let mut alone = file_command(alloc, command)?.bin_name(name.as_str())?;

@@ -5,7 +5,7 @@ ghost use Rattle.clap.specs.Words.{HasKind, app_of, fault_of, found_of, kind_of,
 ghost use Rattle.std.specs.String.{string_bytes};
 ghost use Rattle.command_line.specs.Meaning.{bakery, bare_app, command_app, flag_rule, help_app, plain_app, says, with_flag, with_row};
 
-use crate::commands::{COMMANDS, Entry, Row};
+use crate::commands::{COMMANDS, CommandEntry, CommandRow};
 use crate::help::VERSION;
 use clap::error::ErrorKind;
 use clap::{Arg, ArgAction, ArgMatches, Command, Error};
@@ -54,7 +54,7 @@ fn bare_program<'a>(alloc: Global) -> Result<Command<'a>, AllocError>
 fn with_commands<'a>(
     alloc: Global,
     program: Command<'a>,
-    rows: &[Row],
+    rows: &[CommandRow],
 ) -> Result<Command<'a>, AllocError>
     ensures shape { IfOk result (λ c. app_of c ≡ fold with_row (app_of program.entry) rows.now) }
 {
@@ -66,10 +66,10 @@ fn with_commands<'a>(
 }
 
 /// The program with a command more, which runs a file.
-fn with_row<'a>(alloc: Global, program: Command<'a>, row: &Row) -> Result<Command<'a>, AllocError>
+fn with_row<'a>(alloc: Global, program: Command<'a>, row: &CommandRow) -> Result<Command<'a>, AllocError>
     ensures shape { IfOk result (λ c. app_of c ≡ with_row (app_of program.entry) row.now) }
 {
-    program.subcommand(file_command(alloc, Entry::of(row))?)
+    program.subcommand(file_command(alloc, CommandEntry::of(row))?)
 }
 
 /// The program with the command `help`.
@@ -81,7 +81,7 @@ fn with_help<'a>(alloc: Global, program: Command<'a>) -> Result<Command<'a>, All
 }
 
 /// A command that runs a file.
-pub fn file_command<'a>(alloc: Global, entry: Entry) -> Result<Command<'a>, AllocError>
+pub fn file_command<'a>(alloc: Global, entry: CommandEntry) -> Result<Command<'a>, AllocError>
     ensures shape { IfOk result (λ c. app_of c ≡ command_app (says entry)) }
     ensures local { IfOk result (λ c. (out-Command c).has_globals ≡ false) }
 {

@@ -20,13 +20,13 @@ const CLEAR: &str = "\r\x1b[K";
 pub struct Watcher<'a, T> {
     rt: &'a T,
     alloc: Global,
-    progress: Option<Progress>,
+    progress: Option<ShownProgress>,
 }
 
 impl<'a, T: Clock + Eprint> Watcher<'a, T> {
     /// Nothing is shown unless `shows`.
     pub fn new(rt: &'a T, alloc: Global, shows: bool) -> Watcher<'a, T> {
-        let progress = if shows { Progress::new(rt) } else { None };
+        let progress = if shows { ShownProgress::new(rt) } else { None };
         Watcher {
             rt,
             alloc,
@@ -79,7 +79,7 @@ impl<'a, T: Clock + Eprint> Onlooker for Watcher<'a, T> {
 pub struct WatchedInput<'a, S: Source + Drop, T> {
     source: S,
     rt: &'a T,
-    progress: Option<Progress>,
+    progress: Option<ShownProgress>,
     /// How many lines were read.
     lines: u64,
 }
@@ -90,7 +90,7 @@ impl<'a, S: Source + Drop, T: Clock + Eprint> WatchedInput<'a, S, T> {
         ensures to_come { ⟦<WatchedInput<'a, S, T> as Source>⟧.to_come result ≡ S.to_come source }
         ensures failures { ⟦<WatchedInput<'a, S, T> as Source>⟧.failures result ≡ S.failures source }
     {
-        let progress = if shows { Progress::new(rt) } else { None };
+        let progress = if shows { ShownProgress::new(rt) } else { None };
         WatchedInput {
             source,
             rt,
@@ -158,15 +158,15 @@ fn ends_among(bytes: &[u8]) -> u64 {
 
 /// Since when a run goes on, and when the line was shown.
 #[derive(Clone, Copy, Debug)]
-struct Progress {
+struct ShownProgress {
     begun: Duration,
     shown: Option<Duration>,
 }
 
-impl Progress {
+impl ShownProgress {
     /// At the begin of a run; none where there is no clock.
-    fn new<T: Clock>(rt: &T) -> Option<Progress> {
-        Some(Progress {
+    fn new<T: Clock>(rt: &T) -> Option<ShownProgress> {
+        Some(ShownProgress {
             begun: rt.monotonic().ok()?,
             shown: None,
         })

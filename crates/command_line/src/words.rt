@@ -4,9 +4,9 @@ ghost use Rattle.clap.specs.Words.{HasKind, fault_of, first_of, found_of, kind_o
 ghost use Rattle.std.specs.String.{string_bytes};
 ghost use Rattle.command_line.specs.Meaning.{RunsEachFile, asked_by, asked_of, asked_of_command, asked_of_file, asked_of_help, asked_of_none, bakery, has_flag, meaning, says};
 
-use crate::commands::{Entry, command_named};
+use crate::commands::{CommandEntry, command_named};
 use crate::notices::{Notice, no_such_page, no_text, shown_error};
-use crate::pages::Page;
+use crate::pages::HelpPage;
 use crate::program::matched;
 use clap::error::ErrorKind;
 use clap::{ArgMatches, Error};
@@ -17,7 +17,7 @@ use std::io;
 /// A command, and the file that it is to run.
 #[derive(Clone, Copy, Debug)]
 pub struct Request<'a> {
-    pub command: Entry,
+    pub command: CommandEntry,
     /// The path of the file; `-` is standard input.
     pub file: &'a str,
     /// Whether the picture shows the reads that writes overlapped.
@@ -34,11 +34,11 @@ pub struct Request<'a> {
 
 /// What the words ask for.
 #[derive(Clone, Copy, Debug)]
-pub enum Asked<'a> {
+pub enum Invocation<'a> {
     /// That a command runs a file.
     Run(Request<'a>),
     /// That a page is printed.
-    Tell(Page),
+    Tell(HelpPage),
 }
 
 /// The program's words, of which the first is its own name.
@@ -62,7 +62,7 @@ fn given_words<T: Env + AllocGlobal>(rt: &T) -> Result<Vec<String>, Error> {
 
 /// What the words ask for, of which the first is the program's own name. Else a notice: why `clap` does not take the words, or
 /// that they ask for its help or the version; that no page has the name that they give; or want of memory.
-pub fn read_words<'a>(alloc: Global, words: &'a [String]) -> Result<Asked<'a>, Notice>
+pub fn read_words<'a>(alloc: Global, words: &'a [String]) -> Result<Invocation<'a>, Notice>
     ensures means { IfOk result (λ a. meaning (map string_bytes words.now) ≡ Some (asked_by a)) }
     ensures faultless { IfOk result (λ _. fault_of bakery (map string_bytes words.now) ≡ []) }
     ensures memory { IfErr result (λ n. takes bakery (map string_bytes words.now) ≡ true
@@ -75,7 +75,7 @@ pub fn read_words<'a>(alloc: Global, words: &'a [String]) -> Result<Asked<'a>, N
 }
 
 /// What the words ask for, or the error of words that ask for no run.
-fn parse<'a>(alloc: Global, words: &'a [String]) -> Result<Asked<'a>, Error>
+fn parse<'a>(alloc: Global, words: &'a [String]) -> Result<Invocation<'a>, Error>
     ensures means { IfOk result (λ a. meaning (map string_bytes words.now) ≡ Some (asked_by a)) }
     ensures faultless { IfOk result (λ _. fault_of bakery (map string_bytes words.now) ≡ []) }
     ensures memory { IfErr result (λ e. takes bakery (map string_bytes words.now) ≡ true
@@ -102,7 +102,7 @@ fn page_asked_for<'a>(matches: &ArgMatches<'a>) -> &'a str {
 }
 
 /// What the matches ask for.
-fn asked_of<'a>(matches: &ArgMatches<'a>) -> Option<Asked<'a>>
+fn asked_of<'a>(matches: &ArgMatches<'a>) -> Option<Invocation<'a>>
     ensures { option_map asked_by result
         ≡ asked_of (rows_of (found_of matches.now)) (subcommand_rows_of matches.now) }
 {
@@ -114,10 +114,10 @@ fn asked_of<'a>(matches: &ArgMatches<'a>) -> Option<Asked<'a>>
 }
 
 /// What words ask for that name no command.
-fn asked_of_none<'a>(quiet: bool) -> Option<Asked<'a>>
+fn asked_of_none<'a>(quiet: bool) -> Option<Invocation<'a>>
     ensures { option_map asked_by result ≡ asked_of_none quiet }
 {
-    Some(Asked::Run(Request {
+    Some(Invocation::Run(Request {
         command: command_named("plain")?,
         file: "-",
         reads: false,
@@ -129,7 +129,7 @@ fn asked_of_none<'a>(quiet: bool) -> Option<Asked<'a>>
 }
 
 /// What a command and its matches ask for.
-fn asked_of_command<'a>(quiet: bool, name: &str, own: &ArgMatches<'a>) -> Option<Asked<'a>>
+fn asked_of_command<'a>(quiet: bool, name: &str, own: &ArgMatches<'a>) -> Option<Invocation<'a>>
     ensures { option_map asked_by result
         ≡ asked_of_command quiet name.now (rows_of (found_of own.now)) }
 {
@@ -138,23 +138,23 @@ fn asked_of_command<'a>(quiet: bool, name: &str, own: &ArgMatches<'a>) -> Option
     }
     let command = command_named(name)?;
     let file = text_of(own, "FILE")?;
-    Some(Asked::Run(request_of(quiet, command, own, file)))
+    Some(Invocation::Run(request_of(quiet, command, own, file)))
 }
 
 /// What `help` and its matches ask for.
-fn asked_of_help<'a>(own: &ArgMatches<'a>) -> Option<Asked<'a>>
+fn asked_of_help<'a>(own: &ArgMatches<'a>) -> Option<Invocation<'a>>
     ensures { option_map asked_by result
         ≡ asked_of_help (first_of (codes "PAGE") (rows_of (found_of own.now))) }
 {
     match text_of(own, "PAGE") {
-        None => Some(Asked::Tell(Page::Words)),
-        Some(name) => Some(Asked::Tell(Page::named(name)?)),
+        None => Some(Invocation::Tell(HelpPage::Words)),
+        Some(name) => Some(Invocation::Tell(HelpPage::named(name)?)),
     }
 }
 
 /// The request that a command runs a file, with the options among its matches.
-fn request_of<'a>(quiet: bool, command: Entry, own: &ArgMatches<'a>, file: &'a str) -> Request<'a>
-    ensures { asked_by (Asked.Run result)
+fn request_of<'a>(quiet: bool, command: CommandEntry, own: &ArgMatches<'a>, file: &'a str) -> Request<'a>
+    ensures { asked_by (Invocation.Run result)
         ≡ asked_of_file quiet (says command) (rows_of (found_of own.now)) file.now }
 {
     Request {

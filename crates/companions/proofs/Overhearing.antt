@@ -17,12 +17,12 @@ use Rattle.read_law.proofs.Hears.{heard_none}
 use Rattle.picture.specs.columns.declared.reads.OverlappedRead.{OverlappedRead}
 use Rattle.picture.specs.declared.reads.Reads.{Reads as Mode}
 use Rattle.picture.specs.declared.reads.Reads.TheVariants.{Hidden, Shown}
-use Rattle.companions.specs.declared.overlaps.Begun.{Begun}
-use Rattle.companions.specs.declared.overlaps.Overlaps.{Overlaps}
+use Rattle.companions.specs.declared.overlaps.BegunRead.{BegunRead}
+use Rattle.companions.specs.declared.overlaps.OverlapsHeard.{OverlapsHeard}
 use Rattle.companions.specs.Overlaps.{Hears, Overhears, begun_with, ended_of, first_three, is_begin, is_there, overlapped_by, overlapped_with, read_begun, read_ended}
 
 -- what has heard entries has heard one more
-pub hears_on : (s : Given) (past : Past) (reads : List OverlappedRead) (e : Entry) (old new : Overlaps) → new.setup ≡ old.setup → new.watch.setup ≡ old.watch.setup →
+pub hears_on : (s : Given) (past : Past) (reads : List OverlappedRead) (e : Entry) (old new : OverlapsHeard) → new.setup ≡ old.setup → new.watch.setup ≡ old.watch.setup →
     HasHeard new.watch (e ∷ past) → ((p : ℕ) → p < 16 → get_or new.begun p None ≡ read_begun p (e ∷ past)) → length new.begun ≡ 16 →
     new.ended.items ≡ first_three (reads ++ overlapped_by s past e) → Hears s past reads old → Hears s (e ∷ past) (reads ++ overlapped_by s past e) new
 hears_on s past reads e old new setup watched heard begun room ended h = record {
@@ -36,7 +36,7 @@ hears_on s past reads e old new setup watched heard begun room ended h = record 
 }
 
 -- one without an access leaves it as it is
-pub hears_none : (s : Given) (past : Past) (reads : List OverlappedRead) (e : Entry) (o : Overlaps) → e.access ≡ None → Hears s past reads o → Hears s (e ∷ past) (reads ++ overlapped_by s past e) o
+pub hears_none : (s : Given) (past : Past) (reads : List OverlappedRead) (e : Entry) (o : OverlapsHeard) → e.access ≡ None → Hears s past reads o → Hears s (e ∷ past) (reads ++ overlapped_by s past e) o
 hears_none s past reads e o none h = record {
   good = h.good;
   setup = h.setup;
@@ -50,7 +50,7 @@ hears_none s past reads e o none h = record {
 -- The reads that have begun.
 
 -- one more
-pub begun_set : (xs : List (Option Begun)) (p r : ℕ) (b : Option Begun) → p < length xs → get_or (set xs r b) p None ≡ cond (r == p) b (get_or xs p None)
+pub begun_set : (xs : List (Option BegunRead)) (p r : ℕ) (b : Option BegunRead) → p < length xs → get_or (set xs r b) p None ≡ cond (r == p) b (get_or xs p None)
 begun_set xs p r b below = by (r == p) refl
   where
     by : (same : Bool) → (r == p) ≡ same → get_or (set xs r b) p None ≡ cond same b (get_or xs p None)
@@ -62,7 +62,7 @@ begun_set xs p r b below = by (r == p) refl
         get_or-set_other xs r p b None apart
 
 -- an access that begins no read
-pub begun_still : (p n : ℕ) (a : Access) (before : Option Begun) → is_begin a.how ≡ false → begun_with p n (Some a) before ≡ before
+pub begun_still : (p n : ℕ) (a : Access) (before : Option BegunRead) → is_begin a.how ≡ false → begun_with p n (Some a) before ≡ before
 begun_still p n a before none = by (a.reader == p)
   where
     by : (b : Bool) → cond (b && is_begin a.how) (Some (record { entry = n; access = a })) before ≡ before
@@ -70,7 +70,7 @@ begun_still p n a before none = by (a.reader == p)
     by false = refl
 
 -- and one that does
-pub begun_read : (p n : ℕ) (a : Access) (before : Option Begun) → is_begin a.how ≡ true → begun_with p n (Some a) before ≡ cond (a.reader == p) (Some (record { entry = n; access = a })) before
+pub begun_read : (p n : ℕ) (a : Access) (before : Option BegunRead) → is_begin a.how ≡ true → begun_with p n (Some a) before ≡ cond (a.reader == p) (Some (record { entry = n; access = a })) before
 begun_read p n a before begins = by (a.reader == p)
   where
     by : (b : Bool) → cond (b && is_begin a.how) (Some (record { entry = n; access = a })) before ≡ cond b (Some (record { entry = n; access = a })) before
@@ -100,19 +100,19 @@ begun_onwards x false moves more = more
 begun_here : (a x : Access) (moves : List Move) → is_begin x.how ≡ true → same_bit a x ≡ true → begins_read (cond (same_bit a x) (x.how ∷ []) [] ++ moves) ≡ true
 begun_here a x moves begins is_same = ap (λ c. begins_read (cond c (x.how ∷ []) [] ++ moves)) is_same ∙ begins_here x.how moves begins
 
-begun_cases : (a x : Access) (n : ℕ) (before : Option Begun) (moves : List Move) (b : Begun) (r i : Bool) → same_bit a b.access ≡ true → (before ≡ Some b → begins_read moves ≡ true) → is_begin x.how ≡ i → cond (r && i) (Some (record { entry = n; access = x })) before ≡ Some b → begins_read (cond (same_bit a x) (x.how ∷ []) [] ++ moves) ≡ true
+begun_cases : (a x : Access) (n : ℕ) (before : Option BegunRead) (moves : List Move) (b : BegunRead) (r i : Bool) → same_bit a b.access ≡ true → (before ≡ Some b → begins_read moves ≡ true) → is_begin x.how ≡ i → cond (r && i) (Some (record { entry = n; access = x })) before ≡ Some b → begins_read (cond (same_bit a x) (x.how ∷ []) [] ++ moves) ≡ true
 begun_cases a x n before moves b true true same more begins at =
-    let is_it : (let c : Begun = record { entry = n; access = x } in c) ≡ b = cc in
-    begun_here a x moves begins (ap (λ (c : Begun). same_bit a c.access) is_it ∙ same)
+    let is_it : (let c : BegunRead = record { entry = n; access = x } in c) ≡ b = cc in
+    begun_here a x moves begins (ap (λ (c : BegunRead). same_bit a c.access) is_it ∙ same)
 begun_cases a x n before moves b true false same more begins at = begun_onwards x (same_bit a x) moves (more at)
 begun_cases a x n before moves b false i same more begins at = begun_onwards x (same_bit a x) moves (more at)
 
-begun_by_access : (a : Access) (n : ℕ) (before : Option Begun) (moves : List Move) (b : Begun) (o : Option Access) → same_bit a b.access ≡ true → (before ≡ Some b → begins_read moves ≡ true) → begun_with a.reader n o before ≡ Some b →
+begun_by_access : (a : Access) (n : ℕ) (before : Option BegunRead) (moves : List Move) (b : BegunRead) (o : Option Access) → same_bit a b.access ≡ true → (before ≡ Some b → begins_read moves ≡ true) → begun_with a.reader n o before ≡ Some b →
     begins_read (elim o as (λ _. List Move) [ None ↦ [] | Some x ↦ cond (same_bit a x) (x.how ∷ []) [] ] ++ moves) ≡ true
 begun_by_access a n before moves b None same more at = more at
 begun_by_access a n before moves b (Some x) same more at = begun_cases a x n before moves b (x.reader == a.reader) (is_begin x.how) same more refl at
 
-begun_reads : (a : Access) (past : Past) (b : Begun) → read_begun a.reader past ≡ Some b → same_bit a b.access ≡ true → begins_read (moves_of a past) ≡ true
+begun_reads : (a : Access) (past : Past) (b : BegunRead) → read_begun a.reader past ≡ Some b → same_bit a b.access ≡ true → begins_read (moves_of a past) ≡ true
 begun_reads a [] b is same = absurd (cc)
 begun_reads a (e ∷ past) b is same = begun_by_access a (length past) (read_begun a.reader past) (moves_of a past) b e.access same (λ at. begun_reads a past b at same) is
 
@@ -120,11 +120,11 @@ begun_reads a (e ∷ past) b is same = begun_by_access a (length past) (read_beg
 ends_none : (s : Given) (n : ℕ) (a : Access) (past : Past) → begins_read (moves_of a past) ≡ false → ended_of s n a (read_begun a.reader past) ≡ []
 ends_none s n a past none = by (read_begun a.reader past) refl
   where
-    inner : (b : Begun) (same : Bool) → same_bit a b.access ≡ same → read_begun a.reader past ≡ Some b → ended_of s n a (Some b) ≡ []
+    inner : (b : BegunRead) (same : Bool) → same_bit a b.access ≡ same → read_begun a.reader past ≡ Some b → ended_of s n a (Some b) ≡ []
     inner b true is at = absurd (true≢false (sym (begun_reads a past b at is) ∙ none))
     inner b false is at = ap (λ c. cond c (read_ended s b.entry n a ∷ []) []) is
 
-    by : (o : Option Begun) → read_begun a.reader past ≡ o → ended_of s n a o ≡ []
+    by : (o : Option BegunRead) → read_begun a.reader past ≡ o → ended_of s n a o ≡ []
     by None at = refl
     by (Some b) at = inner b (same_bit a b.access) refl at
 
@@ -167,7 +167,7 @@ ends_no_read s past a none = by (is_there s a)
 -- Modes.
 
 -- where reads are shown
-pub overhears_on : (mode : Mode) (s : Given) (past then : Past) (reads more : List OverlappedRead) (old new : Overlaps) → (Hears s past reads old → Hears s then more new) →
+pub overhears_on : (mode : Mode) (s : Given) (past then : Past) (reads more : List OverlappedRead) (old new : OverlapsHeard) → (Hears s past reads old → Hears s then more new) →
     Overhears mode s past reads (Some old) → Overhears mode s then more (Some new)
 overhears_on Hidden s past then reads more old new on h = absurd h
 overhears_on Shown s past then reads more old new on h = on h
@@ -178,7 +178,7 @@ overhears_nothing Hidden s past then reads more h = tt
 overhears_nothing Shown s past then reads more h = absurd h
 
 -- of what is kept
-pub told_at : (s : Given) (past : Past) (reads : List OverlappedRead) (o : Overlaps) (a : Access) (n : ℕ) (over : Bool) → Hears s past reads o → n ≡ length past →
+pub told_at : (s : Given) (past : Past) (reads : List OverlappedRead) (o : OverlapsHeard) (a : Access) (n : ℕ) (over : Bool) → Hears s past reads o → n ≡ length past →
     (IsThere o.watch.setup a → begins_read (moves_of a past) ≡ true → over ≡ ends_overlapped (moves_of a past) a.how) → ((IsThere o.watch.setup a → ⊥) → over ≡ false) →
     cond over (ended_of o.setup n a (get_or o.begun a.reader None)) [] ≡ overlapped_with s past (Some a)
 told_at s past reads o a n over h number there stray =

@@ -14,8 +14,8 @@ use Rattle.picture.specs.Sheets.{held_in_64}
 use Rattle.picture.specs.columns.declared.reads.OverlappedRead.{OverlappedRead}
 use Rattle.picture.specs.declared.reads.Reads.{Reads as Mode}
 use Rattle.picture.specs.declared.reads.Reads.TheVariants.{Hidden, Shown}
-use Rattle.companions.specs.declared.overlaps.Begun.{Begun}
-use Rattle.companions.specs.declared.overlaps.Overlaps.{Overlaps}
+use Rattle.companions.specs.declared.overlaps.BegunRead.{BegunRead}
+use Rattle.companions.specs.declared.overlaps.OverlapsHeard.{OverlapsHeard}
 
 -- a read begins
 abbrev pub is_begin : Move → Bool
@@ -23,12 +23,12 @@ is_begin BeginRead = true
 is_begin _ = false
 
 -- the read of a process that has begun last, after an access by an entry with this number
-abbrev pub begun_with : ℕ → ℕ → Option Access → Option Begun → Option Begun
+abbrev pub begun_with : ℕ → ℕ → Option Access → Option BegunRead → Option BegunRead
 begun_with p entry None before = before
 begun_with p entry (Some a) before = cond ((a.reader == p) && is_begin a.how) (Some (record { entry = entry; access = a })) before
 
 -- the read of a process that has begun last
-abbrev pub read_begun : ℕ → Past → Option Begun
+abbrev pub read_begun : ℕ → Past → Option BegunRead
 read_begun p [] = None
 read_begun p (e ∷ past) = begun_with p (length past) e.access (read_begun p past)
 
@@ -56,7 +56,7 @@ read_ended s begin end a = record {
 }
 
 -- the read that an access ends, if the last one that has begun is of its bit
-abbrev pub ended_of : Setup → ℕ → Access → Option Begun → List OverlappedRead
+abbrev pub ended_of : Setup → ℕ → Access → Option BegunRead → List OverlappedRead
 ended_of s end a None = []
 ended_of s end a (Some b) = cond (same_bit a b.access) (read_ended s b.entry end a ∷ []) []
 
@@ -80,7 +80,7 @@ shown_of Hidden reads = []
 shown_of Shown reads = first_three reads
 
 -- it has heard these entries, and keeps the reads that have ended since the last line, as far as they are shown
-pub record Hears (s : Setup) (past : Past) (reads : List OverlappedRead) (overlaps : Overlaps) : Type 0 where
+pub record Hears (s : Setup) (past : Past) (reads : List OverlappedRead) (overlaps : OverlapsHeard) : Type 0 where
   pub good : checked s ≡ Ok tt
   pub setup : overlaps.setup ≡ s
   pub watched : overlaps.watch.setup ≡ s
@@ -90,7 +90,7 @@ pub record Hears (s : Setup) (past : Past) (reads : List OverlappedRead) (overla
   pub ended : overlaps.ended.items ≡ first_three reads
 
 -- the same, if reads are shown; else nothing is heard
-abbrev pub Overhears : Mode → Setup → Past → List OverlappedRead → Option Overlaps → Type 0
+abbrev pub Overhears : Mode → Setup → Past → List OverlappedRead → Option OverlapsHeard → Type 0
 Overhears Hidden s past reads None = Unit {0}
 Overhears Shown s past reads (Some overlaps) = Hears s past reads overlaps
 Overhears _ s past reads _ = ⊥

@@ -8,14 +8,14 @@ use Rattle.plain_store.specs.Store.{Contents, after, changes, value_at}
 use Rattle.plain_store.specs.StoreLine.{show_text}
 use Rattle.plain_store.specs.declared.commands.Caller.{Caller}
 use Rattle.plain_store.specs.declared.commands.Command.{Command}
-use Rattle.picture.specs.columns.declared.told.Change.{Change}
+use Rattle.picture.specs.columns.declared.told.TakenChange.{TakenChange}
 
 -- what a command changed: the pair of its name, and the store after it
 pub record Changed : Type 0 where
   pub pair : List ℕ
   pub store : List ℕ
 
-abbrev pub changed : Change → Changed
+abbrev pub changed : TakenChange → Changed
 changed change = record { pair = string_bytes change.pair; store = change.store.items }
 
 -- the pair of a name, as `NAME=VALUE`

@@ -5,9 +5,9 @@
 mod overlaps;
 mod store_changes;
 
-pub use overlaps::{Overlaps, hear, take_ended};
+pub use overlaps::{OverlapsHeard, hear, take_ended};
 pub use picture::{
-    Change, FIRST_BAND, Form, Line, Markup, OverlappedRead, Page, Reads, Saying, page_end,
+    TakenChange, FIRST_BAND, Form, RunLine, Markup, OverlappedRead, Page, Reads, Saying, page_end,
     page_head, picture_end, picture_head,
 };
 pub use store_changes::{apply, opening_store, store_words, words_by_pairs, words_shown};

@@ -22,25 +22,25 @@ const MOST_SHOWN: usize = 3;
 
 /// A read that has begun: with which entry, and by which access.
 #[derive(Clone, Copy)]
-pub struct Begun {
+pub struct BegunRead {
     pub entry: u64,
     pub access: Access,
 }
 
 /// What tells which reads are overlapped.
 #[derive(Drop)]
-pub struct Overlaps {
+pub struct OverlapsHeard {
     setup: Setup,
     watch: Watch,
     /// The last read of each process that has begun.
-    begun: [Option<Begun>; 16],
+    begun: [Option<BegunRead>; 16],
     /// The overlapped reads since the last line, of which so many are shown.
     ended: Vec<OverlappedRead>,
 }
 
-impl Overlaps {
+impl OverlapsHeard {
     /// One that has heard nothing, if reads are shown.
-    pub fn new(alloc: Global, setup: &Setup, reads: Reads) -> Result<Option<Overlaps>, AllocError>
+    pub fn new(alloc: Global, setup: &Setup, reads: Reads) -> Result<Option<OverlapsHeard>, AllocError>
         requires { checked setup.now ≡ Ok tt }
         ensures { IfOk result (Overhears reads setup.now [] []) }
     {
@@ -48,7 +48,7 @@ impl Overlaps {
         if reads == Reads::Hidden {
             return Ok(None);
         }
-        Ok(Some(Overlaps {
+        Ok(Some(OverlapsHeard {
             setup: *setup,
             watch: Watch::new(alloc, setup)?,
             begun: [None; 16],
@@ -97,12 +97,12 @@ impl Overlaps {
     {
         let place = usize::from(access.reader);
         if place < self.begun.len() {
-            self.begun[place] = Some(Begun { entry, access });
+            self.begun[place] = Some(BegunRead { entry, access });
         }
     }
 
     /// The last read of a process that has begun.
-    fn begun_last(&self, reader: u8) -> Option<Begun>
+    fn begun_last(&self, reader: u8) -> Option<BegunRead>
         ensures { result ≡ get_or self.now.begun reader None }
     {
         match self.begun.get(usize::from(reader)) {
@@ -177,7 +177,7 @@ impl Overlaps {
 /// Hears an entry with this number by its access, if reads are shown.
 #[inline]
 pub fn hear(
-    overlaps: &mut Option<Overlaps>,
+    overlaps: &mut Option<OverlapsHeard>,
     number: u64,
     access: Option<Access>,
 ) -> Result<(), AllocError>
@@ -190,7 +190,7 @@ pub fn hear(
 }
 
 /// The overlapped reads since the last line; then there are none.
-pub fn take_ended(alloc: Global, overlaps: &mut Option<Overlaps>) -> Vec<OverlappedRead>
+pub fn take_ended(alloc: Global, overlaps: &mut Option<OverlapsHeard>) -> Vec<OverlappedRead>
     ensures reads { (mode : Mode) (s : Given) (past : Past) (reads : List Ended) → Overhears mode s past reads overlaps.old → result.items ≡ shown_of mode reads }
     ensures none { (mode : Mode) (s : Given) (past : Past) (reads : List Ended) → Overhears mode s past reads overlaps.old → Overhears mode s past [] overlaps.new }
 {

@@ -7,7 +7,7 @@ ghost use Rattle.plain_store.specs.Shown.{value_text};
 ghost use Rattle.plain_store.specs.Store.{after, changes, value_at};
 ghost use Rattle.companions.specs.StoreChanges.{change_by, changed, pair_words, shown_words, store_words as words_of_store, words_by};
 
-use picture::Change;
+use picture::TakenChange;
 use plain_store::{
     Caller, Command, Name, NestedTypes, PlainStore, Setup, Store, Value, opened, show_line,
 };
@@ -28,7 +28,7 @@ pub fn apply(
     store: &mut PlainStore,
     command: &Command,
     caller: Caller,
-) -> Result<Option<Change>, AllocError>
+) -> Result<Option<TakenChange>, AllocError>
     ensures change { IfOk result (λ change. option_map changed change ≡ change_by store.old command.now caller) }
     ensures store { OnOk result (store.new ≡ after store.old command.now caller) }
 {
@@ -40,7 +40,7 @@ pub fn apply(
     }
     let pair = pair(alloc, store, command)?;
     let store = store_words(alloc, store)?;
-    Ok(Some(Change { pair, store }))
+    Ok(Some(TakenChange { pair, store }))
 }
 
 /// Whether the command would change the store.

@@ -17,8 +17,8 @@ use Rattle.world.specs.Walks.{StepsQuietly}
 use Rattle.world.specs.flicks.Flicks.{FlickState, after_flick, after_pick, flick_of, pick_of}
 use Rattle.world.specs.process.Telling.{act_of}
 use Rattle.world.specs.process.declared.told.Effect.TheVariants.{Steps}
-use Rattle.world.specs.process.declared.told.Made.{Made}
-use Rattle.world.specs.process.declared.told.Told.TheVariants as step
+use Rattle.world.specs.process.declared.told.EventMade.{EventMade}
+use Rattle.world.specs.process.declared.told.StepTold.TheVariants as step
 use Rattle.course.specs.Courses.{CourseState, Follows, Makes, course}
 use Rattle.course.specs.Happenings.{Tries, tried}
 use Rattle.course.specs.Runs.{Run, is_there, next_step, past_in, stepped}
@@ -99,7 +99,7 @@ within_made w w' flicks left drawn access quietly adds old l run follows d =
     let p : ℕ = drawn.process in
     let then : Run = drawn_run run d.source in
     let here : Follows (course w d.source left) then = drawn_follows w flicks left drawn old l run follows d in
-    let made : Made = record { access = Some access; effect = Steps step.Nothing } in
+    let made : EventMade = record { access = Some access; effect = Steps step.Nothing } in
     let entry : entry_of s (past_in s run) (next_step p then) ≡ Some (record { process = p; access = Some access; marks = [] }) =
     subst (λ (v : WorldState). entry_of v.setup (past_in v.setup run) (next_step p then) ≡ Some (record { process = p; access = Some access; marks = [] })) d.world
     (step_entry w d.source left p 0 drawn.flick made [] then d.flick adds refl here) in
@@ -117,18 +117,18 @@ within_made w w' flicks left drawn access quietly adds old l run follows d =
     }
 
 -- how many turns it leaves of so many, made or refused
-abbrev pub drawn_left : Bool → Result Made Refusal → ℕ → ℕ
+abbrev pub drawn_left : Bool → Result EventMade Refusal → ℕ → ℕ
 drawn_left true result left = left_after result left
 drawn_left false result left = left
 
 -- the turn, by what it tells
-drawn_told : (alone : Bool) (s : Setup) (p left place : ℕ) (flick : Bool) (run : Run) (result : Result Made Refusal) → TellsOf s (past_in s run) (Tries (next_step p run)) (told_step p flick place result) →
+drawn_told : (alone : Bool) (s : Setup) (p left place : ℕ) (flick : Bool) (run : Run) (result : Result EventMade Refusal) → TellsOf s (past_in s run) (Tries (next_step p run)) (told_step p flick place result) →
     drawn_turn alone s p left run ≡ made_turn p (drawn_left alone result left) run
 drawn_told true s p left place flick run result tells = step_turn_left s p left place flick run result tells
 drawn_told false s p left place flick run result tells = refl
 
 -- whatever it is
-pub whole_made : (w w' : WorldState) (flicks : FlickState) (left left' : ℕ) (drawn : Drawn) (place : ℕ) (taken : List Taken) (result : Result Made Refusal) (answer : Told) →
+pub whole_made : (w w' : WorldState) (flicks : FlickState) (left left' : ℕ) (drawn : Drawn) (place : ℕ) (taken : List Taken) (result : Result EventMade Refusal) (answer : Told) →
     ((events : List Event) → Shows w events → taken ≡ history w.setup (past_of w.setup events)) → place ≡ length taken →
     IfOk result (λ made. Adds w (event.Step drawn.process drawn.flick) drawn.process (act_of (length w.history) made)) → OnOk result (GoesOn w (event.Step drawn.process drawn.flick) w') →
     IfErr result (λ r. IsRefused w (event.Step drawn.process drawn.flick) (Some r)) → OnErr result (w' ≡ w) → OnOk result (w'.setup ≡ w.setup) → answer ≡ told_step drawn.process drawn.flick place result → left' ≡ drawn_left drawn.alone result left →

@@ -19,9 +19,9 @@ use Rattle.world.specs.process.Telling.{act_of, marks_of}
 use Rattle.world.specs.Walks.{Walks}
 use Rattle.world.specs.process.declared.told.Effect.{Effect}
 use Rattle.world.specs.process.declared.told.Effect.TheVariants.{Steps, Calls, Fails, Withdraws, Restarts}
-use Rattle.world.specs.process.declared.told.Made.{Made}
-use Rattle.world.specs.process.declared.told.Told.{Told as Leads}
-use Rattle.world.specs.process.declared.told.Told.TheVariants as step
+use Rattle.world.specs.process.declared.told.EventMade.{EventMade}
+use Rattle.world.specs.process.declared.told.StepTold.{Told as Leads}
+use Rattle.world.specs.process.declared.told.StepTold.TheVariants as step
 use Rattle.course.specs.Courses.{CourseState, Follows, IsQuiet, Makes, MakesQuietly, MakesTurns, QuietTurns, course}
 use Rattle.course.specs.Happenings.{Happening, Tries, tried}
 use Rattle.course.specs.Runs.{Run, may_step, next_step, past_in, stepped}
@@ -43,7 +43,7 @@ quiet_more s line (suc quiet) left run left' run' turn (first, rest) is here =
     (first, quiet_more s line quiet (turn_of s line left run).left (turn_of s line left run).run left' run' turn rest is here)
 
 -- what holds of a Step holds of it with what it leads to
-pub told_if_ok : (leads : Leads) (r : Result Access Refusal) (P : Made → Type 0) → IfOk r (λ access. P (record { access = Some access; effect = Steps leads })) → IfOk (with_told leads r) P
+pub told_if_ok : (leads : Leads) (r : Result Access Refusal) (P : EventMade → Type 0) → IfOk r (λ access. P (record { access = Some access; effect = Steps leads })) → IfOk (with_told leads r) P
 told_if_ok leads (Ok access) P h = h
 told_if_ok leads (Err refusal) P h = tt
 
@@ -89,7 +89,7 @@ step_follows w w' flicks left left' p flick run is on follows = record {
 }
 
 -- it adds its entry
-pub step_entry : (w : WorldState) (flicks : FlickState) (left p place : ℕ) (flick : Bool) (made : Made) (marks : List Mark) (run : Run) → flick ≡ flick_of flicks → Adds w (event.Step p flick) p (act_of place made) → map (placed place) (marks_of made.effect) ≡ marks → Follows (course w flicks left) run →
+pub step_entry : (w : WorldState) (flicks : FlickState) (left p place : ℕ) (flick : Bool) (made : EventMade) (marks : List Mark) (run : Run) → flick ≡ flick_of flicks → Adds w (event.Step p flick) p (act_of place made) → map (placed place) (marks_of made.effect) ≡ marks → Follows (course w flicks left) run →
     entry_of w.setup (past_in w.setup run) (next_step p run) ≡ Some (record { process = p; access = made.access; marks = marks })
 step_entry w flicks left p place flick made marks run is adds are follows =
     let entry : entry_of w.setup (past_in w.setup run) (event.Step p flick) ≡ Some (entry_with p (act_of place made)) = adds (tried run.happened) follows.shows in
@@ -97,7 +97,7 @@ step_entry w flicks left p place flick made marks run is adds are follows =
     subst (λ b. family b marks) (is ∙ ap flick_of follows.flicks) (subst (λ marks. family flick marks) are entry)
 
 -- with its marks
-step_adds : (w : WorldState) (flicks : FlickState) (left p place : ℕ) (flick : Bool) (made : Made) (marks : List Mark) (run : Run) → flick ≡ flick_of flicks → Adds w (event.Step p flick) p (act_of place made) → map (placed place) (marks_of made.effect) ≡ marks → Follows (course w flicks left) run →
+step_adds : (w : WorldState) (flicks : FlickState) (left p place : ℕ) (flick : Bool) (made : EventMade) (marks : List Mark) (run : Run) → flick ≡ flick_of flicks → Adds w (event.Step p flick) p (act_of place made) → map (placed place) (marks_of made.effect) ≡ marks → Follows (course w flicks left) run →
     AddsMarks w.setup (past_in w.setup run) (next_step p run) marks
 step_adds w flicks left p place flick made marks run is adds are follows = (made.access, step_entry w flicks left p place flick made marks run is adds are follows)
 
@@ -107,7 +107,7 @@ pub record QuietStep (w w' : WorldState) (flicks : FlickState) (left' p : ℕ) (
   pub follows : Follows (course w' (after_flick flicks) left') (stepped p run)
   pub setup : w'.setup ≡ w.setup
 
-pub quiet_made : (w w' : WorldState) (flicks : FlickState) (left left' p : ℕ) (flick : Bool) (result : Result Made Refusal) → flick ≡ flick_of flicks →
+pub quiet_made : (w w' : WorldState) (flicks : FlickState) (left left' p : ℕ) (flick : Bool) (result : Result EventMade Refusal) → flick ≡ flick_of flicks →
     IfOk result (λ made. Adds w (event.Step p flick) p (act_of (length w.history) made)) → OnOk result (GoesOn w (event.Step p flick) w') → OnOk result (w'.setup ≡ w.setup) → is_quiet result ≡ true →
     (run : Run) → Follows (course w flicks left) run → QuietStep w w' flicks left' p run
 quiet_made w w' flicks left left' p flick (Err r) is adds on setup quiet run follows = absurd (cc)
@@ -118,7 +118,7 @@ quiet_made w w' flicks left left' p flick (Ok made) is adds on setup quiet run f
 }
 
 -- it was made
-pub quiet_ok : (result : Result Made Refusal) {P : Type 0} → is_quiet result ≡ true → OnOk result P → P
+pub quiet_ok : (result : Result EventMade Refusal) {P : Type 0} → is_quiet result ≡ true → OnOk result P → P
 quiet_ok (Ok made) quiet p = p
 quiet_ok (Err r) quiet p = absurd (cc)
 
@@ -144,7 +144,7 @@ pub record StepTold (w w' : WorldState) (flicks : FlickState) (p : ℕ) (answer 
   pub flicks_are : after_flick flicks ≡ (stepped p run).flicks
   pub setup : w'.setup ≡ w.setup
 
-pub step_told : (w w' : WorldState) (flicks : FlickState) (left p place : ℕ) (flick : Bool) (taken : List Taken) (result : Result Made Refusal) → flick ≡ flick_of flicks →
+pub step_told : (w w' : WorldState) (flicks : FlickState) (left p place : ℕ) (flick : Bool) (taken : List Taken) (result : Result EventMade Refusal) → flick ≡ flick_of flicks →
     ((events : List Event) → Shows w events → taken ≡ history w.setup (past_of w.setup events)) → place ≡ length taken →
     IfOk result (λ made. Adds w (event.Step p flick) p (act_of (length w.history) made)) → OnOk result (GoesOn w (event.Step p flick) w') → IfErr result (λ r. IsRefused w (event.Step p flick) (Some r)) → OnErr result (w' ≡ w) → OnOk result (w'.setup ≡ w.setup) →
     (run : Run) → Follows (course w flicks left) run → StepTold w w' flicks p (told_step p flick place result) run
@@ -201,7 +201,7 @@ walk_starts old line run new is follows =
     subst (λ (c : CourseState). MakesQuietly old line run 0 c) (sym is) (record { now = run; turns = (refl, refl); follows = record { shows = follows.shows; flicks = follows.flicks }; setup = refl })
 
 -- a Step without a mark more
-pub walk_on : (old : CourseState) (p steps : ℕ) (run : Run) (quiet : ℕ) (w w' : WorldState) (flicks flicks' : FlickState) (left : ℕ) (flick : Bool) (result : Result Made Refusal) → (left ≡ 0 → ⊥) → flick ≡ flick_of flicks → flicks' ≡ after_flick flicks →
+pub walk_on : (old : CourseState) (p steps : ℕ) (run : Run) (quiet : ℕ) (w w' : WorldState) (flicks flicks' : FlickState) (left : ℕ) (flick : Bool) (result : Result EventMade Refusal) → (left ≡ 0 → ⊥) → flick ≡ flick_of flicks → flicks' ≡ after_flick flicks →
     IfOk result (λ made. Adds w (event.Step p flick) p (act_of (length w.history) made)) → OnOk result (GoesOn w (event.Step p flick) w') → OnOk result (w'.setup ≡ w.setup) → is_quiet result ≡ true →
     MakesQuietly old (line.Step p steps) run quiet (course w flicks left) → MakesQuietly old (line.Step p steps) run (quiet + 1) (course w' flicks' (left - 1))
 walk_on old p steps run quiet w w' flicks flicks' left flick result some_left is after adds on setup silent here =
@@ -213,19 +213,19 @@ walk_on old p steps run quiet w w' flicks flicks' left flick result some_left is
     (turn_next s (line.Step p steps) left here.now some_left ∙ step_turn_made s p (left - 1) here.now [] quietly) refl q.adds q.follows q.setup)
 
 -- what a Step leaves of so many turns, which ends its line where it is refused
-abbrev pub left_after : Result Made Refusal → ℕ → ℕ
+abbrev pub left_after : Result EventMade Refusal → ℕ → ℕ
 left_after (Ok made) left = left
 left_after (Err r) left = 0
 
-pub left_ok : (result : Result Made Refusal) (left : ℕ) → is_err result ≡ false → left_after result left ≡ left
+pub left_ok : (result : Result EventMade Refusal) (left : ℕ) → is_err result ≡ false → left_after result left ≡ left
 left_ok (Ok made) left is = refl
 left_ok (Err r) left is = absurd (cc)
 
-pub left_err : (result : Result Made Refusal) (left : ℕ) → is_err result ≡ true → left_after result left ≡ 0
+pub left_err : (result : Result EventMade Refusal) (left : ℕ) → is_err result ≡ true → left_after result left ≡ 0
 left_err (Ok made) left is = absurd (cc)
 left_err (Err r) left is = refl
 
-pub step_turn_left : (s : Setup) (p left place : ℕ) (flick : Bool) (run : Run) (result : Result Made Refusal) → TellsOf s (past_in s run) (Tries (next_step p run)) (told_step p flick place result) → step_turn s p left run ≡ made_turn p (left_after result left) run
+pub step_turn_left : (s : Setup) (p left place : ℕ) (flick : Bool) (run : Run) (result : Result EventMade Refusal) → TellsOf s (past_in s run) (Tries (next_step p run)) (told_step p flick place result) → step_turn s p left run ≡ made_turn p (left_after result left) run
 step_turn_left s p left place flick run (Ok made) tells = step_turn_made s p left run (map (placed place) (marks_of made.effect)) (made.access, tells.1)
 step_turn_left s p left place flick run (Err r) tells = step_turn_refused s p left run r tells.1
 
@@ -256,7 +256,7 @@ walks_quietly zero w w' flicks flicks' left p steps run few (same, same_flicks) 
     walk_starts (course w flicks left) (line.Step p steps) run (course w' flicks' (left - 0)) (λ i. course (same i) (same_flicks i) (all i)) follows
 walks_quietly (suc n) w w' flicks flicks' left p steps run few (w1, flicks1, walks, quietly, after) follows =
     let before = walks_quietly n w w1 flicks flicks1 left p steps run (omega (arith, few)) walks follows in
-    let result : Result Made Refusal = Ok (record { access = Some quietly.access; effect = Steps step.Nothing }) in
+    let result : Result EventMade Refusal = Ok (record { access = Some quietly.access; effect = Steps step.Nothing }) in
     let on = walk_on (course w flicks left) p steps run n w1 w' flicks1 flicks' (left - n) (flick_of flicks1) result (λ none. omega (arith, few, none)) refl after quietly.adds quietly.shows quietly.setup refl before in
     let fewer : left - n - 1 ≡ left - suc n = omega arith in
     subst (λ k. MakesQuietly (course w flicks left) (line.Step p steps) run (suc n) (course w' flicks' k)) fewer
@@ -273,7 +273,7 @@ walks_setup zero w w' flicks flicks' p (same, same_flicks) = ap (λ (w : WorldSt
 walks_setup (suc n) w w' flicks flicks' p (w1, flicks1, walks, quietly, after) = quietly.setup ∙ walks_setup n w w1 flicks flicks1 p walks
 
 -- the Step that is told
-pub walk_told : (old : CourseState) (p steps : ℕ) (run : Run) (quiet : ℕ) (w w' : WorldState) (flicks flicks' : FlickState) (left place : ℕ) (flick : Bool) (taken : List Taken) (result : Result Made Refusal) (answer : Told) (new : CourseState) → (left ≡ 0 → ⊥) →
+pub walk_told : (old : CourseState) (p steps : ℕ) (run : Run) (quiet : ℕ) (w w' : WorldState) (flicks flicks' : FlickState) (left place : ℕ) (flick : Bool) (taken : List Taken) (result : Result EventMade Refusal) (answer : Told) (new : CourseState) → (left ≡ 0 → ⊥) →
     flick ≡ flick_of flicks → flicks' ≡ after_flick flicks → ((events : List Event) → Shows w events → taken ≡ history w.setup (past_of w.setup events)) → place ≡ length taken →
     IfOk result (λ made. Adds w (event.Step p flick) p (act_of (length w.history) made)) → OnOk result (GoesOn w (event.Step p flick) w') → IfErr result (λ r. IsRefused w (event.Step p flick) (Some r)) → OnErr result (w' ≡ w) → OnOk result (w'.setup ≡ w.setup) →
     answer ≡ told_step p flick place result → new ≡ course w' flicks' (left_after result (left - 1)) → MakesQuietly old (line.Step p steps) run quiet (course w flicks left) →

@@ -16,7 +16,7 @@ use Rattle.world.specs.Events.{Adds, GoesOn, IsRefused}
 use Rattle.world.specs.flicks.Flicks.{FlickState, flick_of, after_flick, pick_of, after_pick}
 use Rattle.world.specs.Shows.{Shows, WorldState}
 use Rattle.world.specs.process.Telling.{act_of}
-use Rattle.world.specs.process.declared.told.Made.{Made}
+use Rattle.world.specs.process.declared.told.EventMade.{EventMade}
 use Rattle.course.specs.Courses.{CourseState, Follows, Makes, MakesQuietly, MakesTurns, course}
 use Rattle.course.specs.Happenings.{tried}
 use Rattle.course.specs.Runs.{Run, after_pick_in, has_step, movers, next_step, past_in}
@@ -73,7 +73,7 @@ pick_follows : (w : WorldState) (flicks : FlickState) (left : ℕ) (run : Run) �
 pick_follows w flicks left run follows = record { shows = follows.shows; flicks = ap after_pick follows.flicks }
 
 -- a Step without a mark more
-pub wander_on : (old : CourseState) (steps : ℕ) (run : Run) (quiet : ℕ) (ps : List ℕ) (w w' : WorldState) (flicks flicks' flicks'' : FlickState) (left p : ℕ) (flick : Bool) (result : Result Made Refusal) → (left ≡ 0 → ⊥) → 0 < length ps →
+pub wander_on : (old : CourseState) (steps : ℕ) (run : Run) (quiet : ℕ) (ps : List ℕ) (w w' : WorldState) (flicks flicks' flicks'' : FlickState) (left p : ℕ) (flick : Bool) (result : Result EventMade Refusal) → (left ≡ 0 → ⊥) → 0 < length ps →
     flicks' ≡ after_pick flicks → p ≡ slice_index ps (pick_of (length ps) flicks) → flick ≡ flick_of flicks' → flicks'' ≡ after_flick flicks' →
     IfOk result (λ made. Adds w (event.Step p flick) p (act_of (length w.history) made)) → OnOk result (GoesOn w (event.Step p flick) w') → OnOk result (w'.setup ≡ w.setup) → is_quiet result ≡ true →
     WandersQuietly old (line.Wander steps) run quiet ps (course w flicks left) → WandersQuietly old (line.Wander steps) run (quiet + 1) ps (course w' flicks'' (left - 1))
@@ -89,7 +89,7 @@ wander_on old steps run quiet ps w w' flicks flicks' flicks'' left p flick resul
     (record { made = more; movers = here.movers ∙ sym (movers_quiet s (tried now.happened) (next_step p (after_pick_in now)) quietly) })
 
 -- the Step that is told
-pub wander_told : (old : CourseState) (steps : ℕ) (run : Run) (quiet : ℕ) (ps : List ℕ) (w w' : WorldState) (flicks flicks' flicks'' : FlickState) (left p place : ℕ) (flick : Bool) (taken : List Taken) (result : Result Made Refusal) (answer : Told) → (left ≡ 0 → ⊥) → 0 < length ps →
+pub wander_told : (old : CourseState) (steps : ℕ) (run : Run) (quiet : ℕ) (ps : List ℕ) (w w' : WorldState) (flicks flicks' flicks'' : FlickState) (left p place : ℕ) (flick : Bool) (taken : List Taken) (result : Result EventMade Refusal) (answer : Told) → (left ≡ 0 → ⊥) → 0 < length ps →
     flicks' ≡ after_pick flicks → p ≡ slice_index ps (pick_of (length ps) flicks) → flick ≡ flick_of flicks' → flicks'' ≡ after_flick flicks' → ((events : List Event) → Shows w events → taken ≡ history w.setup (past_of w.setup events)) → place ≡ length taken →
     IfOk result (λ made. Adds w (event.Step p flick) p (act_of (length w.history) made)) → OnOk result (GoesOn w (event.Step p flick) w') → IfErr result (λ r. IsRefused w (event.Step p flick) (Some r)) → OnErr result (w' ≡ w) → OnOk result (w'.setup ≡ w.setup) →
     answer ≡ told_step p flick place result → WandersQuietly old (line.Wander steps) run quiet ps (course w flicks left) →

@@ -13,9 +13,9 @@ use Rattle.record.specs.Records.{entry_of, placed, process_of, refused}
 use Rattle.world.specs.process.Telling.{marks_of}
 use Rattle.world.specs.process.declared.told.Effect.{Effect}
 use Rattle.world.specs.process.declared.told.Effect.TheVariants.{Steps}
-use Rattle.world.specs.process.declared.told.Made.{Made}
-use Rattle.world.specs.process.declared.told.Told.{Told as Leads}
-use Rattle.world.specs.process.declared.told.Told.TheVariants as step
+use Rattle.world.specs.process.declared.told.EventMade.{EventMade}
+use Rattle.world.specs.process.declared.told.StepTold.{Told as Leads}
+use Rattle.world.specs.process.declared.told.StepTold.TheVariants as step
 use Rattle.course.specs.Happenings.{Happening, Tries, Lacks, Tires, Looks}
 use Rattle.course.specs.Texts.{mark_line, newest_store, store_text, turns_line}
 use Rattle.record.specs.Shown.{refusal_line}
@@ -59,12 +59,12 @@ told_text number (told.Tired p) = turns_line p
 told_text number (told.Shown line) = string_bytes line
 
 -- a Step that is made or refused, with what it leads to
-abbrev pub with_told : Leads → Result Access Refusal → Result Made Refusal
+abbrev pub with_told : Leads → Result Access Refusal → Result EventMade Refusal
 with_told leads (Ok access) = Ok (record { access = Some access; effect = Steps leads })
 with_told leads (Err refusal) = Err refusal
 
 -- what a Step of a process tells, with its flick and the place of a command that it takes
-abbrev pub told_step : ℕ → Bool → ℕ → Result Made Refusal → Told
+abbrev pub told_step : ℕ → Bool → ℕ → Result EventMade Refusal → Told
 told_step p flick place (Ok made) = told.Accepted (record { event = event.Step p flick; place = place; access = made.access; effect = made.effect })
 told_step p flick place (Err refusal) = told.Refused p refusal
 
@@ -78,6 +78,6 @@ is_nothing (Steps step.Nothing) = true
 is_nothing _ = false
 
 -- a Step was made that has no mark
-abbrev pub is_quiet : Result Made Refusal → Bool
+abbrev pub is_quiet : Result EventMade Refusal → Bool
 is_quiet (Ok made) = is_nothing made.effect
 is_quiet (Err refusal) = false

@@ -111,12 +111,12 @@ impl Audit {
 
 /// A listener, and the audit of what it hears.
 #[derive(Drop)]
-pub struct Judged<L: Listener + Drop> {
+pub struct Overheard<L: Listener + Drop> {
     pub listener: L,
     pub audit: Audit,
 }
 
-impl<L: Listener + Drop> Listener for Judged<L> {
+impl<L: Listener + Drop> Listener for Overheard<L> {
     ghost hears_steps = { λ _. true };
 
     #[inline(always)]

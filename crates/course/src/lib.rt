@@ -14,7 +14,7 @@ mod told;
 mod turns;
 
 pub use auditor::Watch;
-pub use judging::{Audit, Judged};
+pub use judging::{Audit, Overheard};
 pub use listening::Listener;
 pub use record::{Access, Entry, Event, Mark, Record, Refusal, Taken, refusal_line};
 pub use summaries::Summary;

@@ -156,7 +156,7 @@ impl Course {
     {
         self.left -= 1;
         let place = self.world.history().len() as u64;
-        let mut effect = Effect::Steps(world::Told::Nothing);
+        let mut effect = Effect::Steps(world::StepTold::Nothing);
         match self.world.make(&event, &mut effect) {
             Ok(access) => {
                 let made = Accepted {

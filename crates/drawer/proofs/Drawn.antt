@@ -15,7 +15,7 @@ use Rattle.picture.specs.columns.Told.{text_of}
 use Rattle.picture.specs.declared.page.Form.{Form}
 use Rattle.picture.specs.columns.declared.reads.OverlappedRead.{OverlappedRead}
 use Rattle.picture.specs.declared.reads.Reads.{Reads as Mode}
-use Rattle.picture.specs.columns.declared.told.Line.{Line}
+use Rattle.picture.specs.columns.declared.told.RunLine.{RunLine}
 use Rattle.scenario.specs.Reading.{Script}
 use Rattle.course.specs.Texts.{replayed}
 use Rattle.course.proofs.Written.{appends_both, appends_none}
@@ -119,7 +119,7 @@ draws_on_both had has now a b c text more marks others gives those first next = 
 }
 
 -- a line that was told, and the band that is full, if one is
-pub draws_on_line : (line : Line) (had has : Kept) (band : Option (List ℕ)) (a b : Option (List ℕ)) → lines_of_band band ++ has.lines ≡ had.lines ++ text_of line ∷ [] → GoesOn (Tells line) had.page band has.page →
+pub draws_on_line : (line : RunLine) (had has : Kept) (band : Option (List ℕ)) (a b : Option (List ℕ)) → lines_of_band band ++ has.lines ≡ had.lines ++ text_of line ∷ [] → GoesOn (Tells line) had.page band has.page →
     Draws a b (band_text band) (ended_lines (lines_of_band band)) → DrawsOn had has a b (text_of line ++ codes "\n") (marks_said line.saying) (GivesLine line.source line.at (says_of line.saying) ∷ [])
 draws_on_line line had has band a b is goes draws = record {
   markup = band_text band;

@@ -13,7 +13,7 @@ use Rattle.picture.specs.columns.Told.{saying_text}
 use Rattle.picture.specs.columns.declared.reads.OverlappedRead.{OverlappedRead}
 use Rattle.picture.specs.declared.reads.Reads.{Reads as Mode}
 use Rattle.picture.specs.declared.reads.Reads.TheVariants.{Hidden, Shown}
-use Rattle.picture.specs.columns.declared.told.Change.{Change}
+use Rattle.picture.specs.columns.declared.told.TakenChange.{TakenChange}
 use Rattle.picture.specs.columns.declared.told.Saying.TheVariants.{Marked}
 use Rattle.drawer.specs.Changes.{IsNext, takes}
 use Rattle.drawer.specs.Drawings.{AreNext, all_take}
@@ -71,7 +71,7 @@ waiting_none (m ∷ marks) k reads within =
     ap (λ n. waiting (take n (m ∷ marks)) reads) same
 
 -- the text of a line that says a mark
-pub marked_line : (n p : ℕ) (mark : Mark) (change : Option Change) → saying_text n (Marked p mark change) ++ codes "\n" ≡ mark_line n p mark
+pub marked_line : (n p : ℕ) (mark : Mark) (change : Option TakenChange) → saying_text n (Marked p mark change) ++ codes "\n" ≡ mark_line n p mark
 marked_line n p mark change = refl
 
 -- marks that take no command, or one, the last of the history

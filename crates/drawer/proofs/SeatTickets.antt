@@ -9,7 +9,7 @@ use Rattle.record.specs.declared.marks.Mark.TheVariants as mark
 use Rattle.record.specs.declared.stages.Stage.{Stage}
 use Rattle.picture.specs.columns.Stages.{marks_said, stages_marked, stages_told}
 use Rattle.picture.specs.columns.States.{at_first, is_in_doorway, no_seat, not_awaiting, seats_marked, state_marked, state_told, ticket_in}
-use Rattle.picture.specs.columns.declared.seats.Seat.{Seat}
+use Rattle.picture.specs.columns.declared.seats.KnownProcess.{KnownProcess}
 use Rattle.picture.specs.columns.declared.state.State.{State}
 use Rattle.picture.specs.columns.declared.told.Saying.{Saying}
 use Rattle.picture.specs.columns.declared.told.Saying.TheVariants.{Marked, Refused, Tired, Shown, Ended}
@@ -18,7 +18,7 @@ use Rattle.drawer.proofs.TicketsShown.{shown_after, shown_told}
 -- Of one mark.
 
 -- as many seats as before
-marked_seats : (stages : List Stage) (seats : List Seat) (q : ℕ) (m : Mark) → length (seats_marked stages seats q m) ≡ length seats
+marked_seats : (stages : List Stage) (seats : List KnownProcess) (q : ℕ) (m : Mark) → length (seats_marked stages seats q m) ≡ length seats
 marked_seats stages seats q (mark.Waiting t) = length-set (map (not_awaiting q) seats) q (record { ticket = t; awaits = map is_in_doorway stages }) ∙ length-map seats (not_awaiting q)
 marked_seats stages seats q mark.Left = length-set (map (not_awaiting q) seats) q _ ∙ length-map seats (not_awaiting q)
 marked_seats stages seats q (mark.Answered a) = length-set (map (not_awaiting q) seats) q _ ∙ length-map seats (not_awaiting q)
@@ -32,7 +32,7 @@ marked_seats stages seats q mark.Withdrew = length-map seats (not_awaiting q)
 marked_seats stages seats q mark.Restarted = length-map seats (not_awaiting q)
 
 -- whom it awaits does not change the ticket of a seat
-forgotten : (q : ℕ) (seats : List Seat) (p : ℕ) → (get_or (map (not_awaiting q) seats) p no_seat).ticket ≡ (get_or seats p no_seat).ticket
+forgotten : (q : ℕ) (seats : List KnownProcess) (p : ℕ) → (get_or (map (not_awaiting q) seats) p no_seat).ticket ≡ (get_or seats p no_seat).ticket
 forgotten q [] p = refl
 forgotten q (seat ∷ seats) zero = refl
 forgotten q (seat ∷ seats) (suc p) = forgotten q seats p
@@ -42,20 +42,20 @@ same_either true n = refl
 same_either false n = refl
 
 -- a seat is given a ticket
-seated : (q : ℕ) (seats : List Seat) (seat : Seat) (p : ℕ) → p < length seats → (get_or (set (map (not_awaiting q) seats) q seat) p no_seat).ticket ≡ cond (q == p) seat.ticket (get_or seats p no_seat).ticket
+seated : (q : ℕ) (seats : List KnownProcess) (seat : KnownProcess) (p : ℕ) → p < length seats → (get_or (set (map (not_awaiting q) seats) q seat) p no_seat).ticket ≡ cond (q == p) seat.ticket (get_or seats p no_seat).ticket
 seated q seats seat p within = go (cases_eq q p)
   where
     go : ((q ≡ p) ⊎ (q ≡ p → ⊥)) → (get_or (set (map (not_awaiting q) seats) q seat) p no_seat).ticket ≡ cond (q == p) seat.ticket (get_or seats p no_seat).ticket
     go (inl same) =
         ap (λ i. (get_or (set (map (not_awaiting q) seats) i seat) p no_seat).ticket) same
-        ∙ ap (λ (x : Seat). x.ticket) (get_or-set_same (map (not_awaiting q) seats) p seat no_seat (subst (λ n. p < n) (sym (length-map seats (not_awaiting q))) within))
+        ∙ ap (λ (x : KnownProcess). x.ticket) (get_or-set_same (map (not_awaiting q) seats) p seat no_seat (subst (λ n. p < n) (sym (length-map seats (not_awaiting q))) within))
         ∙ sym (cond-true (q == p) seat.ticket (get_or seats p no_seat).ticket (eq-eqb q p same))
     go (inr other) =
-        ap (λ (x : Seat). x.ticket) (get_or-set_other (map (not_awaiting q) seats) q p seat no_seat (λ e. other (sym e)))
+        ap (λ (x : KnownProcess). x.ticket) (get_or-set_other (map (not_awaiting q) seats) q p seat no_seat (λ e. other (sym e)))
         ∙ forgotten q seats p
         ∙ sym (cond-false (q == p) seat.ticket (get_or seats p no_seat).ticket (ne_eqb q p other))
 
-marked_ticket : (stages : List Stage) (seats : List Seat) (q : ℕ) (m : Mark) (p : ℕ) → p < length seats → (get_or (seats_marked stages seats q m) p no_seat).ticket ≡ shown_told p (get_or seats p no_seat).ticket (q, m)
+marked_ticket : (stages : List Stage) (seats : List KnownProcess) (q : ℕ) (m : Mark) (p : ℕ) → p < length seats → (get_or (seats_marked stages seats q m) p no_seat).ticket ≡ shown_told p (get_or seats p no_seat).ticket (q, m)
 marked_ticket stages seats q (mark.Waiting t) p within = seated q seats _ p within
 marked_ticket stages seats q mark.Left p within = seated q seats _ p within
 marked_ticket stages seats q (mark.Answered a) p within = seated q seats _ p within

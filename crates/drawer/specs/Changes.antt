@@ -10,7 +10,7 @@ use Rattle.record.specs.Histories.{store_after}
 use Rattle.record.specs.declared.history.Taken.{Taken}
 use Rattle.record.specs.declared.marks.Mark.{Mark}
 use Rattle.record.specs.declared.marks.Mark.TheVariants as mark
-use Rattle.picture.specs.columns.declared.told.Change.{Change}
+use Rattle.picture.specs.columns.declared.told.TakenChange.{TakenChange}
 use Rattle.drawer.specs.Pictures.{store_words}
 
 -- what a command changed: the pair of its name, and the store after it
@@ -18,7 +18,7 @@ pub record Changed : Type 0 where
   pub pair : List ℕ
   pub store : List ℕ
 
-abbrev pub changed : Change → Changed
+abbrev pub changed : TakenChange → Changed
 changed change = record { pair = string_bytes change.pair; store = change.store.items }
 
 -- the pair of a name, as `NAME=VALUE`

@@ -10,7 +10,7 @@ ghost use Rattle.record.specs.Histories.{store_after};
 ghost use Rattle.drawer.specs.Changes.{IsNext, after_taken, change_by, change_of, changed, pair_words, takes};
 ghost use Rattle.drawer.specs.Pictures.{shown_words, store_words, words_by};
 
-use picture::Change;
+use picture::TakenChange;
 use plain_store::{
     Caller, Command, Name, NestedTypes, PlainStore, Setup, Store, Value, opened, show_line,
 };
@@ -38,7 +38,7 @@ impl Changes {
     }
 
     /// What the command of a mark changes, if one is taken: the newest of the history.
-    pub fn made_by(&mut self, mark: &Mark, history: &[Taken]) -> Result<Option<Change>, AllocError>
+    pub fn made_by(&mut self, mark: &Mark, history: &[Taken]) -> Result<Option<TakenChange>, AllocError>
         ensures change { (s : Given) (n : ℕ) → self.old.store ≡ store_after s (take n history.now) → IsNext n history.now mark.now → IfOk result (λ change. option_map changed change ≡ change_of s history.now mark.now) }
         ensures store { (s : Given) (n : ℕ) → self.old.store ≡ store_after s (take n history.now) → IsNext n history.now mark.now → OnOk result (self.new.store ≡ store_after s (take (n + takes mark.now) history.now)) }
     {
@@ -53,7 +53,7 @@ impl Changes {
     }
 
     /// Applies a command; answers what it changed, if it changed something.
-    fn apply(&mut self, taken: &Taken) -> Result<Option<Change>, AllocError>
+    fn apply(&mut self, taken: &Taken) -> Result<Option<TakenChange>, AllocError>
         ensures change { IfOk result (λ change. option_map changed change ≡ change_by self.old.store taken.now) }
         ensures store { OnOk result (self.new.store ≡ after_taken self.old.store taken.now) }
     {
@@ -69,7 +69,7 @@ impl Changes {
         }
         let pair = self.pair(&taken.command)?;
         let store = self.store_words()?;
-        Ok(Some(Change { pair, store }))
+        Ok(Some(TakenChange { pair, store }))
     }
 
     /// Whether the command would change the store.

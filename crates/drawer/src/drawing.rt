@@ -27,9 +27,9 @@ use crate::changes::{Changes, words_shown};
 use crate::overlaps::{Overlaps, hear, take_ended};
 use crate::writing::{write_band, write_markup};
 use course::{Course, Summary, Taken, Told};
-use files::progress::{Onlooker, Place};
+use files::progress::{Onlooker, LinePlace};
 use listening::draw_line;
-use picture::{Form, Line, OverlappedRead, Page, Reads, Saying};
+use picture::{Form, RunLine, OverlappedRead, Page, Reads, Saying};
 use plain_store::{NestedTypes, Setup};
 use record::Mark;
 use scenario::{Fault, Scenario, Sink};
@@ -69,7 +69,7 @@ pub(crate) fn draw_bands<W: Sink, L: Onlooker>(
 {
     let mut course = Course::new(alloc, &scenario.setup)?;
     let mut drawing = Drawing::new(alloc, &scenario.setup, form, reads)?;
-    let mut place = Place::before(file, scenario.lines.len());
+    let mut place = LinePlace::before(file, scenario.lines.len());
     for line in &scenario.lines {
         onlooker.reached(place.begin_line(drawing.summary.events));
         drawing.source += 1;
@@ -225,7 +225,7 @@ impl Drawing {
         ensures failures { W.failures output.new ≡ W.failures output.old + failed_write result }
     {
         self.draw_reads(output)?;
-        let line = Line {
+        let line = RunLine {
             source: self.source,
             at: self.summary.events,
             saying,

@@ -13,11 +13,11 @@ ghost use Rattle.course.specs.Writing.{IsWriteFault, failed_write};
 ghost use Rattle.course.specs.RunRecords.{run_record};
 
 use crate::writing::write_line;
-use course::{Audit, Course, Judged, Summary};
+use course::{Audit, Course, Overheard, Summary};
 use judge::{Audited, status_of, verdict_line};
 use scenario::{Fault, Scenario, Sink, Source, read_input, read_scenario};
 use std::alloc::{AllocError, Global};
-use sweeper::progress::{Onlooker, Place};
+use sweeper::progress::{Onlooker, LinePlace};
 
 /// Reads a whole file, makes its run, of which an auditor hears each entry, and then writes the verdict on its
 /// record, on one line; answers the exit status. However it ends, at most `INPUT_LIMIT` bytes are taken from the
@@ -76,8 +76,8 @@ fn audit_run<L: Onlooker>(
     let mut course = Course::new(alloc, &scenario.setup)?;
     let audit = Audit::new(alloc, &scenario.setup)?;
     let listener = Summary::new();
-    let mut judged = Judged { listener, audit };
-    let mut place = Place::before(file, scenario.lines.len());
+    let mut judged = Overheard { listener, audit };
+    let mut place = LinePlace::before(file, scenario.lines.len());
     for line in &scenario.lines {
         onlooker.reached(place.begin_line(judged.listener.events));
         let Ok(()) = course.play(line, &mut judged) else {

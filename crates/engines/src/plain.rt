@@ -15,13 +15,13 @@ use std::marker::Model;
 
 /// A run of `plain`: the store, and the calls that were applied, in all and of each process.
 #[derive(Drop)]
-struct Plain {
+struct PlainRun {
     store: PlainStore,
     place: u64,
     counts: Vec<u16>,
 }
 
-impl Model for Plain {
+impl Model for PlainRun {
     ghost use Rattle.std.specs.Prelude.{ℕ, ◌≤◌, slice_index};
     ghost use Rattle.engines.specs.Plain.{Run};
 
@@ -32,13 +32,13 @@ impl Model for Plain {
     ghost invariant = { λ p. (k : ℕ) → slice_index p.counts.items k ≤ p.place };
 }
 
-impl Plain {
-    fn new(alloc: Global, setup: &Setup) -> Result<Plain, AllocError>
+impl PlainRun {
+    fn new(alloc: Global, setup: &Setup) -> Result<PlainRun, AllocError>
         requires { checked setup.now ≡ Ok tt }
         ensures { IfOk result (λ run. run ≡ run_at_start setup.now) }
     {
         let empty = PlainStore::new(alloc, setup.slots, setup.callers());
-        Ok(Plain {
+        Ok(PlainRun {
             store: opened(empty, setup)?,
             place: 0,
             counts: vec![in alloc; 0; usize::from(setup.processes)]?,
@@ -134,7 +134,7 @@ fn reply_line(alloc: Global, place: u64, process: u8, reply: &Reply) -> Result<S
 fn text_of(alloc: Global, scenario: &Scenario) -> Result<String, AllocError>
     ensures { IfOk result (λ text. string_bytes text ≡ text_from scenario.now.setup (run_at_start scenario.now.setup) scenario.now.lines.items) }
 {
-    let mut run = Plain::new(alloc, &scenario.setup)?;
+    let mut run = PlainRun::new(alloc, &scenario.setup)?;
     let mut text = String::new(alloc);
     for line in &scenario.lines {
         let printed = run.line(alloc, &scenario.setup, line)?;

@@ -18,7 +18,7 @@ use course::{Course, Entry, Listener, Stepped, Taken, Told};
 use judge::{StepLine, print_entry, print_setup};
 use scenario::{Fault, Line, Scenario, Sink, Source, read_input, read_scenario, write_all};
 use std::alloc::{AllocError, Global};
-use sweeper::progress::{Onlooker, Place};
+use sweeper::progress::{Onlooker, LinePlace};
 
 /// Reads a whole scenario file, and then writes the record of its run, as it is made: the setup, and a line for each
 /// entry. However it ends, at most `INPUT_LIMIT` bytes are taken from the front of the input. What is written of a
@@ -64,7 +64,7 @@ fn record_scenario<W: Sink, L: Onlooker>(
 {
     let mut course = Course::new(alloc, &scenario.setup)?;
     write_bytes(output, print_setup(alloc, &scenario.setup))?;
-    let mut place = Place::before(file, scenario.lines.len());
+    let mut place = LinePlace::before(file, scenario.lines.len());
     let mut room = Room {
         events: 0,
         text: Vec::new(alloc),

@@ -17,7 +17,7 @@ use crate::writing::{tell, write_end};
 use course::{Course, Listener, Stepped, Summary, Taken, Told};
 use scenario::{Fault, Line, Scenario, Sink, Source, read_input, read_scenario};
 use std::alloc::Global;
-use sweeper::progress::{Onlooker, Place};
+use sweeper::progress::{Onlooker, LinePlace};
 
 /// Reads a whole file, and then writes the marks of its run, as they are made, and its three numbers. However it
 /// ends, at most `INPUT_LIMIT` bytes are taken from the front of the input.
@@ -64,7 +64,7 @@ fn replay_scenario<W: Sink, L: Onlooker>(
 {
     let mut course = Course::new(alloc, &scenario.setup)?;
     let mut summary = Summary::new();
-    let mut place = Place::before(file, scenario.lines.len());
+    let mut place = LinePlace::before(file, scenario.lines.len());
     for line in &scenario.lines {
         onlooker.reached(place.begin_line(summary.events));
         replay_line(alloc, &mut course, line, &mut summary, output)?;

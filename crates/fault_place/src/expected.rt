@@ -2,30 +2,30 @@
 use crate::forms::Item;
 use crate::near::add_near;
 use crate::operands::Operand;
-use crate::tables::{FileKind, Table};
+use crate::tables::{FileKind, KeyWordTable};
 use std::alloc::{AllocError, Global};
 
 /// Adds that one of the key words of a table was expected, and which of them a word may have been meant for.
 pub(crate) fn add_choice(
     alloc: Global,
-    table: Table,
+    table: KeyWordTable,
     word: &[u8],
     text: &mut String,
 ) -> Result<(), AllocError> {
     let keys = table.words(alloc)?;
     text.push_str("one of ")?;
     add_between(keys.as_slice(), ", ", text)?;
-    if let Table::Heads(_) = table {
+    if let KeyWordTable::Heads(_) = table {
         text.push_str(", or a process")?;
     }
     match table {
-        Table::Openers(1) if word == b"open".as_slice() => {
+        KeyWordTable::Openers(1) if word == b"open".as_slice() => {
             text.push_str("; open stands behind bakery 2 alone")
         }
-        Table::Heads(1) if word == b"open".as_slice() => {
+        KeyWordTable::Heads(1) if word == b"open".as_slice() => {
             text.push_str("; open stands behind record 2 alone")
         }
-        Table::Verbs(1) if word == b"ask".as_slice() => {
+        KeyWordTable::Verbs(1) if word == b"ask".as_slice() => {
             text.push_str("; ask stands behind bakery 2 alone")
         }
         _ => add_near(alloc, word, keys.as_slice(), text),

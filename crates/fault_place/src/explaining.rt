@@ -1,6 +1,6 @@
 //! What is told of the place of a fault.
-use crate::kept::Kept;
-use crate::lines::Line;
+use crate::kept::KeptFile;
+use crate::lines::SplitLine;
 use crate::places::Faulty;
 use crate::tables::FileKind;
 use bstr::ByteSlice;
@@ -17,7 +17,7 @@ use std::alloc::{AllocError, Global};
 pub fn explanation(
     alloc: Global,
     kind: FileKind,
-    kept: &Kept,
+    kept: &KeptFile,
     fault: &LineFault,
 ) -> Result<String, AllocError> {
     let mut text = String::new(alloc);
@@ -29,7 +29,7 @@ pub fn explanation(
         write!(text, "expected {lines} as the first line\n")?;
         return Ok(text);
     };
-    let line = Line::new(alloc, bytes)?;
+    let line = SplitLine::new(alloc, bytes)?;
     let faulty = Faulty {
         alloc,
         kind,

@@ -4,7 +4,7 @@ ghost use Rattle.files.specs.Words.{texts};
 ghost use Rattle.fault_place.specs.Operands.{fault_at};
 
 use crate::operands::{COUNT, Operand, PROCESS};
-use crate::tables::{FLICKS, MOVES, Table};
+use crate::tables::{FLICKS, MOVES, KeyWordTable};
 use files::FaultKind;
 use record_file::keywords::{MARK_WORDS, MarkWord, OWN_ANSWERS, REPLY_WORDS, ReplyWord};
 use scenario::bit_files::{BIT_WORDS, BitWord};
@@ -17,7 +17,7 @@ pub(crate) enum Item {
     /// This key word.
     Key(&'static str),
     /// A key word of this table, which the line has not.
-    Choice(Table),
+    Choice(KeyWordTable),
     /// An operand.
     Operand(Operand),
     /// The bit of an entry.
@@ -25,7 +25,7 @@ pub(crate) enum Item {
 }
 
 /// A form: its last item is a choice where the line has no such key word, and nothing is known of what is behind it.
-pub(crate) type Form = Vec<Item>;
+pub(crate) type LineForm = Vec<Item>;
 
 /// The key word of a table that a word is.
 pub(crate) fn key_word<M>(rows: &[(&'static str, M)], word: &[u8]) -> Option<&'static str> {
@@ -38,7 +38,7 @@ pub(crate) fn key_word<M>(rows: &[(&'static str, M)], word: &[u8]) -> Option<&'s
 }
 
 /// The key word of a table that stands at a place of a line.
-fn key<M>(rows: &[(&'static str, M)], words: &[&[u8]], place: usize, table: Table) -> Item {
+fn key<M>(rows: &[(&'static str, M)], words: &[&[u8]], place: usize, table: KeyWordTable) -> Item {
     match words.get(place).and_then(|word| key_word(rows, word)) {
         Some(word) => Item::Key(word),
         None => Item::Choice(table),
@@ -46,25 +46,25 @@ fn key<M>(rows: &[(&'static str, M)], words: &[&[u8]], place: usize, table: Tabl
 }
 
 /// The form of a line of a scenario of this version, behind the first.
-pub(crate) fn line_form(alloc: Global, version: u8, words: &[&[u8]]) -> Result<Form, AllocError> {
-    let first = key(&OPENERS, words, 0, Table::Openers(version));
+pub(crate) fn line_form(alloc: Global, version: u8, words: &[&[u8]]) -> Result<LineForm, AllocError> {
+    let first = key(&OPENERS, words, 0, KeyWordTable::Openers(version));
     let mut form = Vec::new(alloc);
     match words.first().and_then(|word| Opener::of(word)) {
         Some(Opener::Line(word)) => {
             add(&mut form, first)?;
             add_statement(version, word, words, &mut form)?;
         }
-        opener => add_head(version, first, opener, Table::Openers(version), &mut form)?,
+        opener => add_head(version, first, opener, KeyWordTable::Openers(version), &mut form)?,
     }
     Ok(form)
 }
 
 /// The form of a line of a record of this version that is no entry.
-pub(crate) fn head_form(alloc: Global, version: u8, words: &[&[u8]]) -> Result<Form, AllocError> {
-    let first = key(&OPENERS, words, 0, Table::Heads(version));
+pub(crate) fn head_form(alloc: Global, version: u8, words: &[&[u8]]) -> Result<LineForm, AllocError> {
+    let first = key(&OPENERS, words, 0, KeyWordTable::Heads(version));
     let opener = words.first().and_then(|word| Opener::of(word));
     let mut form = Vec::new(alloc);
-    add_head(version, first, opener, Table::Heads(version), &mut form)?;
+    add_head(version, first, opener, KeyWordTable::Heads(version), &mut form)?;
     Ok(form)
 }
 
@@ -73,8 +73,8 @@ fn add_head(
     version: u8,
     first: Item,
     opener: Option<Opener>,
-    table: Table,
-    form: &mut Form,
+    table: KeyWordTable,
+    form: &mut LineForm,
 ) -> Result<(), AllocError> {
     match opener {
         Some(Opener::Heading(heading)) => {
@@ -95,7 +95,7 @@ fn add_statement(
     version: u8,
     word: LineWord,
     words: &[&[u8]],
-    form: &mut Form,
+    form: &mut LineForm,
 ) -> Result<(), AllocError> {
     match word {
         LineWord::Call => {
@@ -105,11 +105,11 @@ fn add_statement(
         LineWord::Step => add_operands(form, &[PROCESS, COUNT]),
         LineWord::Go => {
             add_operands(form, &[PROCESS])?;
-            add(form, key(&TARGETS, words, 2, Table::Targets))
+            add(form, key(&TARGETS, words, 2, KeyWordTable::Targets))
         }
         LineWord::Fail | LineWord::Withdraw | LineWord::Restart => add_operands(form, &[PROCESS]),
         LineWord::Flick => {
-            let mode = key(&FLICKS, words, 1, Table::Flicks);
+            let mode = key(&FLICKS, words, 1, KeyWordTable::Flicks);
             add(form, mode)?;
             if mode == Item::Key("pcg") {
                 add_operands(form, &[number("n", u64::MAX)])?;
@@ -126,12 +126,12 @@ fn add_command(
     version: u8,
     words: &[&[u8]],
     place: usize,
-    form: &mut Form,
+    form: &mut LineForm,
 ) -> Result<(), AllocError> {
     let verb = words.get(place).and_then(|word| Verb::of(word));
     let key = match verb {
-        Some(Verb::Ask) if version != 2 => Item::Choice(Table::Verbs(version)),
-        _ => key(&VERBS, words, place, Table::Verbs(version)),
+        Some(Verb::Ask) if version != 2 => Item::Choice(KeyWordTable::Verbs(version)),
+        _ => key(&VERBS, words, place, KeyWordTable::Verbs(version)),
     };
     add(form, key)?;
     match verb {
@@ -144,9 +144,9 @@ fn add_command(
 }
 
 /// The form of a line of a bits file, behind the first.
-pub(crate) fn bits_form(alloc: Global, words: &[&[u8]]) -> Result<Form, AllocError> {
+pub(crate) fn bits_form(alloc: Global, words: &[&[u8]]) -> Result<LineForm, AllocError> {
     let mut form = Vec::new(alloc);
-    add(&mut form, key(&BIT_WORDS, words, 0, Table::BitWords))?;
+    add(&mut form, key(&BIT_WORDS, words, 0, KeyWordTable::BitWords))?;
     if has_value(words.first().and_then(|word| BitWord::of(word))) {
         add_operands(&mut form, &[Operand::Bit])?;
     }
@@ -162,14 +162,14 @@ fn has_value(word: Option<BitWord>) -> bool {
 }
 
 /// The form of the words of an entry before its marks.
-pub(crate) fn access_form(alloc: Global, words: &[&[u8]]) -> Result<Form, AllocError> {
+pub(crate) fn access_form(alloc: Global, words: &[&[u8]]) -> Result<LineForm, AllocError> {
     let mut form = Vec::new(alloc);
     add_operands(&mut form, &[number("process", 255)])?;
     if words.len() < 2 {
         return Ok(form);
     }
     add(&mut form, Item::Bit)?;
-    add(&mut form, key(&MOVES, words, 2, Table::Moves))?;
+    add(&mut form, key(&MOVES, words, 2, KeyWordTable::Moves))?;
     if has_value(words.get(2).and_then(|word| BitWord::of(word))) {
         add_operands(&mut form, &[Operand::Bit])?;
     }
@@ -177,15 +177,15 @@ pub(crate) fn access_form(alloc: Global, words: &[&[u8]]) -> Result<Form, AllocE
 }
 
 /// The form of a mark, by the words behind its sign.
-pub(crate) fn mark_form(alloc: Global, words: &[&[u8]]) -> Result<Form, AllocError> {
+pub(crate) fn mark_form(alloc: Global, words: &[&[u8]]) -> Result<LineForm, AllocError> {
     let mut form = Vec::new(alloc);
-    add(&mut form, key(&MARK_WORDS, words, 0, Table::Marks))?;
+    add(&mut form, key(&MARK_WORDS, words, 0, KeyWordTable::Marks))?;
     match words.first().and_then(|word| MarkWord::of(word)) {
         Some(MarkWord::Call) => add_command(2, words, 1, &mut form)?,
         Some(MarkWord::Wait) => add_operands(&mut form, &[number("n", 4_294_967_295)])?,
         Some(MarkWord::Taken) => {
             add_operands(&mut form, &[number("k", u64::MAX)])?;
-            add(&mut form, key(&REPLY_WORDS, words, 2, Table::Replies))?;
+            add(&mut form, key(&REPLY_WORDS, words, 2, KeyWordTable::Replies))?;
             add_reply(words.get(2).and_then(|word| ReplyWord::of(word)), &mut form)?;
         }
         Some(MarkWord::Answer) => add_answer(words, &mut form)?,
@@ -196,8 +196,8 @@ pub(crate) fn mark_form(alloc: Global, words: &[&[u8]]) -> Result<Form, AllocErr
 }
 
 /// Adds an answer.
-fn add_answer(words: &[&[u8]], form: &mut Form) -> Result<(), AllocError> {
-    match key(&OWN_ANSWERS, words, 1, Table::Answers) {
+fn add_answer(words: &[&[u8]], form: &mut LineForm) -> Result<(), AllocError> {
+    match key(&OWN_ANSWERS, words, 1, KeyWordTable::Answers) {
         Item::Key(own) => {
             add(form, Item::Key(own))?;
             if own == "tickets-full" {
@@ -206,14 +206,14 @@ fn add_answer(words: &[&[u8]], form: &mut Form) -> Result<(), AllocError> {
             Ok(())
         }
         _ => {
-            add(form, key(&REPLY_WORDS, words, 1, Table::Answers))?;
+            add(form, key(&REPLY_WORDS, words, 1, KeyWordTable::Answers))?;
             add_reply(words.get(1).and_then(|word| ReplyWord::of(word)), form)
         }
     }
 }
 
 /// Adds what stands behind the first word of a reply.
-fn add_reply(name: Option<ReplyWord>, form: &mut Form) -> Result<(), AllocError> {
+fn add_reply(name: Option<ReplyWord>, form: &mut LineForm) -> Result<(), AllocError> {
     match name {
         Some(ReplyWord::Value | ReplyWord::Kept) => add_operands(form, &[Operand::Value]),
         Some(ReplyWord::Sum) => add_operands(form, &[Operand::Integer]),
@@ -245,13 +245,13 @@ pub(crate) fn refused_operand(
 }
 
 /// Adds an item.
-fn add(form: &mut Form, item: Item) -> Result<(), AllocError> {
+fn add(form: &mut LineForm, item: Item) -> Result<(), AllocError> {
     form.push(item)?;
     Ok(())
 }
 
 /// Adds operands, in their order.
-fn add_operands(form: &mut Form, operands: &[Operand]) -> Result<(), AllocError> {
+fn add_operands(form: &mut LineForm, operands: &[Operand]) -> Result<(), AllocError> {
     for operand in operands {
         form.push(Item::Operand(*operand))?;
     }

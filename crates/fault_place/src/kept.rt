@@ -8,7 +8,7 @@ use std::alloc::{AllocError, Global};
 
 /// The front of a file, and its last blocks.
 #[derive(Drop)]
-pub struct Kept {
+pub struct KeptFile {
     front: Vec<u8>,
     /// The block before the last one, and the last one.
     last: Vec<u8>,
@@ -20,10 +20,10 @@ pub struct Kept {
     whole: bool,
 }
 
-impl Kept {
+impl KeptFile {
     /// Nothing yet.
-    fn new(alloc: Global) -> Kept {
-        Kept {
+    fn new(alloc: Global) -> KeptFile {
+        KeptFile {
             front: Vec::new(alloc),
             last: Vec::new(alloc),
             block: 0,
@@ -96,7 +96,7 @@ fn ends_among(bytes: &[u8]) -> u64 {
 pub struct KeptInput<S: Source + Drop> {
     source: S,
     keeps: bool,
-    kept: Kept,
+    kept: KeptFile,
 }
 
 impl<S: Source + Drop> KeptInput<S> {
@@ -108,12 +108,12 @@ impl<S: Source + Drop> KeptInput<S> {
         KeptInput {
             source,
             keeps,
-            kept: Kept::new(alloc),
+            kept: KeptFile::new(alloc),
         }
     }
 
     /// What was kept, and the source behind it.
-    pub fn into_parts(self) -> (Kept, S)
+    pub fn into_parts(self) -> (KeptFile, S)
         ensures { result.1 ≡ self.source }
     {
         (self.kept, self.source)

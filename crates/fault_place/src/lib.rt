@@ -14,5 +14,5 @@ mod tables;
 
 pub use explaining::explanation;
 pub use files::progress;
-pub use kept::{Kept, KeptInput};
+pub use kept::{KeptFile, KeptInput};
 pub use tables::FileKind;

@@ -21,21 +21,21 @@ pub(crate) struct Span {
 
 /// A line, and where its words stand.
 #[derive(Drop)]
-pub(crate) struct Line<'a> {
+pub(crate) struct SplitLine<'a> {
     bytes: &'a [u8],
     spans: Vec<Span>,
     pub words: Vec<&'a [u8]>,
 }
 
-impl<'a> Line<'a> {
+impl<'a> SplitLine<'a> {
     /// A line of these bytes.
-    pub fn new(alloc: Global, bytes: &'a [u8]) -> Result<Line<'a>, AllocError> {
+    pub fn new(alloc: Global, bytes: &'a [u8]) -> Result<SplitLine<'a>, AllocError> {
         let spans = word_spans(alloc, bytes)?;
         let mut words = Vec::new(alloc);
         for span in &spans {
             words.push(bytes.get(span.from..span.to).unwrap_or(&[]))?;
         }
-        Ok(Line {
+        Ok(SplitLine {
             bytes,
             spans,
             words,

@@ -3,10 +3,10 @@ use crate::expected::{add_choice, add_form, add_operand};
 use crate::forms::{
     Item, access_form, bits_form, head_form, key_word, line_form, mark_form, refused_operand,
 };
-use crate::lines::{Line, Span};
+use crate::lines::{SplitLine, Span};
 use crate::near::add_near;
 use crate::operands::{Operand, PROCESS};
-use crate::tables::{FileKind, Table};
+use crate::tables::{FileKind, KeyWordTable};
 use files::FaultKind;
 use plain_store::{OpenFault, Setup, Value};
 use record_file::LineKind;
@@ -26,7 +26,7 @@ fn found(place: Span, expected: &str, what: &mut String) -> Found {
 /// Words of a line that follow one another, and the form that they should have.
 #[derive(Clone, Copy)]
 struct Part<'l, 'w> {
-    line: &'l Line<'w>,
+    line: &'l SplitLine<'w>,
     /// How many words stand before them.
     at: usize,
     words: &'l [&'w [u8]],
@@ -68,7 +68,7 @@ impl Faulty {
     }
 
     /// Where in the line of this number the fault is; adds what was expected there.
-    pub fn place(&self, line: &Line<'_>, number: u64, what: &mut String) -> Found {
+    pub fn place(&self, line: &SplitLine<'_>, number: u64, what: &mut String) -> Found {
         match self.fault {
             FaultKind::TooLong => self.too_long(line, number, what),
             FaultKind::NotFirst if self.setup.is_none() => self.not_first(line, what),
@@ -81,7 +81,7 @@ impl Faulty {
     }
 
     /// Of a line that is too long, or one too many.
-    fn too_long(&self, line: &Line<'_>, number: u64, what: &mut String) -> Found {
+    fn too_long(&self, line: &SplitLine<'_>, number: u64, what: &mut String) -> Found {
         if line.len() > 128 {
             let place = Span { from: 128, to: 129 };
             return found(place, "at most 128 bytes in a line", what);
@@ -95,7 +95,7 @@ impl Faulty {
     }
 
     /// Of the first line: the word that differs, or those too many.
-    fn not_first(&self, line: &Line<'_>, what: &mut String) -> Found {
+    fn not_first(&self, line: &SplitLine<'_>, what: &mut String) -> Found {
         let words = line.words.as_slice();
         what.push_str(self.kind.first_lines())?;
         what.push_str(" as the first line")?;
@@ -125,14 +125,14 @@ impl Faulty {
                 what.push_str("; this begins with a byte order mark")
             }
             _ => {
-                let keys = Table::First(self.kind).words(self.alloc)?;
+                let keys = KeyWordTable::First(self.kind).words(self.alloc)?;
                 add_near(self.alloc, first, keys.as_slice(), what)
             }
         }
     }
 
     /// Of a line that stands too late.
-    fn too_late(&self, line: &Line<'_>, what: &mut String) -> Found {
+    fn too_late(&self, line: &SplitLine<'_>, what: &mut String) -> Found {
         let Some(first) = line.words.first() else {
             return Ok(None);
         };
@@ -146,7 +146,7 @@ impl Faulty {
     }
 
     /// Of an opening pair that the store has no place for, or another one of its name.
-    fn not_opened(&self, line: &Line<'_>, what: &mut String) -> Found {
+    fn not_opened(&self, line: &SplitLine<'_>, what: &mut String) -> Found {
         let Some(setup) = &self.setup else {
             return Ok(None);
         };
@@ -164,7 +164,7 @@ impl Faulty {
     }
 
     /// Of a line whose words are at fault.
-    fn in_line(&self, line: &Line<'_>, what: &mut String) -> Found {
+    fn in_line(&self, line: &SplitLine<'_>, what: &mut String) -> Found {
         let words = line.words.as_slice();
         let form = match self.kind {
             FileKind::Scenario => line_form(self.alloc, self.version(), words)?,
@@ -188,7 +188,7 @@ impl Faulty {
     }
 
     /// Of an entry: the first part between signs that has the fault.
-    fn in_entry(&self, line: &Line<'_>, what: &mut String) -> Found {
+    fn in_entry(&self, line: &SplitLine<'_>, what: &mut String) -> Found {
         let words = line.words.as_slice();
         let (mut at, mut marks) = (0_usize, 0_usize);
         for place in 0..=words.len() {
@@ -255,7 +255,7 @@ impl Faulty {
         }
         match bit.split(|byte| *byte == b'.').nth(1) {
             Some(field) if record_file::keywords::field(field).is_none() => {
-                add_choice(self.alloc, Table::Fields, field, what)?;
+                add_choice(self.alloc, KeyWordTable::Fields, field, what)?;
                 Ok(Some(part.line.part(1, 1)))
             }
             _ => Ok(None),

@@ -49,7 +49,7 @@ pub(crate) const MOVES: [(&str, BitWord); 5] = [
 
 /// Which key words may stand at a place.
 #[derive(Clone, Copy, Debug, PartialEq, Eq)]
-pub(crate) enum Table {
+pub(crate) enum KeyWordTable {
     /// The first word of a file.
     First(FileKind),
     /// The first words of lines of a scenario of this version.
@@ -69,7 +69,7 @@ pub(crate) enum Table {
     Answers,
 }
 
-impl Table {
+impl KeyWordTable {
     /// Its key words, in order.
     pub fn words(self, alloc: Global) -> Result<Vec<&'static str>, AllocError> {
         let mut words: Vec<&'static str> = Vec::new(alloc);
@@ -80,18 +80,18 @@ impl Table {
     /// Adds its key words.
     fn add(self, words: &mut Vec<&'static str>) -> Result<(), AllocError> {
         match self {
-            Table::First(kind) => add_word(kind.word(), words),
-            Table::Openers(version) => add_openers(version, true, words),
-            Table::Heads(version) => add_openers(version, false, words),
-            Table::Verbs(version) => add_verbs(version, words),
-            Table::Targets => add_all(&TARGETS, words),
-            Table::Flicks => add_all(&FLICKS, words),
-            Table::BitWords => add_all(&BIT_WORDS[1..], words),
-            Table::Fields => add_all(&FIELDS, words),
-            Table::Moves => add_all(&MOVES, words),
-            Table::Marks => add_all(&MARK_WORDS, words),
-            Table::Replies => add_all(&REPLY_WORDS, words),
-            Table::Answers => {
+            KeyWordTable::First(kind) => add_word(kind.word(), words),
+            KeyWordTable::Openers(version) => add_openers(version, true, words),
+            KeyWordTable::Heads(version) => add_openers(version, false, words),
+            KeyWordTable::Verbs(version) => add_verbs(version, words),
+            KeyWordTable::Targets => add_all(&TARGETS, words),
+            KeyWordTable::Flicks => add_all(&FLICKS, words),
+            KeyWordTable::BitWords => add_all(&BIT_WORDS[1..], words),
+            KeyWordTable::Fields => add_all(&FIELDS, words),
+            KeyWordTable::Moves => add_all(&MOVES, words),
+            KeyWordTable::Marks => add_all(&MARK_WORDS, words),
+            KeyWordTable::Replies => add_all(&REPLY_WORDS, words),
+            KeyWordTable::Answers => {
                 add_all(&REPLY_WORDS, words)?;
                 add_all(&OWN_ANSWERS, words)
             }

@@ -14,7 +14,7 @@ use std::alloc::Global;
 #[derive(Clone, Copy, Debug)]
 pub enum Reached<'a> {
     /// A line of the file is to be run.
-    Line(Place<'a>),
+    Line(LinePlace<'a>),
     /// A sweep has gone along so many of its events.
     Swept { events: u64, of: u64 },
 }
@@ -61,7 +61,7 @@ impl<'l, L: Onlooker> Onlooker for Again<'l, L> {
 /// A line of a file that is run, or the place before the first one. The lines that are run are the last of those that
 /// are not skipped.
 #[derive(Clone, Copy, Debug)]
-pub struct Place<'a> {
+pub struct LinePlace<'a> {
     file: &'a [u8],
     /// How many lines come behind it.
     behind: usize,
@@ -71,10 +71,10 @@ pub struct Place<'a> {
     is_again: bool,
 }
 
-impl<'a> Place<'a> {
+impl<'a> LinePlace<'a> {
     /// Before the first of so many lines that are run.
-    pub fn before(file: &'a [u8], lines: usize) -> Place<'a> {
-        Place {
+    pub fn before(file: &'a [u8], lines: usize) -> LinePlace<'a> {
+        LinePlace {
             file,
             behind: lines,
             events: 0,
@@ -83,8 +83,8 @@ impl<'a> Place<'a> {
     }
 
     /// The same place, where the file was run before and accepted so many events.
-    fn after(self, earlier: u64) -> Place<'a> {
-        Place {
+    fn after(self, earlier: u64) -> LinePlace<'a> {
+        LinePlace {
             events: self.events.saturating_add(earlier),
             is_again: true,
             ..self

@@ -12,9 +12,9 @@ ghost use Rattle.calls.specs.Lines.{header, line_of, open_lines};
 ghost use Rattle.inspect.specs.Tables.{CutsTable, TablesLine, calls_text, tabled};
 
 use crate::hearing::{Tabler, write_if};
-use calls::{HEADER, Table};
+use calls::{HEADER, CallTable};
 use course::Course;
-use fault_place::progress::{Onlooker, Place};
+use fault_place::progress::{Onlooker, LinePlace};
 use plain_store::Setup;
 use scenario::{Fault, Line, Scenario, Sink, Source, read_input, read_scenario, write_all};
 use std::alloc::Global;
@@ -55,9 +55,9 @@ fn table_scenario<W: Sink, L: Onlooker>(
     ensures failures { W.failures output.new ≡ W.failures output.old + failed_write result }
 {
     let mut course = Course::new(alloc, &scenario.setup)?;
-    let mut table = Table::new(alloc, &scenario.setup)?;
+    let mut table = CallTable::new(alloc, &scenario.setup)?;
     write_header(output)?;
-    let mut place = Place::before(file, scenario.lines.len());
+    let mut place = LinePlace::before(file, scenario.lines.len());
     for line in &scenario.lines {
         onlooker.reached(place.begin_line(table.entries()));
         table_line(alloc, &mut course, line, &mut table, output)?;
@@ -81,7 +81,7 @@ fn table_line<W: Sink>(
     alloc: Global,
     course: &mut Course,
     line: &Line,
-    table: &mut Table,
+    table: &mut CallTable,
     output: &mut W,
 ) -> Result<(), Fault>
     requires writes { W.failures output.old < 2 ^ 64 - 1 }
@@ -104,7 +104,7 @@ fn table_line<W: Sink>(
 fn write_open<W: Sink>(
     alloc: Global,
     setup: &Setup,
-    table: &Table,
+    table: &CallTable,
     output: &mut W,
 ) -> Result<(), Fault>
     requires writes { W.failures output.old < 2 ^ 64 - 1 }
@@ -123,7 +123,7 @@ fn write_open<W: Sink>(
 /// Writes the line of the call of a process, if it goes on.
 fn write_open_call<W: Sink>(
     alloc: Global,
-    table: &Table,
+    table: &CallTable,
     process: u8,
     output: &mut W,
 ) -> Result<(), Fault>

@@ -10,7 +10,7 @@ ghost use Rattle.calls.specs.Hearing.{ComesInTurn, HasHeard, ended_call};
 ghost use Rattle.calls.specs.Lines.{call_line, line_of};
 ghost use Rattle.inspect.specs.Tables.{CutsTold, HasTabled, Tells, fewer, lines_after, lines_longer};
 
-use calls::{Called, Table, print_call};
+use calls::{Called, CallTable, print_call};
 use course::{Listener, Stepped, Taken, Told};
 use record::{Access, Mark};
 use scenario::{Fault, Sink, write_all};
@@ -20,7 +20,7 @@ use std::alloc::Global;
 #[derive(Drop)]
 pub(crate) struct Tabler<'a, W: Sink> {
     pub alloc: Global,
-    pub table: &'a mut Table,
+    pub table: &'a mut CallTable,
     pub output: &'a mut W,
 }
 
@@ -67,7 +67,7 @@ impl<'a, W: Sink> Listener for Tabler<'a, W> {
 fn hear_told<W: Sink>(
     alloc: Global,
     told: &Told,
-    table: &mut Table,
+    table: &mut CallTable,
     output: &mut W,
 ) -> Result<(), Fault>
     requires writes { W.failures output.old < 2 ^ 64 - 1 }
@@ -104,7 +104,7 @@ fn hear<W: Sink>(
     process: u8,
     access: &Option<Access>,
     marks: &[Mark],
-    table: &mut Table,
+    table: &mut CallTable,
     output: &mut W,
 ) -> Result<(), Fault>
     requires writes { W.failures output.old < 2 ^ 64 - 1 }

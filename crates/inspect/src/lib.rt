@@ -6,4 +6,4 @@ mod calling;
 mod hearing;
 
 pub use calling::run_calls;
-pub use fault_place::{FileKind, Kept, KeptInput, explanation};
+pub use fault_place::{FileKind, KeptFile, KeptInput, explanation};

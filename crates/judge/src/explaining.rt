@@ -4,7 +4,7 @@ ghost use Rattle.judge.specs.Judgements.{TellsReasons};
 ghost use Rattle.judge.specs.Judging.{HasJudged};
 
 use crate::follower::{Follower, event_in};
-use crate::judge::Judge;
+use crate::judge::RecordJudge;
 use crate::verdicts::{status_of, verdict_line};
 use auditor::Verdict;
 use plain_store::{NestedTypes, Setup};
@@ -17,7 +17,7 @@ use trial::{Hearer, Telling, step_entry};
 /// A judge, what goes along with the entries so far, and the lines of the reasons once the verdict is bad.
 #[derive(Drop)]
 pub(crate) struct Explaining {
-    pub judge: Judge,
+    pub judge: RecordJudge,
     pub follower: Follower,
     pub reasons: Vec<u8>,
 }
@@ -31,7 +31,7 @@ impl Hearer for Explaining {
 
     fn begin(alloc: Global, setup: &Setup) -> Result<Explaining, AllocError> {
         Ok(Explaining {
-            judge: Judge::new(alloc, setup)?,
+            judge: RecordJudge::new(alloc, setup)?,
             follower: Follower::new(alloc, setup)?,
             reasons: Vec::new(alloc),
         })
@@ -94,7 +94,7 @@ impl Explaining {
 
 /// Whether the verdict of a judge is good.
 #[inline]
-fn is_good(judge: &Judge) -> bool {
+fn is_good(judge: &RecordJudge) -> bool {
     matches!(judge.audited().verdict, Verdict::Good)
 }
 

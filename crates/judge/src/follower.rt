@@ -9,7 +9,7 @@ use plain_store::{NestedTypes, Setup};
 use record::{Access, Act, Entry, Event, Mark, Move, Refusal, Stage};
 use std::alloc::{AllocError, Global};
 use std::marker::Model;
-use world::{Core, Effect, Told};
+use world::{Core, Effect, StepTold};
 
 /// The processes of this project's lock, as they stand after the entries of a good record, how many commands were taken,
 /// and room for one step that is tried.
@@ -55,7 +55,7 @@ impl Follower {
 
     /// An event that is no step.
     fn make(&mut self, event: &Event) {
-        let mut effect = Effect::Steps(Told::Nothing);
+        let mut effect = Effect::Steps(StepTold::Nothing);
         let Ok(_access) = self.core.event(event, &mut effect) else {
             return;
         };
@@ -63,7 +63,7 @@ impl Follower {
 
     /// A step.
     fn step(&mut self, process: u8, flick: bool) {
-        let mut told = Told::Nothing;
+        let mut told = StepTold::Nothing;
         let Ok(_access) = self.core.step(process, flick, &mut told) else {
             return;
         };
@@ -86,7 +86,7 @@ impl Follower {
     {
         let _nested: NestedTypes = None;
         self.tried.copy_from(&self.core);
-        let mut told = Told::Nothing;
+        let mut told = StepTold::Nothing;
         let Ok(access) = self.tried.step(process, flick, &mut told) else {
             return None;
         };
@@ -102,7 +102,7 @@ impl Follower {
 }
 
 /// How many commands were taken, after what a step leads to.
-fn more(taken: Option<u64>, told: &Told) -> Option<u64>
+fn more(taken: Option<u64>, told: &StepTold) -> Option<u64>
     ensures { (n : ℕ) → IsCount taken n → IsCount result (with_reply n (reply_taken (marks_told told.now))) }
 {
     if told.reply().is_none() {

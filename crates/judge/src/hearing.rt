@@ -2,22 +2,22 @@
 ghost use Rattle.judge.specs.Judgements.{TellsVerdict};
 ghost use Rattle.judge.specs.Judging.{HasJudged};
 
-use crate::judge::Judge;
+use crate::judge::RecordJudge;
 use crate::verdicts::{status_of, verdict_line};
 use plain_store::Setup;
 use record::{Access, Entry};
 use std::alloc::{AllocError, Global};
 use trial::{Hearer, Telling};
 
-impl Hearer for Judge {
+impl Hearer for RecordJudge {
     ghost HasHeard = { λ judge s entries numbers. HasJudged judge s entries };
 
     ghost count = { λ judge. judge.entries };
 
     ghost Tells = { TellsVerdict };
 
-    fn begin(alloc: Global, setup: &Setup) -> Result<Judge, AllocError> {
-        Judge::new(alloc, setup)
+    fn begin(alloc: Global, setup: &Setup) -> Result<RecordJudge, AllocError> {
+        RecordJudge::new(alloc, setup)
     }
 
     fn take(&mut self, _alloc: Global, _number: u64, entry: &Entry) -> Result<(), AllocError> {

@@ -16,14 +16,14 @@ use std::marker::Model;
 /// A judge of a record, whose entries it takes one at a time. It keeps what a watch and an auditor keep, and the verdict
 /// so far: so it needs the same memory however long the record is.
 #[derive(Drop)]
-pub struct Judge {
+pub struct RecordJudge {
     watch: Watch,
     auditor: Auditor,
     verdict: Verdict,
     entries: u64,
 }
 
-impl Model for Judge {
+impl Model for RecordJudge {
     ghost use Rattle.judge.specs.Judging.{JudgeState};
 
     ghost Value = { JudgeState };
@@ -31,13 +31,13 @@ impl Model for Judge {
     ghost view = { λ j. record { watch = j.watch; auditor = j.auditor; verdict = j.verdict; entries = j.entries } };
 }
 
-impl Judge {
+impl RecordJudge {
     /// Before the first entry. The one fault is want of memory.
-    pub fn new(alloc: Global, setup: &Setup) -> Result<Judge, AllocError>
+    pub fn new(alloc: Global, setup: &Setup) -> Result<RecordJudge, AllocError>
         requires { checked setup.now ≡ Ok tt }
         ensures { IfOk result (λ judge. HasJudged judge setup.now []) }
     {
-        Ok(Judge {
+        Ok(RecordJudge {
             watch: Watch::new(alloc, setup)?,
             auditor: Auditor::new(alloc, setup)?,
             verdict: Verdict::Good,

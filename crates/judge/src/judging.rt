@@ -3,7 +3,7 @@ ghost use Rattle.std.specs.Prelude.{◌≡◌, ◌-◌, ◌^◌, ◌<◌};
 ghost use Rattle.judge.specs.Judgements.{JudgeEnds};
 
 use crate::explaining::Explaining;
-use crate::judge::Judge;
+use crate::judge::RecordJudge;
 use std::alloc::Global;
 use trial::{Fault, Sink, Source, run_trial};
 
@@ -26,6 +26,6 @@ pub fn run_judge<R: Source, W: Sink>(
     if asked {
         run_trial::<Explaining, R, W>(alloc, input, output)
     } else {
-        run_trial::<Judge, R, W>(alloc, input, output)
+        run_trial::<RecordJudge, R, W>(alloc, input, output)
     }
 }

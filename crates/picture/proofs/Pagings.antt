@@ -18,7 +18,7 @@ use Rattle.columns.specs.declared.layout.Layout.{Layout}
 use Rattle.columns.specs.declared.placing.Placing.{Placing}
 use Rattle.columns.specs.declared.reads.OverlappedRead.{OverlappedRead}
 use Rattle.columns.specs.declared.state.State.{State}
-use Rattle.columns.specs.declared.told.Line.{Line}
+use Rattle.columns.specs.declared.told.RunLine.{RunLine}
 use Rattle.columns.specs.declared.told.Saying.{Saying}
 use Rattle.columns.specs.declared.told.Saying.TheVariants.{Ended, Marked, Refused, Shown, Tired}
 
@@ -157,27 +157,27 @@ processes_after n (Tells line ∷ before) = told_processes (state_after n before
 processes_after n (Reads read ∷ before) = processes_after n before
 
 -- a line joins the column that is not placed yet
-abbrev pub joined_page : Line → Seen → SeenPage → SeenPage
+abbrev pub joined_page : RunLine → Seen → SeenPage → SeenPage
 joined_page line column page = record page { state = state_told page.state line.saying; pending = Some (joined column line (freed_by page.state line.saying) (state_told page.state line.saying)) }
 
 -- it does not join one
-abbrev pub JoinsNone : Line → Option Seen → Type 0
+abbrev pub JoinsNone : RunLine → Option Seen → Type 0
 JoinsNone line pending = (column : Seen) → pending ≡ Some column → joins column line ≡ false
 
 -- it does not join a column, or there is none
-pub does_not_join : (line : Line) (column : Seen) (pending : Option Seen) → pending ≡ Some column → joins column line ≡ false → JoinsNone line pending
+pub does_not_join : (line : RunLine) (column : Seen) (pending : Option Seen) → pending ≡ Some column → joins column line ≡ false → JoinsNone line pending
 does_not_join line column pending one does other is = ap (λ (c : Seen). joins c line) (same_column other column pending is one) ∙ does
 
-pub none_to_join : (line : Line) (pending : Option Seen) → pending ≡ None → JoinsNone line pending
+pub none_to_join : (line : RunLine) (pending : Option Seen) → pending ≡ None → JoinsNone line pending
 none_to_join line pending none column is = absurd (none_newest column pending none is)
 
 -- what a line does to a page with these columns
-abbrev OnwardBy : Plan → State → List Seen → Line → Option (List ℕ) → SeenPage → Type 0
+abbrev OnwardBy : Plan → State → List Seen → RunLine → Option (List ℕ) → SeenPage → Type 0
 OnwardBy plan state columns line full new =
     (new ≡ page_by plan (state_told state line.saying) (with_line line (freed_by state line.saying) (state_told state line.saying) columns))
     × (full_bytes plan (bands_of plan.opening (older (with_line line (freed_by state line.saying) (state_told state line.saying) columns))).full ≡ full_bytes plan (bands_of plan.opening (older columns)).full ++ band_text full)
 
-joins_by : (line : Line) (column : Seen) (old new : SeenPage) (plan : Plan) (state : State) (columns : List Seen) → old.pending ≡ Some column → joins column line ≡ true → new ≡ joined_page line column old → old ≡ page_by plan state columns → OnwardBy plan state columns line None new
+joins_by : (line : RunLine) (column : Seen) (old new : SeenPage) (plan : Plan) (state : State) (columns : List Seen) → old.pending ≡ Some column → joins column line ≡ true → new ≡ joined_page line column old → old ≡ page_by plan state columns → OnwardBy plan state columns line None new
 joins_by line column old new plan state [] one joins is holds = absurd (none_newest column old.pending (ap (λ (p : SeenPage). p.pending) holds) one)
 joins_by line column old new plan state (other ∷ before) one does is holds =
     let same : column ≡ other = same_column column other old.pending one (ap (λ (p : SeenPage). p.pending) holds) in
@@ -188,21 +188,21 @@ joins_by line column old new plan state (other ∷ before) one does is holds =
           ∙ sym (append-nil (full_bytes plan (bands_of plan.opening before).full)),
     )
 
-pub joins_pending : (line : Line) (column : Seen) (old new : SeenPage) → old.pending ≡ Some column → joins column line ≡ true → new ≡ joined_page line column old → GoesOn (Tells line) old None new
+pub joins_pending : (line : RunLine) (column : Seen) (old new : SeenPage) → old.pending ≡ Some column → joins column line ≡ true → new ≡ joined_page line column old → GoesOn (Tells line) old None new
 joins_pending line column old new one does is plan items holds = joins_by line column old new plan (state_after plan.processes items) (columns_of plan.processes items) one does is holds
 
 -- or has a column of its own
-abbrev pub told_page : Line → SeenPage → SeenPage
+abbrev pub told_page : RunLine → SeenPage → SeenPage
 told_page line page = record page { state = state_told page.state line.saying }
 
-abbrev pub begun_page : Line → SeenPage → SeenPage → SeenPage
+abbrev pub begun_page : RunLine → SeenPage → SeenPage → SeenPage
 begun_page line old placed = record placed { pending = Some (alone line (line.at - placed.last_at) (freed_by old.state line.saying) (state_told old.state line.saying)); last_at = line.at }
 
-begins_line : (line : Line) (frees : Option ℕ) (after : State) (columns : List Seen) → JoinsNone line (newest columns) → begun_by line frees after columns ≡ with_line line frees after columns
+begins_line : (line : RunLine) (frees : Option ℕ) (after : State) (columns : List Seen) → JoinsNone line (newest columns) → begun_by line frees after columns ≡ with_line line frees after columns
 begins_line line frees after [] other = refl
 begins_line line frees after (column ∷ before) other = ap (λ (b : Bool). line_by b line frees after column before) (sym (other column refl))
 
-pub begins_alone : (line : Line) (old told placed new : SeenPage) (full : Option (List ℕ)) → JoinsNone line old.pending → told ≡ told_page line old → Places told full placed → new ≡ begun_page line old placed → GoesOn (Tells line) old full new
+pub begins_alone : (line : RunLine) (old told placed new : SeenPage) (full : Option (List ℕ)) → JoinsNone line old.pending → told ≡ told_page line old → Places told full placed → new ≡ begun_page line old placed → GoesOn (Tells line) old full new
 begins_alone line old told placed new full other says places is plan items holds =
     let before : State = state_after plan.processes items in
     let state : State = state_told before line.saying in
@@ -214,7 +214,7 @@ begins_alone line old told placed new full other says places is plan items holds
       ap (λ (l : List Seen). full_bytes plan (bands_of plan.opening (older l)).full) (sym begins) ∙ put.1,
     )
 
-pub begun_is : (line : Line) (old placed : SeenPage) (column : Seen) (gap : ℕ) (frees : Option ℕ) (after : State) → column ≡ alone line gap frees after → gap ≡ line.at - placed.last_at → frees ≡ freed_by old.state line.saying → after ≡ state_told old.state line.saying →
+pub begun_is : (line : RunLine) (old placed : SeenPage) (column : Seen) (gap : ℕ) (frees : Option ℕ) (after : State) → column ≡ alone line gap frees after → gap ≡ line.at - placed.last_at → frees ≡ freed_by old.state line.saying → after ≡ state_told old.state line.saying →
     (let page : SeenPage = record placed { pending = Some column; last_at = line.at } in page) ≡ begun_page line old placed
 begun_is line old placed column gap frees after is far frees_is told =
     ap (λ (c : Seen). (let page : SeenPage = record placed { pending = Some c; last_at = line.at } in page)) (is ∙ (λ i. alone line (far i) (frees_is i) (told i)))

@@ -10,7 +10,7 @@ use Rattle.columns.specs.Stages.{nothing_told, stage_among, stages_after, stages
 use Rattle.picture.specs.Standings.{BarsAreStages, ShowsStages, sayings}
 use Rattle.columns.specs.States.{freed_by, state_marked, state_told}
 use Rattle.columns.specs.declared.state.State.{State}
-use Rattle.columns.specs.declared.told.Line.{Line}
+use Rattle.columns.specs.declared.told.RunLine.{RunLine}
 use Rattle.columns.specs.declared.told.Saying.{Saying}
 use Rattle.columns.specs.declared.told.Saying.TheVariants.{Ended, Marked, Refused, Shown, Tired}
 use Rattle.picture.proofs.Pagings.{processes_after}
@@ -62,7 +62,7 @@ all_before n item items [] all = tt
 all_before n item items (column ∷ columns) all = (shows_before n item items column all.0, all_before n item items columns all.1)
 
 -- a line more
-line_shows : (n : ℕ) (line : Line) (before : List Item) (columns : List Seen) → AllByRecursion (ShowsStages n before) columns →
+line_shows : (n : ℕ) (line : RunLine) (before : List Item) (columns : List Seen) → AllByRecursion (ShowsStages n before) columns →
     AllByRecursion (ShowsStages n (Tells line ∷ before)) (with_line line (freed_by (state_after n before) line.saying) (state_told (state_after n before) line.saying) columns)
 line_shows n line before [] all =
     let column : Seen = alone line (line.at - 0) (freed_by (state_after n before) line.saying) (state_told (state_after n before) line.saying) in

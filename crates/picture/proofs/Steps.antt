@@ -5,7 +5,7 @@ use Rattle.markup.specs.declared.figures.Point.{Point}
 use Rattle.columns.specs.Columns.{Seen, seen}
 use Rattle.picture.specs.Drawings.{SeenBand, axis, axis_up_to, for_each, inside_since, line_shapes, lines_shapes, shade_up_to, shades}
 use Rattle.columns.specs.declared.columns.Column.{Column}
-use Rattle.columns.specs.declared.told.Line.{Line}
+use Rattle.columns.specs.declared.told.RunLine.{RunLine}
 use Rattle.picture.proofs.Drawn.{drop_next, then_drawn}
 
 module _ (columns : List Column) (k : ℕ) (column : Column) (within : k < length columns) (here : column ≡ get_or columns k column) where
@@ -26,11 +26,11 @@ module _ (columns : List Column) (k : ℕ) (column : Column) (within : k < lengt
   each_next shapes = ap (λ cs. flat_map shapes (map seen cs)) (drop_next columns k column within here)
 
 -- the lines of a column
-module _ (lines : List Line) (k : ℕ) (line : Line) (within : k < length lines) (here : line ≡ get_or lines k line) where
+module _ (lines : List RunLine) (k : ℕ) (line : RunLine) (within : k < length lines) (here : line ≡ get_or lines k line) where
   pub lines_next : (band : SeenBand) (column : Seen) (head foot : Point) → lines_shapes band column head foot k (drop k lines) ≡ line_shapes band column head foot k line ++ lines_shapes band column head foot (k + 1) (drop (k + 1) lines)
   lines_next band column head foot = ap (lines_shapes band column head foot k) (drop_next lines k line within here)
 
-  pub notes_next : (shapes : Line → List Shape) → flat_map shapes (drop k lines) ≡ shapes line ++ flat_map shapes (drop (k + 1) lines)
+  pub notes_next : (shapes : RunLine → List Shape) → flat_map shapes (drop k lines) ≡ shapes line ++ flat_map shapes (drop (k + 1) lines)
   notes_next shapes = ap (flat_map shapes) (drop_next lines k line within here)
 
 -- the processes, ascending: one more

@@ -8,7 +8,7 @@ use Rattle.markup.specs.Titles.{lines_in}
 use Rattle.markup.proofs.Stacks.{round}
 use Rattle.columns.specs.Told.{text_of, texts, told_in}
 use Rattle.columns.specs.declared.columns.Column.{Column}
-use Rattle.columns.specs.declared.told.Line.{Line}
+use Rattle.columns.specs.declared.told.RunLine.{RunLine}
 
 -- no line yet
 pub none_more : (new : Reading) (old : List ℕ) → new ≡ reading old → new ≡ with_lines [] (reading old)
@@ -38,10 +38,10 @@ lines_more old now new some more all before is are =
     is ∙ ap (with_lines more) before ∙ (λ i. record { lines = append_assoc old.lines some more i; opens = old.opens }) ∙ ap (λ l. with_lines l old) (sym are)
 
 -- a line more
-pub line_more : (old now new : Reading) (lines : List Line) (k : ℕ) (line : Line) → k < length lines → line ≡ get_or lines k line → now ≡ with_lines (texts (take k lines)) old → new ≡ with_lines (text_of line ∷ []) now → new ≡ with_lines (texts (take (k + 1) lines)) old
+pub line_more : (old now new : Reading) (lines : List RunLine) (k : ℕ) (line : RunLine) → k < length lines → line ≡ get_or lines k line → now ≡ with_lines (texts (take k lines)) old → new ≡ with_lines (text_of line ∷ []) now → new ≡ with_lines (texts (take (k + 1) lines)) old
 line_more old now new lines k line within here before is =
     lines_more old now new (texts (take k lines)) (text_of line ∷ []) (texts (take (k + 1) lines)) before is
-    (ap texts (take_more lines k line within) ∙ map-append text_of (take k lines) (get_or lines k line ∷ []) ∙ ap (λ (last : Line). texts (take k lines) ++ text_of last ∷ []) (sym here))
+    (ap texts (take_more lines k line within) ∙ map-append text_of (take k lines) (get_or lines k line ∷ []) ∙ ap (λ (last : RunLine). texts (take k lines) ++ text_of last ∷ []) (sym here))
 
 -- the lines of a column more
 pub column_more : (old now new : Reading) (columns : List Column) (k : ℕ) (column : Column) → k < length columns → column ≡ get_or columns k column → now ≡ with_lines (flat_map told_in (take k columns)) old → new ≡ with_lines (told_in column) now →
@@ -52,7 +52,7 @@ column_more old now new columns k column within here before is =
     ∙ ap (λ (last : Column). flat_map told_in (take k columns) ++ told_in last) (sym here))
 
 -- a line that is pushed
-pub joined_line : (lines new : List Line) (line : Line) → new ≡ lines ++ line ∷ [] → texts new ≡ texts lines ++ text_of line ∷ []
+pub joined_line : (lines new : List RunLine) (line : RunLine) → new ≡ lines ++ line ∷ [] → texts new ≡ texts lines ++ text_of line ∷ []
 joined_line lines new line is = ap texts is ∙ map-append text_of lines (line ∷ [])
 
 -- a band in its frame

@@ -3,7 +3,7 @@ use Rattle.std.proofs.Common.{◌≡◌, ℕ, zero, suc, ◌+◌, ◌<◌, ◌�
 use Rattle.std.proofs.lemmas.Grind.{flat_map-append}
 use Rattle.std.proofs.lemmas.List.{take_more}
 use Rattle.std.specs.Fmt.{decimal}
-use Rattle.columns.specs.declared.told.Line.{Line}
+use Rattle.columns.specs.declared.told.RunLine.{RunLine}
 use Rattle.picture.specs.Words.{lines_reach, listed_with}
 
 -- one number more of a list of them
@@ -22,6 +22,6 @@ listed_more sep (x ∷ xs) (suc k) d text new within before is =
     ∙ ap (λ m. listed_with sep (take m (x ∷ xs))) (let e : suc (suc k) ≡ suc k + 1 = omega arith in e)
 
 -- each sign reaches somewhere
-pub reach_some : (lines : List Line) → 1 ≤ lines_reach lines
+pub reach_some : (lines : List RunLine) → 1 ≤ lines_reach lines
 reach_some [] = omega arith
 reach_some (line ∷ lines) = let more = reach_some lines in omega (arith, more)

@@ -17,11 +17,11 @@ use Rattle.picture.specs.declared.page.Form.TheVariants as form
 use Rattle.columns.specs.declared.placing.Placing.{Placing}
 use Rattle.columns.specs.declared.reads.OverlappedRead.{OverlappedRead}
 use Rattle.columns.specs.declared.state.State.{State}
-use Rattle.columns.specs.declared.told.Line.{Line}
+use Rattle.columns.specs.declared.told.RunLine.{RunLine}
 
 -- what a picture is told
 pub data Item : Type 0 where
-  Tells : Line → Item  -- a line of the run
+  Tells : RunLine → Item  -- a line of the run
   Reads : OverlappedRead → Item  -- a read that a write overlapped
 
 -- what is known of a picture from the start: what its bands stand in, how many processes there are, and the opening store, with no byte if it is empty
@@ -51,15 +51,15 @@ newest_at [] = 0
 newest_at (column ∷ before) = column.at
 
 -- a column of its own
-abbrev pub begun_by : Line → Option ℕ → State → List Seen → List Seen
+abbrev pub begun_by : RunLine → Option ℕ → State → List Seen → List Seen
 begun_by line frees after columns = alone line (line.at - newest_at columns) frees after ∷ columns
 
 -- a line joins the newest column, if it is a mark of its event; else it begins one
-abbrev pub line_by : Bool → Line → Option ℕ → State → Seen → List Seen → List Seen
+abbrev pub line_by : Bool → RunLine → Option ℕ → State → Seen → List Seen → List Seen
 line_by true line frees after column before = joined column line frees after ∷ before
 line_by false line frees after column before = begun_by line frees after (column ∷ before)
 
-abbrev pub with_line : Line → Option ℕ → State → List Seen → List Seen
+abbrev pub with_line : RunLine → Option ℕ → State → List Seen → List Seen
 with_line line frees after [] = begun_by line frees after []
 with_line line frees after (column ∷ before) = line_by (joins column line) line frees after column before
 

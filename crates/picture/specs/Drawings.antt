@@ -21,8 +21,8 @@ use Rattle.columns.specs.declared.layout.Layout.{Layout}
 use Rattle.columns.specs.declared.reads.OverlappedRead.{OverlappedRead}
 use Rattle.columns.specs.declared.state.State.{State}
 use Rattle.picture.specs.declared.words.Stretch.{Stretch}
-use Rattle.columns.specs.declared.told.Change.{Change}
-use Rattle.columns.specs.declared.told.Line.{Line}
+use Rattle.columns.specs.declared.told.TakenChange.{TakenChange}
+use Rattle.columns.specs.declared.told.RunLine.{RunLine}
 
 -- a band, with lists for what its fields hold: its columns, what stood before them, and where its lanes lie
 pub record SeenBand : Type 0 where
@@ -203,39 +203,39 @@ rows_of_line column place is_refusal at = rows_shapes (length column.lines == 1)
 
 -- what a mark's attributes say: where it stands, the line of the scenario that made it, the store after it if it changed, and of
 -- the last line of its column who stands in line behind it
-abbrev pub store_said : Option Change → List Said
+abbrev pub store_said : Option TakenChange → List Said
 store_said None = []
 store_said (Some change) = (key.Store, change.store.items) ∷ []
 
 abbrev pub queue_said : Bool → List ℕ → List Said
 queue_said is_last queue = cond is_last ((key.Queue, queue) ∷ []) []
 
-abbrev pub mark_shape : Seen → Line → Bool → Shape
+abbrev pub mark_shape : Seen → RunLine → Bool → Shape
 mark_shape column line is_last =
     Mark ((key.Place, decimal column.x) ∷ (key.Source, decimal line.source) ∷ (store_said (change_told line.saying) ++ queue_said is_last (queue_text column.after))) (text_of line)
 
 -- the pair that a command changed, below its knot
-abbrev pub pair_words : Option Change → Point → List Shape
+abbrev pub pair_words : Option TakenChange → Point → List Shape
 pair_words None knot = []
 pair_words (Some change) knot = Label (codes "store") (down_by (moved_by knot 6 0) 22) (string_bytes change.pair) ∷ []
 
 -- the sign of a line, at the foot of its column and, if it tells a place in the history, at its knot too
-abbrev pub foot_by : SeenBand → Seen → Line → Point → Option ℕ → List Shape
+abbrev pub foot_by : SeenBand → Seen → RunLine → Point → Option ℕ → List Shape
 foot_by band column line foot None = sign line.saying (moved_by foot (cond (settles_and_takes_in column) 15 0) 0)
 foot_by band column line foot (Some place) =
     sign line.saying foot ++ sign line.saying (point foot.x (knot_of band.layout)) ++ pair_words (change_told line.saying) (point foot.x (knot_of band.layout))
 
-abbrev pub foot_shapes : SeenBand → Seen → Line → Point → List Shape
+abbrev pub foot_shapes : SeenBand → Seen → RunLine → Point → List Shape
 foot_shapes band column line foot = foot_by band column line foot (place_told line.saying)
 
 -- the group of a line in the lane of its process
-abbrev pub line_shapes : SeenBand → Seen → Point → Point → ℕ → Line → List Shape
+abbrev pub line_shapes : SeenBand → Seen → Point → Point → ℕ → RunLine → List Shape
 line_shapes band column head foot place line =
     mark_shape column line (place == length column.lines - 1)
     ∷ (rows_of_line column place (tells_refusal line.saying) (rows_place head) ++ foot_shapes band column line foot ++ End ∷ [])
 
 -- those of lines, numbered from here on
-abbrev pub lines_shapes : SeenBand → Seen → Point → Point → ℕ → List Line → List Shape
+abbrev pub lines_shapes : SeenBand → Seen → Point → Point → ℕ → List RunLine → List Shape
 lines_shapes band column head foot place [] = []
 lines_shapes band column head foot place (line ∷ lines) = line_shapes band column head foot place line ++ lines_shapes band column head foot (place + 1) lines
 
@@ -260,7 +260,7 @@ head_shapes column head foot =
     ++ read_words column.read (rows_place head))
 
 -- the group of a line that stands in the lane of the history
-abbrev pub note_shapes : SeenBand → Seen → Line → List Shape
+abbrev pub note_shapes : SeenBand → Seen → RunLine → List Shape
 note_shapes band column line =
     mark_shape column line true ∷ line_from (codes "pole") (point column.x (knot_of band.layout)) (down_by (point column.x (knot_of band.layout)) 36)
     ∷ (sign line.saying (point column.x (knot_of band.layout)) ++ rows_of_line column 0 false (point (column.x + 4) (knot_of band.layout + 23)) ++ End ∷ [])

@@ -13,7 +13,7 @@ use Rattle.columns.specs.declared.state.Group.{Group}
 use Rattle.columns.specs.declared.state.State.{State}
 use Rattle.columns.specs.declared.state.Word.{Word}
 use Rattle.columns.specs.declared.state.Word.TheVariants as word
-use Rattle.columns.specs.declared.told.Line.{Line}
+use Rattle.columns.specs.declared.told.RunLine.{RunLine}
 
 -- how a stage is called
 abbrev pub stage_text : Stage → List ℕ
@@ -66,7 +66,7 @@ reach_by None = 6
 reach_by (Some mark) = mark_reach mark
 
 -- how far what stands at the foot of a column reaches to its right
-abbrev pub lines_reach : List Line → ℕ
+abbrev pub lines_reach : List RunLine → ℕ
 lines_reach [] = 1
 lines_reach (line ∷ lines) = max (reach_by (mark_told line.saying)) (lines_reach lines)
 

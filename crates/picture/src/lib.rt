@@ -15,7 +15,7 @@ mod sheets;
 mod signs;
 mod words;
 
-pub use columns::{Change, Line, OverlappedRead, Saying, stages_are_the_records};
+pub use columns::{TakenChange, RunLine, OverlappedRead, Saying, stages_are_the_records};
 pub use laws::bars_are_stages;
 pub use page::{Form, Page};
 pub use reads::Reads;

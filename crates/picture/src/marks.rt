@@ -12,7 +12,7 @@ use crate::bands::Band;
 use crate::reads::draw_read;
 use crate::signs::{below, draw_sign, moved};
 use crate::words::listed;
-use columns::{Column, Line, Row};
+use columns::{Column, RunLine, TextRow};
 use markup::{Attribute, Key, Markup, Point, number, words};
 use std::alloc::{AllocError, Global};
 
@@ -59,7 +59,7 @@ impl Band {
         &self,
         column: &Column,
         place: usize,
-        line: &Line,
+        line: &RunLine,
         head: Point,
         foot: Point,
         markup: &mut Markup,
@@ -80,7 +80,7 @@ impl Band {
         &self,
         alloc: Global,
         column: &Column,
-        line: &Line,
+        line: &RunLine,
         foot: Point,
         markup: &mut Markup,
     ) -> Result<(), AllocError>
@@ -112,7 +112,7 @@ impl Band {
     fn draw_line_below(
         &self,
         column: &Column,
-        line: &Line,
+        line: &RunLine,
         markup: &mut Markup,
     ) -> Result<(), AllocError>
         ensures draws { OnOk result (markup.new ≡ markup.old ++ drawings (note_shapes (seen_band self.now) (seen column.now) line.now)) }
@@ -130,7 +130,7 @@ impl Band {
 }
 
 /// Draws the pair that the command of a line changed, below its knot.
-fn draw_pair(line: &Line, knot: Point, markup: &mut Markup) -> Result<(), AllocError>
+fn draw_pair(line: &RunLine, knot: Point, markup: &mut Markup) -> Result<(), AllocError>
     ensures draws { OnOk result (markup.new ≡ markup.old ++ drawings (pair_words (change_told line.now.saying) knot)) }
     ensures read { OnOk result (reading markup.new ≡ reading markup.old) }
 {
@@ -191,7 +191,7 @@ fn right(at: Point, by: u32) -> Point
 fn begin_mark(
     alloc: Global,
     column: &Column,
-    line: &Line,
+    line: &RunLine,
     is_last: bool,
     markup: &mut Markup,
 ) -> Result<(), AllocError>
@@ -209,7 +209,7 @@ fn begin_mark(
 }
 
 /// Says the store behind a line, if its command changed it.
-fn push_store<'a>(attributes: &mut Vec<Attribute<'a>>, line: &'a Line) -> Result<(), AllocError>
+fn push_store<'a>(attributes: &mut Vec<Attribute<'a>>, line: &'a RunLine) -> Result<(), AllocError>
     ensures { OnOk result (flat_map attribute_text attributes.new.items ≡ flat_map attribute_text attributes.old.items ++ flat_map said_text (store_said (change_told line.now.saying))) }
 {
     match line.change() {
@@ -271,7 +271,7 @@ fn row_place(at: Point, number: usize) -> Point
 }
 
 /// The style of a row.
-fn row_style(row: &Row, is_refusal: bool) -> &'static str
+fn row_style(row: &TextRow, is_refusal: bool) -> &'static str
     ensures { result.now ≡ row_class row.now.is_verb is_refusal }
 {
     if row.is_verb {

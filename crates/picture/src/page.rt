@@ -13,7 +13,7 @@ ghost use Rattle.columns.specs.Stages.{nothing_told, stages_told};
 ghost use Rattle.columns.specs.Told.{text_of, told_in};
 
 use crate::bands::Band;
-use columns::{Column, Layout, Line, OverlappedRead, Placing, State, cut, stretch};
+use columns::{Column, Layout, RunLine, OverlappedRead, Placing, State, cut, stretch};
 use markup::{Key, Markup, Tag, class, words};
 use std::alloc::{AllocError, Global};
 
@@ -79,7 +79,7 @@ impl Page {
     /// Takes in the next line; answers the band that is full with what came before it, if one is. Its lines, and then
     /// those that are held back, are those that were held back before, and this one; in the band each element that
     /// begins ends. The stages go on as the line tells.
-    pub fn take(&mut self, line: Line) -> Result<Option<Markup>, AllocError>
+    pub fn take(&mut self, line: RunLine) -> Result<Option<Markup>, AllocError>
         ensures page { IfOk result (λ full. GoesOn (Tells line) (seen_page self.old) full (seen_page self.new)) }
         ensures lines { IfOk result (λ full. lines_of_band full ++ held self.new ≡ held self.old ++ text_of line ∷ []) }
         ensures ended { IfOk result (λ full. IfSome full EndsAll) }

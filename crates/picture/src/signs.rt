@@ -4,7 +4,7 @@ ghost use Rattle.markup.specs.Figures.{drawings};
 ghost use Rattle.markup.specs.Readings.{reading};
 ghost use Rattle.picture.specs.Signs.{down_by, mark_sign, moved_by, settled_sign, sign, taken_sign};
 
-use columns::{DIGIT, Line, Saying, room};
+use columns::{DIGIT, RunLine, Saying, room};
 use record::Mark;
 use markup::{Markup, Point};
 use std::alloc::{AllocError, Global};
@@ -12,7 +12,7 @@ use std::alloc::{AllocError, Global};
 /// Draws the sign of a line at a place.
 pub(crate) fn draw_sign(
     alloc: Global,
-    line: &Line,
+    line: &RunLine,
     at: Point,
     markup: &mut Markup,
 ) -> Result<(), AllocError>

@@ -1,4 +1,4 @@
-use picture::{Form, Line, Page, Saying};
+use picture::{Form, RunLine, Page, Saying};
 use record::Refusal;
 use std::alloc::Global;
 use std::test::Fail;
@@ -35,8 +35,8 @@ const BAND: &str =
 </g>\n\
 </svg>\n";
 
-fn told(source: u64, saying: Saying) -> Line {
-    Line {
+fn told(source: u64, saying: Saying) -> RunLine {
+    RunLine {
         source,
         at: 0,
         saying,

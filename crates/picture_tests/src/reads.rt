@@ -1,5 +1,5 @@
 //! A read that a write overlapped, in a band of its own with the last line.
-use picture::{Form, Line, OverlappedRead, Page, Saying};
+use picture::{Form, RunLine, OverlappedRead, Page, Saying};
 use record::Field;
 use std::test::Fail;
 
@@ -58,7 +58,7 @@ fn a_read_has_a_column(rt: HostRuntime) -> Result<(), Fail> {
         taken: 0,
         refused: 0,
     };
-    let last = Line {
+    let last = RunLine {
         source: 6,
         at: 12,
         saying: ended,

@@ -22,8 +22,8 @@ use Rattle.section.specs.Sections.{Section}
 use Rattle.laws.specs.Doings.{Doing, call, runs}
 use Rattle.laws.specs.Doings as doing
 use Rattle.laws.proofs.FrameInside.{run-unfresh}
-use Rattle.process.specs.declared.process.Work.{Work}
-use Rattle.process.specs.declared.process.Work.TheVariants as work
+use Rattle.process.specs.declared.process.ActiveCursor.{ActiveCursor}
+use Rattle.process.specs.declared.process.ActiveCursor.TheVariants as work
 use Rattle.process.specs.Keeping.{Goes, IsLeaving, kept_shown}
 use Rattle.process.specs.Processes as kept
 use Rattle.process.specs.Processes.{ProcessState}
@@ -88,11 +88,11 @@ here s p command number a fresh leaving state view d is =
     clearing s p command number a fresh leaving d (sym at.kept) at.call at.reached
 
 -- and by its fields
-pub seen : (s : Setup) (p : ℕ) (command : Command) (number : ℕ) (current : Work) (door : DoorState) (section : Section) (state : ProcessState) →
+pub seen : (s : Setup) (p : ℕ) (command : Command) (number : ℕ) (current : ActiveCursor) (door : DoorState) (section : Section) (state : ProcessState) →
     (let fields : ProcessState = record { setup = s; process = p; kept = kept_shown current door section; command = command; number = number } in fields) ≡ state →
     (a : Answer) (fresh : Bool) (leaving : LeavingState) → current ≡ work.Leaves a fresh leaving → Goes s p current door section → IsLeaving s p leaving × ((d : Doing) → IsAt state d → IsClearing s p command number a fresh leaving d)
 seen s p command number current door section state view a fresh leaving is goes =
-    let with_work : Work → ProcessState = λ w. record { setup = s; process = p; kept = kept_shown w door section; command = command; number = number } in
+    let with_work : ActiveCursor → ProcessState = λ w. record { setup = s; process = p; kept = kept_shown w door section; command = command; number = number } in
     (subst (λ w. Goes s p w door section) is goes, here s p command number a fresh leaving state (sym (ap with_work is) ∙ view))
 
 -- the first access of a write that has bits is not its last one

@@ -27,8 +27,8 @@ use Rattle.section.specs.Sections.{Section, changes_at, goes, goes_on, is_going,
 use Rattle.section.specs.Standings.{standing_at}
 use Rattle.laws.specs.Doings.{Doing, call, runs}
 use Rattle.laws.specs.Doings as doing
-use Rattle.process.specs.declared.process.Work.{Work}
-use Rattle.process.specs.declared.process.Work.TheVariants as work
+use Rattle.process.specs.declared.process.ActiveCursor.{ActiveCursor}
+use Rattle.process.specs.declared.process.ActiveCursor.TheVariants as work
 use Rattle.process.specs.Keeping.{Goes, IsLeaving, answer_told, changes_in, is_at_data, kept_shown}
 use Rattle.process.specs.Processes as kept
 use Rattle.process.specs.Processes.{ProcessState}
@@ -79,7 +79,7 @@ at-data s p command number section (doing.Closes x n closing.Quit) k its reached
 at-data s p command number section (doing.Closes x n closing.Ended) k its reached = cc
 
 -- the section of a process that is at the data
-pub data-kept : (s : Setup) (p : ℕ) (current : Work) (door : Rattle.bakery.specs.Doors.DoorState) (section : Section) → is_at_data (kept_shown current door section) ≡ true → Goes s p current door section →
+pub data-kept : (s : Setup) (p : ℕ) (current : ActiveCursor) (door : Rattle.bakery.specs.Doors.DoorState) (section : Section) → is_at_data (kept_shown current door section) ≡ true → Goes s p current door section →
     (kept_shown current door section ≡ kept.AtData section) × (is_going section ≡ true)
 data-kept s p work.Rests door section h goes = cc
 data-kept s p work.Lies door section h goes = cc
@@ -90,7 +90,7 @@ data-kept s p (work.Withdraws leaving) door section h goes = cc
 data-kept s p (work.Settles inside taken value unit) door section h goes = cc
 data-kept s p (work.Frees inside unit) door section h goes = cc
 
-pub data-works : (current : Work) (door : Rattle.bakery.specs.Doors.DoorState) (section : Section) → is_at_data (kept_shown current door section) ≡ true → current ≡ work.AtData
+pub data-works : (current : ActiveCursor) (door : Rattle.bakery.specs.Doors.DoorState) (section : Section) → is_at_data (kept_shown current door section) ≡ true → current ≡ work.AtData
 data-works work.Rests door section h = cc
 data-works work.Lies door section h = cc
 data-works (work.AtDoor waits) door section h = cc
@@ -101,7 +101,7 @@ data-works (work.Settles inside taken value unit) door section h = cc
 data-works (work.Frees inside unit) door section h = cc
 
 -- what a process at the data is doing, by its state
-pub here : (s : Setup) (p : ℕ) (command : Command) (number : ℕ) (current : Work) (door : Rattle.bakery.specs.Doors.DoorState) (section : Section) (state : ProcessState) →
+pub here : (s : Setup) (p : ℕ) (command : Command) (number : ℕ) (current : ActiveCursor) (door : Rattle.bakery.specs.Doors.DoorState) (section : Section) (state : ProcessState) →
     (let fields : ProcessState = record { setup = s; process = p; kept = kept_shown current door section; command = command; number = number } in fields) ≡ state →
     Goes s p current door section → is_at_data state.kept ≡ true → (is_going section ≡ true) × ((d : Doing) → IsAt state d → IsAtData s p command number section d)
 here s p command number current door section state view goes h =

@@ -12,7 +12,7 @@ use Rattle.section.specs.Sections as sections
 use Rattle.section.specs.Sections.{Section, is_going, section_at}
 use Rattle.laws.specs.Doings.{Doing, call}
 use Rattle.laws.specs.Steps.{marks_with}
-use Rattle.process.specs.declared.process.Work.TheVariants as work
+use Rattle.process.specs.declared.process.ActiveCursor.TheVariants as work
 use Rattle.process.specs.Processes as kept
 use Rattle.process.specs.Processes.{Kept, ProcessState}
 use Rattle.process.specs.Registers.{MayStep, MayWalk, RegistersState, StepsWithin, WalksWithin, answered}

@@ -5,8 +5,8 @@ use Rattle.bakery.specs.Doors.{DoorState}
 use Rattle.section.specs.Sections as sections
 use Rattle.section.specs.Sections.{Section, section_at}
 use Rattle.section.proofs.Within.{bits-within, is_within}
-use Rattle.process.specs.declared.process.Work.{Work}
-use Rattle.process.specs.declared.process.Work.TheVariants as work
+use Rattle.process.specs.declared.process.ActiveCursor.{ActiveCursor}
+use Rattle.process.specs.declared.process.ActiveCursor.TheVariants as work
 use Rattle.laws.specs.Doings.{Doing, call}
 use Rattle.process.specs.Keeping.{is_at_data, kept_shown}
 use Rattle.process.specs.Processes as kept
@@ -26,7 +26,7 @@ data-within (kept.Settles inside taken value unit) h = absurd (omega (arith, h))
 data-within (kept.Frees inside unit) h = absurd (omega (arith, h))
 
 -- and its section is within the number access
-pub section-within : (current : Work) (door : DoorState) (section : Section) → 0 < bits_within (kept_shown current door section) → 0 < sections.bits_within section
+pub section-within : (current : ActiveCursor) (door : DoorState) (section : Section) → 0 < bits_within (kept_shown current door section) → 0 < sections.bits_within section
 section-within work.AtData door section h = h
 section-within work.Rests door section h = absurd (omega (arith, h))
 section-within work.Lies door section h = absurd (omega (arith, h))

@@ -12,7 +12,7 @@ use Rattle.bakery.specs.Doors.{DoorState, is_going, is_waiting_at, next_after}
 use Rattle.bakery.specs.Locks as locks
 use Rattle.bakery.specs.Locks.{lock_of, locks_after}
 use Rattle.bakery.specs.Standings.{part_of}
-use Rattle.bakery.specs.declared.standing.Standing.{Standing}
+use Rattle.bakery.specs.declared.standing.DoorPart.{DoorPart}
 use Rattle.bakery.proofs.Accesses.{answered-again}
 use Rattle.bakery.proofs.Passage.{next-at, not-over, on-the-way}
 use Rattle.section.specs.Registers as versions
@@ -20,8 +20,8 @@ use Rattle.section.specs.Registers.{is_data}
 use Rattle.section.specs.Sections.{Section}
 use Rattle.laws.specs.Doings.{Doing, call}
 use Rattle.laws.specs.Steps.{next_of}
-use Rattle.process.specs.declared.process.Work.{Work}
-use Rattle.process.specs.declared.process.Work.TheVariants as work
+use Rattle.process.specs.declared.process.ActiveCursor.{ActiveCursor}
+use Rattle.process.specs.declared.process.ActiveCursor.TheVariants as work
 use Rattle.process.specs.Keeping.{Goes, kept_shown}
 use Rattle.process.specs.Processes as kept
 use Rattle.process.specs.Processes.{Kept}
@@ -75,7 +75,7 @@ door-turn s p command number door d at going r flick next is can ticket =
     subst (λ (a : Access). locks.CanAccess (lock_of r.locks a.owner) a) told (ticket-turn r flick next field can)
 
 -- the cursor stays the door
-pub door-stays : (current : Work) (door new : DoorState) (section : Section) → is_at_door (kept_shown current door section) ≡ true → kept_shown current new section ≡ kept.AtDoor new
+pub door-stays : (current : ActiveCursor) (door new : DoorState) (section : Section) → is_at_door (kept_shown current door section) ≡ true → kept_shown current new section ≡ kept.AtDoor new
 door-stays (work.AtDoor waits) door new section h = refl
 door-stays work.Rests door new section h = absurd (cc)
 door-stays work.Lies door new section h = absurd (cc)
@@ -86,8 +86,8 @@ door-stays (work.Settles inside taken value unit) door new section h = absurd (c
 door-stays (work.Frees inside unit) door new section h = absurd (cc)
 
 -- which goes on as it did
-pub door-goes : (s : Setup) (p : ℕ) (current : Work) (door new : DoorState) (section : Section) → is_at_door (kept_shown current door section) ≡ true → new.standing ≡ door.standing → Goes s p current door section → Goes s p current new section
-door-goes s p (work.AtDoor waits) door new section h same goes = (ap (λ (standing : Standing). not (is_over (part_of standing))) same ∙ goes.0, goes.1 ∙ sym (ap is_waiting_at same))
+pub door-goes : (s : Setup) (p : ℕ) (current : ActiveCursor) (door new : DoorState) (section : Section) → is_at_door (kept_shown current door section) ≡ true → new.standing ≡ door.standing → Goes s p current door section → Goes s p current new section
+door-goes s p (work.AtDoor waits) door new section h same goes = (ap (λ (standing : DoorPart). not (is_over (part_of standing))) same ∙ goes.0, goes.1 ∙ sym (ap is_waiting_at same))
 door-goes s p work.Rests door new section h same goes = absurd (cc)
 door-goes s p work.Lies door new section h same goes = absurd (cc)
 door-goes s p work.AtData door new section h same goes = absurd (cc)

@@ -17,8 +17,8 @@ use Rattle.laws.specs.Doings.{Doing, Runs, call}
 use Rattle.laws.specs.Doings as doing
 use Rattle.laws.specs.Steps.{IsReached, reads_of}
 use Rattle.laws.proofs.HeldOwners.{OwnersThere, after-there, owner-there}
-use Rattle.process.specs.declared.process.Work.{Work}
-use Rattle.process.specs.declared.process.Work.TheVariants as work
+use Rattle.process.specs.declared.process.ActiveCursor.{ActiveCursor}
+use Rattle.process.specs.declared.process.ActiveCursor.TheVariants as work
 use Rattle.process.specs.Keeping.{is_at_data, kept_shown}
 use Rattle.process.specs.Processes.{kept_at, kept_in}
 use Rattle.process.specs.Steps.{is_at_door}
@@ -63,7 +63,7 @@ reads-none c at (WritesImage vs st) h = cc
 reads-none c at (WritesStamp vs st) h = cc
 reads-none c at (WritesCommit vs st) h = cc
 
-elsewhere : (current : Work) (door : DoorState) (section : Section) → ((waits : Bool) → current ≡ work.AtDoor waits → ⊥) → (current ≡ work.AtData → ⊥) →
+elsewhere : (current : ActiveCursor) (door : DoorState) (section : Section) → ((waits : Bool) → current ≡ work.AtDoor waits → ⊥) → (current ≡ work.AtData → ⊥) →
     is_at_door (kept_shown current door section) || is_at_data (kept_shown current door section) ≡ false
 elsewhere (work.AtDoor waits) door section no_door no_data = absurd (no_door waits refl)
 elsewhere work.AtData door section no_door no_data = absurd (no_data refl)
@@ -74,7 +74,7 @@ elsewhere (work.Withdraws leaving) door section no_door no_data = refl
 elsewhere (work.Settles inside taken value unit) door section no_door no_data = refl
 elsewhere (work.Frees inside unit) door section no_door no_data = refl
 
-pub no-reads : (s : Setup) (p : ℕ) (current : Work) (door : DoorState) (section : Section) (d : Doing) → ((waits : Bool) → current ≡ work.AtDoor waits → ⊥) → (current ≡ work.AtData → ⊥) →
+pub no-reads : (s : Setup) (p : ℕ) (current : ActiveCursor) (door : DoorState) (section : Section) (d : Doing) → ((waits : Bool) → current ≡ work.AtDoor waits → ⊥) → (current ≡ work.AtData → ⊥) →
     kept_shown current door section ≡ kept_at s p d → None ≡ reads_of s p d
 no-reads s p current door section d no_door no_data is = by d (ap (λ k. is_at_door k || is_at_data k) (sym is) ∙ elsewhere current door section no_door no_data)
   where

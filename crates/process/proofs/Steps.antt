@@ -21,20 +21,20 @@ use Rattle.process.specs.Processes.{ProcessState}
 use Rattle.process.specs.Processes.{Kept, kept_at, stage_kept}
 use Rattle.process.specs.Steps.{IsAt, is_at_door}
 use Rattle.laws.specs.Steps.{does_then, marks_with}
-use Rattle.process.specs.declared.process.Work.{Work}
+use Rattle.process.specs.declared.process.ActiveCursor.{ActiveCursor}
 use Rattle.process.specs.Keeping.{Goes, kept_shown}
 use Rattle.process.proofs.Doors.{IsAtDoor, comes-inside, comes-over, kept-door, kept-inside, kept-over, stage-door}
 use Rattle.process.proofs.AtDoor.{door-does, door-kept}
 
 -- what a process at the door is doing, by its state
-pub here : (s : Setup) (p : ℕ) (command : Command) (number : ℕ) (current : Work) (door : DoorState) (section : Section) (state : ProcessState) →
+pub here : (s : Setup) (p : ℕ) (command : Command) (number : ℕ) (current : ActiveCursor) (door : DoorState) (section : Section) (state : ProcessState) →
     (let fields : ProcessState = record { setup = s; process = p; kept = kept_shown current door section; command = command; number = number } in fields) ≡ state →
     Goes s p current door section → is_at_door state.kept ≡ true → (d : Doing) → IsAt state d → IsAtDoor s p command number door d
 here s p command number current door section state view goes h d is =
     let at = subst (λ state. IsAt state d) (sym view) is in
     door-does s p command number current door section d (ap (λ (state : ProcessState). is_at_door state.kept) view ∙ h) goes at.kept at.call at.reached
 
-pub kept-here : (s : Setup) (p : ℕ) (command : Command) (number : ℕ) (current : Work) (door : DoorState) (section : Section) (state : ProcessState) →
+pub kept-here : (s : Setup) (p : ℕ) (command : Command) (number : ℕ) (current : ActiveCursor) (door : DoorState) (section : Section) (state : ProcessState) →
     (let fields : ProcessState = record { setup = s; process = p; kept = kept_shown current door section; command = command; number = number } in fields) ≡ state →
     Goes s p current door section → is_at_door state.kept ≡ true → (kept.AtDoor door ≡ state.kept) × (is_going door ≡ true)
 kept-here s p command number current door section state view goes h =

@@ -9,7 +9,7 @@ use Rattle.record.specs.declared.Stage.TheVariants as stage
 use Rattle.record.specs.Records.{refused_at}
 use Rattle.bakery.specs.Doors.{DoorState, is_waiting}
 use Rattle.section.specs.Sections.{Section}
-use Rattle.process.specs.declared.process.Work.{Work}
+use Rattle.process.specs.declared.process.ActiveCursor.{ActiveCursor}
 use Rattle.process.specs.Keeping.{kept_shown}
 use Rattle.process.specs.Processes as kept
 use Rattle.process.specs.Processes.{ProcessState}
@@ -17,9 +17,9 @@ use Rattle.process.specs.Processes.{Kept, stage_kept}
 use Rattle.process.specs.Steps.{may_step}
 
 -- what is kept, by the cursor that goes on
-pub kept-is : (s : Setup) (p : ℕ) (command : Command) (number : ℕ) (current : Work) (door : DoorState) (section : Section) (state : ProcessState) →
+pub kept-is : (s : Setup) (p : ℕ) (command : Command) (number : ℕ) (current : ActiveCursor) (door : DoorState) (section : Section) (state : ProcessState) →
     (let fields : ProcessState = record { setup = s; process = p; kept = kept_shown current door section; command = command; number = number } in fields) ≡ state →
-    (goes_on : Work) → current ≡ goes_on → kept_shown goes_on door section ≡ state.kept
+    (goes_on : ActiveCursor) → current ≡ goes_on → kept_shown goes_on door section ≡ state.kept
 kept-is s p command number current door section state view goes_on is = ap (λ w. kept_shown w door section) (sym is) ∙ ap (λ (state : ProcessState). state.kept) view
 
 -- a process that may step is not refused it

@@ -24,8 +24,8 @@ use Rattle.memory_unit.specs.Units.{UnitState, goes_on, next_access, next_marks,
 use Rattle.laws.specs.Doings.{Doing, call, closes}
 use Rattle.laws.specs.Doings as doing
 use Rattle.laws.proofs.FrameInside.{moved-unfresh}
-use Rattle.process.specs.declared.process.Work.{Work}
-use Rattle.process.specs.declared.process.Work.TheVariants as work
+use Rattle.process.specs.declared.process.ActiveCursor.{ActiveCursor}
+use Rattle.process.specs.declared.process.ActiveCursor.TheVariants as work
 use Rattle.process.specs.Keeping.{IsWorking, is_unit_freeing, is_unit_settling, kept_shown, marks_settled}
 use Rattle.process.specs.Processes as kept
 use Rattle.process.specs.Processes.{ProcessState}
@@ -115,19 +115,19 @@ clearing s p inside unit (doing.Closes x n closing.Quit) h = cc
 clearing s p inside unit (doing.Closes x n closing.Ended) h = cc
 
 -- the same of a process, by its fields
-pub seen-settling : (s : Setup) (p : ℕ) (command : Command) (number : ℕ) (current : Work) (door : DoorState) (section : Section) (state : ProcessState) →
+pub seen-settling : (s : Setup) (p : ℕ) (command : Command) (number : ℕ) (current : ActiveCursor) (door : DoorState) (section : Section) (state : ProcessState) →
     (let fields : ProcessState = record { setup = s; process = p; kept = kept_shown current door section; command = command; number = number } in fields) ≡ state →
     (inside : Bool) (taken : Option (Bool × Reply)) (value : Option Bool) (unit : UnitState) → current ≡ work.Settles inside taken value unit → (d : Doing) → IsAt state d → IsSettling s p inside taken value unit d
 seen-settling s p command number current door section state view inside taken value unit is d at =
-    let with_work : Work → ProcessState = λ w. record { setup = s; process = p; kept = kept_shown w door section; command = command; number = number } in
+    let with_work : ActiveCursor → ProcessState = λ w. record { setup = s; process = p; kept = kept_shown w door section; command = command; number = number } in
     let h = subst (λ state. IsAt state d) (sym (sym (ap with_work is) ∙ view)) at in
     settling s p inside taken value unit d (sym h.kept)
 
-pub seen-freeing : (s : Setup) (p : ℕ) (command : Command) (number : ℕ) (current : Work) (door : DoorState) (section : Section) (state : ProcessState) →
+pub seen-freeing : (s : Setup) (p : ℕ) (command : Command) (number : ℕ) (current : ActiveCursor) (door : DoorState) (section : Section) (state : ProcessState) →
     (let fields : ProcessState = record { setup = s; process = p; kept = kept_shown current door section; command = command; number = number } in fields) ≡ state →
     (inside : Bool) (unit : UnitState) → current ≡ work.Frees inside unit → (d : Doing) → IsAt state d → IsFreeing s p inside unit d
 seen-freeing s p command number current door section state view inside unit is d at =
-    let with_work : Work → ProcessState = λ w. record { setup = s; process = p; kept = kept_shown w door section; command = command; number = number } in
+    let with_work : ActiveCursor → ProcessState = λ w. record { setup = s; process = p; kept = kept_shown w door section; command = command; number = number } in
     let h = subst (λ state. IsAt state d) (sym (sym (ap with_work is) ∙ view)) at in
     clearing s p inside unit d (sym h.kept)
 

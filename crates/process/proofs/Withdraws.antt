@@ -17,8 +17,8 @@ use Rattle.bakery.specs.Leavings.{LeavingState, is_leaving, leaving_of}
 use Rattle.section.specs.Sections.{Section}
 use Rattle.laws.specs.Doings.{Doing, call, closes}
 use Rattle.laws.specs.Doings as doing
-use Rattle.process.specs.declared.process.Work.{Work}
-use Rattle.process.specs.declared.process.Work.TheVariants as work
+use Rattle.process.specs.declared.process.ActiveCursor.{ActiveCursor}
+use Rattle.process.specs.declared.process.ActiveCursor.TheVariants as work
 use Rattle.process.specs.Keeping.{Goes, IsLeaving, kept_shown}
 use Rattle.process.specs.Processes as kept
 use Rattle.process.specs.Processes.{ProcessState}
@@ -63,11 +63,11 @@ withdrawing s p leaving (doing.Closes x n closing.Quit) h = cc
 withdrawing s p leaving (doing.Closes x n closing.Ended) h = cc
 
 -- the same of a process, by its fields
-pub seen : (s : Setup) (p : ℕ) (command : Command) (number : ℕ) (current : Work) (door : DoorState) (section : Section) (state : ProcessState) →
+pub seen : (s : Setup) (p : ℕ) (command : Command) (number : ℕ) (current : ActiveCursor) (door : DoorState) (section : Section) (state : ProcessState) →
     (let fields : ProcessState = record { setup = s; process = p; kept = kept_shown current door section; command = command; number = number } in fields) ≡ state →
     (leaving : LeavingState) → current ≡ work.Withdraws leaving → Goes s p current door section → IsLeaving s p leaving × ((d : Doing) → IsAt state d → IsWithdrawing s p leaving d)
 seen s p command number current door section state view leaving is goes =
-    let with_work : Work → ProcessState = λ w. record { setup = s; process = p; kept = kept_shown w door section; command = command; number = number } in (
+    let with_work : ActiveCursor → ProcessState = λ w. record { setup = s; process = p; kept = kept_shown w door section; command = command; number = number } in (
       subst (λ w. Goes s p w door section) is goes,
       λ d at.
           let h = subst (λ state. IsAt state d) (sym (sym (ap with_work is) ∙ view)) at in

@@ -18,12 +18,12 @@ use Rattle.section.specs.Sections as sections
 use Rattle.section.specs.Sections.{Section}
 use Rattle.memory_unit.specs.Units as units
 use Rattle.memory_unit.specs.Units.{UnitState}
-use Rattle.process.specs.declared.process.Work.{Work}
-use Rattle.process.specs.declared.process.Work.TheVariants as work
+use Rattle.process.specs.declared.process.ActiveCursor.{ActiveCursor}
+use Rattle.process.specs.declared.process.ActiveCursor.TheVariants as work
 use Rattle.process.specs.Processes.{Kept, Rests, Lies, AtDoor, AtData, Leaves, Withdraws, Settles, Frees}
 
 -- the cursor that goes on
-abbrev pub kept_shown : Work → DoorState → Section → Kept
+abbrev pub kept_shown : ActiveCursor → DoorState → Section → Kept
 kept_shown work.Rests door section = Rests
 kept_shown work.Lies door section = Lies
 kept_shown (work.AtDoor waits) door section = AtDoor door
@@ -47,7 +47,7 @@ pub record IsWorking (s : Setup) (p : ℕ) (unit : UnitState) : Type 0 where
   pub going : units.is_going unit ≡ true
 
 -- the cursor of p has accesses to make
-abbrev pub Goes : Setup → ℕ → Work → DoorState → Section → Type 0
+abbrev pub Goes : Setup → ℕ → ActiveCursor → DoorState → Section → Type 0
 Goes s p (work.AtDoor waits) door section = (doors.is_going door ≡ true) × (waits ≡ doors.is_waiting door)
 Goes s p work.AtData door section = sections.is_going section ≡ true
 Goes s p (work.Leaves answer fresh leaving) door section = IsLeaving s p leaving
@@ -62,7 +62,7 @@ stage_waiting true = stage.Waiting
 stage_waiting false = stage.Doorway
 
 -- the cursor that goes on is the door
-abbrev pub is_door : Work → Bool
+abbrev pub is_door : ActiveCursor → Bool
 is_door (work.AtDoor waits) = true
 is_door _ = false
 
@@ -108,7 +108,7 @@ changes_in (progress.Taken reply changes) = Some changes
 changes_in _ = None
 
 -- what the fields of process p keep
-pub record KeepsProcess (s : Setup) (p : ℕ) (current : Work) (door : DoorState) (section : Section) : Type 0 where
+pub record KeepsProcess (s : Setup) (p : ℕ) (current : ActiveCursor) (door : DoorState) (section : Section) : Type 0 where
   pub good : checked s ≡ Ok tt
   pub process : p < s.processes
   pub door_setup : door.setup ≡ s

@@ -6,12 +6,12 @@ use Rattle.record.specs.Acts.{Act}
 use Rattle.record.specs.Records.{placed}
 use Rattle.process.specs.declared.told.Effect.{Effect}
 use Rattle.process.specs.declared.told.Effect.TheVariants.{Steps, Calls, Fails, Withdraws, Restarts}
-use Rattle.process.specs.declared.told.Made.{Made}
-use Rattle.process.specs.declared.told.Told.{Told}
-use Rattle.process.specs.declared.told.Told.TheVariants.{Nothing, Waits, WaitsAndEnters, Enters, Took, Leaves, Answers, Settles, SettlesAndTakes, Lies}
+use Rattle.process.specs.declared.told.EventMade.{EventMade}
+use Rattle.process.specs.declared.told.StepTold.{StepTold}
+use Rattle.process.specs.declared.told.StepTold.TheVariants.{Nothing, Waits, WaitsAndEnters, Enters, Took, Leaves, Answers, Settles, SettlesAndTakes, Lies}
 
 -- the marks of a step; the place of a command that is taken is left open here, as 0
-abbrev pub marks_told : Told → List Mark
+abbrev pub marks_told : StepTold → List Mark
 marks_told Nothing = []
 marks_told (Waits ticket) = mark.Waiting ticket ∷ []
 marks_told (WaitsAndEnters ticket) = mark.Waiting ticket ∷ mark.Entered ∷ []
@@ -24,7 +24,7 @@ marks_told (SettlesAndTakes value reply) = mark.Settled value ∷ mark.Taken 0 r
 marks_told Lies = mark.Down ∷ []
 
 -- how many changes a process tells to have been taken before the command that it takes
-abbrev pub changes_told : Told → Option ℕ
+abbrev pub changes_told : StepTold → Option ℕ
 changes_told (Took reply changes) = Some changes
 changes_told _ = None
 
@@ -37,5 +37,5 @@ marks_of Withdraws = mark.Withdrew ∷ []
 marks_of Restarts = mark.Restarted ∷ []
 
 -- what an event has made as an act, where a command that is taken gets this place
-abbrev pub act_of : ℕ → Made → Act
+abbrev pub act_of : ℕ → EventMade → Act
 act_of place made = record { access = made.access; marks = map (placed place) (marks_of made.effect) }

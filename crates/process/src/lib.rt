@@ -12,4 +12,4 @@ pub use bakery::Pace;
 pub use section::{Flicks, Image};
 pub use process::Process;
 pub use registers::Registers;
-pub use told::{Effect, Made, Told};
+pub use told::{Effect, EventMade, StepTold};

@@ -25,7 +25,7 @@ use std::marker::Model;
 
 /// Which cursor of a process goes on, with what its next accesses may mark.
 #[derive(Clone, Copy)]
-pub(crate) enum Work {
+pub(crate) enum ActiveCursor {
     Rests,
     Lies,
     /// The door: in the doorway, or waiting.
@@ -62,7 +62,7 @@ pub struct Process {
     process: u8,
     door: Door,
     section: Section,
-    work: Work,
+    work: ActiveCursor,
     command: Command,
     number: u16,
 }
@@ -90,7 +90,7 @@ impl Process {
             process,
             door: Door::new(alloc, process, setup)?,
             section: Section::new(alloc, process, setup)?,
-            work: Work::Rests,
+            work: ActiveCursor::Rests,
             command: Command::Ask,
             number: 0,
         })
@@ -109,25 +109,25 @@ impl Process {
         ensures { result ≡ stage_kept self.now.kept }
     {
         match &self.work {
-            Work::Rests => Stage::Idle,
-            Work::Lies => Stage::Down,
-            Work::AtDoor { waits } => {
+            ActiveCursor::Rests => Stage::Idle,
+            ActiveCursor::Lies => Stage::Down,
+            ActiveCursor::AtDoor { waits } => {
                 if *waits {
                     Stage::Waiting
                 } else {
                     Stage::Doorway
                 }
             }
-            Work::AtData => Stage::Inside,
-            Work::Leaves { fresh, .. } => {
+            ActiveCursor::AtData => Stage::Inside,
+            ActiveCursor::Leaves { fresh, .. } => {
                 if *fresh {
                     Stage::Inside
                 } else {
                     Stage::Leaving
                 }
             }
-            Work::Withdraws(_) => Stage::Leaving,
-            Work::Settles { .. } | Work::Frees { .. } => Stage::Settling,
+            ActiveCursor::Withdraws(_) => Stage::Leaving,
+            ActiveCursor::Settles { .. } | ActiveCursor::Frees { .. } => Stage::Settling,
         }
     }
 
@@ -137,7 +137,7 @@ impl Process {
         ensures { result ≡ is_waiting_stage (stage_kept self.now.kept) }
     {
         match &self.work {
-            Work::AtDoor { waits } => *waits,
+            ActiveCursor::AtDoor { waits } => *waits,
             _ => false,
         }
     }
@@ -147,7 +147,7 @@ impl Process {
     pub fn is_at_door(&self) -> bool
         ensures { result ≡ is_at_door self.now.kept }
     {
-        matches!(&self.work, Work::AtDoor { .. })
+        matches!(&self.work, ActiveCursor::AtDoor { .. })
     }
 
     /// Whether it reads or writes the versions of the store: there a process has nearly all its accesses.
@@ -155,7 +155,7 @@ impl Process {
     fn is_at_data(&self) -> bool
         ensures { result ≡ is_at_data self.now.kept }
     {
-        matches!(&self.work, Work::AtData)
+        matches!(&self.work, ActiveCursor::AtData)
     }
 
     /// Whether it is inside the critical section, or its memory unit stands in for it there.
@@ -163,9 +163,9 @@ impl Process {
         ensures { result ≡ inside_kept self.now.kept }
     {
         match &self.work {
-            Work::AtData => true,
-            Work::Leaves { fresh, .. } => *fresh,
-            Work::Settles { inside, .. } | Work::Frees { inside, .. } => *inside,
+            ActiveCursor::AtData => true,
+            ActiveCursor::Leaves { fresh, .. } => *fresh,
+            ActiveCursor::Settles { inside, .. } | ActiveCursor::Frees { inside, .. } => *inside,
             _ => false,
         }
     }
@@ -175,7 +175,7 @@ impl Process {
     pub fn goes(&self) -> bool
         ensures { result ≡ may_step self.now.kept }
     {
-        !matches!(&self.work, Work::Rests | Work::Lies)
+        !matches!(&self.work, ActiveCursor::Rests | ActiveCursor::Lies)
     }
 
     /// The register that it reads, and whose it is; none, if it reads none. Where the process gives up waiting or
@@ -185,8 +185,8 @@ impl Process {
         ensures there { (d : Doing) → IsAt self.now d → IfSome result (λ register. register.0 < self.now.setup.processes) }
     {
         match &self.work {
-            Work::AtDoor { .. } => self.door.reads(),
-            Work::AtData => self.section.reads(),
+            ActiveCursor::AtDoor { .. } => self.door.reads(),
+            ActiveCursor::AtData => self.section.reads(),
             _ => None,
         }
     }
@@ -197,7 +197,7 @@ impl Process {
         ensures { (d : Doing) → IsAt self.now d → result ≡ changes_pending self.now.setup self.now.process d }
     {
         match &self.work {
-            Work::AtData => match self.section.pending() {
+            ActiveCursor::AtData => match self.section.pending() {
                 Some((_, changes, _)) => Some(changes),
                 None => None,
             },
@@ -210,7 +210,7 @@ impl Process {
         ensures { self.new ≡ record self.old { kept = kept_at self.old.setup self.old.process (Runs command number (enter (call self.old.setup self.old.process command number) Raises)); command = command; number = number } }
     {
         self.door.start();
-        self.work = Work::AtDoor { waits: false };
+        self.work = ActiveCursor::AtDoor { waits: false };
         self.command = command;
         self.number = number;
     }
@@ -219,7 +219,7 @@ impl Process {
     pub fn restart(&mut self)
         ensures { self.new ≡ record self.old { kept = kept.Rests } }
     {
-        self.work = Work::Rests;
+        self.work = ActiveCursor::Rests;
     }
 
     /// The command of its last call.

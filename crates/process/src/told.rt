@@ -16,7 +16,7 @@ use std::alloc::Global;
 
 /// What a step of a process, or of its memory unit, leads to.
 #[derive(Clone, Copy, Debug)]
-pub enum Told {
+pub enum StepTold {
     Nothing,
     /// The doorway is finished, with this ticket.
     Waits(u32),
@@ -37,20 +37,20 @@ pub enum Told {
 /// with no room for a command.
 #[derive(Clone, Copy, Debug)]
 pub enum Effect {
-    Steps(Told),
+    Steps(StepTold),
     Calls(Command),
     Fails,
     Withdraws,
     Restarts,
 }
 
-impl Told {
+impl StepTold {
     /// The reply of a command that is taken.
     pub fn reply(&self) -> Option<Reply>
         ensures { result ≡ reply_taken (marks_told self.now) }
     {
         match *self {
-            Told::Took { reply, .. } | Told::SettlesAndTakes(_, reply) => Some(reply),
+            StepTold::Took { reply, .. } | StepTold::SettlesAndTakes(_, reply) => Some(reply),
             _ => None,
         }
     }
@@ -60,18 +60,18 @@ impl Told {
         ensures { result.items ≡ map (placed place) (marks_told self.now) }
     {
         match *self {
-            Told::Nothing => SmallVec::new(alloc),
-            Told::Waits(ticket) => one(alloc, Mark::Waiting(ticket)),
-            Told::WaitsAndEnters(ticket) => two(alloc, Mark::Waiting(ticket), Mark::Entered),
-            Told::Enters => one(alloc, Mark::Entered),
-            Told::Took { reply, .. } => one(alloc, Mark::Taken(place, reply)),
-            Told::Leaves => one(alloc, Mark::Left),
-            Told::Answers(answer) => one(alloc, Mark::Answered(answer)),
-            Told::Settles(value) => one(alloc, Mark::Settled(value)),
-            Told::SettlesAndTakes(value, reply) => {
+            StepTold::Nothing => SmallVec::new(alloc),
+            StepTold::Waits(ticket) => one(alloc, Mark::Waiting(ticket)),
+            StepTold::WaitsAndEnters(ticket) => two(alloc, Mark::Waiting(ticket), Mark::Entered),
+            StepTold::Enters => one(alloc, Mark::Entered),
+            StepTold::Took { reply, .. } => one(alloc, Mark::Taken(place, reply)),
+            StepTold::Leaves => one(alloc, Mark::Left),
+            StepTold::Answers(answer) => one(alloc, Mark::Answered(answer)),
+            StepTold::Settles(value) => one(alloc, Mark::Settled(value)),
+            StepTold::SettlesAndTakes(value, reply) => {
                 two(alloc, Mark::Settled(value), Mark::Taken(place, reply))
             }
-            Told::Lies => one(alloc, Mark::Down),
+            StepTold::Lies => one(alloc, Mark::Down),
         }
     }
 }
@@ -103,12 +103,12 @@ impl Effect {
 
 /// What an event has made: the access of a step, and what the event leads to.
 #[derive(Clone, Copy, Debug)]
-pub struct Made {
+pub struct EventMade {
     pub access: Option<Access>,
     pub effect: Effect,
 }
 
-impl Made {
+impl EventMade {
     /// The same as an act, where a command that is taken gets this place in the history. It takes no memory.
     pub fn act(&self, alloc: Global, place: u64) -> Act
         ensures { result ≡ act_of place self.now }
@@ -141,18 +141,18 @@ fn two(alloc: Global, first: Mark, second: Mark) -> SmallVec<Mark, 3>
 }
 
 /// What the door's progress tells of a process that waited before, or did not.
-pub(crate) fn told_at_door(waits: bool, progress: DoorProgress) -> Told
+pub(crate) fn told_at_door(waits: bool, progress: DoorProgress) -> StepTold
     ensures marks { marks_told result ≡ doors.marks_told (stage_waiting waits) progress }
     ensures changes { changes_told result ≡ None }
 {
     match progress {
-        DoorProgress::Doorway => Told::Nothing,
-        DoorProgress::Waiting(_) if waits => Told::Nothing,
-        DoorProgress::Waiting(ticket) => Told::Waits(ticket),
-        DoorProgress::Inside(_) if waits => Told::Enters,
-        DoorProgress::Inside(ticket) => Told::WaitsAndEnters(ticket),
-        DoorProgress::Full { .. } if waits => Told::Nothing,
-        DoorProgress::Full { process } => Told::Answers(Answer::TicketsFull { process }),
+        DoorProgress::Doorway => StepTold::Nothing,
+        DoorProgress::Waiting(_) if waits => StepTold::Nothing,
+        DoorProgress::Waiting(ticket) => StepTold::Waits(ticket),
+        DoorProgress::Inside(_) if waits => StepTold::Enters,
+        DoorProgress::Inside(ticket) => StepTold::WaitsAndEnters(ticket),
+        DoorProgress::Full { .. } if waits => StepTold::Nothing,
+        DoorProgress::Full { process } => StepTold::Answers(Answer::TicketsFull { process }),
     }
 }
 
@@ -168,34 +168,34 @@ pub(crate) fn answer_told(progress: &SectionProgress) -> Option<Answer>
 }
 
 /// What a section's progress tells.
-pub(crate) fn told_at_data(progress: &SectionProgress) -> Told
+pub(crate) fn told_at_data(progress: &SectionProgress) -> StepTold
     ensures marks { marks_told result ≡ sections.marks_told progress.now }
     ensures changes { changes_told result ≡ changes_in progress.now }
 {
     match progress {
-        SectionProgress::Taken { reply, changes } => Told::Took {
+        SectionProgress::Taken { reply, changes } => StepTold::Took {
             reply: *reply,
             changes: *changes,
         },
-        _ => Told::Nothing,
+        _ => StepTold::Nothing,
     }
 }
 
 /// What the settling of the torn bit at a value leads to.
-pub(crate) fn settled(value: bool, taken: Option<(bool, Reply)>) -> Told
+pub(crate) fn settled(value: bool, taken: Option<(bool, Reply)>) -> StepTold
     ensures marks { marks_told result ≡ marks_settled value taken }
     ensures changes { changes_told result ≡ None }
 {
     match taken {
-        Some((bit, reply)) if bit == value => Told::SettlesAndTakes(value, reply),
-        _ => Told::Settles(value),
+        Some((bit, reply)) if bit == value => StepTold::SettlesAndTakes(value, reply),
+        _ => StepTold::Settles(value),
     }
 }
 
 /// What an access of the unit leads to that is the first one outside, or is not.
-pub(crate) fn told_left(inside: bool) -> Told
+pub(crate) fn told_left(inside: bool) -> StepTold
     ensures marks { marks_told result ≡ cond inside (Left ∷ []) [] }
     ensures changes { changes_told result ≡ None }
 {
-    if inside { Told::Leaves } else { Told::Nothing }
+    if inside { StepTold::Leaves } else { StepTold::Nothing }
 }

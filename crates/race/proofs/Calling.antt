@@ -42,7 +42,7 @@ use Rattle.record.specs.declared.events.Event.TheVariants as event
 use Rattle.record.specs.declared.refusals.Refusal.{Refusal}
 use Rattle.std.specs.Prelude.{OnOk, Result, Ok, Err}
 use Rattle.std.specs.Result.{is_err}
-use Rattle.race.specs.declared.workers.Reached.TheVariants as reached
+use Rattle.race.specs.declared.workers.CallReached.TheVariants as reached
 use Rattle.race.specs.Calling.{CallGoesOn, ComesTo, HasCalled, IsAnswered, IsCalling, is_uncut}
 
 -- What is not cut stays so, and is not down.

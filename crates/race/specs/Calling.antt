@@ -8,8 +8,8 @@ use Rattle.board.specs.laws.Doings.{Doing, Rests, Runs}
 use Rattle.board.specs.Calls.{Calls, and_then}
 use Rattle.board.specs.Views.{OwnView, ViewState, stage_in}
 use Rattle.board.specs.WordSteps.{goes}
-use Rattle.race.specs.declared.workers.Reached.{Reached}
-use Rattle.race.specs.declared.workers.Reached.TheVariants as reached
+use Rattle.race.specs.declared.workers.CallReached.{CallReached}
+use Rattle.race.specs.declared.workers.CallReached.TheVariants as reached
 use Rattle.record.specs.declared.calls.Placed.{Placed}
 
 -- no failure has cut what the process does, and it has not withdrawn
@@ -33,7 +33,7 @@ IsAnswered before after =
     (place : Option ℕ) × (answer : Answer) × (after ≡ record { done = and_then before.done (option_map (λ (call : Placed). record { command = call.command; answer = Some answer; place = place }) before.now); now = None })
 
 -- what the call of a port has come to: it is answered, and the port rests; or it goes on, at the door or inside
-abbrev pub ComesTo : Setup → Option Reached → ViewState → ViewState → Type 0
+abbrev pub ComesTo : Setup → Option CallReached → ViewState → ViewState → Type 0
 ComesTo s (Some reached.Answer) v w = IsAnswered v.own.calls w.own.calls × (stage_in s w.own ≡ Idle)
 ComesTo s _ v w = IsCalling s w.own × CallGoesOn v.own.calls w.own.calls
 

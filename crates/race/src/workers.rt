@@ -6,7 +6,7 @@ ghost use Rattle.board.specs.Views.{new_own, stage_in};
 ghost use Rattle.race.specs.Calling.{ComesTo, HasCalled, IsCalling};
 ghost use Rattle.race.specs.Faults.{EndsPort, IsFaultOf};
 ghost use Rattle.race.specs.Races.{HasMade};
-ghost use Rattle.race.specs.declared.workers.Reached.TheVariants.{Answer};
+ghost use Rattle.race.specs.declared.workers.CallReached.TheVariants.{Answer};
 
 use crate::faults::RaceFault;
 use crate::gates::{Gate, Moment, passes};
@@ -18,7 +18,7 @@ use std::thread;
 
 /// What a call has come to.
 #[derive(Clone, Copy, PartialEq, Eq)]
-pub(crate) enum Reached {
+pub(crate) enum CallReached {
     /// Its port is inside.
     Section,
     /// It is answered.
@@ -73,11 +73,11 @@ impl<'a, G: Gate> Worker<'a, G> {
         }
         self.pass(rt, port, flicks, Moment::Begun)?;
         match self.come_inside(rt, port, flicks) {
-            Reached::Section => {
+            CallReached::Section => {
                 self.pass(rt, port, flicks, Moment::Inside)?;
                 self.finish(rt, port, flicks);
             }
-            Reached::Answer => {}
+            CallReached::Answer => {}
         }
         Ok(())
     }
@@ -120,7 +120,7 @@ impl<'a, G: Gate> Worker<'a, G> {
 
     /// Drives a port whose call has begun until it comes inside, or the call is answered.
     #[tactic(auto, using(crate::proofs::Calling::still_on_its_way, crate::proofs::Calling::comes_there))]
-    fn come_inside<R: Wait>(&self, rt: &R, port: &mut Port, flicks: &mut Flicks) -> Reached
+    fn come_inside<R: Wait>(&self, rt: &R, port: &mut Port, flicks: &mut Flicks) -> CallReached
         requires board { IsOf self.now.board.now port.old }
         requires calling { IsCalling port.old.setup port.old.view.own }
         ensures same { SamePort port.old port.new }
@@ -137,7 +137,7 @@ impl<'a, G: Gate> Worker<'a, G> {
 
     /// The same, by a few word steps at most: None where they do not suffice. The stage is looked at after each of them,
     /// so that the port makes no access of the section before the gate is asked.
-    fn come_nearer(&self, port: &mut Port, flicks: &mut Flicks) -> Option<Reached>
+    fn come_nearer(&self, port: &mut Port, flicks: &mut Flicks) -> Option<CallReached>
         requires board { IsOf self.now.board.now port.old }
         requires calling { IsCalling port.old.setup port.old.view.own }
         ensures same { SamePort port.old port.new }
@@ -146,10 +146,10 @@ impl<'a, G: Gate> Worker<'a, G> {
         for _ in 0..TURNS_AT_THE_DOOR {
             match port.drive(self.board, 1, flicks) {
                 Driven::Turns => {}
-                _ => return Some(Reached::Answer),
+                _ => return Some(CallReached::Answer),
             }
             if port.stage() == Stage::Inside {
-                return Some(Reached::Section);
+                return Some(CallReached::Section);
             }
         }
         None

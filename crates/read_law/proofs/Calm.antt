@@ -8,8 +8,8 @@ use Rattle.plain_store.specs.declared.Setup.{Setup}
 use Rattle.record.specs.Entries.{Entry, Past}
 use Rattle.record.specs.Moves.{begins_read, moves_of}
 use Rattle.record.specs.Registers.{opening_bit}
-use Rattle.read_law.specs.declared.look.Ending.{Ending}
-use Rattle.read_law.specs.declared.look.Ending.TheVariants.{Free, Writing, Bound}
+use Rattle.read_law.specs.declared.look.ReadEnd.{ReadEnd}
+use Rattle.read_law.specs.declared.look.ReadEnd.TheVariants.{Free, Writing, Bound}
 use Rattle.read_law.specs.declared.look.Look.{Look}
 use Rattle.read_law.specs.Looks.{ending_of, look_of}
 use Rattle.read_law.specs.Safe.{KeepsSafe, MatchBool}
@@ -28,10 +28,10 @@ open_overlaps (BeginRead ∷ moves) h = λ i. not (h i)
 open_overlaps (EndRead v ∷ moves) h = open_overlaps moves h
 
 -- once no write is open, a read that is overlapped stays so, and one that is bound too
-pub closed_then : (e : Ending) (opening : Bool) (moves : List Move) → e ≡ ending_of opening moves → elim e as (λ _. Ending) [ Free ↦ Free | Writing ↦ Free | Bound v ↦ Bound v ] ≡ cond (begins_read moves && not (is_overlapped moves)) (Bound (last_written opening (before_read moves))) Free
+pub closed_then : (e : ReadEnd) (opening : Bool) (moves : List Move) → e ≡ ending_of opening moves → elim e as (λ _. ReadEnd) [ Free ↦ Free | Writing ↦ Free | Bound v ↦ Bound v ] ≡ cond (begins_read moves && not (is_overlapped moves)) (Bound (last_written opening (before_read moves))) Free
 closed_then e opening moves h = by e (is_write_open moves) (begins_read moves && not (is_overlapped moves)) (last_written opening (before_read moves)) (open_overlaps moves) h
   where
-    by : (e : Ending) (w b x : Bool) → (w ≡ true → b ≡ false) → e ≡ cond w Writing (cond b (Bound x) Free) → elim e as (λ _. Ending) [ Free ↦ Free | Writing ↦ Free | Bound v ↦ Bound v ] ≡ cond b (Bound x) Free
+    by : (e : ReadEnd) (w b x : Bool) → (w ≡ true → b ≡ false) → e ≡ cond w Writing (cond b (Bound x) Free) → elim e as (λ _. ReadEnd) [ Free ↦ Free | Writing ↦ Free | Bound v ↦ Bound v ] ≡ cond b (Bound x) Free
     by Free true b x calm h = cc
     by Free false true x calm h = cc
     by Free false false x calm h = refl
@@ -43,10 +43,10 @@ closed_then e opening moves h = by e (is_write_open moves) (begins_read moves &&
     by (Bound v) false false x calm h = cc
 
 -- a read that begins is bound, but while a write is open
-pub reading_then : (e : Ending) (written opening : Bool) (moves : List Move) → e ≡ ending_of opening moves → written ≡ last_written opening moves → elim e as (λ _. Ending) [ Free ↦ Bound written | Writing ↦ Writing | Bound v ↦ Bound written ] ≡ ending_of opening (BeginRead ∷ moves)
+pub reading_then : (e : ReadEnd) (written opening : Bool) (moves : List Move) → e ≡ ending_of opening moves → written ≡ last_written opening moves → elim e as (λ _. ReadEnd) [ Free ↦ Bound written | Writing ↦ Writing | Bound v ↦ Bound written ] ≡ ending_of opening (BeginRead ∷ moves)
 reading_then e written opening moves h same = by e (is_write_open moves) (begins_read moves && not (is_overlapped moves)) (last_written opening (before_read moves)) h
   where
-    by : (e : Ending) (w b x : Bool) → e ≡ cond w Writing (cond b (Bound x) Free) → elim e as (λ _. Ending) [ Free ↦ Bound written | Writing ↦ Writing | Bound v ↦ Bound written ] ≡ cond w Writing (cond (true && not w) (Bound (last_written opening moves)) Free)
+    by : (e : ReadEnd) (w b x : Bool) → e ≡ cond w Writing (cond b (Bound x) Free) → elim e as (λ _. ReadEnd) [ Free ↦ Bound written | Writing ↦ Writing | Bound v ↦ Bound written ] ≡ cond w Writing (cond (true && not w) (Bound (last_written opening moves)) Free)
     by Free true b x h = cc
     by Free false b x h = ap Bound same
     by Writing true b x h = refl
@@ -77,7 +77,7 @@ bound_forbids only v opening moves h other may = by (is_write_open moves) (begin
     by false false o x h may = cc
 
 -- one that is not bound may end with each
-pub free_allows : (e : Ending) (v opening : Bool) (moves : List Move) → e ≡ ending_of opening moves → ((only : Bool) → e ≡ Bound only → ⊥) → begins_read moves ≡ true → MayEndWith opening moves v
+pub free_allows : (e : ReadEnd) (v opening : Bool) (moves : List Move) → e ≡ ending_of opening moves → ((only : Bool) → e ≡ Bound only → ⊥) → begins_read moves ≡ true → MayEndWith opening moves v
 free_allows e v opening moves h free begins calm = absurd (by (is_write_open moves) refl)
   where
     by : (w : Bool) → is_write_open moves ≡ w → ⊥
@@ -97,7 +97,7 @@ bound_calm only opening moves h = by (is_write_open moves) (begins_read moves) (
     by false false o x h = cc
 
 -- and one that is not bound was overlapped, if it has begun
-pub free_overlapped : (e : Ending) (opening : Bool) (moves : List Move) → e ≡ ending_of opening moves → ((only : Bool) → e ≡ Bound only → ⊥) → begins_read moves ≡ true → true ≡ is_overlapped moves
+pub free_overlapped : (e : ReadEnd) (opening : Bool) (moves : List Move) → e ≡ ending_of opening moves → ((only : Bool) → e ≡ Bound only → ⊥) → begins_read moves ≡ true → true ≡ is_overlapped moves
 free_overlapped e opening moves h free begins = by (is_overlapped moves) refl
   where
     by : (o : Bool) → is_overlapped moves ≡ o → true ≡ o

@@ -5,8 +5,8 @@ use Rattle.std.proofs.lemmas.List.{get_or-set_same, get_or-set_other, length-rep
 use Rattle.std.proofs.lemmas.List.FromFn.{length-map-range_with_len, get_or-map-range_with_len}
 use Rattle.std.proofs.lemmas.Bool.{cases_eq}
 use Rattle.record.proofs.reader_copies.Flags.{made-set}
-use Rattle.read_law.specs.declared.look.Ending.{Ending}
-use Rattle.read_law.specs.declared.look.Ending.TheVariants.{Free, Writing, Bound}
+use Rattle.read_law.specs.declared.look.ReadEnd.{ReadEnd}
+use Rattle.read_law.specs.declared.look.ReadEnd.TheVariants.{Free, Writing, Bound}
 use Rattle.read_law.specs.declared.look.Look.{Look}
 use Rattle.read_law.specs.Looks.{look_of}
 use Rattle.read_law.specs.Packing.{ending_from, four_bits, look_from, look_in, looks_of}

@@ -4,12 +4,12 @@ use Rattle.record.specs.safe_bit.declared.Move.{Move}
 use Rattle.record.specs.safe_bit.declared.Move.TheVariants.{EndRead}
 use Rattle.record.specs.safe_bit.SafeRule.{before_read, is_overlapped, is_write_open, last_begun, last_written}
 use Rattle.record.specs.Moves.{begins_read}
-use Rattle.read_law.specs.declared.look.Ending.{Ending}
-use Rattle.read_law.specs.declared.look.Ending.TheVariants.{Free, Writing, Bound}
+use Rattle.read_law.specs.declared.look.ReadEnd.{ReadEnd}
+use Rattle.read_law.specs.declared.look.ReadEnd.TheVariants.{Free, Writing, Bound}
 use Rattle.read_law.specs.declared.look.Look.{Look}
 
 -- What the read that began last may end with: anything while a write is open; if it began and no write overlapped it, what was last written or settled before it; else anything.
-abbrev pub ending_of : Bool → List Move → Ending
+abbrev pub ending_of : Bool → List Move → ReadEnd
 ending_of opening moves =
     cond (is_write_open moves) Writing
     (cond (begins_read moves && not (is_overlapped moves)) (Bound (last_written opening (before_read moves))) Free)

@@ -1,12 +1,12 @@
 -- How looks are packed: each in four bits, two in a byte.
 use Rattle.std.specs.Prelude.{ℕ, suc, ◌/◌, ◌%◌, ◌==◌, Bool, false, true, List, map, slice_index_or, cond}
 use Rattle.std.specs.List.{range_with_len}
-use Rattle.read_law.specs.declared.look.Ending.{Ending}
-use Rattle.read_law.specs.declared.look.Ending.TheVariants.{Free, Writing, Bound}
+use Rattle.read_law.specs.declared.look.ReadEnd.{ReadEnd}
+use Rattle.read_law.specs.declared.look.ReadEnd.TheVariants.{Free, Writing, Bound}
 use Rattle.read_law.specs.declared.look.Look.{Look}
 
 -- what the two high bits of four say
-abbrev pub ending_from : ℕ → Ending
+abbrev pub ending_from : ℕ → ReadEnd
 ending_from code = cond (code == 0) Free (cond (code == 1) Writing (Bound (code == 3)))
 
 -- what four bits say

@@ -15,7 +15,7 @@ use record::Move;
 
 /// What the end of the read that began last may give.
 #[derive(Clone, Copy, PartialEq, Eq)]
-pub(crate) enum Ending {
+pub(crate) enum ReadEnd {
     /// Anything, and no write is open: a write overlapped the read, or no read has begun.
     Free,
     /// Anything: a write is open.
@@ -24,27 +24,27 @@ pub(crate) enum Ending {
     Bound(bool),
 }
 
-impl Ending {
+impl ReadEnd {
     /// Once no write is open.
     #[inline]
-    fn closed(self) -> Ending
+    fn closed(self) -> ReadEnd
         ensures ended { (opening : Bool) (moves : List Moved) → self ≡ ending_of opening moves → result ≡ ending_of opening (EndWrite ∷ moves) }
         ensures settled { (opening : Bool) (moves : List Moved) (value : Bool) → self ≡ ending_of opening moves → result ≡ ending_of opening (Settle value ∷ moves) }
     {
         match self {
-            Ending::Writing => Ending::Free,
+            ReadEnd::Writing => ReadEnd::Free,
             other => other,
         }
     }
 
     /// Once one more read has begun, before which `written` was last written or settled.
     #[inline]
-    fn reading(self, written: bool) -> Ending
+    fn reading(self, written: bool) -> ReadEnd
         ensures { (opening : Bool) (moves : List Moved) → self ≡ ending_of opening moves → written ≡ last_written opening moves → result ≡ ending_of opening (BeginRead ∷ moves) }
     {
         match self {
-            Ending::Writing => Ending::Writing,
-            _ => Ending::Bound(written),
+            ReadEnd::Writing => ReadEnd::Writing,
+            _ => ReadEnd::Bound(written),
         }
     }
 
@@ -54,7 +54,7 @@ impl Ending {
         ensures { (opening : Bool) (moves : List Moved) → self ≡ ending_of opening moves → MatchBool result (begins_read moves ≡ true → MayEndWith opening moves value) ((begins_read moves ≡ true → MayEndWith opening moves value) → ⊥) }
     {
         match self {
-            Ending::Bound(only) => value == only,
+            ReadEnd::Bound(only) => value == only,
             _ => true,
         }
     }
@@ -65,7 +65,7 @@ impl Ending {
         ensures { (opening : Bool) (moves : List Moved) → self ≡ ending_of opening moves → begins_read moves ≡ true → result ≡ is_overlapped moves }
     {
         match self {
-            Ending::Bound(_) => false,
+            ReadEnd::Bound(_) => false,
             _ => true,
         }
     }
@@ -79,7 +79,7 @@ pub(crate) struct Look {
     /// What was last written or settled.
     pub written: bool,
     /// What the end of the read that began last may give.
-    pub ending: Ending,
+    pub ending: ReadEnd,
 }
 
 impl Look {
@@ -90,7 +90,7 @@ impl Look {
         Look {
             begun: value,
             written: value,
-            ending: Ending::Free,
+            ending: ReadEnd::Free,
         }
     }
 
@@ -102,7 +102,7 @@ impl Look {
         match how {
             Move::BeginWrite(value) => Look {
                 begun: value,
-                ending: Ending::Writing,
+                ending: ReadEnd::Writing,
                 ..self
             },
             Move::EndWrite => Look {

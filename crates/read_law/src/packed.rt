@@ -3,11 +3,11 @@ ghost use Rattle.std.specs.Prelude.{◌≡◌, ℕ, ◌<◌, ◌%◌, length, re
 ghost use Rattle.read_law.specs.Looks.{look_of};
 ghost use Rattle.read_law.specs.Packing.{ending_from, four_bits, look_from};
 
-use crate::look::{Ending, Look};
+use crate::look::{ReadEnd, Look};
 use std::alloc::{AllocError, Global};
 use std::marker::Model;
 
-impl Ending {
+impl ReadEnd {
     /// Its number below 4.
     #[inline]
     fn code(self) -> u8
@@ -15,22 +15,22 @@ impl Ending {
         ensures most { result < 4 }
     {
         match self {
-            Ending::Free => 0,
-            Ending::Writing => 1,
-            Ending::Bound(false) => 2,
-            Ending::Bound(true) => 3,
+            ReadEnd::Free => 0,
+            ReadEnd::Writing => 1,
+            ReadEnd::Bound(false) => 2,
+            ReadEnd::Bound(true) => 3,
         }
     }
 
     /// The one with this number.
     #[inline]
-    fn from_code(code: u8) -> Ending
+    fn from_code(code: u8) -> ReadEnd
         ensures { result ≡ ending_from code }
     {
         match code {
-            0 => Ending::Free,
-            1 => Ending::Writing,
-            _ => Ending::Bound(code == 3),
+            0 => ReadEnd::Free,
+            1 => ReadEnd::Writing,
+            _ => ReadEnd::Bound(code == 3),
         }
     }
 }
@@ -53,7 +53,7 @@ impl Look {
         Look {
             begun: code % 2 == 1,
             written: code / 2 % 2 == 1,
-            ending: Ending::from_code(code / 4),
+            ending: ReadEnd::from_code(code / 4),
         }
     }
 }

@@ -10,7 +10,7 @@ use Rattle.companions.specs.picture.Bandings.{Item, Plan, Reads, Tells, bands_to
 use Rattle.companions.specs.picture.Pages.{GivesRest, GoesOn, SeenPage, band_text, lines_of_band, page_of}
 use Rattle.companions.specs.picture.columns.Told.{saying_text, text_of}
 use Rattle.companions.specs.picture.columns.declared.reads.OverlappedRead.{OverlappedRead}
-use Rattle.companions.specs.picture.columns.declared.told.Line.{Line}
+use Rattle.companions.specs.picture.columns.declared.told.RunLine.{RunLine}
 use Rattle.record_drawer.specs.Drawings.{Draws, DrawsBands, DrawsOn, DrawsRest, Fills, Kept, Writes}
 use Rattle.record_drawer.specs.Items.{Gives, GivesLine, GivesRead, given, says_of, says_text, text_given, texts_given}
 use Rattle.record_drawer.proofs.Written.{appends_both, appends_none}
@@ -88,7 +88,7 @@ draws_on_both had has now a b c gives those first next = record {
 }
 
 -- a line that was told, and the band that is full, if one is
-pub draws_on_line : (line : Line) (had has : Kept) (band : Option (List ℕ)) (a b : Option (List ℕ)) → says_text line.at (says_of line.saying) ≡ saying_text line.at line.saying → lines_of_band band ++ has.lines ≡ had.lines ++ text_of line ∷ [] → GoesOn (Tells line) had.page band has.page →
+pub draws_on_line : (line : RunLine) (had has : Kept) (band : Option (List ℕ)) (a b : Option (List ℕ)) → says_text line.at (says_of line.saying) ≡ saying_text line.at line.saying → lines_of_band band ++ has.lines ≡ had.lines ++ text_of line ∷ [] → GoesOn (Tells line) had.page band has.page →
     Draws a b (band_text band) (lines_of_band band) → DrawsOn had has a b (GivesLine line.source line.at (says_of line.saying) ∷ [])
 draws_on_line line had has band a b says is goes draws = record {
   markup = band_text band;

@@ -19,8 +19,8 @@ use Rattle.files.specs.Streams.{failed_reading}
 use Rattle.files.specs.declared.faults.LineFault.{LineFault}
 use Rattle.files.specs.SourceLines.{EndHolds, Given, GoesToNext, LineState, TakesNext, Told, coming, unless_ended}
 use Rattle.record_drawer.specs.Sheets.{DrawsAt, DrawsBandsOf, EndsAt, GoesOn, IsDrawFault, LineStops, Stands, entries_of}
-use Rattle.record_drawer.specs.declared.drawing.Drawing.{Drawing}
-use Rattle.record_drawer.specs.declared.sheet.Drawn.{Drawn}
+use Rattle.record_drawer.specs.declared.drawing.RecordDrawing.{RecordDrawing}
+use Rattle.record_drawer.specs.declared.sheet.DrawnEntry.{DrawnEntry}
 use Rattle.record_drawer.specs.declared.sheet.Sheet.{Sheet}
 use Rattle.record_drawer.proofs.Lines.{few_in, long_read, reverse_in, unless_then}
 
@@ -54,7 +54,7 @@ pub record Onwards (to_come rest : Option (List ℕ)) (taken : ℕ) (t : Sheet) 
   pub goes_on : Told to_come rest (GoesOnTo before (reverse past) taken)
 
 -- as many entries were drawn as were said
-drawn_count : (reads : Mode) (form : Form) (d : Option Drawing) (before : Option Progress) (past : Past) (old new : Option (List ℕ)) → DrawsAt reads form d before past old new → entries_of d ≡ length past
+drawn_count : (reads : Mode) (form : Form) (d : Option RecordDrawing) (before : Option Progress) (past : Past) (old new : Option (List ℕ)) → DrawsAt reads form d before past old new → entries_of d ≡ length past
 drawn_count reads form None before past old new drawn = sym (ap length drawn.0)
 drawn_count reads form (Some d) None past old new drawn = absurd drawn
 drawn_count reads form (Some d) (Some p) past old new drawn = drawn.1.recalls.entries
@@ -135,7 +135,7 @@ onwards_none to_come mid taken t old new u none end =
     of_input to_come mid (GoesOnTo u.before (reverse u.past) taken) (λ y. y ≡ []) (λ text. record_of text ≡ Err (record { line = taken + 1; kind = NotFirst })) (λ x y before is. sym before ∙ ap (λ (l : List ℕ). rest_read (taken + 1) l u.before (reverse u.past)) is ∙ ap (λ b. rest_read (taken + 1) [] b (reverse u.past)) (sym u.stands.reader ∙ none) ∙ ap (λ n. Err (record { line = n; kind = NotFirst })) {y = taken + 1} (omega arith)) u.goes_on (at_end mid end)
 
 -- the picture of the whole
-pub onwards_drawn : (to_come mid : Option (List ℕ)) (taken : ℕ) (t : Sheet) (old new then : Option (List ℕ)) (u : Onwards to_come mid taken t old new) (p : Progress) (drawn : Drawn) → t.reader ≡ Some p → IsAtEnd mid →
+pub onwards_drawn : (to_come mid : Option (List ℕ)) (taken : ℕ) (t : Sheet) (old new then : Option (List ℕ)) (u : Onwards to_come mid taken t old new) (p : Progress) (drawn : DrawnEntry) → t.reader ≡ Some p → IsAtEnd mid →
     ((p : Progress) (past : Past) (first : Option (List ℕ)) → t.reader ≡ Some p → Stands t (Some p) past first new → (drawn.setup ≡ p.head.setup) × EndsAt t.reads t.form p.head.setup past drawn.height first then) →
     IfSome to_come (λ text. DrawsBandsOf t.reads t.form text drawn old then)
 onwards_drawn to_come mid taken t old new then u p drawn some end ends =

@@ -27,7 +27,7 @@ use Rattle.record_file.specs.RecordFiles.{Progress, cleared, entry_in, kind_of, 
 use Rattle.record_file.specs.declared.line_kinds.LineKind.{LineKind}
 use Rattle.record_file.specs.declared.line_kinds.LineKind.TheVariants as kind
 use Rattle.record_drawer.specs.Sheets.{Draws, DrawsAt, GoesOn, IsDrawn, Stands}
-use Rattle.record_drawer.specs.declared.drawing.Drawing.{Drawing}
+use Rattle.record_drawer.specs.declared.drawing.RecordDrawing.{RecordDrawing}
 use Rattle.record_drawer.specs.declared.sheet.Sheet.{Sheet}
 
 -- What a later line leaves: it says no entry, and what has ended stays; or it says one, and the head stays.
@@ -106,11 +106,11 @@ first_left (first ∷ words) now is = by (begins_with 35 first) is
 
 module _ (reads : Mode) (form : Form) (old : Option (List ℕ)) where
   -- a picture is of the setup that was read
-  drawn_at : (s t : Setup) (d : Drawing) (past : Past) (new : Option (List ℕ)) → s ≡ t → IsDrawn reads form s past d old new → IsDrawn reads form t past d old new
+  drawn_at : (s t : Setup) (d : RecordDrawing) (past : Past) (new : Option (List ℕ)) → s ≡ t → IsDrawn reads form s past d old new → IsDrawn reads form t past d old new
   drawn_at s t d past new same drawn = subst (λ s. IsDrawn reads form s past d old new) same drawn
 
   -- behind a line that says no entry
-  pub drawn_still : (words : List (List ℕ)) (before now : Option Progress) (d : Option Drawing) (past : Past) (new : Option (List ℕ)) → words_read record_grammar words before ≡ Ok now → cleared before ≡ before → entry_in now ≡ [] → DrawsAt reads form d before past old new → DrawsAt reads form d (cleared now) (entry_in now ++ past) old new
+  pub drawn_still : (words : List (List ℕ)) (before now : Option Progress) (d : Option RecordDrawing) (past : Past) (new : Option (List ℕ)) → words_read record_grammar words before ≡ Ok now → cleared before ≡ before → entry_in now ≡ [] → DrawsAt reads form d before past old new → DrawsAt reads form d (cleared now) (entry_in now ++ past) old new
   drawn_still words before now None past new read clear none drawn = (ap (λ l. l ++ past) none ∙ drawn.0, drawn.1)
   drawn_still words None now (Some d) past new read clear none drawn = absurd drawn
   drawn_still words (Some p) now (Some d) past new read clear none drawn = by (later_left words p now read)
@@ -128,7 +128,7 @@ module _ (reads : Mode) (form : Form) (old : Option (List ℕ)) where
           (subst (λ (o : Option Progress). DrawsAt reads form (Some d) (cleared o) past old new) (sym next.1) (whole next.0 (stays next.0 next.2)))
 
   -- behind one that says an entry, which was drawn
-  pub drawn_more : (words : List (List ℕ)) (before : Option Progress) (now : Progress) (e : Entry) (d d' : Option Drawing) (past : Past) (new new' : Option (List ℕ)) → words_read record_grammar words before ≡ Ok (Some now) → cleared before ≡ before → now.entry ≡ Some e →
+  pub drawn_more : (words : List (List ℕ)) (before : Option Progress) (now : Progress) (e : Entry) (d d' : Option RecordDrawing) (past : Past) (new new' : Option (List ℕ)) → words_read record_grammar words before ≡ Ok (Some now) → cleared before ≡ before → now.entry ≡ Some e →
       IsSome d' → (Draws reads form d now.head.setup past old new → Draws reads form d' now.head.setup (e ∷ past) old new') → DrawsAt reads form d before past old new → DrawsAt reads form d' (cleared (Some now)) (entry_in (Some now) ++ past) old new'
   drawn_more words None now e d d' past new new' read clear says some draws drawn = let no : None ≡ Some e = sym (first_left words now read) ∙ says in absurd (cc)
   drawn_more words (Some p) now e d None past new new' read clear says some draws drawn = absurd (cc)
@@ -137,7 +137,7 @@ module _ (reads : Mode) (form : Form) (old : Option (List ℕ)) where
       empty : p.entry ≡ None
       empty = ap (λ (o : Option Progress). elim o as (λ _. Option Entry) [ None ↦ None | Some q ↦ q.entry ]) (sym clear)
 
-      before_it : (d : Option Drawing) → DrawsAt reads form d (Some p) past old new → now.head ≡ p.head → Draws reads form d now.head.setup past old new
+      before_it : (d : Option RecordDrawing) → DrawsAt reads form d (Some p) past old new → now.head ≡ p.head → Draws reads form d now.head.setup past old new
       before_it None drawn same = drawn
       before_it (Some i) drawn same = drawn_at p.head.setup now.head.setup i past new (ap (λ (h : Head). h.setup) (sym same)) drawn.1
 
@@ -216,7 +216,7 @@ module _ (line : List ℕ) (before now : Option Progress) (old t : Sheet) (past 
   ends_quiet reader reads form same kept none =
       ends_well reader (drawn_still t.reads t.form first (words_of line) before now t.drawing past after read_at stands.clear none
       (subst (λ (m : Mode). DrawsAt m t.form t.drawing before past first after) (sym reads) (subst (λ (f : Form). DrawsAt old.reads f t.drawing before past first after) (sym form)
-      (subst (λ (d : Option Drawing). DrawsAt old.reads old.form d before past first after) (sym same) (subst (λ (w : Option (List ℕ)). DrawsAt old.reads old.form old.drawing before past first w) (sym kept) stands.draws)))))
+      (subst (λ (d : Option RecordDrawing). DrawsAt old.reads old.form d before past first after) (sym same) (subst (λ (w : Option (List ℕ)). DrawsAt old.reads old.form old.drawing before past first w) (sym kept) stands.draws)))))
 
 -- it says one, which was drawn
 pub ends_drawn : (line : List ℕ) (before : Option Progress) (now : Progress) (e : Entry) (old t : Sheet) (past : Past) (first taken after : Option (List ℕ)) → length line ≤ 128 → Stands old before past first taken → words_read record_grammar (words_of line) old.reader ≡ Ok (Some now) → now.entry ≡ Some e →
@@ -228,11 +228,11 @@ ends_drawn line before now e old t past first taken after short stands read says
     (drawn_more old.reads old.form first (words_of line) before now e old.drawing t.drawing past taken after (read_at line before (Some now) old t past first taken after short stands read) stands.clear says some (draws past first) stands.draws)))
 
 -- it is as it is printed for a Step, which was heard behind an entry
-pub ends_stepped : (line : List ℕ) (old t : Sheet) (d d' : Drawing) (process : ℕ) (access : Access) (before : Option Progress) (past : Past) (first now : Option (List ℕ)) → length line ≤ 128 → line ≡ spaced (entry_words (step_entry process access)) → is_entry (step_entry process access) ≡ true → old.drawing ≡ Some d →
+pub ends_stepped : (line : List ℕ) (old t : Sheet) (d d' : RecordDrawing) (process : ℕ) (access : Access) (before : Option Progress) (past : Past) (first now : Option (List ℕ)) → length line ≤ 128 → line ≡ spaced (entry_words (step_entry process access)) → is_entry (step_entry process access) ≡ true → old.drawing ≡ Some d →
     t.reader ≡ old.reader → t.reads ≡ old.reads → t.form ≡ old.form → t.drawing ≡ Some d' →
     ((s : Setup) → IsDrawn old.reads old.form s past d first now → IsDrawn old.reads old.form s (step_entry process access ∷ past) d' first now) → Stands old before past first now → GoesOn (line_read line before) t past first now
 ends_stepped line old t d d' process access before past first now short printed sound some reader reads form drawing draws stands =
-    by before stands.clear (subst (λ (o : Option Drawing). DrawsAt old.reads old.form o before past first now) some stands.draws) (reader ∙ stands.reader)
+    by before stands.clear (subst (λ (o : Option RecordDrawing). DrawsAt old.reads old.form o before past first now) some stands.draws) (reader ∙ stands.reader)
   where
     e : Entry
     e = step_entry process access
@@ -246,7 +246,7 @@ ends_stepped line old t d d' process access before past first now short printed 
         reader = same ∙ sym clear ∙ ap (λ (b : Bool). Some (record p { ended = b; entry = None })) drawn.0;
         clear = refl;
         draws = subst (λ (m : Mode). DrawsAt m t.form t.drawing (Some (record p { ended = true; entry = None })) (e ∷ past) first now) (sym reads) (subst (λ (f : Form). DrawsAt old.reads f t.drawing (Some (record p { ended = true; entry = None })) (e ∷ past) first now) (sym form)
-            (subst (λ (o : Option Drawing). DrawsAt old.reads old.form o (Some (record p { ended = true; entry = None })) (e ∷ past) first now) (sym drawing) (refl, draws p.head.setup drawn.1)));
+            (subst (λ (o : Option RecordDrawing). DrawsAt old.reads old.form o (Some (record p { ended = true; entry = None })) (e ∷ past) first now) (sym drawing) (refl, draws p.head.setup drawn.1)));
       };
     }
 

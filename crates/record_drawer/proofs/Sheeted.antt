@@ -17,16 +17,16 @@ use Rattle.companions.specs.picture.shapes.Titles.{lines_in}
 use Rattle.record_drawer.specs.Drawings.{DrawsOn, DrawsRest, Kept, Recalls, Writes, kept, kept_at_first, plan_of}
 use Rattle.record_drawer.specs.Items.{SaysEnd, given_at_end, given_by, given_of, lines_given, reads_since, source_of}
 use Rattle.record_drawer.specs.Sheets.{Draws, DrawsAt, EndsAt, Heads, IsDrawn, listed}
-use Rattle.record_drawer.specs.declared.drawing.Drawing.{Drawing}
-use Rattle.record_drawer.proofs.Drawn.{draws_bands, draws_on_both, draws_on_none}
+use Rattle.record_drawer.specs.declared.drawing.RecordDrawing.{RecordDrawing}
+use Rattle.record_drawer.proofs.DrawnEntry.{draws_bands, draws_on_both, draws_on_none}
 
 module _ (reads : Mode) (form : Form) (s : Setup) where
   -- the line that stands for the entries
-  source : (d : Drawing) → d.last ≡ source_of s + 1 → d.last - 1 ≡ source_of s
+  source : (d : RecordDrawing) → d.last ≡ source_of s + 1 → d.last - 1 ≡ source_of s
   source d is = omega (arith, is)
 
   -- one entry more
-  pub drawn_entry : (past : Past) (e : Entry) (d d' : Drawing) (old mid new : Option (List ℕ)) → IsDrawn reads form s past d old mid → DrawsOn (kept d.page) (kept d'.page) mid new (given_of reads s (d.last - 1) past e) → Recalls reads s (e ∷ past) d' → d'.last ≡ d.last → IsDrawn reads form s (e ∷ past) d' old new
+  pub drawn_entry : (past : Past) (e : Entry) (d d' : RecordDrawing) (old mid new : Option (List ℕ)) → IsDrawn reads form s past d old mid → DrawsOn (kept d.page) (kept d'.page) mid new (given_of reads s (d.last - 1) past e) → Recalls reads s (e ∷ past) d' → d'.last ≡ d.last → IsDrawn reads form s (e ∷ past) d' old new
   drawn_entry past e d d' old mid new drawn on recalls last = record {
     last = last ∙ drawn.last;
     recalls = recalls;
@@ -37,7 +37,7 @@ module _ (reads : Mode) (form : Form) (s : Setup) where
   }
 
   -- one without a mark, of which nothing is drawn
-  pub drawn_step : (past : Past) (p : ℕ) (a : Access) (d d' : Drawing) (old new : Option (List ℕ)) → d'.page ≡ d.page → Recalls reads s (step_entry p a ∷ past) d' → d'.last ≡ d.last → IsDrawn reads form s past d old new → IsDrawn reads form s (step_entry p a ∷ past) d' old new
+  pub drawn_step : (past : Past) (p : ℕ) (a : Access) (d d' : RecordDrawing) (old new : Option (List ℕ)) → d'.page ≡ d.page → Recalls reads s (step_entry p a ∷ past) d' → d'.last ≡ d.last → IsDrawn reads form s past d old new → IsDrawn reads form s (step_entry p a ∷ past) d' old new
   drawn_step past p a d d' old new page recalls last drawn = record {
     last = last ∙ drawn.last;
     recalls = recalls;
@@ -48,7 +48,7 @@ module _ (reads : Mode) (form : Form) (s : Setup) where
   }
 
   -- none yet
-  pub drawn_none : (d : Drawing) (old new : Option (List ℕ)) → d.last ≡ source_of s + 1 → Recalls reads s [] d → kept d.page ≡ kept_at_first (plan_of form s) → Heads reads form s old new → IsDrawn reads form s [] d old new
+  pub drawn_none : (d : RecordDrawing) (old new : Option (List ℕ)) → d.last ≡ source_of s + 1 → Recalls reads s [] d → kept d.page ≡ kept_at_first (plan_of form s) → Heads reads form s old new → IsDrawn reads form s [] d old new
   drawn_none d old new last recalls page heads = record {
     last = last;
     recalls = recalls;
@@ -58,12 +58,12 @@ module _ (reads : Mode) (form : Form) (s : Setup) where
   }
 
   -- a picture that begins where there was none
-  pub drawn_begun : (d d' : Option Drawing) (past : Past) (old mid new : Option (List ℕ)) → is_some d ≡ false → Draws reads form d s past old mid → Draws reads form d' s [] mid new → Draws reads form d' s past old new
+  pub drawn_begun : (d d' : Option RecordDrawing) (past : Past) (old mid new : Option (List ℕ)) → is_some d ≡ false → Draws reads form d s past old mid → Draws reads form d' s [] mid new → Draws reads form d' s past old new
   drawn_begun None d' past old mid new none drawn begun = subst (λ (l : Past). Draws reads form d' s l old new) (sym drawn.0) (subst (λ (w : Option (List ℕ)). Draws reads form d' s [] w new) drawn.1 begun)
   drawn_begun (Some d) d' past old mid new none drawn begun = absurd (true≢false none)
 
   -- all
-  pub drawn_end : (past : Past) (d : Drawing) (old mid new : Option (List ℕ)) (height : ℕ) → IsDrawn reads form s past d old mid → DrawsRest (kept d.page) mid new (lines_given reads d.last d.entries (reads_since s past) (SaysEnd d.entries d.taken ∷ [])) height → EndsAt reads form s past height old new
+  pub drawn_end : (past : Past) (d : RecordDrawing) (old mid new : Option (List ℕ)) (height : ℕ) → IsDrawn reads form s past d old mid → DrawsRest (kept d.page) mid new (lines_given reads d.last d.entries (reads_since s past) (SaysEnd d.entries d.taken ∷ [])) height → EndsAt reads form s past height old new
   drawn_end past d old mid new height drawn rest = record {
     mid = drawn.mid;
     heads = drawn.heads;
@@ -88,7 +88,7 @@ pub front_listed : (s : Setup) (reads : Mode) (text printed markup : List ℕ) �
 front_listed s reads text printed markup prints more is = is ∙ ap (λ l. page_front s l reads) (more ∙ ap (λ l. l ++ codes "(entries)\n") prints)
 
 -- what is drawn, by the setup that was read
-pub draws_of : (reads : Mode) (f : Form) (d : Option Drawing) (p : Progress) (past : Past) (old new : Option (List ℕ)) → DrawsAt reads f d (Some p) past old new → Draws reads f d p.head.setup past old new
+pub draws_of : (reads : Mode) (f : Form) (d : Option RecordDrawing) (p : Progress) (past : Past) (old new : Option (List ℕ)) → DrawsAt reads f d (Some p) past old new → Draws reads f d p.head.setup past old new
 draws_of reads f None p past old new drawn = drawn
 draws_of reads f (Some d) p past old new drawn = drawn.1
 

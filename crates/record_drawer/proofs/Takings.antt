@@ -12,20 +12,20 @@ use Rattle.record.specs.declared.marks.Mark.{Mark}
 use Rattle.record.specs.declared.marks.Mark.TheVariants as mark
 use Rattle.companions.specs.StoreChanges.{Changed}
 use Rattle.record_drawer.specs.Takings.{Knows, after_call, call_after, called_by, change_by_call, change_of, change_with, next_number, no_call, store_by, store_with}
-use Rattle.record_drawer.specs.declared.changes.Called.{Called}
-use Rattle.record_drawer.specs.declared.changes.Changes.{Changes}
+use Rattle.record_drawer.specs.declared.changes.LastCall.{LastCall}
+use Rattle.record_drawer.specs.declared.changes.RecordedChanges.{RecordedChanges}
 
 -- where nothing is looked up, there is nothing
-past_all : (xs : List Called) (p : ℕ) → slice_get xs p ≡ None → length xs ≤ p
+past_all : (xs : List LastCall) (p : ℕ) → slice_get xs p ≡ None → length xs ≤ p
 past_all xs p none = elim (cases_lt p (length xs)) [
   | inl within ↦ let some : slice_get xs p ≡ Some (get_or xs p no_call) = slice_get-get_or xs p no_call within in let no : None ≡ Some (get_or xs p no_call) = sym none ∙ some in absurd (cc)
   | inr past ↦ past
 ]
 
 -- a process that is not there takes nothing, and calls nothing that is kept
-store_stray : (s : Setup) (p : ℕ) (call : Called) (m : Mark) (store : Contents) → nat_lt p s.processes ≡ false → store_with s p call m store ≡ store
+store_stray : (s : Setup) (p : ℕ) (call : LastCall) (m : Mark) (store : Contents) → nat_lt p s.processes ≡ false → store_with s p call m store ≡ store
 store_stray s p call (mark.Taken k r) store stray = ap (λ b. cond b (after_call p call store) store) stray
-store_stray s p call (mark.Called c) store stray = refl
+store_stray s p call (mark.LastCall c) store stray = refl
 store_stray s p call (mark.Waiting t) store stray = refl
 store_stray s p call mark.Entered store stray = refl
 store_stray s p call mark.Left store stray = refl
@@ -36,9 +36,9 @@ store_stray s p call mark.Down store stray = refl
 store_stray s p call mark.Withdrew store stray = refl
 store_stray s p call mark.Restarted store stray = refl
 
-change_stray : (s : Setup) (p : ℕ) (call : Called) (m : Mark) (store : Contents) → nat_lt p s.processes ≡ false → change_with s p call m store ≡ None
+change_stray : (s : Setup) (p : ℕ) (call : LastCall) (m : Mark) (store : Contents) → nat_lt p s.processes ≡ false → change_with s p call m store ≡ None
 change_stray s p call (mark.Taken k r) store stray = ap (λ b. cond b (change_by_call p call store) None) stray
-change_stray s p call (mark.Called c) store stray = refl
+change_stray s p call (mark.LastCall c) store stray = refl
 change_stray s p call (mark.Waiting t) store stray = refl
 change_stray s p call mark.Entered store stray = refl
 change_stray s p call mark.Left store stray = refl
@@ -50,9 +50,9 @@ change_stray s p call mark.Withdrew store stray = refl
 change_stray s p call mark.Restarted store stray = refl
 
 -- a mark of another process leaves a call
-call_other : (s : Setup) (m : Mark) (call : Called) → call_after s false m call ≡ call
+call_other : (s : Setup) (m : Mark) (call : LastCall) → call_after s false m call ≡ call
 call_other s (mark.Taken k r) call = refl
-call_other s (mark.Called c) call = refl
+call_other s (mark.LastCall c) call = refl
 call_other s (mark.Waiting t) call = refl
 call_other s mark.Entered call = refl
 call_other s mark.Left call = refl
@@ -65,13 +65,13 @@ call_other s mark.Restarted call = refl
 
 -- marks that neither call nor take
 abbrev pub is_quiet : Mark → Bool
-is_quiet (mark.Called c) = false
+is_quiet (mark.LastCall c) = false
 is_quiet (mark.Taken k r) = false
 is_quiet _ = true
 
-call_quiet : (s : Setup) (own : Bool) (m : Mark) (call : Called) → is_quiet m ≡ true → call_after s own m call ≡ call
+call_quiet : (s : Setup) (own : Bool) (m : Mark) (call : LastCall) → is_quiet m ≡ true → call_after s own m call ≡ call
 call_quiet s own (mark.Taken k r) call quiet = absurd (true≢false (sym quiet))
-call_quiet s own (mark.Called c) call quiet = absurd (true≢false (sym quiet))
+call_quiet s own (mark.LastCall c) call quiet = absurd (true≢false (sym quiet))
 call_quiet s true (mark.Waiting t) call quiet = refl
 call_quiet s true mark.Entered call quiet = refl
 call_quiet s true mark.Left call quiet = refl
@@ -83,13 +83,13 @@ call_quiet s true mark.Withdrew call quiet = refl
 call_quiet s true mark.Restarted call quiet = refl
 call_quiet s false m call quiet = call_other s m call
 
-call_taken : (s : Setup) (own : Bool) (k : ℕ) (r : Reply) (call : Called) → call_after s own (mark.Taken k r) call ≡ call
+call_taken : (s : Setup) (own : Bool) (k : ℕ) (r : Reply) (call : LastCall) → call_after s own (mark.Taken k r) call ≡ call
 call_taken s true k r call = refl
 call_taken s false k r call = refl
 
-store_quiet : (s : Setup) (p : ℕ) (call : Called) (m : Mark) (store : Contents) → is_quiet m ≡ true → store_with s p call m store ≡ store
+store_quiet : (s : Setup) (p : ℕ) (call : LastCall) (m : Mark) (store : Contents) → is_quiet m ≡ true → store_with s p call m store ≡ store
 store_quiet s p call (mark.Taken k r) store quiet = absurd (true≢false (sym quiet))
-store_quiet s p call (mark.Called c) store quiet = refl
+store_quiet s p call (mark.LastCall c) store quiet = refl
 store_quiet s p call (mark.Waiting t) store quiet = refl
 store_quiet s p call mark.Entered store quiet = refl
 store_quiet s p call mark.Left store quiet = refl
@@ -102,7 +102,7 @@ store_quiet s p call mark.Restarted store quiet = refl
 
 pub change_quiet : (s : Setup) (before : List (ℕ × Mark)) (p : ℕ) (m : Mark) → is_quiet m ≡ true → None ≡ change_of s before p m
 change_quiet s before p (mark.Taken k r) quiet = absurd (true≢false (sym quiet))
-change_quiet s before p (mark.Called c) quiet = refl
+change_quiet s before p (mark.LastCall c) quiet = refl
 change_quiet s before p (mark.Waiting t) quiet = refl
 change_quiet s before p mark.Entered quiet = refl
 change_quiet s before p mark.Left quiet = refl
@@ -113,7 +113,7 @@ change_quiet s before p mark.Down quiet = refl
 change_quiet s before p mark.Withdrew quiet = refl
 change_quiet s before p mark.Restarted quiet = refl
 
-module _ (s : Setup) (before : List (ℕ × Mark)) (c : Changes) (p : ℕ) (knows : Knows s before c) where
+module _ (s : Setup) (before : List (ℕ × Mark)) (c : RecordedChanges) (p : ℕ) (knows : Knows s before c) where
   -- a process that is not there
   module _ (none : slice_get c.calls.items p ≡ None) where
     stray : nat_lt p s.processes ≡ false
@@ -134,7 +134,7 @@ module _ (s : Setup) (before : List (ℕ × Mark)) (c : Changes) (p : ℕ) (know
         apart q below = let over = stray in grind (arith, nat_tests)
 
   -- one that is there
-  module _ (call : Called) (some : slice_get c.calls.items p ≡ Some call) where
+  module _ (call : LastCall) (some : slice_get c.calls.items p ≡ Some call) where
     there : p < s.processes
     there = subst (λ n. p < n) knows.many (slice_get_within c.calls.items p call some)
 
@@ -148,7 +148,7 @@ module _ (s : Setup) (before : List (ℕ × Mark)) (c : Changes) (p : ℕ) (know
     pub change_taken : (k : ℕ) (r : Reply) (made : Option Changed) → made ≡ change_by_call p call c.store → made ≡ change_of s before p (mark.Taken k r)
     change_taken k r made is = is ∙ (λ i. change_by_call p (last i) (knows.store i)) ∙ ap (λ b. cond b (change_by_call p (called_by s p before) (store_by s before)) None) (sym is_there)
 
-    pub knows_taken : (k : ℕ) (r : Reply) (new : Changes) → new.version ≡ c.version → new.calls.items ≡ c.calls.items → new.store ≡ after_call p call c.store → Knows s ((p, mark.Taken k r) ∷ before) new
+    pub knows_taken : (k : ℕ) (r : Reply) (new : RecordedChanges) → new.version ≡ c.version → new.calls.items ≡ c.calls.items → new.store ≡ after_call p call c.store → Knows s ((p, mark.Taken k r) ∷ before) new
     knows_taken k r new version calls store = record {
       version = version ∙ knows.version;
       many = ap length calls ∙ knows.many;
@@ -157,8 +157,8 @@ module _ (s : Setup) (before : List (ℕ × Mark)) (c : Changes) (p : ℕ) (know
     }
 
     -- calls
-    pub knows_called : (command : Command) (new : Changes) → new.version ≡ c.version → new.store ≡ c.store → new.calls.items ≡ set c.calls.items p (record { command = command; number = next_number s call.number }) →
-        Knows s ((p, mark.Called command) ∷ before) new
+    pub knows_called : (command : Command) (new : RecordedChanges) → new.version ≡ c.version → new.store ≡ c.store → new.calls.items ≡ set c.calls.items p (record { command = command; number = next_number s call.number }) →
+        Knows s ((p, mark.LastCall command) ∷ before) new
     knows_called command new version store calls = record {
       version = version ∙ knows.version;
       many = ap length calls ∙ length-set c.calls.items p then ∙ knows.many;
@@ -166,18 +166,18 @@ module _ (s : Setup) (before : List (ℕ × Mark)) (c : Changes) (p : ℕ) (know
       calls = λ q below. ap (λ l. get_or l q no_call) calls ∙ by q below (q == p) refl;
     }
       where
-        then : Called
+        then : LastCall
         then = record { command = command; number = next_number s call.number }
 
-        by : (q : ℕ) → q < s.processes → (b : Bool) → (q == p) ≡ b → get_or (set c.calls.items p then) q no_call ≡ called_by s q ((p, mark.Called command) ∷ before)
+        by : (q : ℕ) → q < s.processes → (b : Bool) → (q == p) ≡ b → get_or (set c.calls.items p then) q no_call ≡ called_by s q ((p, mark.LastCall command) ∷ before)
         by q below true is =
             let same : q ≡ p = grind (arith, nat_tests, is) in
             ap (λ n. get_or (set c.calls.items p then) n no_call) same ∙ get_or-set_same c.calls.items p then no_call (slice_get_within c.calls.items p call some)
-            ∙ ap (λ (l : Called). record { command = command; number = next_number s l.number }) last
-            ∙ ap (λ n. call_after s true (mark.Called command) (called_by s n before)) (sym same) ∙ ap (λ b. call_after s b (mark.Called command) (called_by s q before)) (sym is)
+            ∙ ap (λ (l : LastCall). record { command = command; number = next_number s l.number }) last
+            ∙ ap (λ n. call_after s true (mark.LastCall command) (called_by s n before)) (sym same) ∙ ap (λ b. call_after s b (mark.LastCall command) (called_by s q before)) (sym is)
         by q below false is =
             let apart : q ≢ p = λ same. let no : (q == p) ≡ true = grind (arith, nat_tests, same) in true≢false (sym no ∙ is) in
-            get_or-set_other c.calls.items p q then no_call apart ∙ knows.calls q below ∙ ap (λ b. call_after s b (mark.Called command) (called_by s q before)) (sym is)
+            get_or-set_other c.calls.items p q then no_call apart ∙ knows.calls q below ∙ ap (λ b. call_after s b (mark.LastCall command) (called_by s q before)) (sym is)
 
     -- or does neither
     pub knows_quiet : (m : Mark) → is_quiet m ≡ true → Knows s ((p, m) ∷ before) c
@@ -195,9 +195,9 @@ abbrev pub is_taking : Mark → Bool
 is_taking (mark.Taken k r) = true
 is_taking _ = false
 
-pub change_taking : (s : Setup) (before : List (ℕ × Mark)) (c : Changes) (p : ℕ) → Knows s before c → (call : Called) → slice_get c.calls.items p ≡ Some call → (m : Mark) → is_taking m ≡ true → (made : Option Changed) → made ≡ change_by_call p call c.store → made ≡ change_of s before p m
+pub change_taking : (s : Setup) (before : List (ℕ × Mark)) (c : RecordedChanges) (p : ℕ) → Knows s before c → (call : LastCall) → slice_get c.calls.items p ≡ Some call → (m : Mark) → is_taking m ≡ true → (made : Option Changed) → made ≡ change_by_call p call c.store → made ≡ change_of s before p m
 change_taking s before c p knows call some (mark.Taken k r) taking made is = change_taken s before c p knows call some k r made is
-change_taking s before c p knows call some (mark.Called x) taking made is = absurd (true≢false (sym taking))
+change_taking s before c p knows call some (mark.LastCall x) taking made is = absurd (true≢false (sym taking))
 change_taking s before c p knows call some (mark.Waiting t) taking made is = absurd (true≢false (sym taking))
 change_taking s before c p knows call some mark.Entered taking made is = absurd (true≢false (sym taking))
 change_taking s before c p knows call some mark.Left taking made is = absurd (true≢false (sym taking))
@@ -208,9 +208,9 @@ change_taking s before c p knows call some mark.Down taking made is = absurd (tr
 change_taking s before c p knows call some mark.Withdrew taking made is = absurd (true≢false (sym taking))
 change_taking s before c p knows call some mark.Restarted taking made is = absurd (true≢false (sym taking))
 
-pub knows_taking : (s : Setup) (before : List (ℕ × Mark)) (c : Changes) (p : ℕ) → Knows s before c → (call : Called) → slice_get c.calls.items p ≡ Some call → (m : Mark) → is_taking m ≡ true → (new : Changes) → new.version ≡ c.version → new.calls.items ≡ c.calls.items → new.store ≡ after_call p call c.store → Knows s ((p, m) ∷ before) new
+pub knows_taking : (s : Setup) (before : List (ℕ × Mark)) (c : RecordedChanges) (p : ℕ) → Knows s before c → (call : LastCall) → slice_get c.calls.items p ≡ Some call → (m : Mark) → is_taking m ≡ true → (new : RecordedChanges) → new.version ≡ c.version → new.calls.items ≡ c.calls.items → new.store ≡ after_call p call c.store → Knows s ((p, m) ∷ before) new
 knows_taking s before c p knows call some (mark.Taken k r) taking new version calls store = knows_taken s before c p knows call some k r new version calls store
-knows_taking s before c p knows call some (mark.Called x) taking new version calls store = absurd (true≢false (sym taking))
+knows_taking s before c p knows call some (mark.LastCall x) taking new version calls store = absurd (true≢false (sym taking))
 knows_taking s before c p knows call some (mark.Waiting t) taking new version calls store = absurd (true≢false (sym taking))
 knows_taking s before c p knows call some mark.Entered taking new version calls store = absurd (true≢false (sym taking))
 knows_taking s before c p knows call some mark.Left taking new version calls store = absurd (true≢false (sym taking))

@@ -23,8 +23,8 @@ use Rattle.record_drawer.specs.Items.{record_gives, record_lines}
 use Rattle.record_drawer.specs.Sheets.{DrawsBandsOf, DrawsRecord, Drew, IsDrawFault, IsPictureOf, LeavesNone, picture_of, without_write}
 use Rattle.companions.specs.StoreChanges.{store_words}
 use Rattle.record_drawer.specs.Writing.{IsWriteFault, failed_write}
-use Rattle.record_drawer.specs.declared.sheet.Drawn.{Drawn}
-use Rattle.record_drawer.proofs.Drawn.{writes_both}
+use Rattle.record_drawer.specs.declared.sheet.DrawnEntry.{DrawnEntry}
+use Rattle.record_drawer.proofs.DrawnEntry.{writes_both}
 use Rattle.record_drawer.proofs.Giving.{marks_of_record, texts_of_record}
 
 -- what stands before and behind tells nothing, and ends what it begins
@@ -41,7 +41,7 @@ framed reads form text said a b c d head ending names height no_head begin no_en
     )
 
 -- a page
-pub page_drawn : (reads : Mode) (text : List ℕ) (drawn : Drawn) (a b c : Option (List ℕ)) (opening ending : List ℕ) → DrawsBandsOf reads form.Page text drawn a b → opening ≡ store_words (opening_store drawn.setup) → ending ≡ page_back opening → lines_in ending ≡ [] → opens_in ending (Some page_names) ≡ Some [] → Writes b c ending →
+pub page_drawn : (reads : Mode) (text : List ℕ) (drawn : DrawnEntry) (a b c : Option (List ℕ)) (opening ending : List ℕ) → DrawsBandsOf reads form.Page text drawn a b → opening ≡ store_words (opening_store drawn.setup) → ending ≡ page_back opening → lines_in ending ≡ [] → opens_in ending (Some page_names) ≡ Some [] → Writes b c ending →
     DrawsRecord reads form.Page text a c
 page_drawn reads text drawn a b c opening ending bands opens back no_ending end last =
     let h = bands.ends.heads in
@@ -56,7 +56,7 @@ held_are : (bytes markup : List ℕ) → Appends (Some []) (Some bytes) markup �
 held_are bytes markup is = is
 
 -- one picture
-pub picture_drawn : (reads : Mode) (text : List ℕ) (drawn : Drawn) (bytes : List ℕ) (a b c d : Option (List ℕ)) (head ending : List ℕ) → DrawsBandsOf reads (form.Picture 34) text drawn (Some []) (Some bytes) → head ≡ picture_front drawn.setup drawn.height reads → ending ≡ picture_back drawn.height reads →
+pub picture_drawn : (reads : Mode) (text : List ℕ) (drawn : DrawnEntry) (bytes : List ℕ) (a b c d : Option (List ℕ)) (head ending : List ℕ) → DrawsBandsOf reads (form.Picture 34) text drawn (Some []) (Some bytes) → head ≡ picture_front drawn.setup drawn.height reads → ending ≡ picture_back drawn.height reads →
     lines_in head ≡ [] → opens_in head (Some []) ≡ Some picture_names → lines_in ending ≡ [] → opens_in ending (Some picture_names) ≡ Some [] → Writes a b head → Appends b c bytes → Writes c d ending → DrawsRecord reads (form.Picture 34) text a d
 picture_drawn reads text drawn bytes a b c d head ending bands front back no_head begin no_ending end first mid last =
     let o = bands.ends.bands in
@@ -82,7 +82,7 @@ pub leaves_none : (f : Form) (old new : Option (List ℕ)) → new ≡ old → L
 leaves_none form.Page old new same = tt
 leaves_none (form.Picture top) old new same = subst (λ n. Keeps old n) (sym same) (kept old)
 
--- Drawing ends with a fault.
+-- RecordDrawing ends with a fault.
 module _ (reads : Mode) (f : Form) (r : Result (Unit {0}) Fault) (e : Fault) (old new : Streams) (is : IsErrAnd r (λ told. told ≡ e)) where
   by_fault : Drew reads f (Err e) old new → Drew reads f r old new
   by_fault drew = by r is
@@ -92,20 +92,20 @@ module _ (reads : Mode) (f : Form) (r : Result (Unit {0}) Fault) (e : Fault) (ol
       by (Err told) is = subst (λ e. Drew reads f (Err e) old new) (sym is) drew
 
   -- of the input, or before anything was written of one picture
-  pub drew_fault : IsDrawFault e old.to_come → new.read_failures ≡ old.read_failures + failed_reading {A = Drawn} (Err e) → new.write_failures ≡ old.write_failures + failed_write {A = Drawn} (Err e) → LeavesNone f old.taken new.taken → Drew reads f r old new
+  pub drew_fault : IsDrawFault e old.to_come → new.read_failures ≡ old.read_failures + failed_reading {A = DrawnEntry} (Err e) → new.write_failures ≡ old.write_failures + failed_write {A = DrawnEntry} (Err e) → LeavesNone f old.taken new.taken → Drew reads f r old new
   drew_fault why reading writing leaves = by_fault (by e why reading writing)
     where
-      by : (e : Fault) → IsDrawFault e old.to_come → new.read_failures ≡ old.read_failures + failed_reading {A = Drawn} (Err e) → new.write_failures ≡ old.write_failures + failed_write {A = Drawn} (Err e) → Drew reads f (Err e) old new
+      by : (e : Fault) → IsDrawFault e old.to_come → new.read_failures ≡ old.read_failures + failed_reading {A = DrawnEntry} (Err e) → new.write_failures ≡ old.write_failures + failed_write {A = DrawnEntry} (Err e) → Drew reads f (Err e) old new
       by (fault.Line l) why reading writing = (why, leaves)
       by fault.Read why reading writing = (omega (arith, reading), leaves)
       by fault.Write why reading writing = omega (arith, writing)
       by fault.Memory why reading writing = tt
 
   -- where bytes were held
-  pub drew_held : (g : Fault) → e ≡ without_write g → IsDrawFault g old.to_come → new.read_failures ≡ old.read_failures + failed_reading {A = Drawn} (Err g) → LeavesNone f old.taken new.taken → Drew reads f r old new
+  pub drew_held : (g : Fault) → e ≡ without_write g → IsDrawFault g old.to_come → new.read_failures ≡ old.read_failures + failed_reading {A = DrawnEntry} (Err g) → LeavesNone f old.taken new.taken → Drew reads f r old new
   drew_held g same why reading leaves = by_fault (subst (λ e. Drew reads f (Err e) old new) (sym same) (by g why reading))
     where
-      by : (g : Fault) → IsDrawFault g old.to_come → new.read_failures ≡ old.read_failures + failed_reading {A = Drawn} (Err g) → Drew reads f (Err (without_write g)) old new
+      by : (g : Fault) → IsDrawFault g old.to_come → new.read_failures ≡ old.read_failures + failed_reading {A = DrawnEntry} (Err g) → Drew reads f (Err (without_write g)) old new
       by (fault.Line l) why reading = (why, leaves)
       by fault.Read why reading = (omega (arith, reading), leaves)
       by fault.Write why reading = tt

@@ -17,7 +17,7 @@ use Rattle.record_drawer.specs.Items.{Gives, given, marks_back, reads_since, tak
 use Rattle.companions.specs.Overlaps.{Overhears}
 use Rattle.companions.specs.StoreChanges.{words_by}
 use Rattle.record_drawer.specs.Takings.{Knows}
-use Rattle.record_drawer.specs.declared.drawing.Drawing.{Drawing}
+use Rattle.record_drawer.specs.declared.drawing.RecordDrawing.{RecordDrawing}
 
 -- what is known of a record's picture from the start
 abbrev pub plan_of : Form → Setup → Plan
@@ -76,12 +76,12 @@ pub record DrawsBands (plan : Plan) (old new : Option (List ℕ)) (gives : List 
   pub heights : height ≡ heights_told plan items
 
 -- an entry was heard, and its marks are being drawn: these reads wait for the next of them, and these marks were told before
-pub record IsAmong (mode : Mode) (s : Setup) (past : Past) (reads : List OverlappedRead) (before : List (ℕ × Mark)) (d : Drawing) : Type 0 where
+pub record IsAmong (mode : Mode) (s : Setup) (past : Past) (reads : List OverlappedRead) (before : List (ℕ × Mark)) (d : RecordDrawing) : Type 0 where
   pub knows : Knows s before d.changes
   pub taken : d.taken ≡ taken_by before
   pub waits : Overhears mode s past reads d.overlaps
 
 -- a drawing stands behind these entries
-pub record Recalls (mode : Mode) (s : Setup) (past : Past) (d : Drawing) : Type 0 where
+pub record Recalls (mode : Mode) (s : Setup) (past : Past) (d : RecordDrawing) : Type 0 where
   pub entries : d.entries ≡ length past
   pub among : IsAmong mode s past (reads_since s past) (marks_back past) d

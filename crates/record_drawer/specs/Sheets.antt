@@ -25,8 +25,8 @@ use Rattle.companions.specs.picture.shapes.Titles.{lines_in}
 use Rattle.record_drawer.specs.Drawings.{DrawsBands, DrawsOn, Recalls, Writes, kept, kept_at_first, plan_of}
 use Rattle.record_drawer.specs.Items.{given, given_at_end, given_by, record_gives, record_lines, source_of}
 use Rattle.companions.specs.StoreChanges.{store_words}
-use Rattle.record_drawer.specs.declared.drawing.Drawing.{Drawing}
-use Rattle.record_drawer.specs.declared.sheet.Drawn.{Drawn}
+use Rattle.record_drawer.specs.declared.drawing.RecordDrawing.{RecordDrawing}
+use Rattle.record_drawer.specs.declared.sheet.DrawnEntry.{DrawnEntry}
 use Rattle.record_drawer.specs.declared.sheet.Sheet.{Sheet}
 
 -- the lines that a page lists: the headings and the opening pairs of the record, and one that stands for its entries
@@ -69,7 +69,7 @@ Heads reads form.Page s old new = HeadsPage reads s old new
 Heads reads (form.Picture top) s old new = new ≡ old
 
 -- these entries of a record with this setup are drawn, but for what is held back
-pub record IsDrawn (reads : Mode) (form : Form) (s : Setup) (past : Past) (d : Drawing) (old new : Option (List ℕ)) : Type 0 where
+pub record IsDrawn (reads : Mode) (form : Form) (s : Setup) (past : Past) (d : RecordDrawing) (old new : Option (List ℕ)) : Type 0 where
   pub last : d.last ≡ source_of s + 1
   pub recalls : Recalls reads s past d
   pub mid : Option (List ℕ)
@@ -77,12 +77,12 @@ pub record IsDrawn (reads : Mode) (form : Form) (s : Setup) (past : Past) (d : D
   pub draws : DrawsOn (kept_at_first (plan_of form s)) (kept d.page) mid new (given_by reads s (source_of s) past)
 
 -- the same by what there is: before the first entry nothing was written
-abbrev pub Draws : Mode → Form → Option Drawing → Setup → Past → Option (List ℕ) → Option (List ℕ) → Type 0
+abbrev pub Draws : Mode → Form → Option RecordDrawing → Setup → Past → Option (List ℕ) → Option (List ℕ) → Type 0
 Draws reads form None s past old new = (past ≡ []) × (new ≡ old)
 Draws reads form (Some d) s past old new = IsDrawn reads form s past d old new
 
 -- the same by what was read: behind an entry the setup stays
-abbrev pub DrawsAt : Mode → Form → Option Drawing → Option Progress → Past → Option (List ℕ) → Option (List ℕ) → Type 0
+abbrev pub DrawsAt : Mode → Form → Option RecordDrawing → Option Progress → Past → Option (List ℕ) → Option (List ℕ) → Type 0
 DrawsAt reads form None before past old new = (past ≡ []) × (new ≡ old)
 DrawsAt reads form (Some d) None past old new = ⊥
 DrawsAt reads form (Some d) (Some p) past old new = (p.ended ≡ true) × IsDrawn reads form p.head.setup past d old new
@@ -107,7 +107,7 @@ LineStops fault.Memory number says = Unit {0}
 LineStops fault.Read number says = ⊥
 
 -- how many entries were drawn
-abbrev pub entries_of : Option Drawing → ℕ
+abbrev pub entries_of : Option RecordDrawing → ℕ
 entries_of None = 0
 entries_of (Some d) = d.entries
 
@@ -118,7 +118,7 @@ pub record EndsAt (reads : Mode) (form : Form) (s : Setup) (past : Past) (height
   pub bands : DrawsBands (plan_of form s) mid new (given_by reads s (source_of s) past ++ given_at_end reads s (source_of s) past) height
 
 -- all bands of the record that a text says were written, and a page's front before them
-pub record DrawsBandsOf (reads : Mode) (form : Form) (text : List ℕ) (drawn : Drawn) (old new : Option (List ℕ)) : Type 0 where
+pub record DrawsBandsOf (reads : Mode) (form : Form) (text : List ℕ) (drawn : DrawnEntry) (old new : Option (List ℕ)) : Type 0 where
   pub said : Said
   pub says : record_of text ≡ Ok said
   pub setup : drawn.setup ≡ said.setup

@@ -7,32 +7,32 @@ use Rattle.plain_store.specs.declared.setups.Setup.{Setup}
 use Rattle.record.specs.declared.marks.Mark.{Mark}
 use Rattle.record.specs.declared.marks.Mark.TheVariants as mark
 use Rattle.companions.specs.StoreChanges.{Changed, change_by}
-use Rattle.record_drawer.specs.declared.changes.Called.{Called}
-use Rattle.record_drawer.specs.declared.changes.Changes.{Changes}
+use Rattle.record_drawer.specs.declared.changes.LastCall.{LastCall}
+use Rattle.record_drawer.specs.declared.changes.RecordedChanges.{RecordedChanges}
 
 -- the number of the next call: in version 2 they are counted, as far as 16 bits count; in version 1 each has 0
 abbrev pub next_number : Setup → ℕ → ℕ
 next_number s n = cond (s.version == 2) (min (n + 1) 65535) 0
 
 -- the last call of a process after a mark, which may be its own
-abbrev pub call_after : Setup → Bool → Mark → Called → Called
-call_after s true (mark.Called c) call = record { command = c; number = next_number s call.number }
+abbrev pub call_after : Setup → Bool → Mark → LastCall → LastCall
+call_after s true (mark.LastCall c) call = record { command = c; number = next_number s call.number }
 call_after s own _ call = call
 
 -- the last call of a process; before the first one, as if it had asked
-abbrev pub no_call : Called
+abbrev pub no_call : LastCall
 no_call = record { command = Ask; number = 0 }
 
-abbrev pub called_by : Setup → ℕ → List (ℕ × Mark) → Called
+abbrev pub called_by : Setup → ℕ → List (ℕ × Mark) → LastCall
 called_by s p [] = no_call
 called_by s p ((q, mark) ∷ before) = call_after s (p == q) mark (called_by s p before)
 
 -- the store after the command of a call
-abbrev pub after_call : ℕ → Called → Contents → Contents
+abbrev pub after_call : ℕ → LastCall → Contents → Contents
 after_call p call store = after store call.command (record { process = p; number = call.number })
 
 -- the store after a mark of a process, which called last so: a command of a process that is there is applied where it is taken
-abbrev pub store_with : Setup → ℕ → Called → Mark → Contents → Contents
+abbrev pub store_with : Setup → ℕ → LastCall → Mark → Contents → Contents
 store_with s p call (mark.Taken k r) store = cond (nat_lt p s.processes) (after_call p call store) store
 store_with s p call _ store = store
 
@@ -42,11 +42,11 @@ store_by s [] = opening_store s
 store_by s ((p, mark) ∷ before) = store_with s p (called_by s p before) mark (store_by s before)
 
 -- what the command of a call changes in a store, if it changes something
-abbrev pub change_by_call : ℕ → Called → Contents → Option Changed
+abbrev pub change_by_call : ℕ → LastCall → Contents → Option Changed
 change_by_call p call store = change_by store call.command (record { process = p; number = call.number })
 
 -- what the command of a mark changes, if it takes one and the process is there
-abbrev pub change_with : Setup → ℕ → Called → Mark → Contents → Option Changed
+abbrev pub change_with : Setup → ℕ → LastCall → Mark → Contents → Option Changed
 change_with s p call (mark.Taken k r) store = cond (nat_lt p s.processes) (change_by_call p call store) None
 change_with s p call _ store = None
 
@@ -55,7 +55,7 @@ abbrev pub change_of : Setup → List (ℕ × Mark) → ℕ → Mark → Option 
 change_of s before p mark = change_with s p (called_by s p before) mark (store_by s before)
 
 -- this is known of marks: the store after them, and the last call of each process
-pub record Knows (s : Setup) (before : List (ℕ × Mark)) (c : Changes) : Type 0 where
+pub record Knows (s : Setup) (before : List (ℕ × Mark)) (c : RecordedChanges) : Type 0 where
   pub version : c.version ≡ s.version
   pub many : length c.calls.items ≡ s.processes
   pub store : c.store ≡ store_by s before

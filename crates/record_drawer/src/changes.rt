@@ -6,42 +6,42 @@ ghost use Rattle.record.specs.declared.marks.Mark.{Mark as Noted};
 ghost use Rattle.companions.specs.StoreChanges.{changed, store_words as words_of_store, words_by};
 ghost use Rattle.record_drawer.specs.Takings.{Knows, after_call, change_by_call, change_of, next_number as number_after};
 
-use companions::{Change, opening_store, store_words, words_by_pairs};
+use companions::{TakenChange, opening_store, store_words, words_by_pairs};
 use plain_store::{Caller, Command, NestedTypes, PlainStore, Setup};
 use record::Mark;
 use std::alloc::{AllocError, Global};
 
 /// A call of a process: its command, and its number.
 #[derive(Clone, Copy)]
-pub(crate) struct Called {
+pub(crate) struct LastCall {
     pub command: Command,
     pub number: u16,
 }
 
 /// The one-thread store, to which the commands taken are applied, and the last call of each process.
 #[derive(Drop)]
-pub(crate) struct Changes {
+pub(crate) struct RecordedChanges {
     alloc: Global,
     version: u8,
     store: PlainStore,
-    calls: Vec<Called>,
+    calls: Vec<LastCall>,
 }
 
-impl Changes {
+impl RecordedChanges {
     /// The opening store of a setup, before the first mark.
-    pub fn new(alloc: Global, setup: &Setup) -> Result<Changes, AllocError>
+    pub fn new(alloc: Global, setup: &Setup) -> Result<RecordedChanges, AllocError>
         requires { checked setup.now ≡ Ok tt }
         ensures { IfOk result (λ changes. Knows setup.now [] changes) }
     {
         let _nested: NestedTypes = None;
         let mut calls = Vec::new(alloc);
         for _process in 0..setup.processes {
-            calls.push(Called {
+            calls.push(LastCall {
                 command: Command::Ask,
                 number: 0,
             })?;
         }
-        Ok(Changes {
+        Ok(RecordedChanges {
             alloc,
             version: setup.version,
             store: opening_store(alloc, setup)?,
@@ -50,7 +50,7 @@ impl Changes {
     }
 
     /// What the next mark changes, which is one of this process.
-    pub fn made_by(&mut self, process: u8, mark: &Mark) -> Result<Option<Change>, AllocError>
+    pub fn made_by(&mut self, process: u8, mark: &Mark) -> Result<Option<TakenChange>, AllocError>
         ensures change { IfOk result (λ change. (s : Given) (before : List (ℕ × Noted)) → Knows s before self.old → option_map changed change ≡ change_of s before process mark.now) }
         ensures knows { OnOk result ((s : Given) (before : List (ℕ × Noted)) → Knows s before self.old → Knows s ((process, mark.now) ∷ before) self.new) }
     {
@@ -69,7 +69,7 @@ impl Changes {
     }
 
     /// The last call of a process, if it is there.
-    fn call_of(&self, process: u8) -> Option<Called>
+    fn call_of(&self, process: u8) -> Option<LastCall>
         ensures { result ≡ slice_get self.now.calls.items process }
     {
         self.calls.get(usize::from(process)).copied()
@@ -84,7 +84,7 @@ impl Changes {
         let _nested: NestedTypes = None;
         let number = next_number(self.version, number);
         if let Some(call) = self.calls.get_mut(usize::from(process)) {
-            *call = Called {
+            *call = LastCall {
                 command: *command,
                 number,
             };
@@ -92,7 +92,7 @@ impl Changes {
     }
 
     /// Applies the command of a process; answers what it changed, if it changed something.
-    fn apply(&mut self, process: u8, call: &Called) -> Result<Option<Change>, AllocError>
+    fn apply(&mut self, process: u8, call: &LastCall) -> Result<Option<TakenChange>, AllocError>
         ensures change { IfOk result (λ change. option_map changed change ≡ change_by_call process call.now self.old.store) }
         ensures store { OnOk result (self.new.store ≡ after_call process call.now self.old.store) }
         ensures version { self.new.version ≡ self.old.version }

@@ -15,9 +15,9 @@ ghost use Rattle.companions.specs.Overlaps.{Overhears, shown_of};
 ghost use Rattle.record_drawer.specs.Takings.{change_of};
 ghost use Rattle.record_drawer.specs.Writing.{IsWriteFault, failed_write};
 
-use crate::changes::Changes;
+use crate::changes::RecordedChanges;
 use crate::writing::{write_band, write_markup};
-use companions::{Form, Line, OverlappedRead, Overlaps, Page, Reads, Saying, hear, take_ended};
+use companions::{Form, RunLine, OverlappedRead, OverlapsHeard, Page, Reads, Saying, hear, take_ended};
 use files::{Fault, Sink};
 use plain_store::{NestedTypes, Setup};
 use record::{Access, Entry, Mark};
@@ -25,11 +25,11 @@ use std::alloc::Global;
 
 /// The picture of a record, on its way.
 #[derive(Drop)]
-pub(crate) struct Drawing {
+pub(crate) struct RecordDrawing {
     alloc: Global,
-    changes: Changes,
+    changes: RecordedChanges,
     /// What tells the reads that are overlapped, if they are shown.
-    overlaps: Option<Overlaps>,
+    overlaps: Option<OverlapsHeard>,
     page: Page,
     /// How many entries were heard, and how many commands they take.
     entries: u64,
@@ -41,9 +41,9 @@ pub(crate) struct Drawing {
 /// The lines that a record has before its opening pairs.
 const HEADINGS: u64 = 5;
 
-impl Drawing {
+impl RecordDrawing {
     /// Before the first entry.
-    pub fn new(alloc: Global, setup: &Setup, form: Form, reads: Reads) -> Result<Drawing, Fault>
+    pub fn new(alloc: Global, setup: &Setup, form: Form, reads: Reads) -> Result<RecordDrawing, Fault>
         requires { checked setup.now ≡ Ok tt }
         ensures recalls { IfOk result (Recalls reads setup.now []) }
         ensures page { IfOk result (λ drawing. kept drawing.page ≡ kept_at_first (plan_of form setup.now)) }
@@ -52,11 +52,11 @@ impl Drawing {
         ensures fault { IfErr result IsWriteFault }
         ensures failures { failed_write result ≡ 0 }
     {
-        let changes = Changes::new(alloc, setup)?;
+        let changes = RecordedChanges::new(alloc, setup)?;
         let opening = changes.words_by_pairs()?;
         let page = Page::new(alloc, form, setup.processes, opening.as_slice())?;
-        let overlaps = Overlaps::new(alloc, setup, reads)?;
-        Ok(Drawing {
+        let overlaps = OverlapsHeard::new(alloc, setup, reads)?;
+        Ok(RecordDrawing {
             alloc,
             changes,
             overlaps,
@@ -182,7 +182,7 @@ impl Drawing {
         ensures failures { W.failures output.new ≡ W.failures output.old + failed_write result }
     {
         self.draw_reads(output)?;
-        let line = Line {
+        let line = RunLine {
             source,
             at: self.entries,
             saying,

@@ -7,9 +7,9 @@ ghost use Rattle.companions.specs.picture.declared.page.Form.TheVariants as form
 ghost use Rattle.record_drawer.specs.Sheets.{DrawsBandsOf, Drew, IsDrawFault, without_write};
 ghost use Rattle.record_drawer.specs.Writing.{IsWriteFault, failed_write};
 
-use crate::changes::Changes;
+use crate::changes::RecordedChanges;
 use crate::held::Held;
-use crate::sheet::{Drawn, Sheet};
+use crate::sheet::{DrawnEntry, Sheet};
 use crate::writing::write_markup;
 use companions::{FIRST_BAND, Form, Reads, page_end, picture_end, picture_head};
 use files::source_lines::Lines;
@@ -35,7 +35,7 @@ pub fn draw_record<R: Source, W: Sink>(
         (record { to_come = R.to_come input.new; taken = W.taken output.new; read_failures = R.failures input.new; write_failures = W.failures output.new }) }
 {
     let drawn = draw_bands(alloc, Form::Page, reads, input, output)?;
-    let opening = Changes::new(alloc, &drawn.setup)?.store_words()?;
+    let opening = RecordedChanges::new(alloc, &drawn.setup)?.store_words()?;
     let end = page_end(alloc, opening.as_slice())?;
     write_markup(&end, output)
 }
@@ -73,7 +73,7 @@ fn draw_bands<R: Source, W: Sink>(
     reads: Reads,
     input: &mut R,
     output: &mut W,
-) -> Result<Drawn, Fault>
+) -> Result<DrawnEntry, Fault>
     requires reads { R.failures input.old < 2 ^ 64 - 1 }
     requires writes { W.failures output.old < 2 ^ 64 - 1 }
     ensures drawn { IfOk result (λ drawn. IfSome (R.to_come input.old) (λ text. DrawsBandsOf reads form text drawn (W.taken output.old) (W.taken output.new))) }

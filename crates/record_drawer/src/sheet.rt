@@ -10,7 +10,7 @@ ghost use Rattle.companions.specs.picture.shapes.Titles.{lines_in};
 ghost use Rattle.record_drawer.specs.Sheets.{Draws, EndsAt, GoesOn, Heads, LineStops, Stands, entries_of, listed};
 ghost use Rattle.record_drawer.specs.Writing.{IsWriteFault, failed_write};
 
-use crate::drawing::Drawing;
+use crate::drawing::RecordDrawing;
 use crate::writing::write_markup;
 use companions::{Form, Markup, Reads, page_head};
 use files::{Fault, FaultKind, LineFault, Sink, read_any_line};
@@ -26,12 +26,12 @@ pub(crate) struct Sheet {
     form: Form,
     reads: Reads,
     reader: Option<RecordReader>,
-    drawing: Option<Drawing>,
+    drawing: Option<RecordDrawing>,
 }
 
 /// What was drawn: the record's setup, and the heights of the bands.
 #[derive(Drop)]
-pub(crate) struct Drawn {
+pub(crate) struct DrawnEntry {
     pub setup: Setup,
     pub height: u64,
 }
@@ -126,7 +126,7 @@ impl Sheet {
     }
 
     /// Draws the end of the record, unless all lines were skipped.
-    pub fn end<W: Sink>(&mut self, output: &mut W) -> Result<Option<Drawn>, Fault>
+    pub fn end<W: Sink>(&mut self, output: &mut W) -> Result<Option<DrawnEntry>, Fault>
         requires { W.failures output.old < 2 ^ 64 - 1 }
         ensures none { IfOk result (λ drawn. drawn ≡ None → self.old.reader ≡ None) }
         ensures ok { IfOk result (λ drawn. IfSome drawn (λ d. (p : Progress) (past : Past) (first : Option (List ℕ)) → self.old.reader ≡ Some p → Stands self.old (Some p) past first (W.taken output.old) → (d.setup ≡ p.head.setup) × EndsAt self.old.reads self.old.form p.head.setup past d.height first (W.taken output.new))) }
@@ -145,7 +145,7 @@ impl Sheet {
             reads: self.reads,
         };
         let height = around.draw_end(reader.setup(), &mut self.drawing, output)?;
-        Ok(Some(Drawn {
+        Ok(Some(DrawnEntry {
             setup: *reader.setup(),
             height,
         }))
@@ -166,7 +166,7 @@ impl Around {
         self,
         setup: &Setup,
         entry: &Entry,
-        drawing: &mut Option<Drawing>,
+        drawing: &mut Option<RecordDrawing>,
         output: &mut W,
     ) -> Result<(), Fault>
         requires good { checked setup.now ≡ Ok tt }
@@ -191,7 +191,7 @@ impl Around {
     fn draw_end<W: Sink>(
         self,
         setup: &Setup,
-        drawing: &mut Option<Drawing>,
+        drawing: &mut Option<RecordDrawing>,
         output: &mut W,
     ) -> Result<u64, Fault>
         requires good { checked setup.now ≡ Ok tt }
@@ -218,7 +218,7 @@ impl Around {
     fn begin<W: Sink>(
         self,
         setup: &Setup,
-        drawing: &mut Option<Drawing>,
+        drawing: &mut Option<RecordDrawing>,
         output: &mut W,
     ) -> Result<(), Fault>
         requires good { checked setup.now ≡ Ok tt }
@@ -229,7 +229,7 @@ impl Around {
         ensures fault { IfErr result IsWriteFault }
         ensures failures { W.failures output.new ≡ W.failures output.old + failed_write result }
     {
-        let begun = Drawing::new(self.alloc, setup, self.form, self.reads)?;
+        let begun = RecordDrawing::new(self.alloc, setup, self.form, self.reads)?;
         self.write_head(setup, output)?;
         *drawing = Some(begun);
         Ok(())

@@ -9,13 +9,13 @@ use Rattle.record.specs.Parts.{Part, read_at, written_at, part_after}
 use Rattle.record.specs.Places.{Place, Reading, Writing, place_after, enter, new_run, write_moved, bit_written}
 use Rattle.record.specs.Registers.{width}
 use Rattle.record.specs.Scripts.{Call}
-use Rattle.section.specs.declared.change.Change.{Change}
+use Rattle.section.specs.declared.change.PendingChange.{PendingChange}
 use Rattle.section.specs.declared.change.Written.{Written}
 use Rattle.section.specs.declared.change.Written.TheVariants as written
-use Rattle.section.specs.declared.standing.Asked.{Asked}
-use Rattle.section.specs.declared.standing.Asked.TheVariants as asked
-use Rattle.section.specs.declared.standing.Standing as kept
-use Rattle.section.specs.declared.standing.Standing.TheVariants as keeps
+use Rattle.section.specs.declared.standing.SectionRead.{SectionRead}
+use Rattle.section.specs.declared.standing.SectionRead.TheVariants as asked
+use Rattle.section.specs.declared.standing.SectionPart as kept
+use Rattle.section.specs.declared.standing.SectionPart.TheVariants as keeps
 use Rattle.section.specs.declared.standing.Versions.{Versions}
 use Rattle.section.specs.Changes.{change_field, change_bits}
 use Rattle.section.specs.Keeping.{register_asked, fresh_run}
@@ -25,7 +25,7 @@ use Rattle.section.proofs.Places.{at-commit, at-stamp, at-image, at-change}
 use Rattle.section.proofs.Widths.{width-stamp, width-image}
 
 -- what is read at a place is what its standing asks for
-pub read-asked : (c : Call) (at : Part) (n : ℕ) (part : Asked) (versions : Versions) → standing_at c at ≡ asking n part versions → read_at c at ≡ register_asked part versions
+pub read-asked : (c : Call) (at : Part) (n : ℕ) (part : SectionRead) (versions : Versions) → standing_at c at ≡ asking n part versions → read_at c at ≡ register_asked part versions
 read-asked c at n (asked.Commit k) versions same = let t = at-commit c at k _ k versions same in ap (read_at c) t.1
 read-asked c at n (asked.Stamp k b) versions same = let t = at-stamp c at k _ k b versions same in ap (read_at c) t.1
 read-asked c at n asked.Image versions same = let t = at-image c at versions same in ap (read_at c) t.1 ∙ ap (register_asked asked.Image) t.2
@@ -36,23 +36,23 @@ commit-bits true = refl
 commit-bits false = refl
 
 -- what is written at a place is what its standing writes
-pub written-field : (c : Call) (at : Part) (part : Written) (change : Change) → standing_at c at ≡ Writes part change → (written_at c at).0 ≡ change_field part change
+pub written-field : (c : Call) (at : Part) (part : Written) (change : PendingChange) → standing_at c at ≡ Writes part change → (written_at c at).0 ≡ change_field part change
 written-field c at written.Image change same = let t = at-change c at written.Image change same in ap (λ p. (written_at c p).0) t.2 ∙ ap (change_field written.Image) t.3
 written-field c at written.Stamp change same = let t = at-change c at written.Stamp change same in ap (λ p. (written_at c p).0) t.2 ∙ ap (change_field written.Stamp) t.3
 written-field c at written.Commit change same = let t = at-change c at written.Commit change same in ap (λ p. (written_at c p).0) t.2 ∙ ap (change_field written.Commit) t.3
 
-pub written-bits : (c : Call) (at : Part) (part : Written) (change : Change) (w : ℕ) → standing_at c at ≡ Writes part change → w ≡ width c.setup (change_field part change) → (written_at c at).1 ≡ change_bits part change w
+pub written-bits : (c : Call) (at : Part) (part : Written) (change : PendingChange) (w : ℕ) → standing_at c at ≡ Writes part change → w ≡ width c.setup (change_field part change) → (written_at c at).1 ≡ change_bits part change w
 written-bits c at written.Image change w same wide =
     let t = at-change c at written.Image change same in
-    ap (λ p. (written_at c p).1) t.2 ∙ ap (λ (d : Change). bits_in (image_of d.store) (width c.setup Rattle.record.specs.declared.access.Field.TheVariants.Image0)) t.3
+    ap (λ p. (written_at c p).1) t.2 ∙ ap (λ (d : PendingChange). bits_in (image_of d.store) (width c.setup Rattle.record.specs.declared.access.Field.TheVariants.Image0)) t.3
     ∙ ap (bits_in (image_of change.store)) (sym (wide ∙ width-image c.setup change.commit))
 written-bits c at written.Stamp change w same wide =
     let t = at-change c at written.Stamp change same in
-    ap (λ p. (written_at c p).1) t.2 ∙ ap (λ (d : Change). bits_of_number c.setup.stamp_bits (d.changes + 1)) t.3
+    ap (λ p. (written_at c p).1) t.2 ∙ ap (λ (d : PendingChange). bits_of_number c.setup.stamp_bits (d.changes + 1)) t.3
     ∙ ap (λ n. bits_of_number n (change.changes + 1)) (sym (wide ∙ width-stamp c.setup change.commit))
 written-bits c at written.Commit change w same wide =
     let t = at-change c at written.Commit change same in
-    ap (λ p. (written_at c p).1) t.2 ∙ ap (λ (d : Change). d.commit ∷ []) t.3
+    ap (λ p. (written_at c p).1) t.2 ∙ ap (λ (d : PendingChange). d.commit ∷ []) t.3
     ∙ sym (commit-bits change.commit) ∙ ap (λ n. bits_of_number n (if change.commit then 1 else 0)) (sym wide)
 
 -- a read that has not come to its width
@@ -113,11 +113,11 @@ write-going c at w bits v run same going =
     ∙ ap (λ bits. let p : Place = record { part = at.part; run = Writing (write_moved c.setup.processes bits w) } in p) same
 
 -- the number access with which a standing begins is that of its part
-pub fresh-shown : (c : Call) (at : Part) (n : ℕ) (st : kept.Standing) → shown n st ≡ standing_at c at → fresh_run c.setup st ≡ cond (goes (standing_at c at)) (new_run c at) (Reading [] false)
+pub fresh-shown : (c : Call) (at : Part) (n : ℕ) (st : kept.SectionPart) → shown n st ≡ standing_at c at → fresh_run c.setup st ≡ cond (goes (standing_at c at)) (new_run c at) (Reading [] false)
 fresh-shown c at n (keeps.Reads (asked.Commit k) versions) same = let t = at-commit c at k _ k versions (sym same) in ap (λ p. cond (goes (standing_at c p)) (new_run c p) (Reading [] false)) (sym t.1)
 fresh-shown c at n (keeps.Reads (asked.Stamp k b) versions) same = let t = at-stamp c at k _ k b versions (sym same) in ap (λ p. cond (goes (standing_at c p)) (new_run c p) (Reading [] false)) (sym t.1)
 fresh-shown c at n (keeps.Reads asked.Image versions) same = let t = at-image c at versions (sym same) in ap (λ p. cond (goes (standing_at c p)) (new_run c p) (Reading [] false)) (sym t.1)
-fresh-shown c at n (keeps.Writes written.Image change) same = let t = at-change c at written.Image change (sym same) in ap (λ (d : Change). Writing (new_write (width c.setup (change_field written.Image d)))) (sym t.3) ∙ ap (λ p. cond (goes (standing_at c p)) (new_run c p) (Reading [] false)) (sym t.2)
-fresh-shown c at n (keeps.Writes written.Stamp change) same = let t = at-change c at written.Stamp change (sym same) in ap (λ (d : Change). Writing (new_write (width c.setup (change_field written.Stamp d)))) (sym t.3) ∙ ap (λ p. cond (goes (standing_at c p)) (new_run c p) (Reading [] false)) (sym t.2)
-fresh-shown c at n (keeps.Writes written.Commit change) same = let t = at-change c at written.Commit change (sym same) in ap (λ (d : Change). Writing (new_write (width c.setup (change_field written.Commit d)))) (sym t.3) ∙ ap (λ p. cond (goes (standing_at c p)) (new_run c p) (Reading [] false)) (sym t.2)
+fresh-shown c at n (keeps.Writes written.Image change) same = let t = at-change c at written.Image change (sym same) in ap (λ (d : PendingChange). Writing (new_write (width c.setup (change_field written.Image d)))) (sym t.3) ∙ ap (λ p. cond (goes (standing_at c p)) (new_run c p) (Reading [] false)) (sym t.2)
+fresh-shown c at n (keeps.Writes written.Stamp change) same = let t = at-change c at written.Stamp change (sym same) in ap (λ (d : PendingChange). Writing (new_write (width c.setup (change_field written.Stamp d)))) (sym t.3) ∙ ap (λ p. cond (goes (standing_at c p)) (new_run c p) (Reading [] false)) (sym t.2)
+fresh-shown c at n (keeps.Writes written.Commit change) same = let t = at-change c at written.Commit change (sym same) in ap (λ (d : PendingChange). Writing (new_write (width c.setup (change_field written.Commit d)))) (sym t.3) ∙ ap (λ p. cond (goes (standing_at c p)) (new_run c p) (Reading [] false)) (sym t.2)
 fresh-shown c at n keeps.Done same = ap (λ st. cond (goes st) (new_run c at) (Reading [] false)) same

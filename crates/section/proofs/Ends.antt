@@ -12,14 +12,14 @@ use Rattle.record.specs.Places.{Place, Run, run_after, Reading, Writing, place_a
 use Rattle.record.specs.Program.{Version, newest_stamp, max_of, store_read, reply}
 use Rattle.record.specs.Registers.{width}
 use Rattle.record.specs.Scripts.{Call}
-use Rattle.section.specs.declared.change.Change.{Change}
+use Rattle.section.specs.declared.change.PendingChange.{PendingChange}
 use Rattle.section.specs.declared.change.Written.{Written}
 use Rattle.section.specs.declared.progress.SectionProgress.{SectionProgress}
-use Rattle.section.specs.declared.standing.Asked.{Asked}
-use Rattle.section.specs.declared.standing.Asked.TheVariants as asked
-use Rattle.section.specs.declared.standing.Called.{Called}
-use Rattle.section.specs.declared.standing.Standing as kept
-use Rattle.section.specs.declared.standing.Standing.TheVariants as keeps
+use Rattle.section.specs.declared.standing.SectionRead.{SectionRead}
+use Rattle.section.specs.declared.standing.SectionRead.TheVariants as asked
+use Rattle.section.specs.declared.standing.SectionCall.{SectionCall}
+use Rattle.section.specs.declared.standing.SectionPart as kept
+use Rattle.section.specs.declared.standing.SectionPart.TheVariants as keeps
 use Rattle.section.specs.declared.standing.Versions.{Versions}
 use Rattle.section.specs.Changes.{change_field, change_bits}
 use Rattle.section.specs.Keeping.{call_of, section_of, register_asked, run_of, fresh_run, IsReadOf}
@@ -28,33 +28,33 @@ use Rattle.section.specs.Standings.{Writes, standing_at, asking, shown}
 use Rattle.section.proofs.Advances.{read-asked, read-done, written-bits, write-done, fresh-shown}
 
 -- what is read goes on
-pub goes-asking : (n : ℕ) (part : Asked) (versions : Versions) → goes (asking n part versions) ≡ true
+pub goes-asking : (n : ℕ) (part : SectionRead) (versions : Versions) → goes (asking n part versions) ≡ true
 goes-asking n (asked.Commit k) versions = refl
 goes-asking n (asked.Stamp k b) versions = refl
 goes-asking n asked.Image versions = refl
 
 -- a read of a section that is shown
-pub run-read : (called : Called) (part : Asked) (versions : Versions) (r : NumberRead) (w : NumberWrite) (c : Call) (at : Place) →
+pub run-read : (called : SectionCall) (part : SectionRead) (versions : Versions) (r : NumberRead) (w : NumberWrite) (c : Call) (at : Place) →
     section_of called (keeps.Reads part versions) r w ≡ section_at c at → at.run ≡ Reading r.bits r.begun
 run-read called part versions r w c at same =
     let going : goes (standing_at c at.part) ≡ true = ap (λ (s : Section). goes s.standing) (sym same) ∙ goes-asking called.setup.processes part versions in
     sym (ap (λ b. cond b at.run (Reading [] false)) going) ∙ ap (λ (s : Section). s.run) (sym same)
 
 -- a write of one
-pub run-write : (called : Called) (part : Written) (change : Change) (r : NumberRead) (w : NumberWrite) (c : Call) (at : Place) →
+pub run-write : (called : SectionCall) (part : Written) (change : PendingChange) (r : NumberRead) (w : NumberWrite) (c : Call) (at : Place) →
     section_of called (keeps.Writes part change) r w ≡ section_at c at → at.run ≡ Writing w
 run-write called part change r w c at same =
     let going : goes (standing_at c at.part) ≡ true = ap (λ (s : Section). goes s.standing) (sym same) in
     sym (ap (λ b. cond b at.run (Reading [] false)) going) ∙ ap (λ (s : Section). s.run) (sym same)
 
 -- the end of a read: what is next, in any state of the runs that begins it
-pub record ReadEnds (called : Called) (part : Asked) (versions : Versions) (r : NumberRead) (v : Bool) : Type 0 where
+pub record ReadEnds (called : SectionCall) (part : SectionRead) (versions : Versions) (r : NumberRead) (v : Bool) : Type 0 where
   pub wide : r.width ≡ width called.setup (register_asked part versions).1
   pub inside : length r.bits < r.width
   pub done : (length (number_read_after r v).bits == r.width) ≡ true
 
 -- where a read ends, the place after it
-pub place-read : (called : Called) (part : Asked) (versions : Versions) (r : NumberRead) (w : NumberWrite) (v : Bool) (at : Place) → ReadEnds called part versions r v →
+pub place-read : (called : SectionCall) (part : SectionRead) (versions : Versions) (r : NumberRead) (w : NumberWrite) (v : Bool) (at : Place) → ReadEnds called part versions r v →
     section_of called (keeps.Reads part versions) r w ≡ section_at (call_of called) at → place_after (call_of called) at v ≡ enter (call_of called) (part_after (call_of called) at.part (number_read_after r v).bits)
 place-read called part versions r w v at ends same =
     let c = call_of called in
@@ -62,7 +62,7 @@ place-read called part versions r w v at ends same =
     read-done c at r v (run-read called part versions r w c at same) (ends.wide ∙ ap (λ (f : ℕ × Rattle.record.specs.declared.access.Field.Field). width c.setup f.1) (sym (read-asked c at.part called.setup.processes part versions standing))) ends.inside ends.done
 
 -- where a write ends
-pub place-write : (called : Called) (part : Written) (change : Change) (r : NumberRead) (w : NumberWrite) (v : Bool) (at : Place) → w.width ≡ width called.setup (change_field part change) →
+pub place-write : (called : SectionCall) (part : Written) (change : PendingChange) (r : NumberRead) (w : NumberWrite) (v : Bool) (at : Place) → w.width ≡ width called.setup (change_field part change) →
     (let moved = write_moved called.setup.processes (change_bits part change w.width) w in (moved.bit == moved.width) ≡ true) →
     section_of called (keeps.Writes part change) r w ≡ section_at (call_of called) at → place_after (call_of called) at v ≡ enter (call_of called) (part_after (call_of called) at.part [])
 place-write called part change r w v at wide done same =
@@ -71,15 +71,15 @@ place-write called part change r w v at wide done same =
     write-done c at w (change_bits part change w.width) v (run-write called part change r w c at same) (written-bits c at.part part change w.width standing wide) done
 
 -- the section that begins a part
-pub begun : (called : Called) (next : kept.Standing) (r : NumberRead) (w : NumberWrite) (at : Part) → shown called.setup.processes next ≡ standing_at (call_of called) at → run_of next r w ≡ fresh_run called.setup next →
+pub begun : (called : SectionCall) (next : kept.SectionPart) (r : NumberRead) (w : NumberWrite) (at : Part) → shown called.setup.processes next ≡ standing_at (call_of called) at → run_of next r w ≡ fresh_run called.setup next →
     section_of called next r w ≡ section_at (call_of called) (enter (call_of called) at)
 begun called next r w at standing fresh =
     let c = call_of called in
-    let make : Rattle.section.specs.Standings.Standing → Rattle.record.specs.Places.Run → Section = λ st run. record { call = c; standing = st; run = run } in
+    let make : Rattle.section.specs.Standings.SectionPart → Rattle.record.specs.Places.Run → Section = λ st run. record { call = c; standing = st; run = run } in
     λ i. make (standing i) ((fresh ∙ fresh-shown c at called.setup.processes next standing) i)
 
 -- a law of a section's own call holds of each call that it shows
-pub of-call : (called : Called) (st : kept.Standing) (r : NumberRead) (w : NumberWrite) (P : Call → Place → Type 0) → ((at : Place) → section_of called st r w ≡ section_at (call_of called) at → P (call_of called) at) →
+pub of-call : (called : SectionCall) (st : kept.SectionPart) (r : NumberRead) (w : NumberWrite) (P : Call → Place → Type 0) → ((at : Place) → section_of called st r w ≡ section_at (call_of called) at → P (call_of called) at) →
     (c : Call) (at : Place) → section_of called st r w ≡ section_at c at → P c at
 of-call called st r w P law c at same =
     subst (λ d. section_of called st r w ≡ section_at d at → P d at) (ap (λ (s : Section). s.call) same) (law at) same
@@ -90,7 +90,7 @@ done-at true e = refl
 done-at false e = absurd (cc)
 
 -- a whole read: the section past it, by what comes after its part
-pub past-read : (called : Called) (part : Asked) (versions : Versions) (r now : NumberRead) (w : NumberWrite) (v : Bool) (next : kept.Standing) (r' : NumberRead) (w' : NumberWrite) →
+pub past-read : (called : SectionCall) (part : SectionRead) (versions : Versions) (r now : NumberRead) (w : NumberWrite) (v : Bool) (next : kept.SectionPart) (r' : NumberRead) (w' : NumberWrite) →
     IsReadOf called.setup (register_asked part versions).1 r → now ≡ number_read_after r v → (length now.bits == now.width) ≡ true →
     ((P : Part) → standing_at (call_of called) P ≡ asking called.setup.processes part versions → shown called.setup.processes next ≡ standing_at (call_of called) (part_after (call_of called) P now.bits)) →
     run_of next r' w' ≡ fresh_run called.setup next →
@@ -111,7 +111,7 @@ past-read called part versions r now w v next r' w' is moved done after fresh =
         ∙ ap (section_at (call_of called)) (sym (place-read called part versions r w v at whole same))
 
 -- and what is told with its end
-pub told-read : (called : Called) (part : Asked) (versions : Versions) (r now : NumberRead) (w : NumberWrite) (v : Bool) (result : SectionProgress) →
+pub told-read : (called : SectionCall) (part : SectionRead) (versions : Versions) (r now : NumberRead) (w : NumberWrite) (v : Bool) (result : SectionProgress) →
     IsReadOf called.setup (register_asked part versions).1 r → now ≡ number_read_after r v → (length now.bits == now.width) ≡ true →
     ((P : Part) → standing_at (call_of called) P ≡ asking called.setup.processes part versions → result ≡ told (changes_at P) (part_after (call_of called) P now.bits)) →
     (c : Call) (at : Place) → section_of called (keeps.Reads part versions) r w ≡ section_at c at → result ≡ progress_at c at v
@@ -128,7 +128,7 @@ told-read called part versions r now w v result is moved done after =
         ∙ ap (λ (p : Place). told (changes_at at.part) p.part) (sym (place-read called part versions r w v at whole same))
 
 -- a whole write
-pub past-write : (called : Called) (part : Written) (change : Change) (r : NumberRead) (w now : NumberWrite) (v : Bool) (next : kept.Standing) (r' : NumberRead) (w' : NumberWrite) →
+pub past-write : (called : SectionCall) (part : Written) (change : PendingChange) (r : NumberRead) (w now : NumberWrite) (v : Bool) (next : kept.SectionPart) (r' : NumberRead) (w' : NumberWrite) →
     w.width ≡ width called.setup (change_field part change) → now ≡ write_moved called.setup.processes (change_bits part change w.width) w → (now.bit == now.width) ≡ true →
     ((P : Part) → standing_at (call_of called) P ≡ Writes part change → shown called.setup.processes next ≡ standing_at (call_of called) (part_after (call_of called) P [])) →
     run_of next r' w' ≡ fresh_run called.setup next →
@@ -138,7 +138,7 @@ past-write called part change r w now v next r' w' wide moved done after fresh =
     begun called next r' w' (part_after (call_of called) at.part []) (after at.part (ap (λ (s : Section). s.standing) (sym same))) fresh
     ∙ ap (section_at (call_of called)) (sym (place-write called part change r w v at wide (sym (ap (λ (x : NumberWrite). x.bit == x.width) moved) ∙ done) same))
 
-pub told-write : (called : Called) (part : Written) (change : Change) (r : NumberRead) (w now : NumberWrite) (v : Bool) (result : SectionProgress) →
+pub told-write : (called : SectionCall) (part : Written) (change : PendingChange) (r : NumberRead) (w now : NumberWrite) (v : Bool) (result : SectionProgress) →
     w.width ≡ width called.setup (change_field part change) → now ≡ write_moved called.setup.processes (change_bits part change w.width) w → (now.bit == now.width) ≡ true →
     ((P : Part) → standing_at (call_of called) P ≡ Writes part change → result ≡ told (changes_at P) (part_after (call_of called) P [])) →
     (c : Call) (at : Place) → section_of called (keeps.Writes part change) r w ≡ section_at c at → result ≡ progress_at c at v

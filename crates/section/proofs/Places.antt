@@ -6,7 +6,7 @@ use Rattle.record.specs.Places.{Reading, new_run}
 use Rattle.record.specs.Parts.{to_e, Part, AsksCommit, AsksStamp, AsksImage, WritesImage, WritesStamp, WritesCommit}
 use Rattle.record.specs.Program.{Version}
 use Rattle.record.specs.Scripts.{Call}
-use Rattle.section.specs.declared.change.Change.{Change}
+use Rattle.section.specs.declared.change.PendingChange.{PendingChange}
 use Rattle.section.specs.declared.change.Written.{Written}
 use Rattle.section.specs.declared.change.Written.TheVariants as written
 use Rattle.section.specs.declared.standing.Versions.{Versions}
@@ -38,7 +38,7 @@ part_written written.Stamp vs st = WritesStamp vs st
 part_written written.Commit vs st = WritesCommit vs st
 
 -- where a change is written
-pub at-change : (c : Call) (at : Part) (part : Written) (change : Change) → standing_at c at ≡ Writes part change →
+pub at-change : (c : Call) (at : Part) (part : Written) (change : PendingChange) → standing_at c at ≡ Writes part change →
     (vs : List Version) × (st : Contents) × (at ≡ part_written part vs st) × (change_at c vs st ≡ change)
 at-change c (WritesImage vs st) part change same = let is : part ≡ written.Image = cc in (vs, st, ap (λ p. part_written p vs st) (sym is), cc)
 at-change c (WritesStamp vs st) part change same = let is : part ≡ written.Stamp = cc in (vs, st, ap (λ p. part_written p vs st) (sym is), cc)

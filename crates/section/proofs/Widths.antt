@@ -6,7 +6,7 @@ use Rattle.plain_store.specs.declared.Setup.{Setup}
 use Rattle.plain_store.proofs.GoodSetups.{good-checked}
 use Rattle.record.specs.Program.{stamp_field, image_field}
 use Rattle.record.specs.Registers.{width, image_bytes}
-use Rattle.section.specs.declared.change.Change.{Change}
+use Rattle.section.specs.declared.change.PendingChange.{PendingChange}
 use Rattle.section.specs.declared.change.Written.{Written}
 use Rattle.section.specs.declared.change.Written.TheVariants.{Image, Stamp, Commit}
 use Rattle.section.specs.Changes.{FitsWidth, change_field}
@@ -42,7 +42,7 @@ width-image s true = refl
 width-image s false = refl
 
 -- a register of the width of its field takes a part of a change
-pub fits-change : (s : Setup) (part : Written) (change : Change) (w : ℕ) → checked s ≡ Ok tt → IsChange s change → w ≡ width s (change_field part change) → FitsWidth part change w
+pub fits-change : (s : Setup) (part : Written) (change : PendingChange) (w : ℕ) → checked s ≡ Ok tt → IsChange s change → w ≡ width s (change_field part change) → FitsWidth part change w
 fits-change s Image change w good is wide = omega (arith, wide, width-image s change.commit, is.slots, is.numbers)
 fits-change s Stamp change w good is wide = omega (arith, wide, width-stamp s change.commit, (ranges s good).few_bits)
 fits-change s Commit change w good is wide = omega (arith, wide)

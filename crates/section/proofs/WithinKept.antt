@@ -5,12 +5,12 @@ use Rattle.reader_copies.specs.Runs as copies
 use Rattle.safe_number.specs.Runs.{NumberRead, NumberWrite, number_read_after}
 use Rattle.record.specs.Places.{bit_written, write_moved}
 use Rattle.record.specs.Registers.{width}
-use Rattle.section.specs.declared.change.Change.{Change}
+use Rattle.section.specs.declared.change.PendingChange.{PendingChange}
 use Rattle.section.specs.declared.change.Written.{Written}
-use Rattle.section.specs.declared.standing.Asked.{Asked}
-use Rattle.section.specs.declared.standing.Asked.TheVariants as asked
-use Rattle.section.specs.declared.standing.Called.{Called}
-use Rattle.section.specs.declared.standing.Standing.TheVariants as keeps
+use Rattle.section.specs.declared.standing.SectionRead.{SectionRead}
+use Rattle.section.specs.declared.standing.SectionRead.TheVariants as asked
+use Rattle.section.specs.declared.standing.SectionCall.{SectionCall}
+use Rattle.section.specs.declared.standing.SectionPart.TheVariants as keeps
 use Rattle.section.specs.declared.standing.Versions.{Versions}
 use Rattle.section.specs.Changes.{change_bits, change_field, made_of_run}
 use Rattle.section.specs.Keeping.{IsCall, IsReadOf, IsWriteOf, register_asked, section_of}
@@ -19,13 +19,13 @@ use Rattle.section.specs.Standings.{asking}
 use Rattle.section.proofs.Ends.{goes-asking}
 
 -- which register is read, as the section shows it
-field-asked : (n : ℕ) (part : Asked) (versions : Versions) → field_read (asking n part versions) ≡ (register_asked part versions).1
+field-asked : (n : ℕ) (part : SectionRead) (versions : Versions) → field_read (asking n part versions) ≡ (register_asked part versions).1
 field-asked n (asked.Commit k) versions = refl
 field-asked n (asked.Stamp k commit) versions = refl
 field-asked n asked.Image versions = refl
 
 -- a read with bits before its last one is not at its last one
-read-less : (called : Called) (part : Asked) (versions : Versions) (r : NumberRead) (w : NumberWrite) → IsReadOf called.setup (register_asked part versions).1 r → 0 < bits_within (section_of called (keeps.Reads part versions) r w) → length r.bits + 1 < r.width
+read-less : (called : SectionCall) (part : SectionRead) (versions : Versions) (r : NumberRead) (w : NumberWrite) → IsReadOf called.setup (register_asked part versions).1 r → 0 < bits_within (section_of called (keeps.Reads part versions) r w) → length r.bits + 1 < r.width
 read-less called part versions r w kept some =
     let n = called.setup.processes in
     let wide : ℕ = width called.setup (field_read (asking n part versions)) in
@@ -34,7 +34,7 @@ read-less called part versions r w kept some =
     omega (arith, same, left)
 
 -- so after one more access it is not done
-pub read-kept : (called : Called) (part : Asked) (versions : Versions) (r now : NumberRead) (w : NumberWrite) (v : Bool) → IsReadOf called.setup (register_asked part versions).1 r → 0 < bits_within (section_of called (keeps.Reads part versions) r w) →
+pub read-kept : (called : SectionCall) (part : SectionRead) (versions : Versions) (r now : NumberRead) (w : NumberWrite) (v : Bool) → IsReadOf called.setup (register_asked part versions).1 r → 0 < bits_within (section_of called (keeps.Reads part versions) r w) →
     now ≡ number_read_after r v → IsReadOf called.setup (register_asked part versions).1 now
 read-kept called part versions r now w v kept some moved = record {
   wide = ap (λ (x : NumberRead). x.width) moved ∙ kept.wide;
@@ -49,7 +49,7 @@ read-kept called part versions r now w v kept some moved = record {
     by false = omega (arith, less)
 
 -- nor is a write: it comes to the next bit, or to the next copy
-pub write-kept : (called : Called) (part : Written) (change : Change) (r : NumberRead) (w now : NumberWrite) → IsCall called → IsWriteOf called.setup (change_field part change) w → 0 < bits_within (section_of called (keeps.Writes part change) r w) →
+pub write-kept : (called : SectionCall) (part : Written) (change : PendingChange) (r : NumberRead) (w now : NumberWrite) → IsCall called → IsWriteOf called.setup (change_field part change) w → 0 < bits_within (section_of called (keeps.Writes part change) r w) →
     now ≡ write_moved called.setup.processes (change_bits part change w.width) w → IsWriteOf called.setup (change_field part change) now
 write-kept called part change r w now call kept some moved = subst (IsWriteOf called.setup (change_field part change)) (sym moved) (by (run.made + 1 == 2 * called.setup.processes) refl)
   where

@@ -15,14 +15,14 @@ use Rattle.record.specs.Parts.{Part, read_at, written_at}
 use Rattle.record.specs.Places.{Place, Run, Reading, Writing, access_at, bit_written, next_written, place_after, run_after, value_of, write_moved}
 use Rattle.record.specs.Registers.{width}
 use Rattle.record.specs.Scripts.{Call}
-use Rattle.section.specs.declared.change.Change.{Change}
+use Rattle.section.specs.declared.change.PendingChange.{PendingChange}
 use Rattle.section.specs.declared.change.Written.{Written}
-use Rattle.section.specs.declared.standing.Asked.{Asked}
-use Rattle.section.specs.declared.standing.Called.{Called}
-use Rattle.section.specs.declared.standing.Standing.TheVariants as keeps
+use Rattle.section.specs.declared.standing.SectionRead.{SectionRead}
+use Rattle.section.specs.declared.standing.SectionCall.{SectionCall}
+use Rattle.section.specs.declared.standing.SectionPart.TheVariants as keeps
 use Rattle.section.specs.declared.standing.Versions.{Versions}
 use Rattle.section.specs.Changes.{change_bits, change_field}
-use Rattle.section.specs.declared.standing.Standing as kept
+use Rattle.section.specs.declared.standing.SectionPart as kept
 use Rattle.section.specs.Keeping.{IsRunOf, call_of, made_next, register_asked, register_next, section_of}
 use Rattle.section.specs.Registers.{DataRow, after_access, answered, register_at, MayMake}
 use Rattle.section.specs.Sections.{GoesOnWithin, MayStep, Section, bits_within, field_read, goes, is_going, section_at}
@@ -58,12 +58,12 @@ run-moved c part r me v = by r.begun
 stays : (section : Section) (c : Call) (at : Place) (run : Run) → section ≡ section_at c at → is_going section ≡ true →
     (let s : Section = record { call = section.call; standing = section.standing; run = run } in s) ≡ section_at c (record { part = at.part; run = run })
 stays section c at run same going =
-    let make : Call → Rattle.section.specs.Standings.Standing → Run → Section = λ d st x. record { call = d; standing = st; run = x } in
+    let make : Call → Rattle.section.specs.Standings.SectionPart → Run → Section = λ d st x. record { call = d; standing = st; run = x } in
     let goes-on : goes (standing_at c at.part) ≡ true = ap (λ (s : Section). is_going s) (sym same) ∙ going in
     (λ i. make (same i).call (same i).standing run) ∙ ap (λ b. make c (standing_at c at.part) (cond b run (Reading [] false))) (sym goes-on)
 
 -- the access of a read: of the register that is asked for, by the section's own process
-pub read-access : (called : Called) (part : Asked) (versions : Versions) (asked : ℕ × Field) (r : NumberRead) (w : NumberWrite) (row : DataRow) (flick : Bool) → asked ≡ register_asked part versions →
+pub read-access : (called : SectionCall) (part : SectionRead) (versions : Versions) (asked : ℕ × Field) (r : NumberRead) (w : NumberWrite) (row : DataRow) (flick : Bool) → asked ≡ register_asked part versions →
     (c : Call) (at : Place) → section_of called (keeps.Reads part versions) r w ≡ section_at c at →
     access_of asked.0 asked.1 (next_of_read called.process r (loaded (register_at row asked.0 asked.1) called.process r flick)) ≡ answered row flick (access_at c at.part at.run)
 read-access called part versions asked r w row flick is =
@@ -84,7 +84,7 @@ read-access called part versions asked r w row flick is =
         ∙ ap (λ run. answered row flick (access_at c at.part run)) (sym (run-read called part versions r w c at same))
 
 -- told as a section tells it
-pub read-next : (called : Called) (part : Asked) (versions : Versions) (r : NumberRead) (w : NumberWrite) (v : Bool) → (c : Call) (at : Place) → section_of called (keeps.Reads part versions) r w ≡ section_at c at →
+pub read-next : (called : SectionCall) (part : SectionRead) (versions : Versions) (r : NumberRead) (w : NumberWrite) (v : Bool) → (c : Call) (at : Place) → section_of called (keeps.Reads part versions) r w ≡ section_at c at →
     access_of (register_asked part versions).0 (register_asked part versions).1 (next_of_read called.process r v) ≡ ended_with v (access_at c at.part at.run)
 read-next called part versions r w v =
     of-call called (keeps.Reads part versions) r w (λ c at. access_of asked.0 asked.1 (next_of_read called.process r v) ≡ ended_with v (access_at c at.part at.run)) here
@@ -104,13 +104,13 @@ read-next called part versions r w v =
         ∙ ap (λ run. ended_with v (access_at c at.part run)) (sym (run-read called part versions r w c at same))
 
 -- it may be made
-pub read-may : (called : Called) (part : Asked) (versions : Versions) (asked : ℕ × Field) (r : NumberRead) (w : NumberWrite) (row : DataRow) (flick : Bool) → asked ≡ register_asked part versions →
+pub read-may : (called : SectionCall) (part : SectionRead) (versions : Versions) (asked : ℕ × Field) (r : NumberRead) (w : NumberWrite) (row : DataRow) (flick : Bool) → asked ≡ register_asked part versions →
     MayStep (section_of called (keeps.Reads part versions) r w) row flick →
     MayMake row (access_of asked.0 asked.1 (next_of_read called.process r (loaded (register_at row asked.0 asked.1) called.process r flick)))
 read-may called part versions asked r w row flick is m = subst (MayMake row) (sym (read-access called part versions asked r w row flick is m.call m.place m.is_shown)) m.may
 
 -- the section past it
-pub read-past : (called : Called) (part : Asked) (versions : Versions) (r now : NumberRead) (w : NumberWrite) (v : Bool) → is_within (section_of called (keeps.Reads part versions) r w) ≡ true →
+pub read-past : (called : SectionCall) (part : SectionRead) (versions : Versions) (r now : NumberRead) (w : NumberWrite) (v : Bool) → is_within (section_of called (keeps.Reads part versions) r w) ≡ true →
     ((c : Call) (part : Part) → Reading now.bits now.begun ≡ run_after c part (Reading r.bits r.begun) v) →
     (c : Call) (at : Place) → section_of called (keeps.Reads part versions) r w ≡ section_at c at → section_of called (keeps.Reads part versions) now w ≡ section_at c (place_after c at v)
 read-past called part versions r now w v within moved c at same =
@@ -119,7 +119,7 @@ read-past called part versions r now w v within moved c at same =
     ∙ ap (section_at c) (sym (within-place c at v (ap is_within (sym same) ∙ within)))
 
 -- it has at most one bit less to go
-pub read-counts : (called : Called) (part : Asked) (versions : Versions) (r now : NumberRead) (w : NumberWrite) (v : Bool) → now ≡ number_read_after r v →
+pub read-counts : (called : SectionCall) (part : SectionRead) (versions : Versions) (r now : NumberRead) (w : NumberWrite) (v : Bool) → now ≡ number_read_after r v →
     bits_within (section_of called (keeps.Reads part versions) r w) ≤ bits_within (section_of called (keeps.Reads part versions) now w) + 1
 read-counts called part versions r now w v moved =
     let n = called.setup.processes in
@@ -129,7 +129,7 @@ read-counts called part versions r now w v moved =
     (subst (λ b. counted b r ≤ counted b (number_read_after r v) + 1) (sym (goes-asking n part versions)) (read-fewer r v wide))
 
 -- the section and the registers past it
-pub read-goes : (called : Called) (part : Asked) (versions : Versions) (asked : ℕ × Field) (r now : NumberRead) (w : NumberWrite) (row after : DataRow) (flick : Bool) → asked ≡ register_asked part versions →
+pub read-goes : (called : SectionCall) (part : SectionRead) (versions : Versions) (asked : ℕ × Field) (r now : NumberRead) (w : NumberWrite) (row after : DataRow) (flick : Bool) → asked ≡ register_asked part versions →
     is_within (section_of called (keeps.Reads part versions) r w) ≡ true →
     now ≡ number_read_after r (loaded (register_at row asked.0 asked.1) called.process r flick) →
     after ≡ after_access row (access_of asked.0 asked.1 (next_of_read called.process r (loaded (register_at row asked.0 asked.1) called.process r flick))) →
@@ -152,7 +152,7 @@ read-goes called part versions asked r now w row after flick is within moved mad
     access = access_of asked.0 asked.1 (next_of_read called.process r v)
 
 -- the access of a write: of a register of the section's own process, and as it was where only the ends of reads are answered
-write-at : (called : Called) (part : Written) (change : Change) (r : NumberRead) (w : NumberWrite) (f : Access → Access) → w.width ≡ width called.setup (change_field part change) →
+write-at : (called : SectionCall) (part : Written) (change : PendingChange) (r : NumberRead) (w : NumberWrite) (f : Access → Access) → w.width ≡ width called.setup (change_field part change) →
     f (access_of called.process (change_field part change) (next_written (change_bits part change w.width) w)) ≡ access_of called.process (change_field part change) (next_written (change_bits part change w.width) w) →
     (c : Call) (at : Place) → section_of called (keeps.Writes part change) r w ≡ section_at c at →
     access_of called.process (change_field part change) (next_written (change_bits part change w.width) w) ≡ f (access_at c at.part at.run)
@@ -172,13 +172,13 @@ write-at called part change r w f wide left =
         ∙ ap (λ x. f (access_at c at.part x)) (sym (run-write called part change r w c at same))
 
 -- an access of a write, with another move
-abbrev moving : (called : Called) (part : Written) (change : Change) (w : NumberWrite) → Move → Access
+abbrev moving : (called : SectionCall) (part : Written) (change : PendingChange) (w : NumberWrite) → Move → Access
 moving called part change w how =
     let plain : Access = access_of called.process (change_field part change) (next_written (change_bits part change w.width) w) in
     record { owner = plain.owner; field = plain.field; bit = plain.bit; reader = plain.reader; how = how }
 
 -- told as a section tells it
-pub write-next : (called : Called) (part : Written) (change : Change) (r : NumberRead) (w : NumberWrite) (v : Bool) → w.width ≡ width called.setup (change_field part change) →
+pub write-next : (called : SectionCall) (part : Written) (change : PendingChange) (r : NumberRead) (w : NumberWrite) (v : Bool) → w.width ≡ width called.setup (change_field part change) →
     (c : Call) (at : Place) → section_of called (keeps.Writes part change) r w ≡ section_at c at →
     access_of called.process (change_field part change) (next_written (change_bits part change w.width) w) ≡ ended_with v (access_at c at.part at.run)
 write-next called part change r w v wide =
@@ -186,7 +186,7 @@ write-next called part change r w v wide =
     write-at called part change r w (ended_with v) wide (ap (moving called part change w) (ended-write v (run.made % 2 == 0) run.value))
 
 -- made on the registers
-pub write-access : (called : Called) (part : Written) (change : Change) (r : NumberRead) (w : NumberWrite) (row : DataRow) (flick : Bool) → w.width ≡ width called.setup (change_field part change) →
+pub write-access : (called : SectionCall) (part : Written) (change : PendingChange) (r : NumberRead) (w : NumberWrite) (row : DataRow) (flick : Bool) → w.width ≡ width called.setup (change_field part change) →
     (c : Call) (at : Place) → section_of called (keeps.Writes part change) r w ≡ section_at c at →
     access_of called.process (change_field part change) (next_written (change_bits part change w.width) w) ≡ answered row flick (access_at c at.part at.run)
 write-access called part change r w row flick wide =
@@ -195,13 +195,13 @@ write-access called part change r w row flick wide =
     write-at called part change r w (answered row flick) wide (ap (moving called part change w) (ended-write (read_answer (cell_at (register_at row plain.owner plain.field) plain.bit plain.reader) flick) (run.made % 2 == 0) run.value))
 
 -- it may be made
-pub write-may : (called : Called) (part : Written) (change : Change) (r : NumberRead) (w : NumberWrite) (row : DataRow) (flick : Bool) → w.width ≡ width called.setup (change_field part change) →
+pub write-may : (called : SectionCall) (part : Written) (change : PendingChange) (r : NumberRead) (w : NumberWrite) (row : DataRow) (flick : Bool) → w.width ≡ width called.setup (change_field part change) →
     MayStep (section_of called (keeps.Writes part change) r w) row flick →
     MayMake row (access_of called.process (change_field part change) (next_written (change_bits part change w.width) w))
 write-may called part change r w row flick wide m = subst (MayMake row) (sym (write-access called part change r w row flick wide m.call m.place m.is_shown)) m.may
 
 -- the section past it
-pub write-past : (called : Called) (part : Written) (change : Change) (r : NumberRead) (w now : NumberWrite) (v : Bool) → w.width ≡ width called.setup (change_field part change) →
+pub write-past : (called : SectionCall) (part : Written) (change : PendingChange) (r : NumberRead) (w now : NumberWrite) (v : Bool) → w.width ≡ width called.setup (change_field part change) →
     is_within (section_of called (keeps.Writes part change) r w) ≡ true →
     now ≡ write_moved called.setup.processes (change_bits part change w.width) w →
     (c : Call) (at : Place) → section_of called (keeps.Writes part change) r w ≡ section_at c at → section_of called (keeps.Writes part change) r now ≡ section_at c (place_after c at v)
@@ -222,12 +222,12 @@ write-past called part change r w now v wide within moved =
         ∙ ap (section_at c) (sym (within-place c at v (ap is_within (sym same) ∙ within)))
 
 -- it has at most one bit less to go
-pub write-counts : (called : Called) (part : Written) (change : Change) (r : NumberRead) (w now : NumberWrite) → now ≡ write_moved called.setup.processes (change_bits part change w.width) w →
+pub write-counts : (called : SectionCall) (part : Written) (change : PendingChange) (r : NumberRead) (w now : NumberWrite) → now ≡ write_moved called.setup.processes (change_bits part change w.width) w →
     bits_within (section_of called (keeps.Writes part change) r w) ≤ bits_within (section_of called (keeps.Writes part change) r now) + 1
 write-counts called part change r w now moved = subst (λ (x : NumberWrite). w.width - (w.bit + 1) ≤ x.width - (x.bit + 1) + 1) (sym moved) (write-fewer w _)
 
 -- the next access, as a section tells it
-pub next-shown : (called : Called) (standing : kept.Standing) (r : NumberRead) (w : NumberWrite) (v : Bool) → IsRunOf called.setup standing r w → goes (shown called.setup.processes standing) ≡ true →
+pub next-shown : (called : SectionCall) (standing : kept.SectionPart) (r : NumberRead) (w : NumberWrite) (v : Bool) → IsRunOf called.setup standing r w → goes (shown called.setup.processes standing) ≡ true →
     (c : Call) (at : Place) → section_of called standing r w ≡ section_at c at →
     access_of (register_next called standing).0 (register_next called standing).1 (made_next called standing r w v) ≡ ended_with v (access_at c at.part at.run)
 next-shown called (keeps.Reads part versions) r w v run going = read-next called part versions r w v
@@ -235,7 +235,7 @@ next-shown called (keeps.Writes part change) r w v run going = write-next called
 next-shown called keeps.Done r w v run going = absurd (cc)
 
 -- the section and the registers past it
-pub write-goes : (called : Called) (part : Written) (change : Change) (r : NumberRead) (w now : NumberWrite) (row after : DataRow) (flick : Bool) → w.width ≡ width called.setup (change_field part change) →
+pub write-goes : (called : SectionCall) (part : Written) (change : PendingChange) (r : NumberRead) (w now : NumberWrite) (row after : DataRow) (flick : Bool) → w.width ≡ width called.setup (change_field part change) →
     is_within (section_of called (keeps.Writes part change) r w) ≡ true →
     now ≡ write_moved called.setup.processes (change_bits part change w.width) w →
     after ≡ after_access row (access_of called.process (change_field part change) (next_written (change_bits part change w.width) w)) →

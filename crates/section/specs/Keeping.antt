@@ -11,52 +11,52 @@ use Rattle.record.specs.Places.{Run, Reading, Writing, next_written}
 use Rattle.record.specs.Program.{stamp_field, image_field}
 use Rattle.record.specs.Registers.{width, image_bytes}
 use Rattle.record.specs.Scripts.{Call}
-use Rattle.section.specs.declared.change.Change.{Change}
+use Rattle.section.specs.declared.change.PendingChange.{PendingChange}
 use Rattle.section.specs.declared.newest.Newest.{Newest}
-use Rattle.section.specs.declared.standing.Asked.{Asked}
-use Rattle.section.specs.declared.standing.Asked.TheVariants as asked
-use Rattle.section.specs.declared.standing.Called.{Called}
-use Rattle.section.specs.declared.standing.Standing.{Standing}
-use Rattle.section.specs.declared.standing.Standing.TheVariants.{Reads, Writes, Done}
+use Rattle.section.specs.declared.standing.SectionRead.{SectionRead}
+use Rattle.section.specs.declared.standing.SectionRead.TheVariants as asked
+use Rattle.section.specs.declared.standing.SectionCall.{SectionCall}
+use Rattle.section.specs.declared.standing.SectionPart.{SectionPart}
+use Rattle.section.specs.declared.standing.SectionPart.TheVariants.{Reads, Writes, Done}
 use Rattle.section.specs.declared.standing.Versions.{Versions}
 use Rattle.section.specs.Changes.{change_bits, change_field, made_so_far}
 use Rattle.section.specs.Sections.{Section}
 use Rattle.section.specs.Standings.{shown}
 
 -- the call of a section
-abbrev pub call_of : Called → Call
+abbrev pub call_of : SectionCall → Call
 call_of c = record { setup = c.setup; process = c.process; command = c.command; number = c.number }
 
 -- whose register is read, and which
-abbrev pub register_asked : Asked → Versions → ℕ × Field
+abbrev pub register_asked : SectionRead → Versions → ℕ × Field
 register_asked (asked.Commit k) versions = (k, field.Commit)
 register_asked (asked.Stamp k commit) versions = (k, stamp_field commit)
 register_asked asked.Image versions = (versions.newest.process, image_field versions.newest.commit)
 
 -- the register of the next access, and whose it is
-abbrev pub register_next : Called → Standing → ℕ × Field
+abbrev pub register_next : SectionCall → SectionPart → ℕ × Field
 register_next c (Reads part versions) = register_asked part versions
 register_next c (Writes part change) = (c.process, change_field part change)
 register_next c Done = (c.process, field.Commit)
 
 -- its bit, and what is made of it; the end of a read gives this value
-abbrev pub made_next : Called → Standing → NumberRead → NumberWrite → Bool → ℕ × Made
+abbrev pub made_next : SectionCall → SectionPart → NumberRead → NumberWrite → Bool → ℕ × Made
 made_next c (Reads part versions) r w value = next_of_read c.process r value
 made_next c (Writes part change) r w value = next_written (change_bits part change w.width) w
 made_next c Done r w value = (0, record { reader = c.process; how = BeginRead })
 
 -- the number access, as a read or as a write
-abbrev pub run_of : Standing → NumberRead → NumberWrite → Run
+abbrev pub run_of : SectionPart → NumberRead → NumberWrite → Run
 run_of (Reads part versions) r w = Reading r.bits r.begun
 run_of (Writes part change) r w = Writing w
 run_of Done r w = Reading [] false
 
 -- what contracts see of the fields
-abbrev pub section_of : Called → Standing → NumberRead → NumberWrite → Section
+abbrev pub section_of : SectionCall → SectionPart → NumberRead → NumberWrite → Section
 section_of c standing r w = record { call = call_of c; standing = shown c.setup.processes standing; run = run_of standing r w }
 
 -- a call of a process of a good setup
-pub record IsCall (c : Called) : Type 0 where
+pub record IsCall (c : SectionCall) : Type 0 where
   pub good : checked c.setup ≡ Ok tt
   pub process : c.process < c.setup.processes
 
@@ -66,19 +66,19 @@ pub record IsNewest (s : Setup) (newest : Newest) : Type 0 where
   pub stamp : newest.stamp < 2 ^ s.stamp_bits
 
 -- what is read is a process's
-abbrev pub IsAsked : Setup → Asked → Type 0
+abbrev pub IsAsked : Setup → SectionRead → Type 0
 IsAsked s (asked.Commit k) = k < s.processes
 IsAsked s (asked.Stamp k commit) = k < s.processes
 IsAsked s asked.Image = Unit {0}
 
 -- a change of a store of a setup, whose stamp fits
-pub record IsChange (s : Setup) (change : Change) : Type 0 where
+pub record IsChange (s : Setup) (change : PendingChange) : Type 0 where
   pub slots : change.store.slots ≡ s.slots
   pub numbers : length change.store.numbers ≡ callers_of s
   pub stamp : change.changes + 1 < 2 ^ s.stamp_bits
 
 -- what is kept is of a setup
-abbrev pub IsStanding : Setup → Standing → Type 0
+abbrev pub IsStanding : Setup → SectionPart → Type 0
 IsStanding s (Reads part versions) = IsAsked s part × IsNewest s versions.newest
 IsStanding s (Writes part change) = IsChange s change
 IsStanding s Done = Unit {0}
@@ -95,20 +95,20 @@ pub record IsWriteOf (s : Setup) (field : Field) (w : NumberWrite) : Type 0 wher
   pub copies : made_so_far w < 2 * s.processes
 
 -- the number access is that of what is kept, and is not done
-abbrev pub IsRunOf : Setup → Standing → NumberRead → NumberWrite → Type 0
+abbrev pub IsRunOf : Setup → SectionPart → NumberRead → NumberWrite → Type 0
 IsRunOf s (Reads part versions) r w = IsReadOf s (register_asked part versions).1 r
 IsRunOf s (Writes part change) r w = IsWriteOf s (change_field part change) w
 IsRunOf s Done r w = Unit {0}
 
 -- what the fields of a section keep
-pub record IsKept (c : Called) (kept : Standing) (r : NumberRead) (w : NumberWrite) : Type 0 where
+pub record IsKept (c : SectionCall) (kept : SectionPart) (r : NumberRead) (w : NumberWrite) : Type 0 where
   pub call : IsCall c
   pub standing : IsStanding c.setup kept
   pub run : IsRunOf c.setup kept r w
   pub room : r.room ≡ 8 * image_bytes c.setup
 
 -- the number access of what is kept, of which nothing is made
-abbrev pub fresh_run : Setup → Standing → Run
+abbrev pub fresh_run : Setup → SectionPart → Run
 fresh_run s (Reads part versions) = Reading [] false
 fresh_run s (Writes part change) = Writing (new_write (width s (change_field part change)))
 fresh_run s Done = Reading [] false

@@ -18,16 +18,16 @@ use Rattle.record.specs.Scripts.{Call}
 use Rattle.section.specs.declared.progress.SectionProgress.{SectionProgress}
 use Rattle.section.specs.declared.progress.SectionProgress.TheVariants as progress
 use Rattle.section.specs.Registers.{DataRow, is_data, after_access, answered, MayMake, without_reads_at}
-use Rattle.section.specs.Standings.{Standing, ReadsStamp, ReadsImage, Done, standing_at}
+use Rattle.section.specs.Standings.{SectionPart, ReadsStamp, ReadsImage, Done, standing_at}
 
 -- the call, what is kept of its place, and how far the number access has come
 pub record Section : Type 0 where
   pub call : Call
-  pub standing : Standing
+  pub standing : SectionPart
   pub run : Run
 
 -- an access is left to be made
-abbrev pub goes : Standing → Bool
+abbrev pub goes : SectionPart → Bool
 goes Done = false
 goes _ = true
 
@@ -112,7 +112,7 @@ abbrev pub after_fail : Call → Place → DataRow → DataRow
 after_fail c at row = after_fail_in c at.part at.run row
 
 -- which register of a process is read
-abbrev pub field_read : Standing → Field
+abbrev pub field_read : SectionPart → Field
 field_read (ReadsStamp k ks read commit versions) = stamp_field commit
 field_read (ReadsImage versions) = image_field versions.newest.commit
 field_read _ = Commit

@@ -24,7 +24,7 @@ pub(crate) enum Written {
 
 /// A change of the store, while it is written over the version that its process has not committed.
 #[derive(Clone, Copy)]
-pub(crate) struct Change {
+pub(crate) struct PendingChange {
     /// The store after the command.
     pub store: Image,
     pub reply: Reply,
@@ -34,7 +34,7 @@ pub(crate) struct Change {
     pub commit: bool,
 }
 
-impl Change {
+impl PendingChange {
     /// The register that is written.
     #[inline]
     pub fn field(&self, part: Written) -> Field

@@ -9,10 +9,10 @@ ghost use Rattle.section.specs.Keeping.{IsRunOf, run_of, fresh_run, IsStanding};
 ghost use Rattle.section.specs.Registers.{after_access, answered, is_data, FitsSetup};
 ghost use Rattle.section.specs.Sections.{is_going, section_at, inside_place, new_section, started, ended, goes_on, progress_at, marks_told, reads_in, after_fail, bits_within, GoesOnWithin, IsInRange, MayStep, MayWalk, WalksWithin};
 
-use crate::change::{Change, Written};
+use crate::change::{PendingChange, Written};
 use crate::data_row::DataRow;
 use crate::progress::SectionProgress;
-use crate::standing::{self, Asked, Called, Standing, Versions};
+use crate::standing::{self, SectionRead, SectionCall, SectionPart, Versions};
 use crate::{image, walking};
 use flicks::Flicks;
 use plain_store::{Command, Reply, Setup};
@@ -33,8 +33,8 @@ use std::marker::Model;
 /// `new` it takes no memory.
 #[derive(Drop)]
 pub struct Section {
-    call: Called,
-    standing: Standing,
+    call: SectionCall,
+    standing: SectionPart,
     reading: ReadRun,
     writing: WriteRun,
 }
@@ -62,7 +62,7 @@ impl Section {
             Err(NumberFault::Memory) => return Err(AllocError),
             Err(NumberFault::Width) => unreachable!(),
         };
-        let call = Called {
+        let call = SectionCall {
             setup: *setup,
             process,
             command: Command::Ask,
@@ -70,7 +70,7 @@ impl Section {
         };
         Ok(Section {
             call,
-            standing: Standing::Done,
+            standing: SectionPart::Done,
             reading,
             writing: WriteRun::new(1),
         })
@@ -84,8 +84,8 @@ impl Section {
     {
         self.call.command = command;
         self.call.number = number;
-        self.standing = Standing::Reads {
-            part: Asked::Commit { process: 0 },
+        self.standing = SectionPart::Reads {
+            part: SectionRead::Commit { process: 0 },
             versions: Versions::none(),
         };
         self.reading.reset(1);
@@ -119,7 +119,7 @@ impl Section {
         ensures going { is_going self.new ≡ goes_on result }
     {
         match &self.standing {
-            Standing::Reads { part, versions } => match self.reading.advance(value) {
+            SectionPart::Reads { part, versions } => match self.reading.advance(value) {
                 Progress::Going => SectionProgress::Reading,
                 Progress::Done => {
                     let read = &self.reading;
@@ -136,7 +136,7 @@ impl Section {
                     progress
                 }
             },
-            Standing::Writes { part, change } => {
+            SectionPart::Writes { part, change } => {
                 let readers = self.call.setup.processes;
                 match change.advance(*part, &mut self.writing, readers) {
                     Progress::Going => SectionProgress::Writing,
@@ -153,7 +153,7 @@ impl Section {
                     }
                 }
             }
-            Standing::Done => unreachable!(),
+            SectionPart::Done => unreachable!(),
         }
     }
 
@@ -186,9 +186,9 @@ impl Section {
         ensures { result ≡ bits_within self.now }
     {
         match &self.standing {
-            Standing::Reads { .. } => self.reading.bits_within(),
-            Standing::Writes { .. } => self.writing.bits_within(),
-            Standing::Done => 0,
+            SectionPart::Reads { .. } => self.reading.bits_within(),
+            SectionPart::Writes { .. } => self.writing.bits_within(),
+            SectionPart::Done => 0,
         }
     }
 
@@ -201,15 +201,15 @@ impl Section {
         ensures { GoesOnWithin self.old row.old flick self.new row.new }
     {
         match &self.standing {
-            Standing::Reads { part, versions } => {
+            SectionPart::Reads { part, versions } => {
                 let asked = standing::register_asked(part, versions);
                 let run = &mut self.reading;
                 walking::read_on(&self.call, part, versions, asked, run, row, flick, pace);
             }
-            Standing::Writes { part, change } => {
+            SectionPart::Writes { part, change } => {
                 walking::write_on(&self.call, *part, change, &mut self.writing, row, flick);
             }
-            Standing::Done => unreachable!(),
+            SectionPart::Done => unreachable!(),
         }
     }
 
@@ -222,16 +222,16 @@ impl Section {
         ensures { WalksWithin self.old row.old flicks.old steps self.new row.new flicks.new }
     {
         match &self.standing {
-            Standing::Reads { part, versions } => {
+            SectionPart::Reads { part, versions } => {
                 let asked = standing::register_asked(part, versions);
                 let run = &mut self.reading;
                 walking::read_all_on(&self.call, part, versions, asked, run, row, flicks, steps);
             }
-            Standing::Writes { part, change } => {
+            SectionPart::Writes { part, change } => {
                 let run = &mut self.writing;
                 walking::write_all_on(&self.call, *part, change, run, row, flicks, steps);
             }
-            Standing::Done => {}
+            SectionPart::Done => {}
         }
     }
 
@@ -241,10 +241,10 @@ impl Section {
         ensures { (c : Call) (at : Place) → self.now ≡ section_at c at → result ≡ pending_at c at.part }
     {
         match &self.standing {
-            Standing::Writes { change, .. } => {
+            SectionPart::Writes { change, .. } => {
                 Some((change.reply, change.changes, change.commit))
             }
-            Standing::Reads { .. } | Standing::Done => None,
+            SectionPart::Reads { .. } | SectionPart::Done => None,
         }
     }
 
@@ -255,8 +255,8 @@ impl Section {
         ensures there { IfSome result (λ register. (register.0 < self.now.call.setup.processes) × (is_data register.1 ≡ true)) }
     {
         match &self.standing {
-            Standing::Reads { part, versions } => Some(standing::register_asked(part, versions)),
-            Standing::Writes { .. } | Standing::Done => None,
+            SectionPart::Reads { part, versions } => Some(standing::register_asked(part, versions)),
+            SectionPart::Writes { .. } | SectionPart::Done => None,
         }
     }
 
@@ -281,10 +281,10 @@ impl Section {
         ensures section { self.new ≡ ended self.old }
     {
         let torn = match &self.standing {
-            Standing::Writes { part, change } => torn_bit(change.field(*part), &self.writing),
-            Standing::Reads { .. } | Standing::Done => None,
+            SectionPart::Writes { part, change } => torn_bit(change.field(*part), &self.writing),
+            SectionPart::Reads { .. } | SectionPart::Done => None,
         };
-        self.standing = Standing::Done;
+        self.standing = SectionPart::Done;
         torn
     }
 
@@ -306,7 +306,7 @@ impl Section {
 
 /// Begins the number access of a standing.
 #[inline(never)]
-fn begin(standing: &Standing, setup: &Setup, reading: &mut ReadRun, writing: &mut WriteRun)
+fn begin(standing: &SectionPart, setup: &Setup, reading: &mut ReadRun, writing: &mut WriteRun)
     requires good { checked setup.now ≡ Ok tt }
     requires room { reading.old.room ≡ 8 * image_bytes setup.now }
     ensures run { IsRunOf setup.now standing.now reading.new writing.new }
@@ -314,14 +314,14 @@ fn begin(standing: &Standing, setup: &Setup, reading: &mut ReadRun, writing: &mu
     ensures room { reading.new.room ≡ reading.old.room }
 {
     match standing {
-        Standing::Reads { part, versions } => {
+        SectionPart::Reads { part, versions } => {
             let (_, field) = standing::register_asked(part, versions);
             reading.reset(image::width(setup, field));
         }
-        Standing::Writes { part, change } => {
+        SectionPart::Writes { part, change } => {
             *writing = WriteRun::new(image::width(setup, change.field(*part)));
         }
-        Standing::Done => {}
+        SectionPart::Done => {}
     }
 }
 

@@ -12,7 +12,7 @@ ghost use Rattle.section.specs.Keeping.{call_of, made_next, register_asked, regi
 ghost use Rattle.section.specs.Sections.{changes_at, told, goes, goes_on};
 ghost use Rattle.section.specs.Standings.{standing_at, versions_of, asking, shown, Writes};
 
-use crate::change::{self, Change, Written};
+use crate::change::{self, PendingChange, Written};
 use crate::image;
 use crate::newest::Newest;
 use crate::progress::SectionProgress;
@@ -24,7 +24,7 @@ use store_image::Image;
 
 /// A call inside the critical section.
 #[derive(Clone, Copy)]
-pub(crate) struct Called {
+pub(crate) struct SectionCall {
     pub setup: Setup,
     pub process: u8,
     pub command: Command,
@@ -42,7 +42,7 @@ pub(crate) struct Versions {
 
 /// What a section reads.
 #[derive(Clone, Copy)]
-pub(crate) enum Asked {
+pub(crate) enum SectionRead {
     /// The commit bit of a process.
     Commit { process: u8 },
     /// The stamp that this commit bit chooses.
@@ -53,9 +53,9 @@ pub(crate) enum Asked {
 
 /// What a section does, and what it keeps of what it has read.
 #[derive(Clone, Copy)]
-pub(crate) enum Standing {
-    Reads { part: Asked, versions: Versions },
-    Writes { part: Written, change: Change },
+pub(crate) enum SectionPart {
+    Reads { part: SectionRead, versions: Versions },
+    Writes { part: Written, change: PendingChange },
     Done,
 }
 
@@ -73,13 +73,13 @@ impl Versions {
 
 /// Whose register is read, and which.
 #[inline]
-pub(crate) fn register_asked(part: &Asked, versions: &Versions) -> (u8, Field)
+pub(crate) fn register_asked(part: &SectionRead, versions: &Versions) -> (u8, Field)
     ensures { result ≡ register_asked part.now versions.now }
 {
     match *part {
-        Asked::Commit { process } => (process, Field::Commit),
-        Asked::Stamp { process, commit } => (process, change::stamp_field(commit)),
-        Asked::Image => (
+        SectionRead::Commit { process } => (process, Field::Commit),
+        SectionRead::Stamp { process, commit } => (process, change::stamp_field(commit)),
+        SectionRead::Image => (
             versions.newest.process,
             change::image_field(versions.newest.commit),
         ),
@@ -88,22 +88,22 @@ pub(crate) fn register_asked(part: &Asked, versions: &Versions) -> (u8, Field)
 
 /// The register of the next access, and whose it is.
 #[inline(always)]
-pub(crate) fn register_next(call: &Called, standing: &Standing) -> (u8, Field)
+pub(crate) fn register_next(call: &SectionCall, standing: &SectionPart) -> (u8, Field)
     requires { goes (shown call.now.setup.processes standing.now) ≡ true }
     ensures { result ≡ register_next call.now standing.now }
 {
     match standing {
-        Standing::Reads { part, versions } => register_asked(part, versions),
-        Standing::Writes { part, change } => (call.process, change.field(*part)),
-        Standing::Done => unreachable!(),
+        SectionPart::Reads { part, versions } => register_asked(part, versions),
+        SectionPart::Writes { part, change } => (call.process, change.field(*part)),
+        SectionPart::Done => unreachable!(),
     }
 }
 
 /// The bit of that access, and what is made of it. The end of a read gives `value`.
 #[inline(always)]
 pub(crate) fn made_next(
-    call: &Called,
-    standing: &Standing,
+    call: &SectionCall,
+    standing: &SectionPart,
     reading: &ReadRun,
     writing: &WriteRun,
     value: bool,
@@ -113,21 +113,21 @@ pub(crate) fn made_next(
     ensures { result ≡ made_next call.now standing.now reading.now writing.now value }
 {
     match standing {
-        Standing::Reads { .. } => reading.next(call.process, value),
-        Standing::Writes { part, change } => change.next(*part, writing),
-        Standing::Done => unreachable!(),
+        SectionPart::Reads { .. } => reading.next(call.process, value),
+        SectionPart::Writes { part, change } => change.next(*part, writing),
+        SectionPart::Done => unreachable!(),
     }
 }
 
 /// What comes after a read that is done, whose last bit is `value`.
 #[inline(never)]
 pub(crate) fn after_read(
-    call: &Called,
-    part: &Asked,
+    call: &SectionCall,
+    part: &SectionRead,
     versions: &Versions,
     value: bool,
     read: &ReadRun,
-) -> (Standing, SectionProgress)
+) -> (SectionPart, SectionProgress)
     requires call { IsCall call.now }
     requires asked { IsAsked call.now.setup part.now }
     requires newest { IsNewest call.now.setup versions.now.newest }
@@ -139,9 +139,9 @@ pub(crate) fn after_read(
     ensures kept { IsStanding call.now.setup result.0 }
 {
     match *part {
-        Asked::Commit { process } => (
-            Standing::Reads {
-                part: Asked::Stamp {
+        SectionRead::Commit { process } => (
+            SectionPart::Reads {
+                part: SectionRead::Stamp {
                     process,
                     commit: value,
                 },
@@ -149,14 +149,14 @@ pub(crate) fn after_read(
             },
             SectionProgress::Reading,
         ),
-        Asked::Stamp { process, commit } => {
+        SectionRead::Stamp { process, commit } => {
             let stamp = stamp_in(read.bytes());
             (
                 after_version(call, versions, process, commit, stamp),
                 SectionProgress::Reading,
             )
         }
-        Asked::Image => after_image(call, versions, image::image_read(&call.setup, read.bytes())),
+        SectionRead::Image => after_image(call, versions, image::image_read(&call.setup, read.bytes())),
     }
 }
 
@@ -170,17 +170,17 @@ fn stamp_in(bytes: &[u8]) -> u32
 
 /// What comes after the version of a process: that of the next one, and at last the image.
 fn after_version(
-    call: &Called,
+    call: &SectionCall,
     versions: &Versions,
     process: u8,
     commit: bool,
     stamp: u32,
-) -> Standing
+) -> SectionPart
     requires call { IsCall call.now }
     requires process { process < call.now.setup.processes }
     requires newest { IsNewest call.now.setup versions.now.newest }
     requires stamp { stamp < 2 ^ call.now.setup.stamp_bits }
-    ensures standing { (at : Part) (bits : List Bool) → standing_at (call_of call.now) at ≡ asking call.now.setup.processes (Asked.Stamp process commit) versions.now → number_of_bits bits ≡ stamp → shown call.now.setup.processes result ≡ standing_at (call_of call.now) (part_after (call_of call.now) at bits) }
+    ensures standing { (at : Part) (bits : List Bool) → standing_at (call_of call.now) at ≡ asking call.now.setup.processes (SectionRead.Stamp process commit) versions.now → number_of_bits bits ≡ stamp → shown call.now.setup.processes result ≡ standing_at (call_of call.now) (part_after (call_of call.now) at bits) }
     ensures going { goes (shown call.now.setup.processes result) ≡ true }
     ensures kept { IsStanding call.now.setup result }
 {
@@ -190,23 +190,23 @@ fn after_version(
     } else {
         versions.own
     };
-    Standing::Reads {
+    SectionPart::Reads {
         part: asked_after(process, call.setup.processes),
         versions: Versions { newest, own },
     }
 }
 
 /// What is read after the version of a process.
-fn asked_after(process: u8, processes: u8) -> Asked
+fn asked_after(process: u8, processes: u8) -> SectionRead
     requires { process < processes }
     ensures asked { (c : Call) (versions : List Version) → length versions ≡ process + 1 → asking processes result (versions_of c.process versions) ≡ standing_at c (to_e (range_with_len (process + 1) (processes - (process + 1))) versions) }
     ensures going { (versions : Versions) → goes (asking processes result versions) ≡ true }
     ensures kept { (s : Setup) → s.processes ≡ processes → IsAsked s result }
 {
     if process + 1 == processes {
-        Asked::Image
+        SectionRead::Image
     } else {
-        Asked::Commit {
+        SectionRead::Commit {
             process: process + 1,
         }
     }
@@ -214,33 +214,33 @@ fn asked_after(process: u8, processes: u8) -> Asked
 
 /// What comes after the newest store: the command is applied to it in place. A change is written, where its
 /// stamp fits.
-fn after_image(call: &Called, versions: &Versions, read: Image) -> (Standing, SectionProgress)
+fn after_image(call: &SectionCall, versions: &Versions, read: Image) -> (SectionPart, SectionProgress)
     requires call { IsCall call.now }
     requires newest { IsNewest call.now.setup versions.now.newest }
     requires slots { read.slots ≡ call.now.setup.slots }
     requires numbers { length read.numbers ≡ callers_of call.now.setup }
-    ensures standing { (at : Part) (bits : List Bool) → standing_at (call_of call.now) at ≡ asking call.now.setup.processes Asked.Image versions.now → store_read (call_of call.now) bits ≡ read → shown call.now.setup.processes result.0 ≡ standing_at (call_of call.now) (part_after (call_of call.now) at bits) }
-    ensures progress { (at : Part) (bits : List Bool) → standing_at (call_of call.now) at ≡ asking call.now.setup.processes Asked.Image versions.now → store_read (call_of call.now) bits ≡ read → result.1 ≡ told (changes_at at) (part_after (call_of call.now) at bits) }
+    ensures standing { (at : Part) (bits : List Bool) → standing_at (call_of call.now) at ≡ asking call.now.setup.processes SectionRead.Image versions.now → store_read (call_of call.now) bits ≡ read → shown call.now.setup.processes result.0 ≡ standing_at (call_of call.now) (part_after (call_of call.now) at bits) }
+    ensures progress { (at : Part) (bits : List Bool) → standing_at (call_of call.now) at ≡ asking call.now.setup.processes SectionRead.Image versions.now → store_read (call_of call.now) bits ≡ read → result.1 ≡ told (changes_at at) (part_after (call_of call.now) at bits) }
     ensures going { goes (shown call.now.setup.processes result.0) ≡ goes_on result.1 }
     ensures kept { IsStanding call.now.setup result.0 }
 {
     let changes = versions.newest.stamp;
     if !is_change(call, &read) {
         let (_, reply) = applied(call, read);
-        return (Standing::Done, SectionProgress::Taken { reply, changes });
+        return (SectionPart::Done, SectionProgress::Taken { reply, changes });
     }
     if changes == change::last_stamp(call.setup.stamp_bits) {
-        return (Standing::Done, SectionProgress::NoStamp);
+        return (SectionPart::Done, SectionProgress::NoStamp);
     }
     let (store, reply) = applied(call, read);
-    let change = Change {
+    let change = PendingChange {
         store,
         reply,
         changes,
         commit: !versions.own,
     };
     (
-        Standing::Writes {
+        SectionPart::Writes {
             part: Written::Image,
             change,
         },
@@ -250,14 +250,14 @@ fn after_image(call: &Called, versions: &Versions, read: Image) -> (Standing, Se
 
 /// Whether the call's command would change the store.
 #[tactic(auto, using(plain_store::proofs::Changes::changes_differs))]
-fn is_change(call: &Called, store: &Image) -> bool
+fn is_change(call: &SectionCall, store: &Image) -> bool
     ensures { result ≡ changes store.now call.now.command }
 {
     store.would_change(&call.command)
 }
 
 /// The store after the call's command, and the reply.
-fn applied(call: &Called, read: Image) -> (Image, Reply)
+fn applied(call: &SectionCall, read: Image) -> (Image, Reply)
     ensures store { result.0 ≡ after read call.now.command (caller (call_of call.now)) }
     ensures reply { result.1 ≡ reply (call_of call.now) read }
 {
@@ -275,7 +275,7 @@ fn applied(call: &Called, read: Image) -> (Image, Reply)
 /// What comes after a write: the image is followed by the stamp, and the stamp by the commit bit, with which
 /// the command is taken.
 #[inline(never)]
-pub(crate) fn after_write(part: Written, change: &Change) -> (Standing, SectionProgress)
+pub(crate) fn after_write(part: Written, change: &PendingChange) -> (SectionPart, SectionProgress)
     ensures standing { (c : Call) (at : Part) (bits : List Bool) (n : ℕ) → standing_at c at ≡ Writes part change.now → shown n result.0 ≡ standing_at c (part_after c at bits) }
     ensures progress { (c : Call) (at : Part) (bits : List Bool) → standing_at c at ≡ Writes part change.now → result.1 ≡ told (changes_at at) (part_after c at bits) }
     ensures going { (n : ℕ) → goes (shown n result.0) ≡ goes_on result.1 }
@@ -287,11 +287,11 @@ pub(crate) fn after_write(part: Written, change: &Change) -> (Standing, SectionP
         Written::Commit => {
             let reply = change.reply;
             let changes = change.changes;
-            return (Standing::Done, SectionProgress::Taken { reply, changes });
+            return (SectionPart::Done, SectionProgress::Taken { reply, changes });
         }
     };
     (
-        Standing::Writes {
+        SectionPart::Writes {
             part: next,
             change: *change,
         },

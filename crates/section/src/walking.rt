@@ -6,11 +6,11 @@ ghost use Rattle.plain_store.specs.Setups.{checked};
 ghost use Rattle.section.specs.Changes.{change_field};
 ghost use Rattle.section.specs.Keeping.{IsCall, IsChange, IsReadOf, IsWriteOf, register_asked, section_of};
 ghost use Rattle.section.specs.Sections.{GoesOnWithin, MayStep, MayWalk, WalksWithin, bits_within};
-ghost use Rattle.section.specs.declared.standing.Standing.TheVariants as keeps;
+ghost use Rattle.section.specs.declared.standing.SectionPart.TheVariants as keeps;
 
-use crate::change::{Change, Written};
+use crate::change::{PendingChange, Written};
 use crate::data_row::DataRow;
-use crate::standing::{Asked, Called, Versions};
+use crate::standing::{SectionRead, SectionCall, Versions};
 use flicks::Flicks;
 use record::Field;
 use safe_number::{Pace, ReadRun, WriteRun};
@@ -18,8 +18,8 @@ use safe_number::{Pace, ReadRun, WriteRun};
 /// One access of a read, of the register that is asked for.
 #[inline(always)]
 pub(crate) fn read_on(
-    call: &Called,
-    part: &Asked,
+    call: &SectionCall,
+    part: &SectionRead,
     versions: &Versions,
     asked: (u8, Field),
     run: &mut ReadRun,
@@ -43,8 +43,8 @@ pub(crate) fn read_on(
 /// So many of them, each by the flick that is next.
 #[inline(always)]
 pub(crate) fn read_all_on(
-    call: &Called,
-    part: &Asked,
+    call: &SectionCall,
+    part: &SectionRead,
     versions: &Versions,
     asked: (u8, Field),
     run: &mut ReadRun,
@@ -71,9 +71,9 @@ pub(crate) fn read_all_on(
 /// One access of a write.
 #[inline(always)]
 pub(crate) fn write_on(
-    call: &Called,
+    call: &SectionCall,
     part: Written,
-    change: &Change,
+    change: &PendingChange,
     run: &mut WriteRun,
     row: &mut DataRow,
     flick: bool,
@@ -92,9 +92,9 @@ pub(crate) fn write_on(
 /// So many of them, each by the flick that is next, at which no write looks.
 #[inline(always)]
 pub(crate) fn write_all_on(
-    call: &Called,
+    call: &SectionCall,
     part: Written,
-    change: &Change,
+    change: &PendingChange,
     run: &mut WriteRun,
     row: &mut DataRow,
     flicks: &mut Flicks,

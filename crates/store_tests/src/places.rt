@@ -1,5 +1,5 @@
 //! The numbers of the lines that are run.
-use scenario::progress::{Place, Reached};
+use scenario::progress::{LinePlace, Reached};
 use scenario::read_scenario;
 use std::process::Abort;
 use std::test::Fail;
@@ -11,7 +11,7 @@ fn tells_the_number_of_each_line_that_is_run(rt: HostRuntime) -> Result<(), Fail
         call 0 read a\r\n \t\n\tstep 0 1\n#show\n\r\nshow\n\n#";
     let scenario = read_scenario(rt.alloc(), file.as_bytes())?;
     assert!(rt; scenario.lines.len() == 3);
-    let mut place = Place::before(file.as_bytes(), scenario.lines.len());
+    let mut place = LinePlace::before(file.as_bytes(), scenario.lines.len());
     for (events, number) in [(0, 7), (1, 9), (2, 12)] {
         let Reached::Line(line) = place.begin_line(events) else {
             panic!(rt; "a line begins");

@@ -11,7 +11,7 @@ use call_check::{Placed, Weighed, weigh};
 
 /// Calls.
 #[derive(Clone, Copy)]
-enum Made {
+enum CallMade {
     Write,
     Read,
     // The read with another place, reply or answer.
@@ -38,14 +38,14 @@ enum Made {
     LostAsk,
 }
 
-use Made::{
+use CallMade::{
     AddNothing, AddOne, AskOne, AskTwo, CutWrite, LostAsk, LostWrite, Read, ReadLate, ReadNever,
     ReadNoName, ReadNothing, ReadNowhere, ReadOther, ReadSix, ReadWithdrawn, Swap, SwapNoName,
     Write,
 };
 
 /// The lists of two ports, and what they weigh.
-type Row = (&'static [Made], &'static [Made], Weighed);
+type Row = (&'static [CallMade], &'static [CallMade], Weighed);
 
 // Against the image after the write.
 const AT_FIVE: [Row; 14] = [
@@ -76,9 +76,9 @@ const AT_NOTHING: [Row; 1] = [(&[Write], &[Read], Weighed::BadEnd)];
 
 /// A true run: 5 is written, read, and made 6 by an add; 6 is read, and made 7 by a compare and swap; an add of 0 tells
 /// 7. The changes are the write, the add of 1 and the swap, so that the stores are four.
-const FIRST: &[Made] = &[Write, ReadSix, Swap];
+const FIRST: &[CallMade] = &[Write, ReadSix, Swap];
 
-const SECOND: &[Made] = &[Read, AddOne, AddNothing];
+const SECOND: &[CallMade] = &[Read, AddOne, AddNothing];
 
 // The true run, with two calls of a list in the other order; with the lists in the other order, which no store of version 1
 // tells; and with two bad calls, of which it is that of the lower port, though the other one comes sooner in its list.
@@ -128,7 +128,7 @@ fn swap(reply: Reply) -> Placed {
     replied(swap, reply, 2)
 }
 
-fn placed(made: Made) -> Placed {
+fn placed(made: CallMade) -> Placed {
     let five = Reply::Value(Value::Count(5));
     let six = Reply::Value(Value::Count(6));
     match made {
@@ -177,7 +177,7 @@ fn image(count: i64, callers: u8) -> Result<Image, AllocError>
     Ok(image)
 }
 
-fn list(alloc: Global, calls: &[Made]) -> Result<Vec<Placed>, AllocError> {
+fn list(alloc: Global, calls: &[CallMade]) -> Result<Vec<Placed>, AllocError> {
     let _nested: NestedTypes = None;
     let mut list = Vec::new(alloc);
     for made in calls {
@@ -186,7 +186,7 @@ fn list(alloc: Global, calls: &[Made]) -> Result<Vec<Placed>, AllocError> {
     Ok(list)
 }
 
-fn lists(alloc: Global, first: &[Made], second: &[Made]) -> Result<Vec<Vec<Placed>>, AllocError> {
+fn lists(alloc: Global, first: &[CallMade], second: &[CallMade]) -> Result<Vec<Vec<Placed>>, AllocError> {
     let _nested: NestedTypes = None;
     let mut lists = Vec::new(alloc);
     lists.push(list(alloc, first)?)?;
@@ -224,7 +224,7 @@ enum Change {
 /// A list in which the call of this index, if there is one, is another one.
 fn changed(
     alloc: Global,
-    calls: &[Made],
+    calls: &[CallMade],
     index: usize,
     change: &Change,
 ) -> Result<Vec<Placed>, AllocError> {
@@ -342,7 +342,7 @@ fn weighed_in_two(alloc: Global, calls: &[Placed], image: &Image) -> Result<Weig
 }
 
 /// The list of a port, and what it weighs against the image after the write, in which its number is 1.
-const IN_TWO: [(&[Made], Weighed); 3] = [
+const IN_TWO: [(&[CallMade], Weighed); 3] = [
     (&[Write, AskOne], Weighed::Good),
     // A cut call before it makes the write the second one of its process: the asker is told so, and the image has this number.
     (&[LostAsk, Write, AskOne], Weighed::Bad(0, 2)),
@@ -350,7 +350,7 @@ const IN_TWO: [(&[Made], Weighed); 3] = [
 ];
 
 /// Weighs a list of version 2 that is short.
-fn weighed_short(alloc: Global, calls: &[Made], image: &Image) -> Result<Weighed, AllocError> {
+fn weighed_short(alloc: Global, calls: &[CallMade], image: &Image) -> Result<Weighed, AllocError> {
     let list = list(alloc, calls)?;
     if list.len() > 65_535 {
         return Ok(Weighed::BadEnd);

@@ -17,7 +17,7 @@ use plain_store::{NestedTypes, Setup};
 use record::{Access, Event};
 use std::alloc::{AllocError, Global};
 use std::marker::Model;
-use world::{Core, Effect, Told};
+use world::{Core, Effect, StepTold};
 
 /// The first entry of a run that breaks a law, counted from 0, and the law.
 #[derive(Clone, Copy, PartialEq, Eq)]
@@ -114,7 +114,7 @@ impl Runner {
         ensures setup { self.new.core.setup ≡ self.old.core.setup }
     {
         sound_event(event);
-        let mut effect = Effect::Steps(Told::Nothing);
+        let mut effect = Effect::Steps(StepTold::Nothing);
         let Ok(access) = self.core.event(event, &mut effect) else {
             return false;
         };
@@ -136,7 +136,7 @@ impl Runner {
         ensures few { due self.new ≤ due self.old }
         ensures setup { self.new.core.setup ≡ self.old.core.setup }
     {
-        let mut told = Told::Nothing;
+        let mut told = StepTold::Nothing;
         let Ok(access) = self.core.step(process, value, &mut told) else {
             return false;
         };
@@ -163,13 +163,13 @@ fn hear_step(
     alloc: Global,
     process: u8,
     access: Access,
-    told: &Told,
+    told: &StepTold,
     place: u64,
 ) -> Option<Law>
     ensures setup { result ≡ None → auditor.new.core.setup ≡ auditor.old.core.setup }
     ensures heard { (past : Past) → HasHeard auditor.old past → IsHeard auditor.old.core.setup past (record { process = process; access = Some access; marks = map (placed place) (marks_told told.now) }) auditor.new result }
 {
-    if matches!(told, Told::Nothing) {
+    if matches!(told, StepTold::Nothing) {
         return auditor.hear_access(process, access);
     }
     auditor.hear_parts(process, &Some(access), &told.marks(alloc, place))

@@ -18,7 +18,7 @@ use Rattle.record.specs.Parts.{Raises}
 use Rattle.record.specs.Places.{enter}
 use Rattle.record.specs.Records.{entry_of, past_of, process_of}
 use Rattle.laws.specs.Doings.{Doing, Runs, call, doing}
-use Rattle.process.specs.declared.told.Told.{Told}
+use Rattle.process.specs.declared.told.StepTold.{StepTold}
 use Rattle.process.specs.Refusals.{next_number}
 use Rattle.world.specs.Changes.{is_pending, pending, pending_in, told, waiting_in, with_taken}
 use Rattle.world.specs.Events.{GoesOn, IsRefused, KeepsWorld}
@@ -138,26 +138,26 @@ used-waits w capacity p i seat u = waits-at w u.keeps.events p seat u.keeps.show
 pub used-steps : (w : WorldState) (capacity : ℕ) (p i : ℕ) (flick : Bool) (seat : Seat) → IsUsed w capacity (event.Step p flick) i seat → MayStep seat.process w.registers flick
 used-steps w capacity p i flick seat u = subst (λ (seat : Seat). MayStep seat.process w.registers flick) (sym (at-own w capacity (event.Step p flick) i seat u)) (may-go w u.keeps.events p flick seat u.keeps.shows u.ok)
 
-step-at : (w : WorldState) (capacity : ℕ) (p i : ℕ) (flick : Bool) (seat : Seat) (a : Access) (t : Told) (then : Seat) → IsUsed w capacity (event.Step p flick) i seat → SeatSteps w.registers flick seat a t then →
+step-at : (w : WorldState) (capacity : ℕ) (p i : ℕ) (flick : Bool) (seat : Seat) (a : Access) (t : StepTold) (then : Seat) → IsUsed w capacity (event.Step p flick) i seat → SeatSteps w.registers flick seat a t then →
     (events : List Event) → Shows w events → StepGoes w events p flick seat a t then
 step-at w capacity p i flick seat a t then u steps events shows = step-goes w events p flick shows u.ok seat seat (at-own w capacity (event.Step p flick) i seat u) a t then steps
 
 -- the world that a step leaves
-abbrev pub stepped_world : WorldState → ℕ → ℕ → Seat → Access → Told → Seat → WorldState
+abbrev pub stepped_world : WorldState → ℕ → ℕ → Seat → Access → StepTold → Seat → WorldState
 stepped_world w p i seat a t then = world_with w.setup (made w.registers a)
     (map (told p (is_waiting_stage (stage_kept seat.process.kept)) (is_waiting_stage (stage_kept then.process.kept))) (slice_set w.seats i then))
     (with_taken w.history p then.process.command then.process.number (reply_taken (marks_told t)))
 
-pub step-on : (w : WorldState) (capacity : ℕ) (p i : ℕ) (flick : Bool) (seat : Seat) (a : Access) (t : Told) (then : Seat) → IsUsed w capacity (event.Step p flick) i seat → SeatSteps w.registers flick seat a t then →
+pub step-on : (w : WorldState) (capacity : ℕ) (p i : ℕ) (flick : Bool) (seat : Seat) (a : Access) (t : StepTold) (then : Seat) → IsUsed w capacity (event.Step p flick) i seat → SeatSteps w.registers flick seat a t then →
     GoesOn w (event.Step p flick) (stepped_world w p i seat a t then)
 step-on w capacity p i flick seat a t then u steps events shows =
     subst (λ i. Shows (stepped_world w p i seat a t then) (event.Step p flick ∷ events)) (sym u.index) (step-at w capacity p i flick seat a t then u steps events shows).shows
 
-pub step-adds : (w : WorldState) (capacity : ℕ) (p i : ℕ) (flick : Bool) (seat : Seat) (a : Access) (t : Told) (then : Seat) → IsUsed w capacity (event.Step p flick) i seat → SeatSteps w.registers flick seat a t then →
+pub step-adds : (w : WorldState) (capacity : ℕ) (p i : ℕ) (flick : Bool) (seat : Seat) (a : Access) (t : StepTold) (then : Seat) → IsUsed w capacity (event.Step p flick) i seat → SeatSteps w.registers flick seat a t then →
     (events : List Event) → Shows w events → entry_of w.setup (past_of w.setup events) (event.Step p flick) ≡ Some (stepped_entry w p a t)
 step-adds w capacity p i flick seat a t then u steps events shows = (step-at w capacity p i flick seat a t then u steps events shows).adds
 
-pub step-ends : (w : WorldState) (capacity : ℕ) (p i : ℕ) (flick : Bool) (seat : Seat) (a : Access) (t : Told) (then : Seat) → IsUsed w capacity (event.Step p flick) i seat → SeatSteps w.registers flick seat a t then →
+pub step-ends : (w : WorldState) (capacity : ℕ) (p i : ℕ) (flick : Bool) (seat : Seat) (a : Access) (t : StepTold) (then : Seat) → IsUsed w capacity (event.Step p flick) i seat → SeatSteps w.registers flick seat a t then →
     (more : ℕ) → capacity ≤ more → KeepsWorld (stepped_world w p i seat a t then) more
 step-ends w capacity p i flick seat a t then u steps more grown = record {
   events = event.Step p flick ∷ u.keeps.events;

@@ -18,7 +18,7 @@ use Rattle.record.specs.Registers.{processes}
 use Rattle.record.proofs.Accepted.{accepted_adds}
 use Rattle.record.proofs.Width.{is_good}
 use Rattle.laws.specs.Doings.{doing}
-use Rattle.process.specs.declared.told.Told.{Told}
+use Rattle.process.specs.declared.told.StepTold.{StepTold}
 use Rattle.world.specs.Changes.{is_pending, pending, pending_in, told, with_taken}
 use Rattle.world.specs.Events.{IsRefused}
 use Rattle.world.specs.Seats.{Seat, seat_of}
@@ -37,7 +37,7 @@ use Rattle.world.proofs.WorldSeats.{waited}
 use Rattle.world.proofs.WorldShows.{SeatSteps, StepMade, may-step, past-after, shows-on, step-made, step_shows, world_with}
 
 -- the entry of a step of p with this access, which tells this
-abbrev pub stepped_entry : WorldState → ℕ → Access → Told → Entry
+abbrev pub stepped_entry : WorldState → ℕ → Access → StepTold → Entry
 stepped_entry w p a t = record { process = p; access = Some a; marks = map (placed (length w.history)) (marks_told t) }
 
 -- the seat at the index of a process may step
@@ -50,7 +50,7 @@ may-go w events p flick d shows ok =
     (may-step w.setup shows.good events p flick added.0 added.1))
 
 -- what the step of that seat makes
-pub record StepGoes (w : WorldState) (events : List Event) (p : ℕ) (flick : Bool) (seat : Seat) (a : Access) (t : Told) (then : Seat) : Type 0 where
+pub record StepGoes (w : WorldState) (events : List Event) (p : ℕ) (flick : Bool) (seat : Seat) (a : Access) (t : StepTold) (then : Seat) : Type 0 where
   pub adds : entry_of w.setup (past_of w.setup events) (event.Step p flick) ≡ Some (stepped_entry w p a t)
   pub shows : Shows (world_with w.setup (made w.registers a)
       (map (told p (is_waiting_stage (stage_kept seat.process.kept)) (is_waiting_stage (stage_kept then.process.kept))) (slice_set w.seats p then))
@@ -59,7 +59,7 @@ pub record StepGoes (w : WorldState) (events : List Event) (p : ℕ) (flick : Bo
   pub keeping : is_pending seat.process.kept ≡ false → is_pending then.process.kept ≡ false
 
 pub step-goes : (w : WorldState) (events : List Event) (p : ℕ) (flick : Bool) → Shows w events → IsRefused w (event.Step p flick) None →
-    (seat : Seat) (d : Seat) → seat ≡ slice_index_or w.seats p d → (a : Access) (t : Told) (then : Seat) → SeatSteps w.registers flick seat a t then → StepGoes w events p flick seat a t then
+    (seat : Seat) (d : Seat) → seat ≡ slice_index_or w.seats p d → (a : Access) (t : StepTold) (then : Seat) → SeatSteps w.registers flick seat a t then → StepGoes w events p flick seat a t then
 step-goes w events p flick shows ok seat d is a t then steps = record {
   adds = added.1 ∙ ap Some entry_is;
   shows = shows-on s shows.good events (event.Step p flick) e added.1 shows.given refl _ (parts ∙ step_shows s shows.good events p flick e added.1 a t then stepped);

@@ -13,7 +13,7 @@ use Rattle.record.specs.Records.{added, entry_of, is_call, past_of, process_of, 
 use Rattle.record.specs.Histories.{reply_taken}
 use Rattle.process.specs.declared.told.Effect.{Effect}
 use Rattle.process.specs.declared.told.Effect.TheVariants.{Steps}
-use Rattle.process.specs.declared.told.Told.{Told}
+use Rattle.process.specs.declared.told.StepTold.{StepTold}
 use Rattle.process.specs.Telling.{act_of, marks_of, marks_told}
 use Rattle.world.specs.Changes.{pending_in, with_taken}
 use Rattle.world.specs.Cores.{CoreGoesOn, CoreMakes, CoreRefuses, CoreState, CoreSteps, CoreStepsQuietly, CoreWalks, KeepsCore, call_in, taking, with_history}
@@ -71,10 +71,10 @@ wider_keeps c h then capacity more keeps grown same = subst (λ h. KeepsWorld (w
 })
 
 -- after a step
-pub step_fits : (c new : CoreState) (h : List Taken) (told : Told) (r : Reply) (capacity : ℕ) → KeepsWorld (with_history c h) capacity → pending_in new.seats + taking (Steps told) ≤ pending_in c.seats → reply_taken (marks_told told) ≡ Some r → length h < capacity
+pub step_fits : (c new : CoreState) (h : List Taken) (told : StepTold) (r : Reply) (capacity : ℕ) → KeepsWorld (with_history c h) capacity → pending_in new.seats + taking (Steps told) ≤ pending_in c.seats → reply_taken (marks_told told) ≡ Some r → length h < capacity
 step_fits c new h told r capacity keeps fewer is = let room = keeps.room in made_fits new h (Steps told) r capacity (omega (arith, room, fewer)) is
 
-pub step_keeps : (c new : CoreState) (h then : List Taken) (p : ℕ) (flick : Bool) (told : Told) (capacity more : ℕ) → KeepsWorld (with_history c h) capacity → CoreSteps c p flick told new → pending_in new.seats + taking (Steps told) ≤ pending_in c.seats →
+pub step_keeps : (c new : CoreState) (h then : List Taken) (p : ℕ) (flick : Bool) (told : StepTold) (capacity more : ℕ) → KeepsWorld (with_history c h) capacity → CoreSteps c p flick told new → pending_in new.seats + taking (Steps told) ≤ pending_in c.seats →
     then ≡ with_taken h p (call_in new.seats p).0 (call_in new.seats p).1 (reply_taken (marks_told told)) → capacity ≤ more → KeepsWorld (with_history new then) more
 step_keeps c new h then p flick told capacity more keeps steps fewer is grown = let room = keeps.room in made_keeps c new h then (Step p flick) (Steps told) capacity more keeps steps (omega (arith, room, fewer, grown)) is
 

@@ -23,7 +23,7 @@ use Rattle.record.proofs.Staging.{no_called}
 use Rattle.laws.specs.Doings.{Doing, doing}
 use Rattle.laws.specs.Held.{IsThere}
 use Rattle.laws.proofs.HeldThere.{access_there}
-use Rattle.process.specs.declared.told.Told.{Told}
+use Rattle.process.specs.declared.told.StepTold.{StepTold}
 use Rattle.world.specs.Changes.{told, with_taken}
 use Rattle.world.specs.Seats.{Seat, seat_of, with_kept}
 use Rattle.process.specs.Processes.{kept_at, process_after}
@@ -75,7 +75,7 @@ history-then s past e = go (reply_taken e.marks)
 -- A step.
 
 -- the access of a seat's step, its marks, and the seat then
-pub record SeatSteps (registers : RegistersState) (flick : Bool) (seat : Seat) (a : Access) (t : Told) (then : Seat) : Type 0 where
+pub record SeatSteps (registers : RegistersState) (flick : Bool) (seat : Seat) (a : Access) (t : StepTold) (then : Seat) : Type 0 where
   pub access : (d : Doing) (next : Access) → IsAt seat.process d → next_of seat.process.setup seat.process.process d flick ≡ Some next → a ≡ answered registers flick next
   pub seat_is : (d : Doing) → IsAt seat.process d → then ≡ record (with_kept (kept_at seat.process.setup seat.process.process (does_then seat.process.setup seat.process.process d flick (value_of a.how))) seat) { begun = seat.begun || is_at_door seat.process.kept }
   pub marks : (d : Doing) → IsAt seat.process d → marks_told t ≡ marks_with seat.process.setup seat.process.process d flick (value_of a.how)
@@ -104,7 +104,7 @@ may-step s good events p flick e h = record {
     there = let x : IsThere s (valued s past flick is.next) = access_there s g events (event.Step p flick) e h (valued s past flick is.next) is.access in record { owner = x.owner; reader = x.reader; bit = x.bit }
 
 -- what the step of a seat makes is the entry's
-pub record StepMade (s : Setup) (past : Past) (p : ℕ) (e : Entry) (a : Access) (t : Told) (then : Seat) : Type 0 where
+pub record StepMade (s : Setup) (past : Past) (p : ℕ) (e : Entry) (a : Access) (t : StepTold) (then : Seat) : Type 0 where
   pub process : e.process ≡ p
   pub access : e.access ≡ Some a
   pub marks : e.marks ≡ map (placed (length (history s past))) (marks_told t)
@@ -113,7 +113,7 @@ pub record StepMade (s : Setup) (past : Past) (p : ℕ) (e : Entry) (a : Access)
   pub seat_is : then ≡ record (with_kept (kept_at s p (doing s p (e ∷ past))) (seat_of s past p)) { begun = is_some (doorway_begin p past) || is_at_door (kept_at s p (doing s p past)) }
 
 pub step-made : (s : Setup) → checked s ≡ Ok tt → (events : List Event) (p : ℕ) (flick : Bool) (e : Entry) → entry_of s (past_of s events) (event.Step p flick) ≡ Some e →
-    (a : Access) (t : Told) (then : Seat) → let past : Past = past_of s events in SeatSteps (registers_at s past) flick (seat_of s past p) a t then → StepMade s past p e a t then
+    (a : Access) (t : StepTold) (then : Seat) → let past : Past = past_of s events in SeatSteps (registers_at s past) flick (seat_of s past p) a t then → StepMade s past p e a t then
 step-made s good events p flick e h a t then steps = record {
   process = is.process;
   access = is.access ∙ ap Some (sym access);
@@ -145,7 +145,7 @@ step-made s good events p flick e h a t then steps = record {
 
 -- the world after a step
 pub step_shows : (s : Setup) → checked s ≡ Ok tt → (events : List Event) (p : ℕ) (flick : Bool) (e : Entry) → entry_of s (past_of s events) (event.Step p flick) ≡ Some e →
-    (a : Access) (t : Told) (then : Seat) → let past : Past = past_of s events in StepMade s past p e a t then →
+    (a : Access) (t : StepTold) (then : Seat) → let past : Past = past_of s events in StepMade s past p e a t then →
     world_with s (made (registers_at s past) a) (map (told p (waited past p) (waited (e ∷ past) p)) (slice_set (map (seat_of s past) (processes s)) p then))
     (with_taken (history s past) p (last_command (own p past)) (call_number s (own p past)) (reply_taken (marks_told t))) ≡ world_of s (e ∷ past)
 step_shows s good events p flick e h a t then is = λ i. world_with s (registers i) (seats i) (taken i)

@@ -9,7 +9,7 @@ use Rattle.record.specs.declared.Stage.TheVariants as stage
 use Rattle.record.specs.Doorways.{is_waiting_stage}
 use Rattle.process.specs.bakery.Doors.{is_waiting}
 use Rattle.record.specs.Records.{refused_at}
-use Rattle.process.specs.declared.told.Told.TheVariants.{Nothing}
+use Rattle.process.specs.declared.told.StepTold.TheVariants.{Nothing}
 use Rattle.world.specs.Changes.{pending_in, told}
 use Rattle.world.specs.Events.{Adds, GoesOn, KeepsWorld}
 use Rattle.flicks.specs.Flicks.{FlickState}

@@ -11,7 +11,7 @@ use Rattle.record.specs.Histories.{reply_taken}
 use Rattle.record.specs.Records.{process_of}
 use Rattle.process.specs.declared.told.Effect.{Effect}
 use Rattle.process.specs.declared.told.Effect.TheVariants.{Steps}
-use Rattle.process.specs.declared.told.Told.{Told}
+use Rattle.process.specs.declared.told.StepTold.{StepTold}
 use Rattle.process.specs.Registers.{RegistersState}
 use Rattle.process.specs.Telling.{marks_of}
 use Rattle.world.specs.Changes.{pending_in, with_taken}
@@ -58,7 +58,7 @@ pub record CoreMakes (old : CoreState) (event : Event) (effect : Effect) (new : 
   pub goes : (taken : List Taken) → GoesOn (with_history old taken) event (with_history new (with_taken taken (process_of event) (call_in new.seats (process_of event)).0 (call_in new.seats (process_of event)).1 (reply_taken (marks_of effect))))
 
 -- a step
-abbrev pub CoreSteps : CoreState → ℕ → Bool → Told → CoreState → Type 0
+abbrev pub CoreSteps : CoreState → ℕ → Bool → StepTold → CoreState → Type 0
 CoreSteps old p flick told new = CoreMakes old (Step p flick) (Steps told) new
 
 -- 1 if an event takes a command

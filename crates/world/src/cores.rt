@@ -26,7 +26,7 @@ use crate::seat::Seat;
 use crate::seats::{is_occupied, is_queued, tell, waiting, waits};
 use flicks::Flicks;
 use plain_store::{Command, NestedTypes, Reply, Setup};
-use process::{Effect, Image, Pace, Registers, Told};
+use process::{Effect, Image, Pace, Registers, StepTold};
 use record::{Access, Event, Refusal, Stage, Taken};
 use smallvec::SmallVec;
 use std::alloc::{AllocError, Global};
@@ -170,7 +170,7 @@ impl Core {
                 Ok(None)
             }
             Event::Step(process, flick) => {
-                let mut told = Told::Nothing;
+                let mut told = StepTold::Nothing;
                 let access = self.make_step(*process, *flick, &mut told);
                 *effect = Effect::Steps(told);
                 Ok(Some(access))
@@ -196,7 +196,7 @@ impl Core {
     /// One step of a process, or of its memory unit: its access, and in `told` what it leads to. The command that it
     /// takes, if it takes one, is that of the process's last call. A step that is refused leaves `told` as it is.
     #[inline]
-    pub fn step(&mut self, process: u8, flick: bool, told: &mut Told) -> Result<Access, Refusal>
+    pub fn step(&mut self, process: u8, flick: bool, told: &mut StepTold) -> Result<Access, Refusal>
         ensures accepted { IfOk result (λ access. (taken : List Seen) → Adds (with_history self.old taken) (Step process flick) process (act_of (length taken) (record { access = Some access; effect = Steps told.new }))) }
         ensures shows { OnOk result (CoreSteps self.old process flick told.new self.new) }
         ensures pending { OnOk result (pending_in self.new.seats + taking (Steps told.new) ≤ pending_in self.old.seats) }
@@ -209,7 +209,7 @@ impl Core {
         ensures others { KeepOthers self.old.seats process self.new.seats }
     {
         if 0 < self.bits_within(process) {
-            *told = Told::Nothing;
+            *told = StepTold::Nothing;
             return Ok(self.make_step_told(process, flick));
         }
         if let Some(refusal) = self.step_refusal(process) {
@@ -237,7 +237,7 @@ impl Core {
 
     /// The next access of a process, or of its memory unit, and in `told` what it leads to.
     #[inline]
-    fn make_step(&mut self, process: u8, flick: bool, told: &mut Told) -> Access
+    fn make_step(&mut self, process: u8, flick: bool, told: &mut StepTold) -> Access
         requires { CoreRefuses self.old (Step process flick) None }
         ensures accepted { (taken : List Seen) → Adds (with_history self.old taken) (Step process flick) process (act_of (length taken) (record { access = Some result; effect = Steps told.new })) }
         ensures shows { CoreSteps self.old process flick told.new self.new }

@@ -17,7 +17,7 @@ ghost use Rattle.world.specs.Seats.{seat_of, with_kept};
 
 use flicks::Flicks;
 use plain_store::{Command, Setup};
-use process::{Pace, Process, Registers, Told};
+use process::{Pace, Process, Registers, StepTold};
 use record::Access;
 use std::alloc::{AllocError, Global};
 use std::marker::Model;
@@ -118,7 +118,7 @@ impl Seat {
 
     /// Makes the next access on the registers, of the process or of its memory unit; in `leads` is what it leads to.
     #[inline]
-    pub fn step(&mut self, registers: &mut Registers, flick: bool, leads: &mut Told) -> Access
+    pub fn step(&mut self, registers: &mut Registers, flick: bool, leads: &mut StepTold) -> Access
         requires goes { may_step self.old.process.kept ≡ true }
         requires may { MayStep self.old.process registers.old flick }
         ensures access { (d : Doing) (next : Access) → IsAt self.old.process d → next_of self.old.process.setup self.old.process.process d flick ≡ Some next → result ≡ answered registers.old flick next }

@@ -25,7 +25,7 @@ ghost use Rattle.world.specs.Walks.{KeepOthers, StepsQuietly, Walks, bits_within
 use crate::cores::Core;
 use flicks::Flicks;
 use plain_store::{NestedTypes, Reply, Setup};
-use process::{Effect, Image, Made, Told};
+use process::{Effect, Image, EventMade, StepTold};
 use record::{Access, Act, Event, Refusal, Stage, Taken};
 use smallvec::SmallVec;
 use std::alloc::{AllocError, Global};
@@ -84,9 +84,9 @@ impl World {
         ensures headline { IfOk result (λ act. KeepsTheHeadline self.old (process_of event) act) }
     {
         let place = self.history.len() as u64;
-        let mut effect = Effect::Steps(Told::Nothing);
+        let mut effect = Effect::Steps(StepTold::Nothing);
         match self.make(&event, &mut effect) {
-            Ok(access) => Ok(Made { access, effect }.act(self.alloc, place)),
+            Ok(access) => Ok(EventMade { access, effect }.act(self.alloc, place)),
             Err(refusal) => Err(refusal),
         }
     }
@@ -124,7 +124,7 @@ impl World {
     /// best written in place. The place of a command that it takes is the length of the history before. A step that is
     /// refused leaves `told` as it is.
     #[inline(never)]
-    pub fn step(&mut self, process: u8, flick: bool, told: &mut Told) -> Result<Access, Refusal>
+    pub fn step(&mut self, process: u8, flick: bool, told: &mut StepTold) -> Result<Access, Refusal>
         ensures accepted { IfOk result (λ access. Adds self.old (Step process flick) process (act_of (length self.old.history) (record { access = Some access; effect = Steps told.new }))) }
         ensures shows { OnOk result (GoesOn self.old (Step process flick) self.new) }
         ensures refused { IfErr result (λ refusal. IsRefused self.old (Step process flick) (Some refusal)) }

@@ -158,7 +158,7 @@ impl Course {
         ensures made { (old : CourseState) (l : LineSeen) (run : Run) → Follows old run → IsDrawn old l run drawn self.old → Makes old run (turn_of old.world.setup l old.left run) (Some result) self.new }
     {
         let _nested: NestedTypes = None;
-        let mut leads = world::Told::Nothing;
+        let mut leads = world::StepTold::Nothing;
         let place = self.world.history().len() as u64;
         let stepped = self.world.step(drawn.process, drawn.flick, &mut leads);
         if drawn.alone && stepped.is_err() {

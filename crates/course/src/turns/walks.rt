@@ -32,7 +32,7 @@ impl Course {
         ensures quiet { result.told ≡ None → (steps : ℕ) (run : Run) → Follows self.old run → MakesQuietly self.old (StepLine process steps) run result.quiet self.new }
     {
         let mut quiet = 0;
-        let mut leads = world::Told::Nothing;
+        let mut leads = world::StepTold::Nothing;
         'steps: while floor < self.left {
             quiet += stroll(
                 &mut self.world,
@@ -107,7 +107,7 @@ impl Course {
         let movers = movers.as_slice();
         let mut quiet = 0;
         let mut left = self.left;
-        let mut leads = world::Told::Nothing;
+        let mut leads = world::StepTold::Nothing;
         let mut within = [0_u16; 256];
         let mut ahead = self.flicks.twin();
         let mut next = drawn(&mut ahead, movers);
@@ -259,11 +259,11 @@ pub(super) fn is_there(target: Target, stage: Stage) -> bool
 
 /// Whether a Step was made that has no mark.
 #[inline]
-fn is_quiet(stepped: &Result<Access, Refusal>, leads: &world::Told) -> bool
+fn is_quiet(stepped: &Result<Access, Refusal>, leads: &world::StepTold) -> bool
     ensures { result ≡ has_no_mark (with_told leads.now stepped.now) }
 {
     let _nested: NestedTypes = None;
-    stepped.is_ok() && matches!(leads, world::Told::Nothing)
+    stepped.is_ok() && matches!(leads, world::StepTold::Nothing)
 }
 
 /// What a Step tells, made or refused.
@@ -273,7 +273,7 @@ pub(super) fn told_of(
     flick: bool,
     place: u64,
     stepped: &Result<Access, Refusal>,
-    leads: &world::Told,
+    leads: &world::StepTold,
 ) -> Told
     ensures { result ≡ told_step process flick place (with_told leads.now stepped.now) }
 {

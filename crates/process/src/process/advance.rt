@@ -8,10 +8,10 @@ ghost use Rattle.process.specs.Keeping.{is_at_data, is_clearing, is_door, is_uni
 ghost use Rattle.process.specs.Processes.{kept_at, stage_kept};
 ghost use Rattle.process.specs.Steps.{IsAt, bits_within, changes_read, is_at_door, may_step};
 ghost use Rattle.process.specs.Telling.{changes_told, marks_told};
-ghost use Rattle.process.specs.declared.process.Work.TheVariants as works;
+ghost use Rattle.process.specs.declared.process.ActiveCursor.TheVariants as works;
 
-use super::{Process, Work};
-use crate::told::{Told, answer_told, settled, told_at_data, told_at_door, told_left};
+use super::{Process, ActiveCursor};
+use crate::told::{StepTold, answer_told, settled, told_at_data, told_at_door, told_left};
 use bakery::{DoorProgress, Leaving};
 use memory_unit::{Progress, UnitProgress};
 use plain_store::{Answer, NestedTypes};
@@ -63,18 +63,18 @@ impl Process {
         ensures there { IsThere self.now.setup result }
     {
         match &self.work {
-            Work::AtDoor { .. } => self.next_at_door(),
-            Work::Leaves { leaving, .. } => leaving.next(),
-            Work::Withdraws(leaving) => leaving.next(),
-            Work::Settles { unit, .. } => unit.next(flick),
-            Work::Frees { unit, .. } => unit.next(flick),
-            Work::AtData | Work::Rests | Work::Lies => unreachable!(),
+            ActiveCursor::AtDoor { .. } => self.next_at_door(),
+            ActiveCursor::Leaves { leaving, .. } => leaving.next(),
+            ActiveCursor::Withdraws(leaving) => leaving.next(),
+            ActiveCursor::Settles { unit, .. } => unit.next(flick),
+            ActiveCursor::Frees { unit, .. } => unit.next(flick),
+            ActiveCursor::AtData | ActiveCursor::Rests | ActiveCursor::Lies => unreachable!(),
         }
     }
 
     /// Goes on by that access, and tells what it leads to. The end of a read gives `value`.
     #[inline]
-    pub fn advance(&mut self, flick: bool, value: bool) -> Told
+    pub fn advance(&mut self, flick: bool, value: bool) -> StepTold
         requires goes { may_step self.old.kept ≡ true }
         requires at { (d : Doing) × IsAt self.old d }
         ensures process { (d : Doing) → IsAt self.old d → self.new ≡ record self.old { kept = kept_at self.old.setup self.old.process (does_then self.old.setup self.old.process d flick value) } }
@@ -90,7 +90,7 @@ impl Process {
 
     /// The same elsewhere than at the data.
     #[inline]
-    pub(crate) fn advance_elsewhere(&mut self, flick: bool, value: bool) -> Told
+    pub(crate) fn advance_elsewhere(&mut self, flick: bool, value: bool) -> StepTold
         requires goes { may_step self.old.kept ≡ true }
         requires elsewhere { is_at_data self.old.kept ≡ false }
         requires at { (d : Doing) × IsAt self.old d }
@@ -99,18 +99,18 @@ impl Process {
         ensures changes { changes_told result ≡ None }
     {
         match &self.work {
-            Work::AtDoor { .. } => self.advance_door(value),
-            Work::Leaves { .. } => self.advance_leaves(),
-            Work::Withdraws(_) => self.advance_withdraws(),
-            Work::Settles { .. } => self.advance_settles(flick),
-            Work::Frees { .. } => self.advance_frees(flick),
-            Work::AtData | Work::Rests | Work::Lies => unreachable!(),
+            ActiveCursor::AtDoor { .. } => self.advance_door(value),
+            ActiveCursor::Leaves { .. } => self.advance_leaves(),
+            ActiveCursor::Withdraws(_) => self.advance_withdraws(),
+            ActiveCursor::Settles { .. } => self.advance_settles(flick),
+            ActiveCursor::Frees { .. } => self.advance_frees(flick),
+            ActiveCursor::AtData | ActiveCursor::Rests | ActiveCursor::Lies => unreachable!(),
         }
     }
 
     /// The same at the door.
     #[inline]
-    fn advance_door(&mut self, value: bool) -> Told
+    fn advance_door(&mut self, value: bool) -> StepTold
         requires at_door { is_at_door self.old.kept ≡ true }
         requires at { (d : Doing) × IsAt self.old d }
         ensures process { (flick : Bool) (d : Doing) → IsAt self.old d → self.new ≡ record self.old { kept = kept_at self.old.setup self.old.process (does_then self.old.setup self.old.process d flick value) } }
@@ -123,17 +123,17 @@ impl Process {
             DoorProgress::Doorway => set_waits(&mut self.work, false),
             DoorProgress::Waiting(_) => set_waits(&mut self.work, true),
             DoorProgress::Inside(_) => {
-                self.work = Work::AtData;
+                self.work = ActiveCursor::AtData;
                 self.section.start(self.command, self.number);
             }
-            DoorProgress::Full { .. } => self.work = Work::Rests,
+            DoorProgress::Full { .. } => self.work = ActiveCursor::Rests,
         }
         told_at_door(waits, progress)
     }
 
     /// The same at the data.
     #[inline(always)]
-    pub(crate) fn advance_at_data(&mut self, value: bool) -> Told
+    pub(crate) fn advance_at_data(&mut self, value: bool) -> StepTold
         requires at_data { is_at_data self.old.kept ≡ true }
         requires at { (d : Doing) × IsAt self.old d }
         ensures process { (flick : Bool) (d : Doing) → IsAt self.old d → self.new ≡ record self.old { kept = kept_at self.old.setup self.old.process (does_then self.old.setup self.old.process d flick value) } }
@@ -144,7 +144,7 @@ impl Process {
         match answer_told(&progress) {
             None => {}
             Some(answer) => {
-                self.work = Work::Leaves {
+                self.work = ActiveCursor::Leaves {
                     answer,
                     fresh: true,
                     leaving: Leaving::new(self.process, &self.setup),
@@ -168,7 +168,7 @@ impl Process {
 
     /// The same while the ticket is cleared before the answer.
     #[inline]
-    fn advance_leaves(&mut self) -> Told
+    fn advance_leaves(&mut self) -> StepTold
         requires clears { is_clearing self.old.kept ≡ true }
         requires at { (d : Doing) × IsAt self.old d }
         ensures process { (flick value : Bool) (d : Doing) → IsAt self.old d → self.new ≡ record self.old { kept = kept_at self.old.setup self.old.process (does_then self.old.setup self.old.process d flick value) } }
@@ -176,19 +176,19 @@ impl Process {
         ensures changes { changes_told result ≡ None }
     {
         match &mut self.work {
-            Work::Leaves {
+            ActiveCursor::Leaves {
                 answer,
                 fresh,
                 leaving,
             } => match leaving.advance() {
                 Progress::Going => {
-                    let told = if *fresh { Told::Leaves } else { Told::Nothing };
+                    let told = if *fresh { StepTold::Leaves } else { StepTold::Nothing };
                     *fresh = false;
                     told
                 }
                 Progress::Done => {
-                    let told = Told::Answers(*answer);
-                    self.work = Work::Rests;
+                    let told = StepTold::Answers(*answer);
+                    self.work = ActiveCursor::Rests;
                     told
                 }
             },
@@ -198,7 +198,7 @@ impl Process {
 
     /// The same of a process that gave up waiting.
     #[inline]
-    fn advance_withdraws(&mut self) -> Told
+    fn advance_withdraws(&mut self) -> StepTold
         requires withdraws { is_withdrawing self.old.kept ≡ true }
         requires at { (d : Doing) × IsAt self.old d }
         ensures process { (flick value : Bool) (d : Doing) → IsAt self.old d → self.new ≡ record self.old { kept = kept_at self.old.setup self.old.process (does_then self.old.setup self.old.process d flick value) } }
@@ -206,11 +206,11 @@ impl Process {
         ensures changes { changes_told result ≡ None }
     {
         match &mut self.work {
-            Work::Withdraws(leaving) => match leaving.advance() {
-                Progress::Going => Told::Nothing,
+            ActiveCursor::Withdraws(leaving) => match leaving.advance() {
+                Progress::Going => StepTold::Nothing,
                 Progress::Done => {
-                    self.work = Work::Rests;
-                    Told::Answers(Answer::Withdrawn)
+                    self.work = ActiveCursor::Rests;
+                    StepTold::Answers(Answer::Withdrawn)
                 }
             },
             _ => unreachable!(),
@@ -219,7 +219,7 @@ impl Process {
 
     /// The same while the memory unit settles the torn bit.
     #[inline]
-    fn advance_settles(&mut self, flick: bool) -> Told
+    fn advance_settles(&mut self, flick: bool) -> StepTold
         requires settles { is_unit_settling self.old.kept ≡ true }
         requires at { (d : Doing) × IsAt self.old d }
         ensures process { (value : Bool) (d : Doing) → IsAt self.old d → self.new ≡ record self.old { kept = kept_at self.old.setup self.old.process (does_then self.old.setup self.old.process d flick value) } }
@@ -227,8 +227,8 @@ impl Process {
         ensures changes { changes_told result ≡ None }
     {
         let _nested: NestedTypes = None;
-        match mem::replace(&mut self.work, Work::Lies) {
-            Work::Settles {
+        match mem::replace(&mut self.work, ActiveCursor::Lies) {
+            ActiveCursor::Settles {
                 inside,
                 taken,
                 value,
@@ -237,16 +237,16 @@ impl Process {
                 let at = value.unwrap_or(flick);
                 match unit.advance(flick) {
                     UnitProgress::Settling => {
-                        self.work = Work::Settles {
+                        self.work = ActiveCursor::Settles {
                             inside,
                             taken,
                             value: Some(at),
                             unit,
                         };
-                        Told::Nothing
+                        StepTold::Nothing
                     }
                     _ => {
-                        self.work = Work::Frees { inside, unit };
+                        self.work = ActiveCursor::Frees { inside, unit };
                         settled(at, taken)
                     }
                 }
@@ -257,7 +257,7 @@ impl Process {
 
     /// The same while the memory unit clears the ticket and the choosing bit.
     #[inline]
-    fn advance_frees(&mut self, flick: bool) -> Told
+    fn advance_frees(&mut self, flick: bool) -> StepTold
         requires frees { is_unit_freeing self.old.kept ≡ true }
         requires at { (d : Doing) × IsAt self.old d }
         ensures process { (value : Bool) (d : Doing) → IsAt self.old d → self.new ≡ record self.old { kept = kept_at self.old.setup self.old.process (does_then self.old.setup self.old.process d flick value) } }
@@ -265,10 +265,10 @@ impl Process {
         ensures changes { changes_told result ≡ None }
     {
         match &mut self.work {
-            Work::Frees { inside, unit } => match unit.advance(flick) {
+            ActiveCursor::Frees { inside, unit } => match unit.advance(flick) {
                 UnitProgress::Down => {
-                    self.work = Work::Lies;
-                    Told::Lies
+                    self.work = ActiveCursor::Lies;
+                    StepTold::Lies
                 }
                 _ => {
                     let told = told_left(*inside);
@@ -286,7 +286,7 @@ impl Process {
         ensures { stage_kept self.now.kept ≡ stage_waiting result }
     {
         match &self.work {
-            Work::AtDoor { waits } => *waits,
+            ActiveCursor::AtDoor { waits } => *waits,
             _ => unreachable!(),
         }
     }
@@ -294,12 +294,12 @@ impl Process {
 
 /// Whether the process at the door waits. The rest of the cursor stays in place.
 #[inline]
-fn set_waits(work: &mut Work, now: bool)
+fn set_waits(work: &mut ActiveCursor, now: bool)
     requires { is_door work.old ≡ true }
     ensures { work.new ≡ works.AtDoor now }
 {
     match work {
-        Work::AtDoor { waits } => *waits = now,
+        ActiveCursor::AtDoor { waits } => *waits = now,
         _ => unreachable!(),
     }
 }

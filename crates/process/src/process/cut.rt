@@ -9,7 +9,7 @@ ghost use Rattle.process.specs.Processes.{inside_kept, stage_kept};
 ghost use Rattle.process.specs.Processes as kept;
 ghost use Rattle.process.specs.Steps.{IsAt, is_at_door, kept_failing, kept_withdrawing, may_fail};
 
-use super::{Process, Work};
+use super::{Process, ActiveCursor};
 use bakery::Leaving;
 use memory_unit::Unit;
 use plain_store::Reply;
@@ -23,7 +23,7 @@ impl Process {
         ensures process { self.new ≡ record self.old { kept = kept_withdrawing self.old.setup self.old.process } }
     {
         self.door.quit();
-        self.work = Work::Withdraws(Leaving::new(self.process, &self.setup));
+        self.work = ActiveCursor::Withdraws(Leaving::new(self.process, &self.setup));
     }
 
     /// The process halts, and its memory unit takes over. An open read, if there is one, has to be dropped by whoever
@@ -37,7 +37,7 @@ impl Process {
         let (torn, taken) = self.cut_off();
         match torn {
             Some(torn) => {
-                self.work = Work::Settles {
+                self.work = ActiveCursor::Settles {
                     inside,
                     taken,
                     value: None,
@@ -45,7 +45,7 @@ impl Process {
                 };
             }
             None => {
-                self.work = Work::Frees {
+                self.work = ActiveCursor::Frees {
                     inside,
                     unit: Unit::start(self.process, &self.setup, None),
                 };
@@ -63,15 +63,15 @@ impl Process {
         ensures cut { (d : Doing) → IsAt self.old d → kept_cut self.old.setup self.old.process result.0 result.1 (inside_kept self.old.kept) ≡ kept_failing self.old.setup self.old.process d }
     {
         match &self.work {
-            Work::Rests => {
-                self.work = Work::Lies;
+            ActiveCursor::Rests => {
+                self.work = ActiveCursor::Lies;
                 (None, None)
             }
-            Work::AtDoor { .. } => (self.cut_door(), None),
-            Work::AtData => self.cut_section(),
-            Work::Leaves { .. } => (self.cut_leaves(), None),
-            Work::Withdraws(_) => (self.cut_withdraws(), None),
-            Work::Lies | Work::Settles { .. } | Work::Frees { .. } => unreachable!(),
+            ActiveCursor::AtDoor { .. } => (self.cut_door(), None),
+            ActiveCursor::AtData => self.cut_section(),
+            ActiveCursor::Leaves { .. } => (self.cut_leaves(), None),
+            ActiveCursor::Withdraws(_) => (self.cut_withdraws(), None),
+            ActiveCursor::Lies | ActiveCursor::Settles { .. } | ActiveCursor::Frees { .. } => unreachable!(),
         }
     }
 
@@ -83,7 +83,7 @@ impl Process {
         ensures known { IfSome result (IsTornOf self.old.setup) }
         ensures cut { (d : Doing) → IsAt self.old d → kept_cut self.old.setup self.old.process result None false ≡ kept_failing self.old.setup self.old.process d }
     {
-        self.work = Work::Lies;
+        self.work = ActiveCursor::Lies;
         self.door.halt()
     }
 
@@ -94,7 +94,7 @@ impl Process {
         ensures known { IfSome result.0 (IsTornOf self.old.setup) }
         ensures cut { (d : Doing) → IsAt self.old d → kept_cut self.old.setup self.old.process result.0 result.1 true ≡ kept_failing self.old.setup self.old.process d }
     {
-        self.work = Work::Lies;
+        self.work = ActiveCursor::Lies;
         let pending = self.section.pending();
         let torn = self.section.halt();
         let taken = taken_with(&torn, pending);
@@ -109,9 +109,9 @@ impl Process {
         ensures cut { (d : Doing) → IsAt self.old d → kept_cut self.old.setup self.old.process result None (inside_kept self.old.kept) ≡ kept_failing self.old.setup self.old.process d }
     {
         match &self.work {
-            Work::Leaves { leaving, .. } => {
+            ActiveCursor::Leaves { leaving, .. } => {
                 let torn = leaving.fail();
-                self.work = Work::Lies;
+                self.work = ActiveCursor::Lies;
                 torn
             }
             _ => unreachable!(),
@@ -126,9 +126,9 @@ impl Process {
         ensures cut { (d : Doing) → IsAt self.old d → kept_cut self.old.setup self.old.process result None false ≡ kept_failing self.old.setup self.old.process d }
     {
         match &self.work {
-            Work::Withdraws(leaving) => {
+            ActiveCursor::Withdraws(leaving) => {
                 let torn = leaving.fail();
-                self.work = Work::Lies;
+                self.work = ActiveCursor::Lies;
                 torn
             }
             _ => unreachable!(),

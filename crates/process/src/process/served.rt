@@ -10,9 +10,9 @@ ghost use Rattle.process.specs.Registers.{MayStep, MayWalk, StepsWithin, WalksWi
 ghost use Rattle.process.specs.Steps.{IsAt, bits_to_walk, bits_within, is_at_door, kept_failing, kept_withdrawing, may_fail, may_step};
 ghost use Rattle.process.specs.Telling.{marks_told};
 
-use super::{Process, Work};
+use super::{Process, ActiveCursor};
 use crate::registers::{Registers, ended, given};
-use crate::told::Told;
+use crate::told::StepTold;
 use bakery::Pace;
 use section::Flicks;
 use record::Access;
@@ -23,7 +23,7 @@ impl Process {
     /// anything. At the data it goes to the versions with no look at what else there is. Within a number access
     /// `step_within` is quicker.
     #[inline]
-    pub fn step(&mut self, registers: &mut Registers, flick: bool, told: &mut Told) -> Access
+    pub fn step(&mut self, registers: &mut Registers, flick: bool, told: &mut StepTold) -> Access
         requires goes { may_step self.old.kept ≡ true }
         requires may { MayStep self.old registers.old flick }
         ensures access { (d : Doing) (next : Access) → IsAt self.old d → next_of self.old.setup self.old.process d flick ≡ Some next → result ≡ answered registers.old flick next }
@@ -50,7 +50,7 @@ impl Process {
         ensures { result ≡ bits_within self.now.kept }
     {
         match &self.work {
-            Work::AtData => self.section.bits_within(),
+            ActiveCursor::AtData => self.section.bits_within(),
             _ => 0,
         }
     }
@@ -62,8 +62,8 @@ impl Process {
         ensures { result ≡ bits_to_walk self.now.kept }
     {
         match &self.work {
-            Work::AtDoor { .. } => self.door.bits_within(),
-            Work::AtData => self.section.bits_within(),
+            ActiveCursor::AtDoor { .. } => self.door.bits_within(),
+            ActiveCursor::AtData => self.section.bits_within(),
             _ => 0,
         }
     }

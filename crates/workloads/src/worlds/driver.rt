@@ -2,7 +2,7 @@
 ghost use Rattle.std.specs.Prelude.{◌≡◌, Ok};
 ghost use Rattle.plain_store.specs.Setups.{checked};
 
-use auditor::{Flicks, Told, World};
+use auditor::{Flicks, StepTold, World};
 use plain_store::{Command, Name, NestedTypes, Setup, Store, Value};
 use record::{Event, Stage};
 use std::alloc::{AllocError, Global};
@@ -107,7 +107,7 @@ impl Driver {
     }
 
     fn step(&mut self, process: u8, flick: bool) -> bool {
-        let accepted = self.world.step(process, flick, &mut Told::Nothing).is_ok();
+        let accepted = self.world.step(process, flick, &mut StepTold::Nothing).is_ok();
         self.events = self.events.wrapping_add(u64::from(accepted));
         accepted
     }

@@ -1,7 +1,7 @@
 use Rattle.std.proofs.Common.{inl, subst, sym, arith}
 use Rattle.process.specs.laws.Doings.{Doing}
 use Rattle.process.specs.Steps.{IsAt}
-use Rattle.process.specs.declared.told.Told.TheVariants.{Nothing}
+use Rattle.process.specs.declared.told.StepTold.TheVariants.{Nothing}
 use Rattle.board.specs.Ports.{with_pending}
 use Rattle.board.proofs.Listings.{Tells, lists_loaded}
 use Rattle.board.proofs.Ties.{GoneOn, begun_at, is_at, leads_loaded, may_load, tied_loaded}

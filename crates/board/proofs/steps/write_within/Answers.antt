@@ -1,5 +1,5 @@
 use Rattle.std.proofs.Common.{inr, ap, sym}
-use Rattle.process.specs.declared.told.Told.TheVariants.{Nothing}
+use Rattle.process.specs.declared.told.StepTold.TheVariants.{Nothing}
 use Rattle.board.specs.Ports.{with_pending}
 use Rattle.board.specs.WordSteps.{value_after}
 use Rattle.board.proofs.Listings.{lists_stored}

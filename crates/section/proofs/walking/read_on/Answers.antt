@@ -5,7 +5,7 @@ use Rattle.reader_copies.specs.Runs.{next_read}
 use Rattle.record.specs.declared.access.Field.{Field}
 use Rattle.safe_number.specs.Runs.{bit_read, new_write, number_read_after}
 use Rattle.safe_number.specs.Written.{loaded}
-use Rattle.section.specs.declared.standing.Standing.TheVariants as keeps
+use Rattle.section.specs.declared.standing.SectionPart.TheVariants as keeps
 use Rattle.section.specs.Keeping.{section_of}
 use Rattle.section.specs.Registers.{DataRow, is_data, register_at, register_of, with_register}
 use Rattle.section.proofs.Within.{bits-within}

@@ -1,5 +1,5 @@
 use Rattle.std.proofs.Common.{◌≡◌, ℕ, suc, ◌+◌, ◌-◌, refl, subst, arith}
-use Rattle.section.specs.declared.standing.Standing.TheVariants as keeps
+use Rattle.section.specs.declared.standing.SectionPart.TheVariants as keeps
 use Rattle.section.specs.Keeping.{section_of}
 use Rattle.section.specs.Sections.{MayWalk, WalksWithin}
 use Rattle.section.proofs.SectionWalks.{may-next, may-on, walks-on}

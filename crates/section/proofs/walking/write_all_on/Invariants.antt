@@ -1,7 +1,7 @@
 use Rattle.std.proofs.Common.{◌≡◌, ℕ, ◌+◌, ◌-◌, ◌≤◌}
 use Rattle.safe_number.specs.Runs.{NumberRead}
 use Rattle.flicks.specs.Flicks.{FlickState}
-use Rattle.section.specs.declared.standing.Standing.TheVariants as keeps
+use Rattle.section.specs.declared.standing.SectionPart.TheVariants as keeps
 use Rattle.section.specs.Changes.{change_field}
 use Rattle.section.specs.Keeping.{IsWriteOf, section_of}
 use Rattle.section.specs.Registers.{DataRow}

@@ -1,5 +1,5 @@
 use Rattle.safe_number.specs.Runs.{new_read}
-use Rattle.section.specs.declared.standing.Standing.TheVariants as keeps
+use Rattle.section.specs.declared.standing.SectionPart.TheVariants as keeps
 use Rattle.section.specs.Keeping.{section_of}
 use Rattle.section.proofs.Within.{bits-within}
 use Rattle.section.proofs.WithinKept.{write-kept}

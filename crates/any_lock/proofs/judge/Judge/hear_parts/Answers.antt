@@ -1,6 +1,6 @@
 use Rattle.std.proofs.Common.{rules, ◌≡◌, ◌+◌, [], ◌∷◌, ◌++◌, sym, ap, subst}
 use Rattle.record.specs.Entries.{Entry}
-use Rattle.any_lock.specs.declared.verdicts.Verdict.TheVariants.{Good}
+use Rattle.any_lock.specs.declared.verdicts.AnyLockVerdict.TheVariants.{Good}
 use Rattle.any_lock.specs.Judging.{HasJudged, JudgeState}
 use Rattle.any_lock.proofs.Told.{hears_bad, hears_on, with_entries}
 use Rattle.any_lock.proofs.judge.Judge.hear_parts.Goals as goal

@@ -1,8 +1,8 @@
 use Rattle.std.proofs.Common.{◌≡◌, ◌∷◌, Option, refl, sym, ap, subst, ◌∙◌}
 use Rattle.plain_store.specs.declared.Setup.{Setup}
 use Rattle.record.specs.Entries.{Entry, Past}
-use Rattle.any_lock.specs.declared.verdicts.Law.{Law}
-use Rattle.any_lock.specs.declared.verdicts.Verdict.TheVariants.{Good}
+use Rattle.any_lock.specs.declared.verdicts.AnyLockLaw.{AnyLockLaw}
+use Rattle.any_lock.specs.declared.verdicts.AnyLockVerdict.TheVariants.{Good}
 use Rattle.any_lock.specs.Judging.{AreReasonsIf, BothHeard, JudgeState}
 use Rattle.any_lock.specs.Laws.{first_broken}
 use Rattle.any_lock.specs.Verdicts.{verdict_with}
@@ -60,5 +60,5 @@ returns-clause-reasons c =
     let law = c.hear-law.result in
     let family : JudgeState → Type 0 = λ j. (s : Setup) (past : Past) → BothHeard j s past → AreReasonsIf s past e (first_broken s past e) c.reasons_of-self-inside.result in
     subst family c.self.view_is (λ s past both.
-    subst (λ (l : Option Law). AreReasonsIf s past e l c.reasons_of-self-inside.result) (told_law old e c.keeps_safe-is_safe.result c.keeps_safe-is_safe.new.watch c.hear-law.result c.hear-law.new.self told s past both)
+    subst (λ (l : Option AnyLockLaw). AreReasonsIf s past e l c.reasons_of-self-inside.result) (told_law old e c.keeps_safe-is_safe.result c.keeps_safe-is_safe.new.watch c.hear-law.result c.hear-law.new.self told s past both)
     (reasons_given i.kept c.hear-law.new.self s past e c.hear-law.result c.reasons_of-self-inside.result both.kept both.knows c.hear-law.ensures.same c.reasons_of-self-inside.ensures.none (λ knows. c.reasons_of-self-inside.ensures.some past e refl refl refl knows)))

@@ -1,9 +1,9 @@
 use Rattle.std.proofs.Common.{Option, Some, refl, subst, sym}
-use Rattle.any_lock.specs.declared.verdicts.Law.{Law}
+use Rattle.any_lock.specs.declared.verdicts.AnyLockLaw.{AnyLockLaw}
 use Rattle.any_lock.specs.Judging.{AreReasonsIf}
 use Rattle.any_lock.proofs.kept.Kept.reasons_of.Goals as goal
 
 pub returns-in-Some-clause-some : goal.returns-in-Some-clause-some
 returns-in-Some-clause-some c = λ past e p a m knows.
-    subst (λ (l : Option Law). AreReasonsIf c.args.self.now.setup past e l (Some c.reasons.result)) (sym c.in-Some.is)
+    subst (λ (l : Option AnyLockLaw). AreReasonsIf c.args.self.now.setup past e l (Some c.reasons.result)) (sym c.in-Some.is)
     (c.reasons.result, refl, c.reasons.ensures past e p a m knows)

@@ -5,7 +5,7 @@ use Rattle.record.specs.Places.{place_of, stage_at, new_run}
 use Rattle.safe_number.specs.Runs.{new_write, new_read}
 use Rattle.bakery.specs.Doors.{DoorState, IsKnown, bits_at, is_going, is_waiting_at, marks_told, run_shown, tells_wait}
 use Rattle.bakery.specs.Standings.{part_of, told_before}
-use Rattle.bakery.specs.declared.standing.Standing.{Standing}
+use Rattle.bakery.specs.declared.standing.DoorPart.{DoorPart}
 use Rattle.bakery.proofs.Accesses.{door_with, the-some}
 use Rattle.bakery.proofs.Going.{is-some, is-none}
 use Rattle.bakery.proofs.Known.{known-after, begins-keeps}
@@ -41,7 +41,7 @@ after-self-inside-requires-clause-number c = c.in-Some.ensures.fits
 pub invariant_of-self-2 : goal.invariant_of-self-2
 invariant_of-self-2 c =
     let s = c.self.inside.setup in
-    let P : Standing → Type 0 = IsKnown s in
+    let P : DoorPart → Type 0 = IsKnown s in
     let known : IsKnown s c.after-self-inside.result = subst P (sym c.after-self-inside.ensures) (known-after s c.self.inside.process c.in-Some.number c.self.inside.standing c.self.invariant.some_bits c.in-Some.ensures.fits c.self.invariant.known) in
     begins-keeps s c.self.inside.process c.self.inside.standing c.after-self-inside.result c.self.inside.runs.write c.begin.new.self.write c.self.inside.runs.read c.begin.new.self.read c.bits.result c.go_on-ended.new.self.read.room
     c.self.invariant known c.bits.ensures c.begin.ensures.write c.begin.ensures.read (c.go_on-ended.ensures.room ∙ c.self.invariant.room)

@@ -6,8 +6,8 @@ use Rattle.world.specs.flicks.Flicks.{FlickState, after_flick, after_pick, flick
 use Rattle.world.specs.Events.{Adds, GoesOn, IsRefused}
 use Rattle.world.specs.Shows.{WorldState}
 use Rattle.world.specs.process.declared.told.Effect.TheVariants.{Steps}
-use Rattle.world.specs.process.declared.told.Made.{Made}
-use Rattle.world.specs.process.declared.told.Told.TheVariants as step
+use Rattle.world.specs.process.declared.told.EventMade.{EventMade}
+use Rattle.world.specs.process.declared.told.StepTold.TheVariants as step
 use Rattle.world.specs.process.Telling.{act_of}
 use Rattle.course.specs.Telling.{with_told}
 use Rattle.scenario.specs.declared.lines.Line.TheVariants.{Wander as WanderLine}
@@ -59,7 +59,7 @@ steps-preserved-then-stride c =
     let i = c.steps.self-inside in
     let quietly = c.stride.ensures.made c.if-stride.true in
     let same : c.steps.ahead ≡ c.copy_from.new.self = sym c.copy_from.ensures in
-    let result : Result Made Refusal = Ok (record { access = Some quietly.access; effect = Steps step.Nothing }) in
+    let result : Result EventMade Refusal = Ok (record { access = Some quietly.access; effect = Steps step.Nothing }) in
     let ps = c.as_slice-movers.result.now in
     let some : 0 < length ps = subst (λ (l : List ℕ). 0 < length l) (sym c.as_slice-movers.ensures) (some_left c.movers-movers.result.items (sym c.is_empty.ensures ∙ c.if-is_empty.false)) in
     record {

@@ -2,7 +2,7 @@ use Rattle.std.proofs.Common.{ℕ, ◌+◌, List, arith, drop, refl}
 use Rattle.markup.specs.Readings.{reading}
 use Rattle.columns.specs.Columns.{seen}
 use Rattle.picture.specs.Drawings.{SeenBand, line_shapes, lines_shapes, seen_band}
-use Rattle.columns.specs.declared.told.Line.{Line}
+use Rattle.columns.specs.declared.told.RunLine.{RunLine}
 use Rattle.picture.proofs.Drawn.{drawn_on}
 use Rattle.picture.proofs.Steps.{lines_next}
 use Rattle.picture.proofs.Tellings.{line_more, none_more}
@@ -13,7 +13,7 @@ loop-place-init c = record { read = none_more (reading c.args.markup.now) c.args
 
 pub loop-place-preserved : goal.loop-place-preserved
 loop-place-preserved c =
-    let lines : List Line = c.args.column.now.lines.items in
+    let lines : List RunLine = c.args.column.now.lines.items in
     let k : ℕ = c.loop-place.place in
     let band : SeenBand = seen_band c.args.self.now in
     record {

@@ -3,7 +3,7 @@ use Rattle.markup.specs.Figures.{Shape}
 use Rattle.markup.specs.Readings.{reading}
 use Rattle.columns.specs.Columns.{seen}
 use Rattle.picture.specs.Drawings.{note_shapes, seen_band}
-use Rattle.columns.specs.declared.told.Line.{Line}
+use Rattle.columns.specs.declared.told.RunLine.{RunLine}
 use Rattle.picture.proofs.Drawn.{drawn_on}
 use Rattle.picture.proofs.Steps.{notes_next}
 use Rattle.picture.proofs.Tellings.{line_more, none_more}
@@ -14,9 +14,9 @@ loop-line-init c = record { read = none_more (reading c.args.markup.now) c.args.
 
 pub loop-line-preserved : goal.loop-line-preserved
 loop-line-preserved c =
-    let lines : List Line = c.args.column.now.lines.items in
+    let lines : List RunLine = c.args.column.now.lines.items in
     let k : ℕ = c.loop-line.line-index in
-    let shapes : Line → List Shape = note_shapes (seen_band c.args.self.now) (seen c.args.column.now) in
+    let shapes : RunLine → List Shape = note_shapes (seen_band c.args.self.now) (seen c.args.column.now) in
     record {
       read = line_more (reading c.args.markup.now) (reading c.loop-line.markup) (reading c.draw_line_below.new.markup) lines k c.line-item.result (omega arith) (rw c.deref-line-items.ensures.value at c.line-item.is) c.loop-line.invariant.read c.in_ok-draw_line_below.ensures.read;
       draws = drawn_on c.loop-line.markup c.draw_line_below.new.markup _ (flat_map shapes (drop k lines)) (shapes c.line-item.result) (flat_map shapes (drop (k + 1) lines))

@@ -3,7 +3,7 @@ use Rattle.std.proofs.Common.{◌≡◌, sym, ap, subst, ◌∙◌}
 use Rattle.bakery.specs.Doors as doors
 use Rattle.bakery.specs.Doors.{DoorState, is_going}
 use Rattle.laws.specs.Doings.{call}
-use Rattle.process.specs.declared.process.Work.{Work}
+use Rattle.process.specs.declared.process.ActiveCursor.{ActiveCursor}
 use Rattle.process.specs.Keeping.{Goes, kept_shown}
 use Rattle.process.specs.Processes.{ProcessState}
 use Rattle.process.specs.Processes.{Kept, kept_at, stage_kept}
@@ -39,7 +39,7 @@ returns-clause-process c = λ flick d is.
     let P : ProcessState → Type 0 = λ state. c.match-progress.self ≡ record state { kept = then state } in
     let with_kept : Kept → ProcessState = λ kept. record { setup = f.setup; process = f.process; kept = kept; command = f.command; number = f.number } in
     let new = c.advance-progress.new.self in
-    let stands : Work → ProcessState = λ current. with_kept (kept_shown current new f.section) in
+    let stands : ActiveCursor → ProcessState = λ current. with_kept (kept_shown current new f.section) in
     let shown = c.advance-progress.ensures.door k at.accesses at.shown in
     let going = c.advance-progress.ensures.going in
     let progress = c.advance-progress.ensures.progress k at.accesses at.shown in

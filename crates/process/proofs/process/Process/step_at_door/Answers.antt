@@ -11,7 +11,7 @@ use Rattle.bakery.specs.Doors as doors
 use Rattle.bakery.specs.Doors.{DoorState, is_going, is_waiting_at, next_after}
 use Rattle.bakery.specs.Locks.{CanAccess, LockRows, answered as told, lock_of}
 use Rattle.bakery.specs.Standings.{part_of}
-use Rattle.bakery.specs.declared.standing.Standing.{Standing}
+use Rattle.bakery.specs.declared.standing.DoorPart.{DoorPart}
 use Rattle.laws.specs.Doings.{call}
 use Rattle.laws.specs.Steps.{does_then, marks_with, next_of}
 use Rattle.process.specs.Keeping.{kept_shown}
@@ -66,7 +66,7 @@ returns c =
     let found = kept-here f.setup f.process f.command f.number f.work f.door f.section c.args.self.now c.self.view_is c.self.invariant.goes c.requires.at_door in
     let at_this = here f.setup f.process f.command f.number f.work f.door f.section c.args.self.now c.self.view_is c.self.invariant.goes c.requires.at_door in
     let stays : kept_shown f.work new f.section ≡ Rattle.process.specs.Processes.AtDoor new = door-stays f.work f.door new f.section (ap (λ (state : ProcessState). is_at_door state.kept) c.self.view_is ∙ c.requires.at_door) in
-    let going : is_going new ≡ true = ap (λ (standing : Standing). not (is_over (part_of standing))) e.standing ∙ found.1 in
+    let going : is_going new ≡ true = ap (λ (standing : DoorPart). not (is_over (part_of standing))) e.standing ∙ found.1 in
     let with_kept : Kept → ProcessState = λ kept. record { setup = f.setup; process = f.process; kept = kept; command = f.command; number = f.number } in
     let r : RegistersState = record { locks = c.registers.inside.locks; versions = c.registers.inside.versions } in
     let with_locks : List LockRows → RegistersState = λ locks. record { locks = locks; versions = c.registers.inside.versions } in
@@ -85,7 +85,7 @@ returns c =
           subst (λ (state : ProcessState). with_kept (kept_shown f.work new f.section) ≡ record state { kept = then state }) c.self.view_is
           (ap with_kept (stays ∙ then-door f.setup f.process f.command f.number f.door d at c.args.flick v new (e.door k at.accesses at.shown) going));
       stays = ap (λ k. is_waiting_stage (stage_kept k)) stays
-          ∙ ap (λ (standing : Standing). is_waiting_stage (elim (is_waiting_at standing) as (λ _. Stage) [ true ↦ stage.Waiting | false ↦ stage.Doorway ])) e.standing
+          ∙ ap (λ (standing : DoorPart). is_waiting_stage (elim (is_waiting_at standing) as (λ _. Stage) [ true ↦ stage.Waiting | false ↦ stage.Doorway ])) e.standing
           ∙ ap (λ k. is_waiting_stage (stage_kept k)) found.0;
       at_door = ap is_at_door stays ∙ sym c.requires.at_door;
       marks = λ d is.

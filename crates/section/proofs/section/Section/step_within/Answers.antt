@@ -1,5 +1,5 @@
 use Rattle.std.proofs.Common.{◌≡◌, ◌<◌, ◌∙◌, sym, ap, subst}
-use Rattle.section.specs.declared.standing.Standing.TheVariants as keeps
+use Rattle.section.specs.declared.standing.SectionPart.TheVariants as keeps
 use Rattle.section.specs.Keeping.{IsRunOf, IsStanding, section_of}
 use Rattle.section.specs.Sections.{GoesOnWithin, MayStep, Section, bits_within}
 use Rattle.section.proofs.section.Section.step_within.Goals as goal

@@ -1,0 +1,7 @@
+use Rattle.std.proofs.Common.{◌≡◌, drop}
+use Rattle.calls.specs.Stepping.{marked_all}
+use Rattle.calls.proofs.standing.CallStanding.mark_all.Given as goal
+
+-- what is kept is so from the present mark on
+abbrev pub invariant-loop-mark : goal.invariant-loop-mark
+invariant-loop-mark l = marked_all l.number l.fn.self l.marks ≡ marked_all l.number l.self (drop l.mark-index l.marks)

@@ -1,0 +1,15 @@
+use Rattle.std.proofs.Common.{◌≡◌, List, ◌∙◌, ap, get_or, length, refl, arith}
+use Rattle.std.proofs.lemmas.List.{get_or-replicate, length-replicate}
+use Rattle.record_drawer.specs.Takings.{no_call}
+use Rattle.record_drawer.specs.declared.changes.LastCall.{LastCall}
+use Rattle.record_drawer.proofs.changes.RecordedChanges.new.Goals as goal
+
+pub returns : goal.returns
+returns c =
+    let all : c.loop-process._process ≡ c.args.setup.now.processes = omega (arith, c.loop-process.invariant.within, c.loop-process-test.false) in
+    record {
+      version = refl;
+      many = ap length c.loop-process.invariant.calls ∙ length-replicate c.loop-process._process no_call ∙ all;
+      store = c.in_ok-opening_store.ensures;
+      calls = λ p below. ap (λ (l : List LastCall). get_or l p no_call) c.loop-process.invariant.calls ∙ get_or-replicate c.loop-process._process p no_call no_call (omega (arith, below, all));
+    }

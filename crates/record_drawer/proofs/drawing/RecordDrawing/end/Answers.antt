@@ -1,0 +1,16 @@
+use Rattle.std.proofs.Common.{[], ◌∷◌, refl}
+use Rattle.companions.specs.picture.Pages.{seen_page}
+use Rattle.record_drawer.specs.Drawings.{kept}
+use Rattle.record_drawer.specs.Items.{SaysEnd, lines_given}
+use Rattle.record_drawer.proofs.DrawnEntry.{draws_on_rest}
+use Rattle.record_drawer.proofs.Written.{ok_then}
+use Rattle.record_drawer.proofs.drawing.RecordDrawing.end.Goals as goal
+
+pub returns-clause-ok : goal.returns-clause-ok
+returns-clause-ok g c =
+    ok_then c.write_markup.result
+    (λ last mode s past reads waits. draws_on_rest (kept c.args.self.now.page) (kept c.draw.new.self.page) (seen_page c.end.new.self) c.in_ok-full.full c.in_ok-full.last
+    (g.W.Sink.taken c.args.output.now) (g.W.Sink.taken c.draw.new.output) (g.W.Sink.taken c.write_band.new.output) (g.W.Sink.taken c.write_markup.new.output)
+    (lines_given mode c.args.self.now.last c.args.self.now.entries reads (SaysEnd c.args.self.now.entries c.args.self.now.taken ∷ []))
+    (c.in_ok-draw.ensures.ok mode s past reads waits refl) c.in_ok-full.ensures.lines c.in_ok-full.ensures.page (c.in_ok-write_band.ensures.ok c.in_ok-full.ensures.full) (last c.in_ok-full.ensures.last))
+    c.write_markup.ensures.ok
