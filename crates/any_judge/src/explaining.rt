@@ -4,7 +4,7 @@ ghost use Rattle.any_judge.specs.Explanations.{Explains, ExplainsIf, HasExplaine
 
 use crate::reason_lines::reason_lines;
 use crate::verdicts::{status_of, verdict_line};
-use any_lock::{Judge, AnyLockVerdict};
+use any_lock::{AnyLockVerdict, Judge};
 use plain_store::Setup;
 use record::{Access, Entry};
 use std::alloc::{AllocError, Global};

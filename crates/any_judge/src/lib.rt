@@ -9,6 +9,6 @@ mod plain;
 mod reason_lines;
 mod verdicts;
 
-pub use any_lock::{Judge, Judged, AnyLockLaw, AnyLockVerdict};
+pub use any_lock::{AnyLockLaw, AnyLockVerdict, Judge, Judged};
 pub use common_laws::good_records_keep_laws_of_any_lock;
 pub use judging::judge_any_lock;

@@ -5,7 +5,7 @@ ghost use Rattle.any_lock.specs.Shown.{access_refusal_text, mark_refusal_text};
 ghost use Rattle.trial.specs.ReasonLines.{word_line};
 ghost use Rattle.any_judge.specs.ReasonLines.{entry_if, inside_line, may_line, others_lines, pair_line, reason_lines as lines_of, refused_line, standing_lines, wait_line, waits_from};
 
-use any_lock::{AccessRefusal, Remedy, MarkRefusal, Reasons, Refused, changed};
+use any_lock::{AccessRefusal, MarkRefusal, Reasons, Refused, Remedy, changed};
 use plain_store::NestedTypes;
 use record::Entry;
 use std::alloc::{AllocError, Global};

@@ -3,7 +3,7 @@ ghost use Rattle.std.specs.Prelude.{◌≡◌, IfOk};
 ghost use Rattle.std.specs.String.{string_bytes};
 ghost use Rattle.any_judge.specs.Judgements.{status_of_verdict, verdict_line as line_of_verdict};
 
-use any_lock::{Judged, AnyLockVerdict};
+use any_lock::{AnyLockVerdict, Judged};
 use std::alloc::{AllocError, Global};
 use trial::DONE;
 

@@ -117,7 +117,12 @@ impl Kept {
     /// An entry that keeps the law `Safe`, whatever its marks: where its process stands is worked out beside what is kept,
     /// since a mark may be refused behind others.
     #[inline(never)]
-    fn hear_marked(&mut self, process: u8, access: &Option<Access>, marks: &[Mark]) -> Option<AnyLockLaw>
+    fn hear_marked(
+        &mut self,
+        process: u8,
+        access: &Option<Access>,
+        marks: &[Mark],
+    ) -> Option<AnyLockLaw>
         requires { self.old.entries < 2 ^ 64 - 1 }
         ensures setup { self.new.setup ≡ self.old.setup }
         ensures entries { self.new.entries ≤ self.old.entries + 1 }

@@ -11,12 +11,12 @@ ghost use Rattle.any_lock.specs.Verdicts.{verdict_of, verdict_with};
 
 use crate::kept::Kept;
 use crate::reasons::Reasons;
-use crate::verdicts::{Judged, AnyLockLaw, AnyLockVerdict};
+use crate::verdicts::{AnyLockLaw, AnyLockVerdict, Judged};
 use plain_store::{NestedTypes, Setup};
+use read_law::Watch;
 use record::{Access, Entry, Mark};
 use std::alloc::{AllocError, Global};
 use std::marker::Model;
-use read_law::Watch;
 
 /// A judge of the record of any lock, whose entries it takes one at a time. It keeps of each bit what the safe rule looks
 /// back at, where each process stands, one store, two counts, the verdict and its reasons: so it needs the same memory

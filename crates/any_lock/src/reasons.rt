@@ -76,7 +76,13 @@ impl Kept {
 
     /// The reasons of an entry that breaks this law first.
     #[inline(never)]
-    fn reasons(&self, law: AnyLockLaw, process: u8, access: &Option<Access>, marks: &[Mark]) -> Reasons
+    fn reasons(
+        &self,
+        law: AnyLockLaw,
+        process: u8,
+        access: &Option<Access>,
+        marks: &[Mark],
+    ) -> Reasons
         ensures { (past : Past) (e : Noted) → e.process ≡ process → e.access ≡ access.now → e.marks ≡ marks.now → Knows self.now past → AreReasons self.now.setup past e law result }
     {
         let _nested: NestedTypes = None;
@@ -162,7 +168,8 @@ impl Kept {
         match law {
             AnyLockLaw::Safe => self.other_value(process, access, marks),
             AnyLockLaw::History => self.right_change(process),
-            AnyLockLaw::Access | AnyLockLaw::Marks | AnyLockLaw::Together | AnyLockLaw::Overtaken => None,
+            AnyLockLaw::Access | AnyLockLaw::Marks | AnyLockLaw::Together | AnyLockLaw::Overtaken =>
+                None,
         }
     }
 

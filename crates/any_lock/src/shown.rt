@@ -2,7 +2,7 @@
 ghost use Rattle.any_lock.specs.Shown.{access_refusal_text, law_text, mark_refusal_text, verdict_text};
 
 use crate::refusals::{AccessRefusal, MarkRefusal};
-use crate::verdicts::{Judged, AnyLockLaw, AnyLockVerdict};
+use crate::verdicts::{AnyLockLaw, AnyLockVerdict, Judged};
 use std::fmt;
 
 impl fmt::Display for AnyLockLaw {

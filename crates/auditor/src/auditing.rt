@@ -7,9 +7,9 @@ ghost use Rattle.auditor.specs.Verdicts.{BreaksFirst, IsGoodOfEvents, IsTrueReco
 use crate::auditor::Auditor;
 use crate::verdicts::{Law, Verdict};
 use plain_store::Setup;
+use read_law::is_unsafe;
 use record::{Entry, Record};
 use std::alloc::{AllocError, Global};
-use read_law::is_unsafe;
 
 /// The verdict on a record: the lowest entry that breaks a law, and the first law that it breaks. The one fault is want
 /// of memory. It takes the entries one by one, and looks back at most once. A good record is that of some list of

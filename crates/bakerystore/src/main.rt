@@ -4,8 +4,8 @@
 ghost use Rattle.std.specs.Prelude.{◌≡◌, ◌-◌, ◌<◌, ◌^◌, IfOk};
 
 use command_line::{
-    Invocation, Engine, Fault, FromRead, Intake, IntoWrite, LineFault, Output, Request, Sink, Source,
-    Terminals, Uninterrupted, WatchedInput, Watcher, all_words, ended, read_words,
+    Engine, Fault, FromRead, Intake, IntoWrite, Invocation, LineFault, Output, Request, Sink,
+    Source, Terminals, Uninterrupted, WatchedInput, Watcher, all_words, ended, read_words,
 };
 use drawer::progress::Onlooker;
 use drawer::{Reads, draw, draw_svg};

@@ -9,7 +9,7 @@ use crate::order::{are_of_all, put_in_order};
 use crate::port::Port;
 use crate::rule::Return;
 use crate::shown_image::image_shown;
-use crate::steps::{WordSeat, SharedWords};
+use crate::steps::{SharedWords, WordSeat};
 use record::Placed;
 use store_image::Image;
 
@@ -99,7 +99,12 @@ fn are_quiet(ports: &Vec<Port>) -> bool
 
 /// Joins the seats of all other ports to port 0's, and adds their lists to those that there are, of which the next is that
 /// of the first of these ports.
-fn join_all(words: &SharedWords, first: &mut WordSeat, mut others: Vec<Port>, answers: &mut Vec<Vec<Placed>>)
+fn join_all(
+    words: &SharedWords,
+    first: &mut WordSeat,
+    mut others: Vec<Port>,
+    answers: &mut Vec<Vec<Placed>>,
+)
     requires table { (first.old.table_id ≡ words.now.table_id) × (0 < words.now.table_id.words) }
     requires first { (first.old.me.0.spent ≡ false) × (first.old.me.0.own.process ≡ 0) }
     requires others { AreOthers words.now.table_id words.now.key (vec_len answers.old) others.items × AreQuiet others.items }

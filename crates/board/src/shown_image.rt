@@ -41,7 +41,14 @@ fn bit_shown(setup: &Setup, words: &ClosedWords, owner: u8, field: Field, bit: u
 }
 
 /// The number of some bits of a register, from a bit on.
-fn number_shown(setup: &Setup, words: &ClosedWords, owner: u8, field: Field, from: u16, count: u16) -> u32
+fn number_shown(
+    setup: &Setup,
+    words: &ClosedWords,
+    owner: u8,
+    field: Field,
+    from: u16,
+    count: u16,
+) -> u32
     requires good { checked setup.now ≡ Ok tt }
     requires words { (slots_len words.now.words ≡ words_in setup.now) × IsFull words.now.words }
     requires few { count ≤ 32 }

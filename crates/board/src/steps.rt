@@ -16,7 +16,7 @@ ghost use Rattle.board.specs.WordSteps.{LeadsTo, Loads, Stores, WordStep, value_
 
 use crate::layout::WordLayout;
 use crate::pending::Pending;
-use crate::rule::{Agreement, Load, WordStore, Turn, View};
+use crate::rule::{Agreement, Load, Turn, View, WordStore};
 use atomic_table::{Seat, Shared};
 use plain_store::Setup;
 use process::{Process, StepTold};

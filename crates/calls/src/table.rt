@@ -9,10 +9,10 @@ ghost use Rattle.calls.specs.Hearing.{ComesInTurn, GoesOn, HasHeard, ended_call,
 use crate::called::{Accesses, Called, Marked};
 use crate::standing::{CallStanding, called_in};
 use plain_store::{NestedTypes, Setup};
+use read_law::Watch;
 use record::{Access, Mark, Move};
 use std::alloc::{AllocError, Global};
 use std::marker::Model;
-use read_law::Watch;
 
 /// The calls of a run, whose entries it takes one at a time. It keeps the last call of each process, and of each bit what
 /// the safe rule looks back at: so it needs the same memory however long the run is, and however many calls it has.

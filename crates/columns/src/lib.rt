@@ -20,4 +20,4 @@ pub use measures::{DIGIT, LEFT, RIGHT, room};
 pub use placing::{ColumnPlace, Placing, event_place, stretch};
 pub use reads::OverlappedRead;
 pub use state::{Group, State, Word};
-pub use told::{TakenChange, RunLine, Saying};
+pub use told::{RunLine, Saying, TakenChange};

@@ -11,7 +11,7 @@ mod retries;
 mod terminal;
 mod words;
 
-pub use commands::{Engine, CommandEntry, Intake};
+pub use commands::{CommandEntry, Engine, Intake};
 pub use files::{Fault, FromRead, IntoWrite, LineFault, Sink, Source, ended};
 pub use notices::{Notice, USAGE_STATUS};
 pub use pages::HelpPage;

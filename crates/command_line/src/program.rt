@@ -66,7 +66,11 @@ fn with_commands<'a>(
 }
 
 /// The program with a command more, which runs a file.
-fn with_row<'a>(alloc: Global, program: Command<'a>, row: &CommandRow) -> Result<Command<'a>, AllocError>
+fn with_row<'a>(
+    alloc: Global,
+    program: Command<'a>,
+    row: &CommandRow,
+) -> Result<Command<'a>, AllocError>
     ensures shape { IfOk result (λ c. app_of c ≡ with_row (app_of program.entry) row.now) }
 {
     program.subcommand(file_command(alloc, CommandEntry::of(row))?)

@@ -153,7 +153,12 @@ fn asked_of_help<'a>(own: &ArgMatches<'a>) -> Option<Invocation<'a>>
 }
 
 /// The request that a command runs a file, with the options among its matches.
-fn request_of<'a>(quiet: bool, command: CommandEntry, own: &ArgMatches<'a>, file: &'a str) -> Request<'a>
+fn request_of<'a>(
+    quiet: bool,
+    command: CommandEntry,
+    own: &ArgMatches<'a>,
+    file: &'a str,
+) -> Request<'a>
     ensures { asked_by (Invocation.Run result)
         ≡ asked_of_file quiet (says command) (rows_of (found_of own.now)) file.now }
 {

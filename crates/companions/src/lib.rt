@@ -7,7 +7,7 @@ mod store_changes;
 
 pub use overlaps::{OverlapsHeard, hear, take_ended};
 pub use picture::{
-    TakenChange, FIRST_BAND, Form, RunLine, Markup, OverlappedRead, Page, Reads, Saying, page_end,
+    FIRST_BAND, Form, Markup, OverlappedRead, Page, Reads, RunLine, Saying, TakenChange, page_end,
     page_head, picture_end, picture_head,
 };
 pub use store_changes::{apply, opening_store, store_words, words_by_pairs, words_shown};

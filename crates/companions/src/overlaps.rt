@@ -13,9 +13,9 @@ ghost use Rattle.companions.specs.Overlaps.{Hears, Overhears, ended_of, first_th
 
 use picture::{OverlappedRead, Reads};
 use plain_store::{NestedTypes, Setup};
+use read_law::Watch;
 use record::{Access, Field, Move};
 use std::alloc::{AllocError, Global};
-use read_law::Watch;
 
 /// How many reads are shown between two lines of the picture.
 const MOST_SHOWN: usize = 3;
@@ -40,7 +40,11 @@ pub struct OverlapsHeard {
 
 impl OverlapsHeard {
     /// One that has heard nothing, if reads are shown.
-    pub fn new(alloc: Global, setup: &Setup, reads: Reads) -> Result<Option<OverlapsHeard>, AllocError>
+    pub fn new(
+        alloc: Global,
+        setup: &Setup,
+        reads: Reads,
+    ) -> Result<Option<OverlapsHeard>, AllocError>
         requires { checked setup.now ≡ Ok tt }
         ensures { IfOk result (Overhears reads setup.now [] []) }
     {

@@ -38,7 +38,11 @@ impl Changes {
     }
 
     /// What the command of a mark changes, if one is taken: the newest of the history.
-    pub fn made_by(&mut self, mark: &Mark, history: &[Taken]) -> Result<Option<TakenChange>, AllocError>
+    pub fn made_by(
+        &mut self,
+        mark: &Mark,
+        history: &[Taken],
+    ) -> Result<Option<TakenChange>, AllocError>
         ensures change { (s : Given) (n : ℕ) → self.old.store ≡ store_after s (take n history.now) → IsNext n history.now mark.now → IfOk result (λ change. option_map changed change ≡ change_of s history.now mark.now) }
         ensures store { (s : Given) (n : ℕ) → self.old.store ≡ store_after s (take n history.now) → IsNext n history.now mark.now → OnOk result (self.new.store ≡ store_after s (take (n + takes mark.now) history.now)) }
     {

@@ -17,7 +17,7 @@ use course::{Audit, Course, Overheard, Summary};
 use judge::{Audited, status_of, verdict_line};
 use scenario::{Fault, Scenario, Sink, Source, read_input, read_scenario};
 use std::alloc::{AllocError, Global};
-use sweeper::progress::{Onlooker, LinePlace};
+use sweeper::progress::{LinePlace, Onlooker};
 
 /// Reads a whole file, makes its run, of which an auditor hears each entry, and then writes the verdict on its
 /// record, on one line; answers the exit status. However it ends, at most `INPUT_LIMIT` bytes are taken from the

@@ -20,7 +20,7 @@ pub use auditing::run_audit;
 pub use bits::run_bits;
 pub use course::{Entry, Record, Summary};
 pub use judge::{
-    Audited, Auditor, RecordJudge, Law, Verdict, Watch, audit, good_records_are_of_events,
+    Audited, Auditor, Law, RecordJudge, Verdict, Watch, audit, good_records_are_of_events,
     records_have_one_verdict, records_of_events_are_good, run_judge, status_of,
 };
 pub use listing::{events_of, record_of};

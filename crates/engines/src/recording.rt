@@ -18,7 +18,7 @@ use course::{Course, Entry, Listener, Stepped, Taken, Told};
 use judge::{StepLine, print_entry, print_setup};
 use scenario::{Fault, Line, Scenario, Sink, Source, read_input, read_scenario, write_all};
 use std::alloc::{AllocError, Global};
-use sweeper::progress::{Onlooker, LinePlace};
+use sweeper::progress::{LinePlace, Onlooker};
 
 /// Reads a whole scenario file, and then writes the record of its run, as it is made: the setup, and a line for each
 /// entry. However it ends, at most `INPUT_LIMIT` bytes are taken from the front of the input. What is written of a

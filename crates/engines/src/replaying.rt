@@ -17,7 +17,7 @@ use crate::writing::{tell, write_end};
 use course::{Course, Listener, Stepped, Summary, Taken, Told};
 use scenario::{Fault, Line, Scenario, Sink, Source, read_input, read_scenario};
 use std::alloc::Global;
-use sweeper::progress::{Onlooker, LinePlace};
+use sweeper::progress::{LinePlace, Onlooker};
 
 /// Reads a whole file, and then writes the marks of its run, as they are made, and its three numbers. However it
 /// ends, at most `INPUT_LIMIT` bytes are taken from the front of the input.

@@ -4,7 +4,7 @@ ghost use Rattle.files.specs.Words.{texts};
 ghost use Rattle.fault_place.specs.Operands.{fault_at};
 
 use crate::operands::{COUNT, Operand, PROCESS};
-use crate::tables::{FLICKS, MOVES, KeyWordTable};
+use crate::tables::{FLICKS, KeyWordTable, MOVES};
 use files::FaultKind;
 use record_file::keywords::{MARK_WORDS, MarkWord, OWN_ANSWERS, REPLY_WORDS, ReplyWord};
 use scenario::bit_files::{BIT_WORDS, BitWord};
@@ -46,7 +46,11 @@ fn key<M>(rows: &[(&'static str, M)], words: &[&[u8]], place: usize, table: KeyW
 }
 
 /// The form of a line of a scenario of this version, behind the first.
-pub(crate) fn line_form(alloc: Global, version: u8, words: &[&[u8]]) -> Result<LineForm, AllocError> {
+pub(crate) fn line_form(
+    alloc: Global,
+    version: u8,
+    words: &[&[u8]],
+) -> Result<LineForm, AllocError> {
     let first = key(&OPENERS, words, 0, KeyWordTable::Openers(version));
     let mut form = Vec::new(alloc);
     match words.first().and_then(|word| Opener::of(word)) {
@@ -54,17 +58,33 @@ pub(crate) fn line_form(alloc: Global, version: u8, words: &[&[u8]]) -> Result<L
             add(&mut form, first)?;
             add_statement(version, word, words, &mut form)?;
         }
-        opener => add_head(version, first, opener, KeyWordTable::Openers(version), &mut form)?,
+        opener => add_head(
+            version,
+            first,
+            opener,
+            KeyWordTable::Openers(version),
+            &mut form,
+        )?,
     }
     Ok(form)
 }
 
 /// The form of a line of a record of this version that is no entry.
-pub(crate) fn head_form(alloc: Global, version: u8, words: &[&[u8]]) -> Result<LineForm, AllocError> {
+pub(crate) fn head_form(
+    alloc: Global,
+    version: u8,
+    words: &[&[u8]],
+) -> Result<LineForm, AllocError> {
     let first = key(&OPENERS, words, 0, KeyWordTable::Heads(version));
     let opener = words.first().and_then(|word| Opener::of(word));
     let mut form = Vec::new(alloc);
-    add_head(version, first, opener, KeyWordTable::Heads(version), &mut form)?;
+    add_head(
+        version,
+        first,
+        opener,
+        KeyWordTable::Heads(version),
+        &mut form,
+    )?;
     Ok(form)
 }
 
@@ -185,7 +205,10 @@ pub(crate) fn mark_form(alloc: Global, words: &[&[u8]]) -> Result<LineForm, Allo
         Some(MarkWord::Wait) => add_operands(&mut form, &[number("n", 4_294_967_295)])?,
         Some(MarkWord::Taken) => {
             add_operands(&mut form, &[number("k", u64::MAX)])?;
-            add(&mut form, key(&REPLY_WORDS, words, 2, KeyWordTable::Replies))?;
+            add(
+                &mut form,
+                key(&REPLY_WORDS, words, 2, KeyWordTable::Replies),
+            )?;
             add_reply(words.get(2).and_then(|word| ReplyWord::of(word)), &mut form)?;
         }
         Some(MarkWord::Answer) => add_answer(words, &mut form)?,

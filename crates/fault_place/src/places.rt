@@ -3,7 +3,7 @@ use crate::expected::{add_choice, add_form, add_operand};
 use crate::forms::{
     Item, access_form, bits_form, head_form, key_word, line_form, mark_form, refused_operand,
 };
-use crate::lines::{SplitLine, Span};
+use crate::lines::{Span, SplitLine};
 use crate::near::add_near;
 use crate::operands::{Operand, PROCESS};
 use crate::tables::{FileKind, KeyWordTable};

@@ -12,9 +12,9 @@ ghost use Rattle.calls.specs.Lines.{header, line_of, open_lines};
 ghost use Rattle.inspect.specs.Tables.{CutsTable, TablesLine, calls_text, tabled};
 
 use crate::hearing::{Tabler, write_if};
-use calls::{HEADER, CallTable};
+use calls::{CallTable, HEADER};
 use course::Course;
-use fault_place::progress::{Onlooker, LinePlace};
+use fault_place::progress::{LinePlace, Onlooker};
 use plain_store::Setup;
 use scenario::{Fault, Line, Scenario, Sink, Source, read_input, read_scenario, write_all};
 use std::alloc::Global;

@@ -10,7 +10,7 @@ ghost use Rattle.calls.specs.Hearing.{ComesInTurn, HasHeard, ended_call};
 ghost use Rattle.calls.specs.Lines.{call_line, line_of};
 ghost use Rattle.inspect.specs.Tables.{CutsTold, HasTabled, Tells, fewer, lines_after, lines_longer};
 
-use calls::{Called, CallTable, print_call};
+use calls::{CallTable, Called, print_call};
 use course::{Listener, Stepped, Taken, Told};
 use record::{Access, Mark};
 use scenario::{Fault, Sink, write_all};

@@ -8,7 +8,7 @@ mod unit;
 mod work;
 
 pub use bakery::{Door, DoorProgress, Leaving, Locks};
-pub use section::{DataRow, Section, SectionProgress};
 pub use progress::UnitProgress;
 pub use reader_copies::Progress;
+pub use section::{DataRow, Section, SectionProgress};
 pub use unit::Unit;

@@ -12,10 +12,10 @@ ghost use Rattle.memory_unit.specs.Units.{unit_at, next_access, next_marks, next
 use crate::progress::UnitProgress;
 use crate::work::Work;
 use bakery::Lock;
-use section::Data;
 use plain_store::Setup;
 use reader_copies::Made;
 use record::{Access, Field, TornBit};
+use section::Data;
 use std::marker::Model;
 
 /// The memory unit of a failed process. It settles the torn bit, if there is one: on each copy by begin and

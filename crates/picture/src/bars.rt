@@ -8,8 +8,8 @@ ghost use Rattle.picture.specs.Words.{stage_text};
 
 use crate::bands::Band;
 use columns::{LEFT, Lane, RIGHT};
-use record::Stage;
 use markup::{Markup, Point};
+use record::Stage;
 use std::alloc::{AllocError, Global};
 
 impl Band {

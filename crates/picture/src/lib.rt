@@ -15,9 +15,9 @@ mod sheets;
 mod signs;
 mod words;
 
-pub use columns::{TakenChange, RunLine, OverlappedRead, Saying, stages_are_the_records};
+pub use columns::{OverlappedRead, RunLine, Saying, TakenChange, stages_are_the_records};
 pub use laws::bars_are_stages;
+pub use markup::Markup;
 pub use page::{Form, Page};
 pub use reads::Reads;
-pub use markup::Markup;
 pub use sheets::{FIRST_BAND, page_end, page_head, picture_end, picture_head};

@@ -13,7 +13,7 @@ ghost use Rattle.columns.specs.Stages.{nothing_told, stages_told};
 ghost use Rattle.columns.specs.Told.{text_of, told_in};
 
 use crate::bands::Band;
-use columns::{Column, Layout, RunLine, OverlappedRead, Placing, State, cut, stretch};
+use columns::{Column, Layout, OverlappedRead, Placing, RunLine, State, cut, stretch};
 use markup::{Key, Markup, Tag, class, words};
 use std::alloc::{AllocError, Global};
 

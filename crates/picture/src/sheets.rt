@@ -10,8 +10,8 @@ ghost use Rattle.picture.specs.Sheets.{description_tag, ground_of, ground_tag, h
 use crate::constants::{LEGEND, PAGE_STYLE, PATTERNS, READS_LEGEND, SCRIPT, STYLE};
 use crate::reads::Reads;
 use bstr::ByteSlice;
-use record::Setup;
 use markup::{Key, Markup, Tag, class, number, words};
+use record::Setup;
 use std::alloc::{AllocError, Global};
 
 /// Where the first band of one picture begins.

@@ -5,8 +5,8 @@ ghost use Rattle.markup.specs.Readings.{reading};
 ghost use Rattle.picture.specs.Signs.{down_by, mark_sign, moved_by, settled_sign, sign, taken_sign};
 
 use columns::{DIGIT, RunLine, Saying, room};
-use record::Mark;
 use markup::{Markup, Point};
+use record::Mark;
 use std::alloc::{AllocError, Global};
 
 /// Draws the sign of a line at a place.

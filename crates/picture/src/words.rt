@@ -12,8 +12,8 @@ ghost use Rattle.picture.specs.Drawings.{seen_band, words_of_lane};
 use crate::bands::Band;
 use crate::bars::stage_name;
 use columns::{Column, DIGIT, Group, LEFT, Word, room};
-use record::{Mark, Stage};
 use markup::{Markup, Point};
+use record::{Mark, Stage};
 use std::alloc::{AllocError, Global};
 
 /// A stretch of a bar in which one word may stand.

@@ -1,4 +1,4 @@
-use picture::{Form, RunLine, Page, Saying};
+use picture::{Form, Page, RunLine, Saying};
 use record::Refusal;
 use std::alloc::Global;
 use std::test::Fail;

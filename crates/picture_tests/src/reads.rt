@@ -1,5 +1,5 @@
 //! A read that a write overlapped, in a band of its own with the last line.
-use picture::{Form, RunLine, OverlappedRead, Page, Saying};
+use picture::{Form, OverlappedRead, Page, RunLine, Saying};
 use record::Field;
 use std::test::Fail;
 

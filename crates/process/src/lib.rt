@@ -9,7 +9,7 @@ mod registers;
 mod told;
 
 pub use bakery::Pace;
-pub use section::{Flicks, Image};
 pub use process::Process;
 pub use registers::Registers;
+pub use section::{Flicks, Image};
 pub use told::{Effect, EventMade, StepTold};

@@ -16,10 +16,10 @@ mod refusals;
 mod served;
 
 use bakery::{Door, Leaving};
-use section::Section;
 use memory_unit::Unit;
 use plain_store::{Answer, Command, Reply, Setup};
 use record::{Field, Stage};
+use section::Section;
 use std::alloc::{AllocError, Global};
 use std::marker::Model;
 

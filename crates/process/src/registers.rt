@@ -9,9 +9,9 @@ ghost use Rattle.process.specs.Drops.{CanDrop, without_read};
 ghost use Rattle.process.specs.Registers.{AreAlike, CanMake, answered, made, new_registers};
 
 use bakery::Locks;
-use section::{DataRow, Image};
 use plain_store::Setup;
 use record::{Access, Field, Move};
+use section::{DataRow, Image};
 use std::alloc::{AllocError, Global};
 use std::marker::Model;
 

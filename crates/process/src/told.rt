@@ -8,9 +8,9 @@ ghost use Rattle.process.specs.Keeping.{answer_told, changes_in, marks_settled, 
 ghost use Rattle.process.specs.Telling.{act_of, changes_told, marks_of, marks_told};
 
 use bakery::DoorProgress;
-use section::SectionProgress;
 use plain_store::{Answer, Command, Reply};
 use record::{Access, Act, Mark};
+use section::SectionProgress;
 use smallvec::SmallVec;
 use std::alloc::Global;
 
@@ -197,5 +197,9 @@ pub(crate) fn told_left(inside: bool) -> StepTold
     ensures marks { marks_told result ≡ cond inside (Left ∷ []) [] }
     ensures changes { changes_told result ≡ None }
 {
-    if inside { StepTold::Leaves } else { StepTold::Nothing }
+    if inside {
+        StepTold::Leaves
+    } else {
+        StepTold::Nothing
+    }
 }

@@ -3,10 +3,10 @@ ghost use Rattle.std.specs.Prelude.{◌≡◌, ◌≤◌, ◌⊎◌, IfSome, Som
 ghost use Rattle.race.specs.Faults.{rank as rank_of};
 ghost use Rattle.race.specs.Statuses.{status_of_race, status_of_run_fault};
 
+use call_check::Weighed;
 use scenario::{DONE, Fault, LineFault, fault_status};
 use std::alloc::AllocError;
 use thiserror::Error;
-use call_check::Weighed;
 
 /// Why a race has no closing. Of several faults the least is told, in this order.
 #[derive(Clone, Copy, Debug, PartialEq, Eq, PartialOrd, Ord, Error)]

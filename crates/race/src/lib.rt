@@ -18,9 +18,9 @@ mod texts;
 mod workers;
 
 pub use board::Closing;
+pub use call_check::Weighed;
 pub use faults::{RaceFault, RunFault, race_status, run_fault_status};
 pub use gates::{AlwaysOn, Gate, Moment, Pass};
 pub use plans::plans_of;
 pub use racing::race;
 pub use running::run_race;
-pub use call_check::Weighed;

@@ -10,11 +10,11 @@ use crate::gates::AlwaysOn;
 use crate::plans::plans_of;
 use crate::racing::race;
 use crate::texts::race_text;
+use call_check::{Weighed, weigh};
 use scenario::{Scenario, Sink, Source, read_input, read_scenario, write_all};
 use std::alloc::Global;
 use std::sync::Wait;
 use std::thread::Threads;
-use call_check::{Weighed, weigh};
 
 /// What there is to tell of a race that has ended.
 #[derive(Drop)]

@@ -6,11 +6,11 @@ ghost use Rattle.record.specs.CallLists.{lists_of};
 ghost use Rattle.race.specs.Texts.{answer_line as line_of_answer, answers_from, call_text, list_text, race_text as text_of_race, refused_lines as lines_of_refused, refused_text, verdict_line as line_of_verdict};
 
 use board::Image;
+use call_check::Weighed;
 use plain_store::{Answer, NestedTypes, Setup, show_line};
 use record::{Placed, Refusal, refusal_line};
 use scenario::{Line, Scenario};
 use std::alloc::{AllocError, Global};
-use call_check::Weighed;
 
 /// The text of a race of the scenario that left these lists and this image, with this verdict on them.
 pub(crate) fn race_text(

@@ -2,6 +2,7 @@
 ghost use Rattle.std.specs.Prelude.{◌≡◌, Ok};
 ghost use Rattle.plain_store.specs.Setups.{checked};
 
+use call_check::{Weighed, weigh};
 use plain_store::{Answer, Command, Name, NestedTypes, Reply, Setup};
 use race::{Closing, Gate, RaceFault, race};
 use std::alloc::{AllocError, Global};
@@ -9,7 +10,6 @@ use std::process::Abort;
 use std::sync::Wait;
 use std::test::Fail;
 use std::thread::Threads;
-use call_check::{Weighed, weigh};
 
 /// The command that adds 1 to the one name here.
 pub fn add() -> Result<Command, Fail> {

@@ -3,7 +3,7 @@ ghost use Rattle.std.specs.Prelude.{◌≡◌, ℕ, ◌<◌, ◌%◌, length, re
 ghost use Rattle.read_law.specs.Looks.{look_of};
 ghost use Rattle.read_law.specs.Packing.{ending_from, four_bits, look_from};
 
-use crate::look::{ReadEnd, Look};
+use crate::look::{Look, ReadEnd};
 use std::alloc::{AllocError, Global};
 use std::marker::Model;
 

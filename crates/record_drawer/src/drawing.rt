@@ -17,7 +17,9 @@ ghost use Rattle.record_drawer.specs.Writing.{IsWriteFault, failed_write};
 
 use crate::changes::RecordedChanges;
 use crate::writing::{write_band, write_markup};
-use companions::{Form, RunLine, OverlappedRead, OverlapsHeard, Page, Reads, Saying, hear, take_ended};
+use companions::{
+    Form, OverlappedRead, OverlapsHeard, Page, Reads, RunLine, Saying, hear, take_ended,
+};
 use files::{Fault, Sink};
 use plain_store::{NestedTypes, Setup};
 use record::{Access, Entry, Mark};
@@ -43,7 +45,12 @@ const HEADINGS: u64 = 5;
 
 impl RecordDrawing {
     /// Before the first entry.
-    pub fn new(alloc: Global, setup: &Setup, form: Form, reads: Reads) -> Result<RecordDrawing, Fault>
+    pub fn new(
+        alloc: Global,
+        setup: &Setup,
+        form: Form,
+        reads: Reads,
+    ) -> Result<RecordDrawing, Fault>
         requires { checked setup.now ≡ Ok tt }
         ensures recalls { IfOk result (Recalls reads setup.now []) }
         ensures page { IfOk result (λ drawing. kept drawing.page ≡ kept_at_first (plan_of form setup.now)) }

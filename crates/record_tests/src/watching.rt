@@ -1,11 +1,11 @@
 //! The watch: the law of reads, move by move on one bit, and on bits that are told apart.
 use plain_store::Setup;
+use read_law::Watch;
 use record::{Access, Act, Entry, Field};
 use safe_bit::Move;
 use smallvec::SmallVec;
 use std::alloc::{AllocError, Global};
 use std::test::Fail;
-use read_law::Watch;
 
 /// A copy of a bit: whose register it is of, its number, and its reader.
 type Place = (u8, Field, u16, u8);

@@ -12,7 +12,7 @@ ghost use Rattle.section.specs.Sections.{is_going, section_at, inside_place, new
 use crate::change::{PendingChange, Written};
 use crate::data_row::DataRow;
 use crate::progress::SectionProgress;
-use crate::standing::{self, SectionRead, SectionCall, SectionPart, Versions};
+use crate::standing::{self, SectionCall, SectionPart, SectionRead, Versions};
 use crate::{image, walking};
 use flicks::Flicks;
 use plain_store::{Command, Reply, Setup};

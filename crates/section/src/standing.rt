@@ -54,8 +54,14 @@ pub(crate) enum SectionRead {
 /// What a section does, and what it keeps of what it has read.
 #[derive(Clone, Copy)]
 pub(crate) enum SectionPart {
-    Reads { part: SectionRead, versions: Versions },
-    Writes { part: Written, change: PendingChange },
+    Reads {
+        part: SectionRead,
+        versions: Versions,
+    },
+    Writes {
+        part: Written,
+        change: PendingChange,
+    },
     Done,
 }
 
@@ -156,7 +162,11 @@ pub(crate) fn after_read(
                 SectionProgress::Reading,
             )
         }
-        SectionRead::Image => after_image(call, versions, image::image_read(&call.setup, read.bytes())),
+        SectionRead::Image => after_image(
+            call,
+            versions,
+            image::image_read(&call.setup, read.bytes()),
+        ),
     }
 }
 
@@ -214,7 +224,11 @@ fn asked_after(process: u8, processes: u8) -> SectionRead
 
 /// What comes after the newest store: the command is applied to it in place. A change is written, where its
 /// stamp fits.
-fn after_image(call: &SectionCall, versions: &Versions, read: Image) -> (SectionPart, SectionProgress)
+fn after_image(
+    call: &SectionCall,
+    versions: &Versions,
+    read: Image,
+) -> (SectionPart, SectionProgress)
     requires call { IsCall call.now }
     requires newest { IsNewest call.now.setup versions.now.newest }
     requires slots { read.slots ≡ call.now.setup.slots }

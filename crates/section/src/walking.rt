@@ -10,7 +10,7 @@ ghost use Rattle.section.specs.declared.standing.SectionPart.TheVariants as keep
 
 use crate::change::{PendingChange, Written};
 use crate::data_row::DataRow;
-use crate::standing::{SectionRead, SectionCall, Versions};
+use crate::standing::{SectionCall, SectionRead, Versions};
 use flicks::Flicks;
 use record::Field;
 use safe_number::{Pace, ReadRun, WriteRun};

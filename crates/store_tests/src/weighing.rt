@@ -2,12 +2,12 @@
 ghost use Rattle.std.specs.Prelude.{◌≡◌, ◌≤◌, ◌∷◌, [], length, IfOk};
 ghost use Rattle.call_check.specs.record.CallLists.{lists_of};
 
+use call_check::{Placed, Weighed, weigh};
 use plain_store::{Answer, Caller, Command, Name, NestedTypes, Reply, Setup, Store, Value};
 use std::alloc::{AllocError, Global};
 use std::process::Abort;
 use std::test::Fail;
 use store_image::Image;
-use call_check::{Placed, Weighed, weigh};
 
 /// Calls.
 #[derive(Clone, Copy)]
@@ -186,7 +186,11 @@ fn list(alloc: Global, calls: &[CallMade]) -> Result<Vec<Placed>, AllocError> {
     Ok(list)
 }
 
-fn lists(alloc: Global, first: &[CallMade], second: &[CallMade]) -> Result<Vec<Vec<Placed>>, AllocError> {
+fn lists(
+    alloc: Global,
+    first: &[CallMade],
+    second: &[CallMade],
+) -> Result<Vec<Vec<Placed>>, AllocError> {
     let _nested: NestedTypes = None;
     let mut lists = Vec::new(alloc);
     lists.push(list(alloc, first)?)?;

@@ -1,10 +1,10 @@
 //! How long a command on a full image takes.
 use anyhow::Result;
+use call_check::Image;
 use plain_store::{Caller, Command, Name, NestedTypes, Reply, Store, Value};
 use std::alloc::{AllocError, Global};
 use std::rt::Clock;
 use std::time::Instant;
-use call_check::Image;
 
 const NAMES: [&str; 8] = [
     "first", "second", "third", "fourth", "fifth", "sixth", "seventh", "eighth",

@@ -2,10 +2,10 @@
 //! `tests/gate/boards.py` and `tests/byhand/soak_boards.py`.
 use anyhow::{Result, bail};
 use board_runs::{Left, Scenario, played, read_scenario};
+use call_check::{Weighed, weigh};
 use std::alloc::{AllocError, Global};
 use std::env::{self, Env};
 use std::thread::Threads;
-use call_check::{Weighed, weigh};
 
 /// One process alone. Inside it reads its commit bit, 2 bits of a stamp and 200 of an image, and writes 200 bits of an image
 /// and 2 of a stamp, each by two turns: so after 608 turns the write of its commit bit is open. It is settled at 1, which the

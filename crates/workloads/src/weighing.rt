@@ -8,12 +8,12 @@ mod histories;
 
 use crate::counters::counting;
 use anyhow::{Result, bail};
+use call_check::weigh;
 use histories::{Calls, History, called_in_turn};
 use plain_store::Setup;
 use record::Placed;
 use std::rt::Clock;
 use std::time::Instant;
-use call_check::weigh;
 
 /// The most calls of a process in version 2.
 const MOST_CALLS: u32 = 65_535;

@@ -18,6 +18,6 @@ pub use cores::Core;
 pub use flicks::{Flick, Flicks};
 pub use history_laws;
 pub use laws;
-pub use process::{Effect, Image, EventMade, StepTold};
+pub use process::{Effect, EventMade, Image, StepTold};
 pub use record::{Act, Event, Mark, Refusal, Stage, Taken};
 pub use world::World;

@@ -25,7 +25,7 @@ ghost use Rattle.world.specs.Walks.{KeepOthers, StepsQuietly, Walks, bits_within
 use crate::cores::Core;
 use flicks::Flicks;
 use plain_store::{NestedTypes, Reply, Setup};
-use process::{Effect, Image, EventMade, StepTold};
+use process::{Effect, EventMade, Image, StepTold};
 use record::{Access, Act, Event, Refusal, Stage, Taken};
 use smallvec::SmallVec;
 use std::alloc::{AllocError, Global};

@@ -10,7 +10,7 @@ ghost use Rattle.process.specs.Steps.{IsAt, bits_within, changes_read, is_at_doo
 ghost use Rattle.process.specs.Telling.{changes_told, marks_told};
 ghost use Rattle.process.specs.declared.process.ActiveCursor.TheVariants as works;
 
-use super::{Process, ActiveCursor};
+use super::{ActiveCursor, Process};
 use crate::told::{StepTold, answer_told, settled, told_at_data, told_at_door, told_left};
 use bakery::{DoorProgress, Leaving};
 use memory_unit::{Progress, UnitProgress};
@@ -182,7 +182,11 @@ impl Process {
                 leaving,
             } => match leaving.advance() {
                 Progress::Going => {
-                    let told = if *fresh { StepTold::Leaves } else { StepTold::Nothing };
+                    let told = if *fresh {
+                        StepTold::Leaves
+                    } else {
+                        StepTold::Nothing
+                    };
                     *fresh = false;
                     told
                 }

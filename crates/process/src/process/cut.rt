@@ -9,7 +9,7 @@ ghost use Rattle.process.specs.Processes.{inside_kept, stage_kept};
 ghost use Rattle.process.specs.Processes as kept;
 ghost use Rattle.process.specs.Steps.{IsAt, is_at_door, kept_failing, kept_withdrawing, may_fail};
 
-use super::{Process, ActiveCursor};
+use super::{ActiveCursor, Process};
 use bakery::Leaving;
 use memory_unit::Unit;
 use plain_store::Reply;
@@ -71,7 +71,8 @@ impl Process {
             ActiveCursor::AtData => self.cut_section(),
             ActiveCursor::Leaves { .. } => (self.cut_leaves(), None),
             ActiveCursor::Withdraws(_) => (self.cut_withdraws(), None),
-            ActiveCursor::Lies | ActiveCursor::Settles { .. } | ActiveCursor::Frees { .. } => unreachable!(),
+            ActiveCursor::Lies | ActiveCursor::Settles { .. } | ActiveCursor::Frees { .. } =>
+                unreachable!(),
         }
     }
 

@@ -10,12 +10,12 @@ ghost use Rattle.process.specs.Registers.{MayStep, MayWalk, StepsWithin, WalksWi
 ghost use Rattle.process.specs.Steps.{IsAt, bits_to_walk, bits_within, is_at_door, kept_failing, kept_withdrawing, may_fail, may_step};
 ghost use Rattle.process.specs.Telling.{marks_told};
 
-use super::{Process, ActiveCursor};
+use super::{ActiveCursor, Process};
 use crate::registers::{Registers, ended, given};
 use crate::told::StepTold;
 use bakery::Pace;
-use section::Flicks;
 use record::Access;
+use section::Flicks;
 
 impl Process {
     /// Makes the next access, of the process or of its memory unit, and goes on by it. It answers the access, a read's

@@ -4,10 +4,10 @@ ghost use Rattle.plain_store.specs.Setups.{checked};
 
 use crate::counters::counter;
 use anyhow::Result;
+use call_check::Image;
 use plain_store::{Answer, Caller, Command, Name, NestedTypes, Reply, Setup, Store, Value, opened};
 use record::Placed;
 use std::alloc::{AllocError, Global};
-use call_check::Image;
 
 /// What the processes of a history call.
 #[derive(Clone, Copy)]

@@ -107,7 +107,10 @@ impl Driver {
     }
 
     fn step(&mut self, process: u8, flick: bool) -> bool {
-        let accepted = self.world.step(process, flick, &mut StepTold::Nothing).is_ok();
+        let accepted = self
+            .world
+            .step(process, flick, &mut StepTold::Nothing)
+            .is_ok();
         self.events = self.events.wrapping_add(u64::from(accepted));
         accepted
     }
