@@ -12,7 +12,7 @@ from lib.counting import Counter, shown_counts
 from lib.places import TOP
 
 SCRIPTS = [
-    *["api", "claims", "quotes", "layers", "links", "worked", "picture_parts", "pictures", "drawn_records"],
+    *["api", "names", "claims", "quotes", "layers", "links", "worked", "picture_parts", "pictures", "drawn_records"],
     *["cut_file", "command_line", "terminal"],
     *["record_files", "changed_records", "short_files", "other_locks", "fault_places", "any_lock_second", "lock_search", "run_script", "readme"],
     *["lessons", "races", "boards", "refused_threads", "inspected"],
