@@ -8,8 +8,10 @@ use Rattle.scenario.proofs.Places.{drop_in}
 use Rattle.course.specs.Runs.{happenings}
 use Rattle.course.specs.Summaries.{summary_of}
 use Rattle.course.specs.Texts.{end_line}
+use Rattle.course.specs.Writing.{IsWriteFault}
 use Rattle.course.specs.declared.summaries.Summary.{Summary}
 use Rattle.course.proofs.Onwards.{onward_numbers}
+use Rattle.course.proofs.Played.{on_fault}
 use Rattle.course.proofs.Written.{failed_same}
 use Rattle.drawer.specs.Drawings.{DrawsRest}
 use Rattle.drawer.specs.Items.{SaysEnd, lines_given, reads_since}
@@ -89,3 +91,9 @@ returns-in_err-draw_line-clause-failures g c = omega (arith, c.in_err-draw_line.
 
 pub returns-in_err-end-clause-failures : goal.returns-in_err-end-clause-failures
 returns-in_err-end-clause-failures g c = omega (arith, c.in_err-end.ensures.failures, c.loop-line.invariant.whole, failed_same c.from_residual-in_err-end.result c.in_err-end.field-0.0 c.from_residual-in_err-end.ensures.1)
+
+pub returns-in_err-draw_line-clause-fault : goal.returns-in_err-draw_line-clause-fault
+returns-in_err-draw_line-clause-fault g c = on_fault c.from_residual-in_err-draw_line.result c.in_err-draw_line.field-0.0 IsWriteFault c.from_residual-in_err-draw_line.ensures.1 c.in_err-draw_line.ensures.fault
+
+pub returns-in_err-end-clause-fault : goal.returns-in_err-end-clause-fault
+returns-in_err-end-clause-fault g c = on_fault c.from_residual-in_err-end.result c.in_err-end.field-0.0 IsWriteFault c.from_residual-in_err-end.ensures.1 c.in_err-end.ensures.fault
