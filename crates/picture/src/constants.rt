@@ -36,34 +36,58 @@ li.on{background:#111;color:#fff}li::marker{color:#555}\n\
 #now b{display:inline-block;width:6.2em;font-weight:normal;color:#555}\n\
 g.m{cursor:pointer}g.m.on text{text-decoration:underline}g.m:focus-visible{outline:2px solid #111}\n\
 .cur{stroke:#c00;stroke-width:2;opacity:.5;pointer-events:none}\n\
-@media print{#now,.cur{display:none}g.m.on text{text-decoration:none}li.on{background:none;color:inherit}ol{max-height:none;font-size:10px}h1{font-size:15px}body{padding:0;max-width:none}.band{break-inside:avoid}*{print-color-adjust:exact;-webkit-print-color-adjust:exact}}";
+h2{font-size:13px;margin:.2em 0;position:sticky;left:0;width:max-content}.frame{overflow-x:auto}\n\
+@media screen and (max-width:1199px){svg{width:1470px}.band .lane,.band .thin{paint-order:stroke;stroke:#fff;stroke-width:6px;stroke-linejoin:round}}\n\
+@media print{#now,.cur{display:none}.frame{overflow:visible}g.m.on text{text-decoration:none}li.on{background:none;color:inherit}ol{max-height:none;font-size:10px}h1{font-size:15px}body{padding:0;max-width:none}.band{break-inside:avoid}*{print-color-adjust:exact;-webkit-print-color-adjust:exact}}";
 
 /// The script of a page.
 pub(crate) const SCRIPT: &str = "(function(){\n\
 var marks=[].slice.call(document.querySelectorAll('g.m')),at=document.getElementById('at'),\n\
-said=document.getElementById('said'),items=document.querySelectorAll('ol li'),stores=[],queues=[],\n\
-store=at.getAttribute('data-s'),queue='',cur=document.createElementNS('http://www.w3.org/2000/svg','path'),k=-1;\n\
-marks.forEach(function(m){var s=m.getAttribute('data-s'),q=m.getAttribute('data-q');\n\
-if(s!==null)store=s;if(q!==null)queue=q;stores.push(store);queues.push(queue);});\n\
+said=document.getElementById('said'),list=document.querySelector('ol'),items=list.querySelectorAll('li'),stores=[],queues=[],events=[],last=0,\n\
+store=at.getAttribute('data-s'),queue='',cur=document.createElementNS('http://www.w3.org/2000/svg','path'),k=-1,now=0;\n\
+marks.forEach(function(m){var s=m.getAttribute('data-s'),q=m.getAttribute('data-q'),t=text(m);\n\
+if(s!==null)store=s;if(q!==null)queue=q;stores.push(store);queues.push(queue);\n\
+if(/^[0-9]/.test(t))last=parseInt(t,10);events.push(last);});\n\
 cur.setAttribute('class','cur');\n\
 function text(m){return m.querySelector('title').textContent;}\n\
+function place(m){return +m.getAttribute('data-x');}\n\
 function line(name,value){var b=document.createElement('b');b.textContent=name;said.appendChild(b);\n\
 said.appendChild(document.createTextNode(value+'\\n'));}\n\
+function cursor(svg,x){cur.setAttribute('d','M'+x+' 0V'+svg.viewBox.baseVal.height);svg.appendChild(cur);}\n\
 function go(n,look){if(n<0||n>=marks.length)return;if(k>=0){marks[k].classList.remove('on');\n\
 items[marks[k].getAttribute('data-l')-1].classList.remove('on');}\n\
-k=n;at.value=n;var m=marks[n],svg=m.ownerSVGElement,item=items[m.getAttribute('data-l')-1],x=m.getAttribute('data-x');\n\
-m.classList.add('on');item.classList.add('on');\n\
-cur.setAttribute('d','M'+x+' 0V'+svg.viewBox.baseVal.height);svg.appendChild(cur);\n\
+k=n;now=events[n];at.value=n;var m=marks[n],svg=m.ownerSVGElement,item=items[m.getAttribute('data-l')-1];\n\
+m.classList.add('on');item.classList.add('on');cursor(svg,place(m));\n\
+list.scrollTop=item.offsetTop-list.offsetTop-40;\n\
 said.textContent='';line('told',text(m));line('by line',item.textContent);line('store',stores[n]);\n\
 line('in line',queues[n]||'nobody');at.setAttribute('aria-valuetext',text(m));\n\
 if(look){var r=svg.getBoundingClientRect();if(r.top<0||r.bottom>innerHeight-150)svg.scrollIntoView({block:'center'});}}\n\
+function event(e){var n=0,m,then,x;e=Math.max(0,Math.min(e,last));\n\
+while(n<marks.length-1&&!(events[n+1]>e))n++;while(n>0&&events[n-1]===e)n--;go(n,true);\n\
+if(events[n]===e)return;now=e;m=marks[n];then=marks[n+1];x=place(m);\n\
+if(then&&then.ownerSVGElement===m.ownerSVGElement)x+=(place(then)-x)*(e-events[n])/(events[n+1]-events[n]);\n\
+cursor(m.ownerSVGElement,Math.round(x));line('event',e+' has no mark: it is behind that line');\n\
+at.setAttribute('aria-valuetext','event '+e+', behind '+text(m));}\n\
 at.max=marks.length-1;at.addEventListener('input',function(){go(+at.value,true);});\n\
+at.addEventListener('keydown',function(k){var by={ArrowLeft:-1,ArrowRight:1}[k.key];\n\
+if(by){k.preventDefault();event(now+by);}});\n\
 marks.forEach(function(m,n){m.addEventListener('mouseenter',function(){go(n);});\n\
-m.addEventListener('click',function(){go(n);at.focus();});});\n\
-function named(){var n=parseInt(location.hash.slice(1),10),j=0;if(!(n>=0))return 0;\n\
-while(j<marks.length-1&&!(parseInt(text(marks[j]),10)>=n))j++;return j;}\n\
-window.addEventListener('hashchange',function(){go(named(),true);});\n\
-go(named(),location.hash.length>1);\n\
+m.addEventListener('click',function(){go(n);at.focus();history.replaceState(null,'','#e'+events[n]);});});\n\
+function named(look){var n=parseInt(location.hash.replace(/^#e?/,''),10);if(n>=0)event(n);else go(0,look);}\n\
+function framed(svgs){var f=document.createElement('div');f.className='frame';\n\
+svgs[0].parentNode.insertBefore(f,svgs[0]);svgs.forEach(function(svg){f.appendChild(svg);});return f;}\n\
+var bands=[].slice.call(document.querySelectorAll('.band')),frame=framed(bands),ends=new Map(),from=0,\n\
+names=frame.querySelectorAll('.lane,.thin');\n\
+framed([document.querySelector('svg')]);\n\
+marks.forEach(function(m,n){ends.set(m.ownerSVGElement,events[n]);\n\
+if(/^[0-9]/.test(text(m))&&events[n]!==events[n-1])m.id='e'+events[n];});\n\
+bands.forEach(function(band,n){var h=document.createElement('h2'),to=ends.get(band)||0;\n\
+h.textContent='Part '+(n+1)+': events '+Math.min(from,to)+' to '+to;frame.insertBefore(h,band);from=to+1;});\n\
+function hold(){var moved='translate('+Math.round(frame.scrollLeft*1200/bands[0].getBoundingClientRect().width)+' 0)';\n\
+names.forEach(function(name){name.setAttribute('transform',moved);});}\n\
+frame.addEventListener('scroll',hold);\n\
+window.addEventListener('hashchange',function(){named(true);});\n\
+named(location.hash.length>1);\n\
 })();";
 
 /// The patterns of the bars.
