@@ -20,7 +20,7 @@ use Rattle.world.specs.Walks.{Walks}
 use Rattle.world.specs.process.declared.told.Effect.{Effect}
 use Rattle.world.specs.process.declared.told.Effect.TheVariants.{Steps, Calls, Fails, Withdraws, Restarts}
 use Rattle.world.specs.process.declared.told.EventMade.{EventMade}
-use Rattle.world.specs.process.declared.told.StepTold.{Told as Leads}
+use Rattle.world.specs.process.declared.told.StepTold.{StepTold as Leads}
 use Rattle.world.specs.process.declared.told.StepTold.TheVariants as step
 use Rattle.course.specs.Courses.{CourseState, Follows, IsQuiet, Makes, MakesQuietly, MakesTurns, QuietTurns, course}
 use Rattle.course.specs.Happenings.{Happening, Tries, tried}

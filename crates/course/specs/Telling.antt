@@ -14,7 +14,7 @@ use Rattle.world.specs.process.Telling.{marks_of}
 use Rattle.world.specs.process.declared.told.Effect.{Effect}
 use Rattle.world.specs.process.declared.told.Effect.TheVariants.{Steps}
 use Rattle.world.specs.process.declared.told.EventMade.{EventMade}
-use Rattle.world.specs.process.declared.told.StepTold.{Told as Leads}
+use Rattle.world.specs.process.declared.told.StepTold.{StepTold as Leads}
 use Rattle.world.specs.process.declared.told.StepTold.TheVariants as step
 use Rattle.course.specs.Happenings.{Happening, Tries, Lacks, Tires, Looks}
 use Rattle.course.specs.Texts.{mark_line, newest_store, store_text, turns_line}
