@@ -2,10 +2,10 @@
 use Rattle.std.proofs.Common.{◌≡◌, ℕ, true, List, [], ◌∷◌, ◌++◌, Option, refl, ap, sym, subst, ◌∙◌, append-nil, append_assoc}
 use Rattle.std.proofs.lemmas.Grind.{flat_map-append}
 use Rattle.std.specs.Io.KnownBytes.{Appends}
-use Rattle.companions.specs.picture.shapes.Elements.{EndsAll, opens_in}
-use Rattle.companions.specs.picture.shapes.Titles.{is_at_rest, lines_in, tags_of}
-use Rattle.companions.proofs.picture.shapes.Lines.{lines_on, rests_on}
-use Rattle.companions.proofs.picture.shapes.Stacks.{opens_on}
+use Rattle.companions.specs.picture.markup.Elements.{EndsAll, opens_in}
+use Rattle.companions.specs.picture.markup.Titles.{is_at_rest, lines_in, tags_of}
+use Rattle.companions.proofs.picture.markup.Lines.{lines_on, rests_on}
+use Rattle.companions.proofs.picture.markup.Stacks.{opens_on}
 use Rattle.companions.specs.picture.Bandings.{Item, Plan, Reads, Tells, bands_told, full_told}
 use Rattle.companions.specs.picture.Pages.{GivesRest, GoesOn, SeenPage, band_text, lines_of_band, page_of}
 use Rattle.companions.specs.picture.columns.Told.{saying_text, text_of}

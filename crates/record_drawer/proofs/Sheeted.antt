@@ -12,13 +12,13 @@ use Rattle.companions.specs.picture.declared.page.Form.{Form}
 use Rattle.companions.specs.picture.declared.page.Form.TheVariants as form
 use Rattle.companions.specs.picture.declared.page.Page.{Page}
 use Rattle.companions.specs.picture.declared.reads.Reads.{Reads as Mode}
-use Rattle.companions.specs.picture.shapes.Elements.{opens_in}
-use Rattle.companions.specs.picture.shapes.Titles.{lines_in}
+use Rattle.companions.specs.picture.markup.Elements.{opens_in}
+use Rattle.companions.specs.picture.markup.Titles.{lines_in}
 use Rattle.record_drawer.specs.Drawings.{DrawsOn, DrawsRest, Kept, Recalls, Writes, kept, kept_at_first, plan_of}
 use Rattle.record_drawer.specs.Items.{SaysEnd, given_at_end, given_by, given_of, lines_given, reads_since, source_of}
 use Rattle.record_drawer.specs.Sheets.{Draws, DrawsAt, EndsAt, Heads, IsDrawn, listed}
 use Rattle.record_drawer.specs.declared.drawing.RecordDrawing.{RecordDrawing}
-use Rattle.record_drawer.proofs.DrawnEntry.{draws_bands, draws_on_both, draws_on_none}
+use Rattle.record_drawer.proofs.Drawn.{draws_bands, draws_on_both, draws_on_none}
 
 module _ (reads : Mode) (form : Form) (s : Setup) where
   -- the line that stands for the entries

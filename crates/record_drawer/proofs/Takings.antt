@@ -25,7 +25,7 @@ past_all xs p none = elim (cases_lt p (length xs)) [
 -- a process that is not there takes nothing, and calls nothing that is kept
 store_stray : (s : Setup) (p : ℕ) (call : LastCall) (m : Mark) (store : Contents) → nat_lt p s.processes ≡ false → store_with s p call m store ≡ store
 store_stray s p call (mark.Taken k r) store stray = ap (λ b. cond b (after_call p call store) store) stray
-store_stray s p call (mark.LastCall c) store stray = refl
+store_stray s p call (mark.Called c) store stray = refl
 store_stray s p call (mark.Waiting t) store stray = refl
 store_stray s p call mark.Entered store stray = refl
 store_stray s p call mark.Left store stray = refl
@@ -38,7 +38,7 @@ store_stray s p call mark.Restarted store stray = refl
 
 change_stray : (s : Setup) (p : ℕ) (call : LastCall) (m : Mark) (store : Contents) → nat_lt p s.processes ≡ false → change_with s p call m store ≡ None
 change_stray s p call (mark.Taken k r) store stray = ap (λ b. cond b (change_by_call p call store) None) stray
-change_stray s p call (mark.LastCall c) store stray = refl
+change_stray s p call (mark.Called c) store stray = refl
 change_stray s p call (mark.Waiting t) store stray = refl
 change_stray s p call mark.Entered store stray = refl
 change_stray s p call mark.Left store stray = refl
@@ -52,7 +52,7 @@ change_stray s p call mark.Restarted store stray = refl
 -- a mark of another process leaves a call
 call_other : (s : Setup) (m : Mark) (call : LastCall) → call_after s false m call ≡ call
 call_other s (mark.Taken k r) call = refl
-call_other s (mark.LastCall c) call = refl
+call_other s (mark.Called c) call = refl
 call_other s (mark.Waiting t) call = refl
 call_other s mark.Entered call = refl
 call_other s mark.Left call = refl
@@ -65,13 +65,13 @@ call_other s mark.Restarted call = refl
 
 -- marks that neither call nor take
 abbrev pub is_quiet : Mark → Bool
-is_quiet (mark.LastCall c) = false
+is_quiet (mark.Called c) = false
 is_quiet (mark.Taken k r) = false
 is_quiet _ = true
 
 call_quiet : (s : Setup) (own : Bool) (m : Mark) (call : LastCall) → is_quiet m ≡ true → call_after s own m call ≡ call
 call_quiet s own (mark.Taken k r) call quiet = absurd (true≢false (sym quiet))
-call_quiet s own (mark.LastCall c) call quiet = absurd (true≢false (sym quiet))
+call_quiet s own (mark.Called c) call quiet = absurd (true≢false (sym quiet))
 call_quiet s true (mark.Waiting t) call quiet = refl
 call_quiet s true mark.Entered call quiet = refl
 call_quiet s true mark.Left call quiet = refl
@@ -89,7 +89,7 @@ call_taken s false k r call = refl
 
 store_quiet : (s : Setup) (p : ℕ) (call : LastCall) (m : Mark) (store : Contents) → is_quiet m ≡ true → store_with s p call m store ≡ store
 store_quiet s p call (mark.Taken k r) store quiet = absurd (true≢false (sym quiet))
-store_quiet s p call (mark.LastCall c) store quiet = refl
+store_quiet s p call (mark.Called c) store quiet = refl
 store_quiet s p call (mark.Waiting t) store quiet = refl
 store_quiet s p call mark.Entered store quiet = refl
 store_quiet s p call mark.Left store quiet = refl
@@ -102,7 +102,7 @@ store_quiet s p call mark.Restarted store quiet = refl
 
 pub change_quiet : (s : Setup) (before : List (ℕ × Mark)) (p : ℕ) (m : Mark) → is_quiet m ≡ true → None ≡ change_of s before p m
 change_quiet s before p (mark.Taken k r) quiet = absurd (true≢false (sym quiet))
-change_quiet s before p (mark.LastCall c) quiet = refl
+change_quiet s before p (mark.Called c) quiet = refl
 change_quiet s before p (mark.Waiting t) quiet = refl
 change_quiet s before p mark.Entered quiet = refl
 change_quiet s before p mark.Left quiet = refl
@@ -158,7 +158,7 @@ module _ (s : Setup) (before : List (ℕ × Mark)) (c : RecordedChanges) (p : �
 
     -- calls
     pub knows_called : (command : Command) (new : RecordedChanges) → new.version ≡ c.version → new.store ≡ c.store → new.calls.items ≡ set c.calls.items p (record { command = command; number = next_number s call.number }) →
-        Knows s ((p, mark.LastCall command) ∷ before) new
+        Knows s ((p, mark.Called command) ∷ before) new
     knows_called command new version store calls = record {
       version = version ∙ knows.version;
       many = ap length calls ∙ length-set c.calls.items p then ∙ knows.many;
@@ -169,15 +169,15 @@ module _ (s : Setup) (before : List (ℕ × Mark)) (c : RecordedChanges) (p : �
         then : LastCall
         then = record { command = command; number = next_number s call.number }
 
-        by : (q : ℕ) → q < s.processes → (b : Bool) → (q == p) ≡ b → get_or (set c.calls.items p then) q no_call ≡ called_by s q ((p, mark.LastCall command) ∷ before)
+        by : (q : ℕ) → q < s.processes → (b : Bool) → (q == p) ≡ b → get_or (set c.calls.items p then) q no_call ≡ called_by s q ((p, mark.Called command) ∷ before)
         by q below true is =
             let same : q ≡ p = grind (arith, nat_tests, is) in
             ap (λ n. get_or (set c.calls.items p then) n no_call) same ∙ get_or-set_same c.calls.items p then no_call (slice_get_within c.calls.items p call some)
             ∙ ap (λ (l : LastCall). record { command = command; number = next_number s l.number }) last
-            ∙ ap (λ n. call_after s true (mark.LastCall command) (called_by s n before)) (sym same) ∙ ap (λ b. call_after s b (mark.LastCall command) (called_by s q before)) (sym is)
+            ∙ ap (λ n. call_after s true (mark.Called command) (called_by s n before)) (sym same) ∙ ap (λ b. call_after s b (mark.Called command) (called_by s q before)) (sym is)
         by q below false is =
             let apart : q ≢ p = λ same. let no : (q == p) ≡ true = grind (arith, nat_tests, same) in true≢false (sym no ∙ is) in
-            get_or-set_other c.calls.items p q then no_call apart ∙ knows.calls q below ∙ ap (λ b. call_after s b (mark.LastCall command) (called_by s q before)) (sym is)
+            get_or-set_other c.calls.items p q then no_call apart ∙ knows.calls q below ∙ ap (λ b. call_after s b (mark.Called command) (called_by s q before)) (sym is)
 
     -- or does neither
     pub knows_quiet : (m : Mark) → is_quiet m ≡ true → Knows s ((p, m) ∷ before) c
@@ -197,7 +197,7 @@ is_taking _ = false
 
 pub change_taking : (s : Setup) (before : List (ℕ × Mark)) (c : RecordedChanges) (p : ℕ) → Knows s before c → (call : LastCall) → slice_get c.calls.items p ≡ Some call → (m : Mark) → is_taking m ≡ true → (made : Option Changed) → made ≡ change_by_call p call c.store → made ≡ change_of s before p m
 change_taking s before c p knows call some (mark.Taken k r) taking made is = change_taken s before c p knows call some k r made is
-change_taking s before c p knows call some (mark.LastCall x) taking made is = absurd (true≢false (sym taking))
+change_taking s before c p knows call some (mark.Called x) taking made is = absurd (true≢false (sym taking))
 change_taking s before c p knows call some (mark.Waiting t) taking made is = absurd (true≢false (sym taking))
 change_taking s before c p knows call some mark.Entered taking made is = absurd (true≢false (sym taking))
 change_taking s before c p knows call some mark.Left taking made is = absurd (true≢false (sym taking))
@@ -210,7 +210,7 @@ change_taking s before c p knows call some mark.Restarted taking made is = absur
 
 pub knows_taking : (s : Setup) (before : List (ℕ × Mark)) (c : RecordedChanges) (p : ℕ) → Knows s before c → (call : LastCall) → slice_get c.calls.items p ≡ Some call → (m : Mark) → is_taking m ≡ true → (new : RecordedChanges) → new.version ≡ c.version → new.calls.items ≡ c.calls.items → new.store ≡ after_call p call c.store → Knows s ((p, m) ∷ before) new
 knows_taking s before c p knows call some (mark.Taken k r) taking new version calls store = knows_taken s before c p knows call some k r new version calls store
-knows_taking s before c p knows call some (mark.LastCall x) taking new version calls store = absurd (true≢false (sym taking))
+knows_taking s before c p knows call some (mark.Called x) taking new version calls store = absurd (true≢false (sym taking))
 knows_taking s before c p knows call some (mark.Waiting t) taking new version calls store = absurd (true≢false (sym taking))
 knows_taking s before c p knows call some mark.Entered taking new version calls store = absurd (true≢false (sym taking))
 knows_taking s before c p knows call some mark.Left taking new version calls store = absurd (true≢false (sym taking))

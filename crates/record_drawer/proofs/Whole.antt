@@ -14,17 +14,17 @@ use Rattle.companions.specs.picture.Sheets.{page_back, picture_back, picture_fro
 use Rattle.companions.specs.picture.declared.page.Form.{Form}
 use Rattle.companions.specs.picture.declared.page.Form.TheVariants as form
 use Rattle.companions.specs.picture.declared.reads.Reads.{Reads as Mode}
-use Rattle.companions.specs.picture.shapes.Elements.{opens_in}
-use Rattle.companions.specs.picture.shapes.Titles.{lines_in}
-use Rattle.companions.proofs.picture.shapes.Lines.{lines_on}
-use Rattle.companions.proofs.picture.shapes.Stacks.{opens_on}
+use Rattle.companions.specs.picture.markup.Elements.{opens_in}
+use Rattle.companions.specs.picture.markup.Titles.{lines_in}
+use Rattle.companions.proofs.picture.markup.Lines.{lines_on}
+use Rattle.companions.proofs.picture.markup.Stacks.{opens_on}
 use Rattle.record_drawer.specs.Drawings.{DrawsBands, Writes, plan_of}
 use Rattle.record_drawer.specs.Items.{record_gives, record_lines}
 use Rattle.record_drawer.specs.Sheets.{DrawsBandsOf, DrawsRecord, Drew, IsDrawFault, IsPictureOf, LeavesNone, picture_of, without_write}
 use Rattle.companions.specs.StoreChanges.{store_words}
 use Rattle.record_drawer.specs.Writing.{IsWriteFault, failed_write}
 use Rattle.record_drawer.specs.declared.sheet.DrawnEntry.{DrawnEntry}
-use Rattle.record_drawer.proofs.DrawnEntry.{writes_both}
+use Rattle.record_drawer.proofs.Drawn.{writes_both}
 use Rattle.record_drawer.proofs.Giving.{marks_of_record, texts_of_record}
 
 -- what stands before and behind tells nothing, and ends what it begins

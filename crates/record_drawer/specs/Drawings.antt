@@ -1,8 +1,8 @@
 -- What was written of a record's picture, and what is read back of it.
 use Rattle.std.specs.Prelude.{◌≡◌, ℕ, true, List, [], ◌++◌, length, Option}
 use Rattle.std.specs.Io.KnownBytes.{Appends}
-use Rattle.companions.specs.picture.shapes.Elements.{EndsAll}
-use Rattle.companions.specs.picture.shapes.Titles.{is_at_rest, lines_in, tags_of}
+use Rattle.companions.specs.picture.markup.Elements.{EndsAll}
+use Rattle.companions.specs.picture.markup.Titles.{is_at_rest, lines_in, tags_of}
 use Rattle.plain_store.specs.Setups.{opening_store}
 use Rattle.plain_store.specs.declared.setups.Setup.{Setup}
 use Rattle.record.specs.Entries.{Past}

@@ -20,8 +20,8 @@ use Rattle.companions.specs.picture.columns.Stages.{marks_in, marks_said}
 use Rattle.companions.specs.picture.declared.page.Form.{Form}
 use Rattle.companions.specs.picture.declared.page.Form.TheVariants as form
 use Rattle.companions.specs.picture.declared.reads.Reads.{Reads as Mode}
-use Rattle.companions.specs.picture.shapes.Elements.{opens_in}
-use Rattle.companions.specs.picture.shapes.Titles.{lines_in}
+use Rattle.companions.specs.picture.markup.Elements.{opens_in}
+use Rattle.companions.specs.picture.markup.Titles.{lines_in}
 use Rattle.record_drawer.specs.Drawings.{DrawsBands, DrawsOn, Recalls, Writes, kept, kept_at_first, plan_of}
 use Rattle.record_drawer.specs.Items.{given, given_at_end, given_by, record_gives, record_lines, source_of}
 use Rattle.companions.specs.StoreChanges.{store_words}

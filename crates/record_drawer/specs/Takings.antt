@@ -16,7 +16,7 @@ next_number s n = cond (s.version == 2) (min (n + 1) 65535) 0
 
 -- the last call of a process after a mark, which may be its own
 abbrev pub call_after : Setup → Bool → Mark → LastCall → LastCall
-call_after s true (mark.LastCall c) call = record { command = c; number = next_number s call.number }
+call_after s true (mark.Called c) call = record { command = c; number = next_number s call.number }
 call_after s own _ call = call
 
 -- the last call of a process; before the first one, as if it had asked

@@ -5,8 +5,8 @@ ghost use Rattle.record.specs.Entries.{Past};
 ghost use Rattle.record_file.specs.RecordFiles.{Progress, line_read};
 ghost use Rattle.companions.specs.picture.Pages.{page_names};
 ghost use Rattle.companions.specs.picture.Sheets.{page_front};
-ghost use Rattle.companions.specs.picture.shapes.Elements.{opens_in};
-ghost use Rattle.companions.specs.picture.shapes.Titles.{lines_in};
+ghost use Rattle.companions.specs.picture.markup.Elements.{opens_in};
+ghost use Rattle.companions.specs.picture.markup.Titles.{lines_in};
 ghost use Rattle.record_drawer.specs.Sheets.{Draws, EndsAt, GoesOn, Heads, LineStops, Stands, entries_of, listed};
 ghost use Rattle.record_drawer.specs.Writing.{IsWriteFault, failed_write};
 

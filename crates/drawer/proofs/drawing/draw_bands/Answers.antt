@@ -72,7 +72,7 @@ returns-clause-ok g c =
     let lines : List Line = c.args.scenario.now.lines.items in
     let d : Drawn plan c.args.reads s lines [] c.loop-line.drawing.source c.loop-line.course c.loop-line.drawing.summary c.loop-line.drawing.changes.store c.loop-line.drawing.overlaps (kept c.loop-line.drawing.page) (g.W.Sink.taken c.args.output.now) (g.W.Sink.taken c.loop-line.output) =
     subst (λ (rest : List Line). Drawn plan c.args.reads s lines rest c.loop-line.drawing.source c.loop-line.course c.loop-line.drawing.summary c.loop-line.drawing.changes.store c.loop-line.drawing.overlaps (kept c.loop-line.drawing.page) (g.W.Sink.taken c.args.output.now) (g.W.Sink.taken c.loop-line.output)) (drop_all c.loop-line.line-index lines (omega arith)) c.loop-line.invariant.drawn in
-    let numbers = onward_numbers s lines c.loop-line.course c.loop-line.drawing.summary c.taken.result (Some []) (Some d.text) d.onward c.taken.ensures in
+    let numbers = onward_numbers s lines c.loop-line.course c.loop-line.drawing.summary c.taken-drawing.result (Some []) (Some d.text) d.onward c.taken-drawing.ensures in
     drawn_end plan c.args.reads s lines c.loop-line.drawing.source c.loop-line.course c.loop-line.drawing.summary c.loop-line.drawing.changes.store c.loop-line.drawing.overlaps (kept c.loop-line.drawing.page) _ _ _ (end_line (summary_of s (happenings (script c.args.scenario.now)))) c.loop-line.drawing.summary.events _ d refl
     (subst (λ (n : Summary). DrawsRest (kept c.loop-line.drawing.page) (g.W.Sink.taken c.loop-line.output) (g.W.Sink.taken c.end.new.output) (end_line n) (lines_given c.args.reads (c.loop-line.drawing.source + 1) c.loop-line.drawing.summary.events (reads_since s d.onward.now.happened) (SaysEnd n ∷ [])) c.height.result) numbers
     (rest_at _ _ _ _ _ _ _ c.height.ensures (c.in_ok-end.ensures.ok c.args.reads s (past_after s d.onward.now.happened) (reads_since s d.onward.now.happened) d.recalls.waits)))
@@ -84,7 +84,7 @@ returns-clause-summary g c =
     let lines : List Line = c.args.scenario.now.lines.items in
     let d : Drawn plan c.args.reads s lines [] c.loop-line.drawing.source c.loop-line.course c.loop-line.drawing.summary c.loop-line.drawing.changes.store c.loop-line.drawing.overlaps (kept c.loop-line.drawing.page) (g.W.Sink.taken c.args.output.now) (g.W.Sink.taken c.loop-line.output) =
     subst (λ (rest : List Line). Drawn plan c.args.reads s lines rest c.loop-line.drawing.source c.loop-line.course c.loop-line.drawing.summary c.loop-line.drawing.changes.store c.loop-line.drawing.overlaps (kept c.loop-line.drawing.page) (g.W.Sink.taken c.args.output.now) (g.W.Sink.taken c.loop-line.output)) (drop_all c.loop-line.line-index lines (omega arith)) c.loop-line.invariant.drawn in
-    c.in_ok-end.ensures.summary ∙ onward_numbers s lines c.loop-line.course c.loop-line.drawing.summary c.taken.result (Some []) (Some d.text) d.onward c.taken.ensures
+    c.in_ok-end.ensures.summary ∙ onward_numbers s lines c.loop-line.course c.loop-line.drawing.summary c.taken-drawing.result (Some []) (Some d.text) d.onward c.taken-drawing.ensures
 
 pub returns-in_err-draw_line-clause-failures : goal.returns-in_err-draw_line-clause-failures
 returns-in_err-draw_line-clause-failures g c = omega (arith, c.in_err-draw_line.ensures.failures, c.loop-line.invariant.whole, failed_same c.from_residual-in_err-draw_line.result c.in_err-draw_line.field-0.0 c.from_residual-in_err-draw_line.ensures.1)

@@ -3,7 +3,7 @@ use Rattle.companions.specs.picture.columns.Told.{saying_text}
 use Rattle.record_drawer.specs.Drawings.{DrawsOn, kept}
 use Rattle.record_drawer.specs.Items.{GivesLine, GivesRead, says_of, says_text}
 use Rattle.companions.specs.Overlaps.{shown_of}
-use Rattle.record_drawer.proofs.DrawnEntry.{draws_on_both, draws_on_line}
+use Rattle.record_drawer.proofs.Drawn.{draws_on_both, draws_on_line}
 use Rattle.record_drawer.proofs.Written.{ok_then}
 use Rattle.record_drawer.proofs.drawing.RecordDrawing.draw.Goals as goal
 

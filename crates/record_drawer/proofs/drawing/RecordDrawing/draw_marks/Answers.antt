@@ -8,7 +8,7 @@ use Rattle.companions.specs.picture.declared.reads.Reads.{Reads as Mode}
 use Rattle.record_drawer.specs.Drawings.{DrawsOn, IsAmong, kept}
 use Rattle.record_drawer.specs.Items.{SaysMark, behind, lines_given, says_marks, waiting}
 use Rattle.record_drawer.specs.Takings.{change_of}
-use Rattle.record_drawer.proofs.DrawnEntry.{draws_on_both, draws_on_none}
+use Rattle.record_drawer.proofs.Drawn.{draws_on_both, draws_on_none}
 use Rattle.record_drawer.proofs.Giving.{behind_next, lines_next, waiting_next}
 use Rattle.record_drawer.proofs.Written.{failed_same}
 use Rattle.record_drawer.proofs.drawing.RecordDrawing.draw_marks.Goals as goal

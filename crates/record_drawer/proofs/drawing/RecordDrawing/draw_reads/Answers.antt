@@ -4,7 +4,7 @@ use Rattle.record.specs.declared.access.Field.TheVariants.{Choosing}
 use Rattle.companions.specs.picture.columns.declared.reads.OverlappedRead.{OverlappedRead}
 use Rattle.record_drawer.specs.Drawings.{DrawsOn, kept}
 use Rattle.record_drawer.specs.Items.{GivesRead}
-use Rattle.record_drawer.proofs.DrawnEntry.{draws_on_both, draws_on_none}
+use Rattle.record_drawer.proofs.Drawn.{draws_on_both, draws_on_none}
 use Rattle.record_drawer.proofs.Giving.{map_next}
 use Rattle.record_drawer.proofs.Written.{failed_same}
 use Rattle.record_drawer.proofs.drawing.RecordDrawing.draw_reads.Goals as goal

@@ -2,7 +2,7 @@ use Rattle.std.proofs.Common.{[], ◌∷◌, refl}
 use Rattle.companions.specs.picture.Pages.{seen_page}
 use Rattle.record_drawer.specs.Drawings.{kept}
 use Rattle.record_drawer.specs.Items.{SaysEnd, lines_given}
-use Rattle.record_drawer.proofs.DrawnEntry.{draws_on_rest}
+use Rattle.record_drawer.proofs.Drawn.{draws_on_rest}
 use Rattle.record_drawer.proofs.Written.{ok_then}
 use Rattle.record_drawer.proofs.drawing.RecordDrawing.end.Goals as goal
 
