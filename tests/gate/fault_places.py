@@ -12,6 +12,7 @@ import contextlib
 import os
 import pathlib
 import pty
+import re
 import subprocess
 import sys
 import tty
@@ -77,7 +78,9 @@ def try_folder(counter, folder):
 
 def try_block(counter, kind, text, told):
     first = told.partition(b"\n")[0] + b"\n"
-    for command in COMMANDS[kind]:
+    # those that draw take records as well
+    is_record = re.match(rb"record [12]\n", text)
+    for command in [it for it in COMMANDS[kind] if not (is_record and it.startswith("draw"))]:
         name = f"{command} {text[:60]}"
         counter.compare(f"{name}, explained", ran([command, "--explain", "-"], text), (b"", told, 1))
         counter.compare(f"{name}, not explained", ran([command, "-"], text), (b"", first, 1))
