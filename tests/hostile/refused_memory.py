@@ -61,7 +61,7 @@ QUICK, DRAWN = ["picture_tests_tests", "record_tests_tests", "register_tests_tes
 # and the tests that are tried there always: of calls that no command makes, or makes on threads
 ALWAYS = {
     "store_tests_tests": ["prints_scenarios", "weighs_lists"],
-    "worked_runs_tests": ["calls_succeed_after_refused_growths", "hears_and_audits_a_record"],
+    "scenario_tests_tests": ["calls_succeed_after_refused_growths", "hears_and_audits_a_record"],
 }
 
 
