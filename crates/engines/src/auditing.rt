@@ -4,7 +4,7 @@ ghost use Rattle.std.specs.Prelude.{◌≡◌, ◌+◌, ◌-◌, ◌^◌, ◌<�
 ghost use Rattle.std.specs.Io.KnownBytes.{Appends};
 ghost use Rattle.judge.specs.auditor.declared.verdicts.Verdict.TheVariants.{Good};
 ghost use Rattle.judge.specs.auditor.Verdicts.{IsVerdict};
-ghost use Rattle.scenario.specs.files.Engines.{Ran};
+ghost use Rattle.scenario.specs.files.Engines.{Ran, streams};
 ghost use Rattle.scenario.specs.files.Streams.{ReadsFront, WritesFront};
 ghost use Rattle.scenario.specs.Reads.{script};
 ghost use Rattle.engines.specs.Audits.{InputTellsVerdict, TellsVerdict, audit_text, audited};
@@ -32,8 +32,8 @@ pub fn run_audit<R: Source, W: Sink, L: Onlooker>(
     requires reads { R.failures input.old < 2 ^ 64 - 1 }
     requires writes { W.failures output.old < 2 ^ 64 - 1 }
     ensures ran { Ran audit_text (ended result)
-        (record { to_come = R.to_come input.old; taken = W.taken output.old; read_failures = R.failures input.old; write_failures = W.failures output.old })
-        (record { to_come = R.to_come input.new; taken = W.taken output.new; read_failures = R.failures input.new; write_failures = W.failures output.new }) }
+        (streams ⟦<R as Source>⟧ ⟦<W as Sink>⟧ input.old output.old)
+        (streams ⟦<R as Source>⟧ ⟦<W as Sink>⟧ input.new output.new) }
     ensures input { ReadsFront (R.to_come input.old) (R.to_come input.new) }
     ensures verdict { IfOk result (λ status. InputTellsVerdict (R.to_come input.old) status (W.taken output.old) (W.taken output.new)) }
 {

@@ -1,7 +1,7 @@
 //! The command `bits`: the calls of a file on one safe bit, in order.
 ghost use Rattle.std.specs.Prelude.{◌≡◌, ◌^◌, ◌-◌, ◌<◌, true, IfOk, Ok};
 ghost use Rattle.std.specs.String.{string_bytes};
-ghost use Rattle.scenario.specs.files.Engines.{Ran};
+ghost use Rattle.scenario.specs.files.Engines.{Ran, streams};
 ghost use Rattle.scenario.specs.files.Streams.{ReadsFront};
 ghost use Rattle.engines.specs.BitCells.{can_take, made, made_text, bit_after, bit_line_text};
 ghost use Rattle.engines.specs.Bits.{bits_printed, bits_text};
@@ -76,8 +76,8 @@ pub fn run_bits<R: Source, W: Sink>(
     requires reads { R.failures input.old < 2 ^ 64 - 1 }
     requires writes { W.failures output.old < 2 ^ 64 - 1 }
     ensures ran { Ran bits_text result
-        (record { to_come = R.to_come input.old; taken = W.taken output.old; read_failures = R.failures input.old; write_failures = W.failures output.old })
-        (record { to_come = R.to_come input.new; taken = W.taken output.new; read_failures = R.failures input.new; write_failures = W.failures output.new }) }
+        (streams ⟦<R as Source>⟧ ⟦<W as Sink>⟧ input.old output.old)
+        (streams ⟦<R as Source>⟧ ⟦<W as Sink>⟧ input.new output.new) }
     ensures input { ReadsFront (R.to_come input.old) (R.to_come input.new) }
 {
     let file = read_input(alloc, input)?;

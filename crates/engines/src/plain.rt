@@ -3,7 +3,7 @@ ghost use Rattle.std.specs.Prelude.{◌≡◌, ◌^◌, ◌-◌, ◌<◌, ◌≤
 ghost use Rattle.std.specs.String.{string_bytes};
 ghost use Rattle.plain_store.specs.Setups.{checked};
 ghost use Rattle.plain_store.specs.Shown.{reply_text};
-ghost use Rattle.scenario.specs.files.Engines.{Ran};
+ghost use Rattle.scenario.specs.files.Engines.{Ran, streams};
 ghost use Rattle.scenario.specs.files.Streams.{ReadsFront};
 ghost use Rattle.engines.specs.Plain.{line_text, run_after, text_from, run_at_start, plain_text, call_text, called, applied_text, applied, caller_of, counted, reply_line as line_of_reply};
 
@@ -155,8 +155,8 @@ pub fn run_plain<R: Source, W: Sink>(
     requires reads { R.failures input.old < 2 ^ 64 - 1 }
     requires writes { W.failures output.old < 2 ^ 64 - 1 }
     ensures ran { Ran plain_text result
-        (record { to_come = R.to_come input.old; taken = W.taken output.old; read_failures = R.failures input.old; write_failures = W.failures output.old })
-        (record { to_come = R.to_come input.new; taken = W.taken output.new; read_failures = R.failures input.new; write_failures = W.failures output.new }) }
+        (streams ⟦<R as Source>⟧ ⟦<W as Sink>⟧ input.old output.old)
+        (streams ⟦<R as Source>⟧ ⟦<W as Sink>⟧ input.new output.new) }
     ensures input { ReadsFront (R.to_come input.old) (R.to_come input.new) }
 {
     let file = read_input(alloc, input)?;

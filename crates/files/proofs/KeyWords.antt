@@ -1,6 +1,5 @@
 -- Looking for a key word in a table.
-use Rattle.std.proofs.Common.{refl, sym, ap, ◌∙◌, true, false, ℕ, Bool, Option, Some, None, List, [], ◌∷◌, ◌≡◌, find, option_map, cond}
-use Rattle.std.specs.Borrow.{Bor}
+use Rattle.std.proofs.Common.{refl, true, false, ℕ, Some, List, [], ◌∷◌, ◌≡◌, find, option_map, cond}
 use Rattle.std.specs.Map.{lookup}
 use Rattle.std.specs.Str.{bytes_eq}
 use Rattle.files.specs.KeyWords.{KeyWord, rows_of}

@@ -7,6 +7,8 @@ use Rattle.files.specs.Streams.{WritesFront}
 use Rattle.files.specs.declared.faults.Fault.{Fault}
 use Rattle.files.specs.declared.faults.Fault.TheVariants as fault
 use Rattle.files.specs.declared.faults.LineFault.{LineFault}
+use Rattle.files.specs.declared.streams.Sink as sink
+use Rattle.files.specs.declared.streams.Source as source
 
 -- a source and a sink at one moment: their bytes, where they are told, and their failures
 pub record Streams : Type 0 where
@@ -14,6 +16,15 @@ pub record Streams : Type 0 where
   pub taken : Option (List ℕ)
   pub read_failures : ℕ
   pub write_failures : ℕ
+
+-- what is told of a source and a sink
+abbrev pub streams : {R W : Type 0} → source.Ghosts R → sink.Ghosts W → R → W → Streams
+streams told_of_source told_of_sink r w = record {
+  to_come = told_of_source.to_come r;
+  taken = told_of_sink.taken w;
+  read_failures = told_of_source.failures r;
+  write_failures = told_of_sink.failures w;
+}
 
 -- the text that an engine prints for what a file says
 abbrev pub text_by : {S : Type 0} → (List ℕ → Result S LineFault) → (S → List ℕ) → List ℕ → Result (List ℕ) LineFault

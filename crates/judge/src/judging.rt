@@ -1,6 +1,7 @@
 //! The engine `judge`: the verdict on the record that a file says, which is read line by line.
 ghost use Rattle.std.specs.Prelude.{◌≡◌, ◌-◌, ◌^◌, ◌<◌};
 ghost use Rattle.judge.specs.Judgements.{JudgeEnds};
+ghost use Rattle.judge.specs.trial.files.Engines.{streams};
 
 use crate::explaining::Explaining;
 use crate::judge::RecordJudge;
@@ -20,8 +21,8 @@ pub fn run_judge<R: Source, W: Sink>(
     requires reads { R.failures input.old < 2 ^ 64 - 1 }
     requires writes { W.failures output.old < 2 ^ 64 - 1 }
     ensures { JudgeEnds asked result
-        (record { to_come = R.to_come input.old; taken = W.taken output.old; read_failures = R.failures input.old; write_failures = W.failures output.old })
-        (record { to_come = R.to_come input.new; taken = W.taken output.new; read_failures = R.failures input.new; write_failures = W.failures output.new }) }
+        (streams ⟦<R as Source>⟧ ⟦<W as Sink>⟧ input.old output.old)
+        (streams ⟦<R as Source>⟧ ⟦<W as Sink>⟧ input.new output.new) }
 {
     if asked {
         run_trial::<Explaining, R, W>(alloc, input, output)

@@ -1,6 +1,7 @@
 //! The engine itself.
 ghost use Rattle.std.specs.Prelude.{◌≡◌, ◌-◌, ◌^◌, ◌<◌, IfErr, IfOk};
 ghost use Rattle.std.specs.String.{string_bytes};
+ghost use Rattle.scenario.specs.files.Engines.{streams};
 ghost use Rattle.scenario.specs.files.Streams.{ReadsFront};
 ghost use Rattle.scenario.specs.Reads.{script};
 ghost use Rattle.race.specs.Ends.{IsFaultOfRacing, RanRace, TellsRace};
@@ -36,8 +37,8 @@ pub fn run_race<T: Threads + Wait + Sync, R: Source, W: Sink>(
     requires reads { R.failures input.old < 2 ^ 64 - 1 }
     requires writes { W.failures output.old < 2 ^ 64 - 1 }
     ensures ran { RanRace result
-        (record { to_come = R.to_come input.old; taken = W.taken output.old; read_failures = R.failures input.old; write_failures = W.failures output.old })
-        (record { to_come = R.to_come input.new; taken = W.taken output.new; read_failures = R.failures input.new; write_failures = W.failures output.new }) }
+        (streams ⟦<R as Source>⟧ ⟦<W as Sink>⟧ input.old output.old)
+        (streams ⟦<R as Source>⟧ ⟦<W as Sink>⟧ input.new output.new) }
     ensures input { ReadsFront (R.to_come input.old) (R.to_come input.new) }
 {
     let file = read_input(alloc, input)?;

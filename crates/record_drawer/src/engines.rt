@@ -2,6 +2,7 @@
 ghost use Rattle.std.specs.Prelude.{◌≡◌, ◌+◌, ◌-◌, ◌^◌, ◌<◌, IfErr, IfOk, IfSome, Ok, OnOk};
 ghost use Rattle.plain_store.specs.Setups.{checked};
 ghost use Rattle.std.specs.Io.KnownBytes.{IsAtEnd};
+ghost use Rattle.files.specs.Engines.{streams};
 ghost use Rattle.files.specs.Streams.{failed_reading};
 ghost use Rattle.companions.specs.picture.declared.page.Form.TheVariants as form_variants;
 ghost use Rattle.record_drawer.specs.Sheets.{DrawsBandsOf, Drew, IsDrawFault, without_write};
@@ -31,8 +32,8 @@ pub fn draw_record<R: Source, W: Sink>(
     requires reads { R.failures input.old < 2 ^ 64 - 1 }
     requires writes { W.failures output.old < 2 ^ 64 - 1 }
     ensures { Drew reads form_variants.Page result
-        (record { to_come = R.to_come input.old; taken = W.taken output.old; read_failures = R.failures input.old; write_failures = W.failures output.old })
-        (record { to_come = R.to_come input.new; taken = W.taken output.new; read_failures = R.failures input.new; write_failures = W.failures output.new }) }
+        (streams ⟦<R as Source>⟧ ⟦<W as Sink>⟧ input.old output.old)
+        (streams ⟦<R as Source>⟧ ⟦<W as Sink>⟧ input.new output.new) }
 {
     let drawn = draw_bands(alloc, Form::Page, reads, input, output)?;
     let opening = RecordedChanges::new(alloc, &drawn.setup)?.store_words()?;
@@ -51,8 +52,8 @@ pub fn draw_record_svg<R: Source, W: Sink>(
     requires reads { R.failures input.old < 2 ^ 64 - 1 }
     requires writes { W.failures output.old < 2 ^ 64 - 1 }
     ensures { Drew reads (form_variants.Picture 34) result
-        (record { to_come = R.to_come input.old; taken = W.taken output.old; read_failures = R.failures input.old; write_failures = W.failures output.old })
-        (record { to_come = R.to_come input.new; taken = W.taken output.new; read_failures = R.failures input.new; write_failures = W.failures output.new }) }
+        (streams ⟦<R as Source>⟧ ⟦<W as Sink>⟧ input.old output.old)
+        (streams ⟦<R as Source>⟧ ⟦<W as Sink>⟧ input.new output.new) }
 {
     let mut bands = Held::new(alloc);
     let drawn = match draw_bands(alloc, Form::Picture(FIRST_BAND), reads, input, &mut bands) {

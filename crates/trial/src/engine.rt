@@ -1,6 +1,7 @@
 //! The engine: it reads a record file line by line, and writes what is told of its record.
 ghost use Rattle.std.specs.Prelude.{◌≡◌, ◌+◌, ◌-◌, ◌^◌, ◌<◌, IfErr, IfOk, IfSome};
 ghost use Rattle.std.specs.Io.KnownBytes.{IsAtEnd};
+ghost use Rattle.files.specs.Engines.{streams};
 ghost use Rattle.files.specs.Streams.{failed_reading};
 ghost use Rattle.trial.specs.Ends.{IsInputFault, IsOfRecord, TrialEnds};
 
@@ -21,8 +22,8 @@ pub fn run_trial<H: Hearer, R: Source, W: Sink>(
     requires reads { R.failures input.old < 2 ^ 64 - 1 }
     requires writes { W.failures output.old < 2 ^ 64 - 1 }
     ensures { TrialEnds H.Tells result
-        (record { to_come = R.to_come input.old; taken = W.taken output.old; read_failures = R.failures input.old; write_failures = W.failures output.old })
-        (record { to_come = R.to_come input.new; taken = W.taken output.new; read_failures = R.failures input.new; write_failures = W.failures output.new }) }
+        (streams ⟦<R as Source>⟧ ⟦<W as Sink>⟧ input.old output.old)
+        (streams ⟦<R as Source>⟧ ⟦<W as Sink>⟧ input.new output.new) }
 {
     let hearer: H = hear_file(alloc, input)?;
     let telling = hearer.tell(alloc)?;
