@@ -1,5 +1,5 @@
 use Rattle.std.proofs.Common.{ℕ, List, refl, subst}
-use Rattle.files.specs.Engines.{Streams}
+use Rattle.files.specs.Engines.{Streams, streams}
 use Rattle.files.specs.declared.faults.Fault.TheVariants.{Memory}
 use Rattle.trial.proofs.EngineEnds.{trial_cut, trial_fault, trial_told}
 use Rattle.trial.proofs.engine.run_trial.Goals as goal
@@ -14,14 +14,14 @@ returns-in_err-telling g c =
 
 pub returns-in_err-write_all : goal.returns-in_err-write_all
 returns-in_err-write_all g c =
-    let old : Streams = record { to_come = g.R.Source.to_come c.args.input.now; taken = g.W.Sink.taken c.args.output.now; read_failures = g.R.Source.failures c.args.input.now; write_failures = g.W.Sink.failures c.args.output.now } in
-    let new : Streams = record { to_come = g.R.Source.to_come c.hear_file.new.input; taken = g.W.Sink.taken c.write_all.new.output; read_failures = g.R.Source.failures c.hear_file.new.input; write_failures = g.W.Sink.failures c.write_all.new.output } in
+    let old : Streams = streams g.R.Source g.W.Sink c.args.input.now c.args.output.now in
+    let new : Streams = streams g.R.Source g.W.Sink c.hear_file.new.input c.write_all.new.output in
     trial_cut g.H.Hearer.HasHeard g.H.Hearer.Tells c.from_residual-in_err-write_all.result c.in_err-write_all.field-0.0 c.in_ok-hearer.hearer c.in_ok-telling.telling.text.items c.in_ok-telling.telling.status old new c.from_residual-in_err-write_all.ensures.1 c.in_err-write_all.ensures.fault
     c.in_ok-hearer.ensures.heard c.in_ok-telling.ensures c.in_err-write_all.ensures.failures (rw c.as_slice.ensures.value at c.in_err-write_all.ensures.front)
 
 pub returns : goal.returns
 returns g c =
-    let old : Streams = record { to_come = g.R.Source.to_come c.args.input.now; taken = g.W.Sink.taken c.args.output.now; read_failures = g.R.Source.failures c.args.input.now; write_failures = g.W.Sink.failures c.args.output.now } in
-    let new : Streams = record { to_come = g.R.Source.to_come c.hear_file.new.input; taken = g.W.Sink.taken c.write_all.new.output; read_failures = g.R.Source.failures c.hear_file.new.input; write_failures = g.W.Sink.failures c.write_all.new.output } in
+    let old : Streams = streams g.R.Source g.W.Sink c.args.input.now c.args.output.now in
+    let new : Streams = streams g.R.Source g.W.Sink c.hear_file.new.input c.write_all.new.output in
     trial_told g.H.Hearer.HasHeard g.H.Hearer.Tells c.in_ok-hearer.hearer c.in_ok-telling.telling.text.items c.in_ok-telling.telling.status old new
     c.in_ok-hearer.ensures.heard c.in_ok-telling.ensures c.in_ok-hearer.ensures.end (rw c.as_slice.ensures.value at c.in_ok-write_all.ensures.ok)
