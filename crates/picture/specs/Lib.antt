@@ -1,5 +1,6 @@
 pub use Rattle.columns.specs as columns
 pub use Rattle.markup.specs as markup
+pub mod Adding
 pub mod Bandings
 pub mod Bars
 pub mod Drawings

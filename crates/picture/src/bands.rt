@@ -1,10 +1,9 @@
 //! A band: its columns, and what stood before them.
-ghost use Rattle.std.specs.Prelude.{◌≡◌, ◌++◌, flat_map, map, OnOk};
-ghost use Rattle.markup.specs.Figures.{drawings};
-ghost use Rattle.markup.specs.Readings.{reading, with_lines};
+ghost use Rattle.std.specs.Prelude.{◌≡◌, flat_map, map, OnOk};
+ghost use Rattle.picture.specs.Adding.{Draws, TellsLines, all_told};
+ghost use Rattle.markup.specs.Readings.{reading};
 ghost use Rattle.columns.specs.Columns.{seen};
 ghost use Rattle.picture.specs.Drawings.{band_shapes, column_shapes, for_each, lane_shapes, lane_words, links, seen_band};
-ghost use Rattle.columns.specs.Told.{told_in};
 
 use columns::{Column, Layout, State};
 use markup::Markup;
@@ -27,8 +26,8 @@ pub(crate) struct Band {
 impl Band {
     /// Draws it. The titles of its marks are the lines of its columns, and each element that begins ends.
     pub fn draw(&self, alloc: Global, markup: &mut Markup) -> Result<(), AllocError>
-        ensures draws { OnOk result (markup.new ≡ markup.old ++ drawings (band_shapes (seen_band self.now))) }
-        ensures read { OnOk result (reading markup.new ≡ with_lines (flat_map told_in self.now.columns.items) (reading markup.old)) }
+        ensures draws { Draws result markup.old markup.new (band_shapes (seen_band self.now)) }
+        ensures read { TellsLines result markup.old markup.new (all_told self.now.columns.items) }
     {
         self.draw_shades(markup)?;
         self.draw_axis(alloc, markup)?;
@@ -41,7 +40,7 @@ impl Band {
 
     /// Draws all lanes.
     fn draw_lanes(&self, alloc: Global, markup: &mut Markup) -> Result<(), AllocError>
-        ensures draws { OnOk result (markup.new ≡ markup.old ++ drawings (for_each (lane_shapes (seen_band self.now)) self.now.before.processes)) }
+        ensures draws { Draws result markup.old markup.new (for_each (lane_shapes (seen_band self.now)) self.now.before.processes) }
         ensures read { OnOk result (reading markup.new ≡ reading markup.old) }
     {
         for process in 0..self.before.processes {
@@ -52,7 +51,7 @@ impl Band {
 
     /// Draws what leads from lane to lane.
     fn draw_all_links(&self, alloc: Global, markup: &mut Markup) -> Result<(), AllocError>
-        ensures draws { OnOk result (markup.new ≡ markup.old ++ drawings (flat_map (links (seen_band self.now)) (map seen self.now.columns.items))) }
+        ensures draws { Draws result markup.old markup.new (flat_map (links (seen_band self.now)) (map seen self.now.columns.items)) }
         ensures read { OnOk result (reading markup.new ≡ reading markup.old) }
     {
         for column in &self.columns {
@@ -63,7 +62,7 @@ impl Band {
 
     /// Draws the words in the bars of the lanes with columns.
     fn draw_all_words(&self, alloc: Global, markup: &mut Markup) -> Result<(), AllocError>
-        ensures draws { OnOk result (markup.new ≡ markup.old ++ drawings (for_each (lane_words (seen_band self.now)) self.now.before.processes)) }
+        ensures draws { Draws result markup.old markup.new (for_each (lane_words (seen_band self.now)) self.now.before.processes) }
         ensures read { OnOk result (reading markup.new ≡ reading markup.old) }
     {
         for process in 0..self.before.processes {
@@ -77,8 +76,8 @@ impl Band {
 
     /// Draws all columns.
     fn draw_columns(&self, alloc: Global, markup: &mut Markup) -> Result<(), AllocError>
-        ensures draws { OnOk result (markup.new ≡ markup.old ++ drawings (flat_map (column_shapes (seen_band self.now)) (map seen self.now.columns.items))) }
-        ensures read { OnOk result (reading markup.new ≡ with_lines (flat_map told_in self.now.columns.items) (reading markup.old)) }
+        ensures draws { Draws result markup.old markup.new (flat_map (column_shapes (seen_band self.now)) (map seen self.now.columns.items)) }
+        ensures read { TellsLines result markup.old markup.new (all_told self.now.columns.items) }
     {
         for column in &self.columns {
             self.draw_column(alloc, column, markup)?;

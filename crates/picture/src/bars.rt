@@ -1,6 +1,6 @@
 //! The bars of a lane: the stages of its process.
-ghost use Rattle.std.specs.Prelude.{◌≡◌, ◌++◌, OnOk};
-ghost use Rattle.markup.specs.Figures.{drawings};
+ghost use Rattle.std.specs.Prelude.{◌≡◌, OnOk};
+ghost use Rattle.picture.specs.Adding.{Draws};
 ghost use Rattle.markup.specs.Readings.{reading};
 ghost use Rattle.picture.specs.Bars.{bar, height_of, lane_name, lane_rule};
 ghost use Rattle.picture.specs.Drawings.{lane_shapes, seen_band};
@@ -20,7 +20,7 @@ impl Band {
         process: u8,
         markup: &mut Markup,
     ) -> Result<(), AllocError>
-        ensures draws { OnOk result (markup.new ≡ markup.old ++ drawings (lane_shapes (seen_band self.now) process)) }
+        ensures draws { Draws result markup.old markup.new (lane_shapes (seen_band self.now) process) }
         ensures read { OnOk result (reading markup.new ≡ reading markup.old) }
     {
         let lane = self.layout.lane(process);
@@ -42,7 +42,7 @@ impl Band {
 
 /// Draws what stands to the left of a lane, and the rule above it.
 fn draw_name(alloc: Global, process: u8, lane: Lane, markup: &mut Markup) -> Result<(), AllocError>
-    ensures draws { OnOk result (markup.new ≡ markup.old ++ drawings (lane_name lane process)) }
+    ensures draws { Draws result markup.old markup.new (lane_name lane process) }
     ensures read { OnOk result (reading markup.new ≡ reading markup.old) }
 {
     draw_rule(process, lane, markup)?;
@@ -57,7 +57,7 @@ fn draw_name(alloc: Global, process: u8, lane: Lane, markup: &mut Markup) -> Res
 
 /// Draws the rule between a lane and the one above it.
 fn draw_rule(process: u8, lane: Lane, markup: &mut Markup) -> Result<(), AllocError>
-    ensures draws { OnOk result (markup.new ≡ markup.old ++ drawings (lane_rule lane process)) }
+    ensures draws { Draws result markup.old markup.new (lane_rule lane process) }
     ensures read { OnOk result (reading markup.new ≡ reading markup.old) }
 {
     if process == 0 {
@@ -75,7 +75,7 @@ fn draw_bar(
     to: u16,
     markup: &mut Markup,
 ) -> Result<(), AllocError>
-    ensures draws { OnOk result (markup.new ≡ markup.old ++ drawings (bar lane stage from to)) }
+    ensures draws { Draws result markup.old markup.new (bar lane stage from to) }
     ensures read { OnOk result (reading markup.new ≡ reading markup.old) }
 {
     let middle = lane.bar();

@@ -1,6 +1,6 @@
 //! What a band has behind its marks: shades, the axis, and the history.
-ghost use Rattle.std.specs.Prelude.{◌≡◌, [], ◌∷◌, ◌++◌, map, OnOk};
-ghost use Rattle.markup.specs.Figures.{drawings};
+ghost use Rattle.std.specs.Prelude.{◌≡◌, [], ◌∷◌, map, OnOk};
+ghost use Rattle.picture.specs.Adding.{Draws};
 ghost use Rattle.markup.specs.Readings.{reading};
 ghost use Rattle.columns.specs.Columns.{seen};
 ghost use Rattle.columns.specs.Layouts.{knot_of};
@@ -17,7 +17,7 @@ const MIDDLE: u32 = 14;
 impl Band {
     /// Shades all lanes while somebody is inside.
     pub(crate) fn draw_shades(&self, markup: &mut Markup) -> Result<(), AllocError>
-        ensures draws { OnOk result (markup.new ≡ markup.old ++ drawings (shades self.now.layout.chain self.now.layout.end (first_inside self.now.before) (map seen self.now.columns.items))) }
+        ensures draws { Draws result markup.old markup.new (shades self.now.layout.chain self.now.layout.end (first_inside self.now.before) (map seen self.now.columns.items)) }
         ensures read { OnOk result (reading markup.new ≡ reading markup.old) }
     {
         let mut from = self.shade_start();
@@ -47,7 +47,7 @@ impl Band {
         to: u16,
         markup: &mut Markup,
     ) -> Result<(), AllocError>
-        ensures draws { OnOk result (markup.new ≡ markup.old ++ drawings (shade_up_to self.now.layout.chain from is_inside to)) }
+        ensures draws { Draws result markup.old markup.new (shade_up_to self.now.layout.chain from is_inside to) }
         ensures read { OnOk result (reading markup.new ≡ reading markup.old) }
     {
         match from {
@@ -57,7 +57,7 @@ impl Band {
     }
 
     fn shade(&self, from: u16, to: u16, markup: &mut Markup) -> Result<(), AllocError>
-        ensures draws { OnOk result (markup.new ≡ markup.old ++ drawings (shade_of self.now.layout.chain from to ∷ [])) }
+        ensures draws { Draws result markup.old markup.new (shade_of self.now.layout.chain from to ∷ []) }
         ensures read { OnOk result (reading markup.new ≡ reading markup.old) }
     {
         let corner = Point::at(u32::from(from), u32::from(AXIS));
@@ -68,7 +68,7 @@ impl Band {
 
     /// Draws the axis, with the numbers of events between columns.
     pub(crate) fn draw_axis(&self, alloc: Global, markup: &mut Markup) -> Result<(), AllocError>
-        ensures draws { OnOk result (markup.new ≡ markup.old ++ drawings (axis self.now.layout.end 52 (map seen self.now.columns.items))) }
+        ensures draws { Draws result markup.old markup.new (axis self.now.layout.end 52 (map seen self.now.columns.items)) }
         ensures read { OnOk result (reading markup.new ≡ reading markup.old) }
     {
         let mut from = LEFT;
@@ -83,7 +83,7 @@ impl Band {
 
     /// Draws the chain of the history.
     pub(crate) fn draw_chain(&self, markup: &mut Markup) -> Result<(), AllocError>
-        ensures draws { OnOk result (markup.new ≡ markup.old ++ drawings (chain_shapes (seen_band self.now))) }
+        ensures draws { Draws result markup.old markup.new (chain_shapes (seen_band self.now)) }
         ensures read { OnOk result (reading markup.new ≡ reading markup.old) }
     {
         let ground = u32::from(self.layout.chain.saturating_sub(3));
@@ -107,7 +107,7 @@ impl Band {
 
     /// Draws what the store opens with.
     fn draw_opening(&self, markup: &mut Markup) -> Result<(), AllocError>
-        ensures draws { OnOk result (markup.new ≡ markup.old ++ drawings (opening_words (knot_of self.now.layout) self.now.opens.items)) }
+        ensures draws { Draws result markup.old markup.new (opening_words (knot_of self.now.layout) self.now.opens.items) }
         ensures read { OnOk result (reading markup.new ≡ reading markup.old) }
     {
         if self.opens.is_empty() {
@@ -125,7 +125,7 @@ fn draw_stretch(
     column: &Column,
     markup: &mut Markup,
 ) -> Result<(), AllocError>
-    ensures draws { OnOk result (markup.new ≡ markup.old ++ drawings (axis_up_to from (seen column.now))) }
+    ensures draws { Draws result markup.old markup.new (axis_up_to from (seen column.now)) }
     ensures read { OnOk result (reading markup.new ≡ reading markup.old) }
 {
     draw_axis_line(from, column, markup)?;
@@ -135,7 +135,7 @@ fn draw_stretch(
 
 /// Draws the axis up to a column, dotted where there are more events than pixels.
 fn draw_axis_line(from: u16, column: &Column, markup: &mut Markup) -> Result<(), AllocError>
-    ensures draws { OnOk result (markup.new ≡ markup.old ++ drawings (axis_line from (seen column.now) ∷ [])) }
+    ensures draws { Draws result markup.old markup.new (axis_line from (seen column.now) ∷ []) }
     ensures read { OnOk result (reading markup.new ≡ reading markup.old) }
 {
     let pixels = column.x.saturating_sub(from);
@@ -150,7 +150,7 @@ fn draw_axis_line(from: u16, column: &Column, markup: &mut Markup) -> Result<(),
 
 /// Draws the tick of a column that has an event.
 fn draw_tick(column: &Column, markup: &mut Markup) -> Result<(), AllocError>
-    ensures draws { OnOk result (markup.new ≡ markup.old ++ drawings (tick (seen column.now))) }
+    ensures draws { Draws result markup.old markup.new (tick (seen column.now)) }
     ensures read { OnOk result (reading markup.new ≡ reading markup.old) }
 {
     if column.event.is_none() {
@@ -167,7 +167,7 @@ fn draw_gap(
     column: &Column,
     markup: &mut Markup,
 ) -> Result<(), AllocError>
-    ensures draws { OnOk result (markup.new ≡ markup.old ++ drawings (gap_words from (seen column.now))) }
+    ensures draws { Draws result markup.old markup.new (gap_words from (seen column.now)) }
     ensures read { OnOk result (reading markup.new ≡ reading markup.old) }
 {
     if column.gap <= 1 {

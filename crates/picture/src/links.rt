@@ -1,6 +1,6 @@
 //! What leads from one lane to another.
-ghost use Rattle.std.specs.Prelude.{◌≡◌, ◌≤◌, ◌++◌, OnOk};
-ghost use Rattle.markup.specs.Figures.{drawings};
+ghost use Rattle.std.specs.Prelude.{◌≡◌, ◌≤◌, OnOk};
+ghost use Rattle.picture.specs.Adding.{Draws};
 ghost use Rattle.markup.specs.Readings.{reading};
 ghost use Rattle.columns.specs.Columns.{seen};
 ghost use Rattle.picture.specs.Drawings.{arrow_by, distance_of_tip, drop_line, freed_arrow, links, seen_band};
@@ -18,7 +18,7 @@ impl Band {
         column: &Column,
         markup: &mut Markup,
     ) -> Result<(), AllocError>
-        ensures draws { OnOk result (markup.new ≡ markup.old ++ drawings (links (seen_band self.now) (seen column.now))) }
+        ensures draws { Draws result markup.old markup.new (links (seen_band self.now) (seen column.now)) }
         ensures read { OnOk result (reading markup.new ≡ reading markup.old) }
     {
         let Some(process) = column.lane else {
@@ -36,7 +36,7 @@ impl Band {
 
     /// Draws the line from a column to its knot, if it has one.
     fn draw_drop(&self, from: Point, column: &Column, markup: &mut Markup) -> Result<(), AllocError>
-        ensures draws { OnOk result (markup.new ≡ markup.old ++ drawings (drop_line self.now.layout from (seen column.now))) }
+        ensures draws { Draws result markup.old markup.new (drop_line self.now.layout from (seen column.now)) }
         ensures read { OnOk result (reading markup.new ≡ reading markup.old) }
     {
         if column.taken().is_none() {
@@ -53,7 +53,7 @@ impl Band {
         frees: Option<u8>,
         markup: &mut Markup,
     ) -> Result<(), AllocError>
-        ensures draws { OnOk result (markup.new ≡ markup.old ++ drawings (freed_arrow self.now.layout from frees)) }
+        ensures draws { Draws result markup.old markup.new (freed_arrow self.now.layout from frees) }
         ensures read { OnOk result (reading markup.new ≡ reading markup.old) }
     {
         let Some(freed) = frees else {
@@ -88,7 +88,7 @@ fn draw_arrow(
     head: &str,
     markup: &mut Markup,
 ) -> Result<(), AllocError>
-    ensures draws { OnOk result (markup.new ≡ markup.old ++ drawings (arrow_by from end tip head.now)) }
+    ensures draws { Draws result markup.old markup.new (arrow_by from end tip head.now) }
     ensures read { OnOk result (reading markup.new ≡ reading markup.old) }
 {
     let x = from.x;

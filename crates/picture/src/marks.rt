@@ -1,10 +1,9 @@
 //! The marks of a band: for each line of the run a group that has the line as its title.
-ghost use Rattle.std.specs.Prelude.{◌≡◌, [], ◌∷◌, ◌++◌, flat_map, IfOk, OnOk, string_bytes};
-ghost use Rattle.markup.specs.Figures.{drawings};
-ghost use Rattle.markup.specs.Readings.{reading, with_lines, with_mark};
+ghost use Rattle.std.specs.Prelude.{◌≡◌, [], ◌∷◌, flat_map, IfOk, OnOk, string_bytes};
+ghost use Rattle.picture.specs.Adding.{AddsSaid, Draws, TellsLines};
+ghost use Rattle.markup.specs.Readings.{reading, with_mark};
 ghost use Rattle.columns.specs.Columns.{seen};
 ghost use Rattle.picture.specs.Drawings.{column_shapes, foot_shapes, head_shapes, line_shapes, lines_shapes, mark_shape, note_shapes, number_words, pair_words, place_of_row, queue_said, right_by, rows_of_line, rows_place, seen_band, store_said};
-ghost use Rattle.markup.specs.Markup.{attribute_text, said_text};
 ghost use Rattle.columns.specs.Told.{change_told, text_of, texts};
 ghost use Rattle.picture.specs.Words.{queue_text, row_class};
 
@@ -24,8 +23,8 @@ impl Band {
         column: &Column,
         markup: &mut Markup,
     ) -> Result<(), AllocError>
-        ensures draws { OnOk result (markup.new ≡ markup.old ++ drawings (column_shapes (seen_band self.now) (seen column.now))) }
-        ensures read { OnOk result (reading markup.new ≡ with_lines (texts column.now.lines.items) (reading markup.old)) }
+        ensures draws { Draws result markup.old markup.new (column_shapes (seen_band self.now) (seen column.now)) }
+        ensures read { TellsLines result markup.old markup.new (texts column.now.lines.items) }
     {
         let Some(process) = column.lane else {
             return self.draw_note(column, markup);
@@ -45,8 +44,8 @@ impl Band {
         foot: Point,
         markup: &mut Markup,
     ) -> Result<(), AllocError>
-        ensures draws { OnOk result (markup.new ≡ markup.old ++ drawings (lines_shapes (seen_band self.now) (seen column.now) head foot 0 column.now.lines.items)) }
-        ensures read { OnOk result (reading markup.new ≡ with_lines (texts column.now.lines.items) (reading markup.old)) }
+        ensures draws { Draws result markup.old markup.new (lines_shapes (seen_band self.now) (seen column.now) head foot 0 column.now.lines.items) }
+        ensures read { TellsLines result markup.old markup.new (texts column.now.lines.items) }
     {
         for (place, line) in column.lines.iter().enumerate() {
             self.draw_line(column, place, line, head, foot, markup)?;
@@ -64,8 +63,8 @@ impl Band {
         foot: Point,
         markup: &mut Markup,
     ) -> Result<(), AllocError>
-        ensures draws { OnOk result (markup.new ≡ markup.old ++ drawings (line_shapes (seen_band self.now) (seen column.now) head foot place line.now)) }
-        ensures read { OnOk result (reading markup.new ≡ with_lines (text_of line.now ∷ []) (reading markup.old)) }
+        ensures draws { Draws result markup.old markup.new (line_shapes (seen_band self.now) (seen column.now) head foot place line.now) }
+        ensures read { TellsLines result markup.old markup.new (text_of line.now ∷ []) }
     {
         let alloc = markup.alloc();
         let last = column.lines.len().saturating_sub(1);
@@ -84,7 +83,7 @@ impl Band {
         foot: Point,
         markup: &mut Markup,
     ) -> Result<(), AllocError>
-        ensures draws { OnOk result (markup.new ≡ markup.old ++ drawings (foot_shapes (seen_band self.now) (seen column.now) line.now foot)) }
+        ensures draws { Draws result markup.old markup.new (foot_shapes (seen_band self.now) (seen column.now) line.now foot) }
         ensures read { OnOk result (reading markup.new ≡ reading markup.old) }
     {
         if line.place().is_none() {
@@ -99,8 +98,8 @@ impl Band {
 
     /// Draws a line that stands in the lane of the history.
     fn draw_note(&self, column: &Column, markup: &mut Markup) -> Result<(), AllocError>
-        ensures draws { OnOk result (markup.new ≡ markup.old ++ drawings (flat_map (note_shapes (seen_band self.now) (seen column.now)) column.now.lines.items)) }
-        ensures read { OnOk result (reading markup.new ≡ with_lines (texts column.now.lines.items) (reading markup.old)) }
+        ensures draws { Draws result markup.old markup.new (flat_map (note_shapes (seen_band self.now) (seen column.now)) column.now.lines.items) }
+        ensures read { TellsLines result markup.old markup.new (texts column.now.lines.items) }
     {
         for line in &column.lines {
             self.draw_line_below(column, line, markup)?;
@@ -115,8 +114,8 @@ impl Band {
         line: &RunLine,
         markup: &mut Markup,
     ) -> Result<(), AllocError>
-        ensures draws { OnOk result (markup.new ≡ markup.old ++ drawings (note_shapes (seen_band self.now) (seen column.now) line.now)) }
-        ensures read { OnOk result (reading markup.new ≡ with_lines (text_of line.now ∷ []) (reading markup.old)) }
+        ensures draws { Draws result markup.old markup.new (note_shapes (seen_band self.now) (seen column.now) line.now) }
+        ensures read { TellsLines result markup.old markup.new (text_of line.now ∷ []) }
     {
         let alloc = markup.alloc();
         let knot = Point::at(u32::from(column.x), self.layout.knot());
@@ -131,7 +130,7 @@ impl Band {
 
 /// Draws the pair that the command of a line changed, below its knot.
 fn draw_pair(line: &RunLine, knot: Point, markup: &mut Markup) -> Result<(), AllocError>
-    ensures draws { OnOk result (markup.new ≡ markup.old ++ drawings (pair_words (change_told line.now.saying) knot)) }
+    ensures draws { Draws result markup.old markup.new (pair_words (change_told line.now.saying) knot) }
     ensures read { OnOk result (reading markup.new ≡ reading markup.old) }
 {
     match line.change() {
@@ -151,7 +150,7 @@ fn draw_head(
     foot: Point,
     markup: &mut Markup,
 ) -> Result<(), AllocError>
-    ensures draws { OnOk result (markup.new ≡ markup.old ++ drawings (head_shapes (seen column.now) head foot)) }
+    ensures draws { Draws result markup.old markup.new (head_shapes (seen column.now) head foot) }
     ensures read { OnOk result (reading markup.new ≡ reading markup.old) }
 {
     markup.line("pole", below(head, 5), foot)?;
@@ -164,7 +163,7 @@ fn draw_head(
 
 /// Draws the number of an event, if it is one.
 fn draw_number(event: Option<u64>, head: Point, markup: &mut Markup) -> Result<(), AllocError>
-    ensures draws { OnOk result (markup.new ≡ markup.old ++ drawings (number_words event head)) }
+    ensures draws { Draws result markup.old markup.new (number_words event head) }
     ensures read { OnOk result (reading markup.new ≡ reading markup.old) }
 {
     match event {
@@ -195,7 +194,7 @@ fn begin_mark(
     is_last: bool,
     markup: &mut Markup,
 ) -> Result<(), AllocError>
-    ensures draws { OnOk result (markup.new ≡ markup.old ++ drawings (mark_shape (seen column.now) line.now is_last ∷ [])) }
+    ensures draws { Draws result markup.old markup.new (mark_shape (seen column.now) line.now is_last ∷ []) }
     ensures read { OnOk result (reading markup.new ≡ with_mark (text_of line.now) (reading markup.old)) }
 {
     let queue = numbers(alloc, column)?;
@@ -210,7 +209,7 @@ fn begin_mark(
 
 /// Says the store behind a line, if its command changed it.
 fn push_store<'a>(attributes: &mut Vec<Attribute<'a>>, line: &'a RunLine) -> Result<(), AllocError>
-    ensures { OnOk result (flat_map attribute_text attributes.new.items ≡ flat_map attribute_text attributes.old.items ++ flat_map said_text (store_said (change_told line.now.saying))) }
+    ensures { AddsSaid result attributes.old.items attributes.new.items (store_said (change_told line.now.saying)) }
 {
     match line.change() {
         Some(change) => Ok(attributes.push(words(Key::Store, change.store.as_slice()))?),
@@ -224,7 +223,7 @@ fn push_queue<'a>(
     queue: &'a [u8],
     is_last: bool,
 ) -> Result<(), AllocError>
-    ensures { OnOk result (flat_map attribute_text attributes.new.items ≡ flat_map attribute_text attributes.old.items ++ flat_map said_text (queue_said is_last queue.now)) }
+    ensures { AddsSaid result attributes.old.items attributes.new.items (queue_said is_last queue.now) }
 {
     if is_last {
         attributes.push(words(Key::Queue, queue))?;
@@ -248,7 +247,7 @@ fn draw_rows(
     at: Point,
     markup: &mut Markup,
 ) -> Result<(), AllocError>
-    ensures draws { OnOk result (markup.new ≡ markup.old ++ drawings (rows_of_line (seen column.now) place is_refusal at)) }
+    ensures draws { Draws result markup.old markup.new (rows_of_line (seen column.now) place is_refusal at) }
     ensures read { OnOk result (reading markup.new ≡ reading markup.old) }
 {
     let is_alone = column.lines.len() == 1;

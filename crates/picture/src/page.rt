@@ -1,12 +1,10 @@
 //! The bands of a page, from the lines of a run.
-ghost use Rattle.std.specs.Prelude.{◌≡◌, ◌++◌, [], ◌∷◌, codes, flat_map, map, IfOk, IfSome, None, OnOk};
+ghost use Rattle.std.specs.Prelude.{◌≡◌, ◌++◌, [], ◌∷◌, codes, map, IfOk, IfSome, None, OnOk};
+ghost use Rattle.picture.specs.Adding.{Begins, FramesBand, GivesLines, all_told};
 ghost use Rattle.markup.specs.Elements.{EndsAll};
-ghost use Rattle.markup.specs.Figures.{drawings};
-ghost use Rattle.markup.specs.Readings.{reading, with_begun};
 ghost use Rattle.markup.specs.Titles.{lines_in};
-ghost use Rattle.picture.specs.Bandings.{Reads, Tells, band_tag, behind_columns, framed, opening_length, opens_with};
+ghost use Rattle.picture.specs.Bandings.{Reads, Tells, band_tag, behind_columns, opening_length, opens_with};
 ghost use Rattle.columns.specs.Columns.{seen};
-ghost use Rattle.picture.specs.Drawings.{band_shapes, seen_band};
 ghost use Rattle.picture.specs.Pages.{DrawsBand, GivesRest, GoesOn, MakesRoom, Places, Puts, held, lines_of_band, page_of, seen_page, stages_kept};
 ghost use Rattle.picture.specs.declared.page.Form.TheVariants as form_variants;
 ghost use Rattle.columns.specs.Stages.{nothing_told, stages_told};
@@ -81,7 +79,7 @@ impl Page {
     /// begins ends. The stages go on as the line tells.
     pub fn take(&mut self, line: RunLine) -> Result<Option<Markup>, AllocError>
         ensures page { IfOk result (λ full. GoesOn (Tells line) (seen_page self.old) full (seen_page self.new)) }
-        ensures lines { IfOk result (λ full. lines_of_band full ++ held self.new ≡ held self.old ++ text_of line ∷ []) }
+        ensures lines { GivesLines result (held self.new) (held self.old ++ text_of line ∷ []) }
         ensures ended { IfOk result (λ full. IfSome full EndsAll) }
         ensures stages { OnOk result (stages_kept self.new ≡ stages_told self.old.state.processes (stages_kept self.old) line.saying) }
         ensures processes { self.new.state.processes ≡ self.old.state.processes }
@@ -104,7 +102,7 @@ impl Page {
     /// tells no line.
     pub fn take_read(&mut self, read: OverlappedRead) -> Result<Option<Markup>, AllocError>
         ensures page { IfOk result (λ full. GoesOn (Reads read) (seen_page self.old) full (seen_page self.new)) }
-        ensures lines { IfOk result (λ full. lines_of_band full ++ held self.new ≡ held self.old) }
+        ensures lines { GivesLines result (held self.new) (held self.old) }
         ensures ended { IfOk result (λ full. IfSome full EndsAll) }
         ensures stages { OnOk result (stages_kept self.new ≡ stages_kept self.old) }
         ensures processes { self.new.state.processes ≡ self.old.state.processes }
@@ -133,7 +131,7 @@ impl Page {
         ensures page { IfOk result (λ full. Places (seen_page self.old) full (seen_page self.new)) }
         ensures placed { OnOk result (self.new.pending ≡ None) }
         ensures state { self.new.state ≡ self.old.state }
-        ensures lines { IfOk result (λ full. lines_of_band full ++ flat_map told_in self.new.columns.items ≡ held self.old) }
+        ensures lines { GivesLines result (all_told self.new.columns.items) (held self.old) }
         ensures ended { IfOk result (λ full. IfSome full EndsAll) }
     {
         let Some(column) = self.pending.take() else {
@@ -149,7 +147,7 @@ impl Page {
         ensures page { IfOk result (λ full. MakesRoom (seen column.now) (seen_page self.old) full (seen_page self.new)) }
         ensures pending { OnOk result (self.new.pending ≡ self.old.pending) }
         ensures state { self.new.state ≡ self.old.state }
-        ensures lines { IfOk result (λ full. lines_of_band full ++ flat_map told_in self.new.columns.items ≡ flat_map told_in self.old.columns.items) }
+        ensures lines { GivesLines result (all_told self.new.columns.items) (all_told self.old.columns.items) }
         ensures ended { IfOk result (λ full. IfSome full EndsAll) }
     {
         let place = self.placing.place(self.alloc, column)?;
@@ -165,7 +163,7 @@ impl Page {
         ensures page { OnOk result (Puts (seen column) (seen_page self.old) (seen_page self.new)) }
         ensures pending { OnOk result (self.new.pending ≡ self.old.pending) }
         ensures state { self.new.state ≡ self.old.state }
-        ensures lines { OnOk result (flat_map told_in self.new.columns.items ≡ flat_map told_in self.old.columns.items ++ told_in column) }
+        ensures lines { OnOk result (all_told self.new.columns.items ≡ all_told self.old.columns.items ++ told_in column) }
     {
         let mut column = column;
         let place = self.placing.place(self.alloc, &column)?;
@@ -179,7 +177,7 @@ impl Page {
         ensures pending { OnOk result (self.new.pending ≡ self.old.pending) }
         ensures state { self.new.state ≡ self.old.state }
         ensures begun { OnOk result (self.new.columns.items ≡ []) }
-        ensures lines { IfOk result (λ band. lines_in band ≡ flat_map told_in self.old.columns.items) }
+        ensures lines { IfOk result (λ band. lines_in band ≡ all_told self.old.columns.items) }
         ensures ended { IfOk result EndsAll }
     {
         let mut columns = std::mem::replace(&mut self.columns, Vec::new(self.alloc));
@@ -207,8 +205,8 @@ impl Page {
 
     /// The picture or the group of a band.
     fn markup_of(&self, band: &Band) -> Result<Markup, AllocError>
-        ensures draws { IfOk result (λ markup. markup ≡ framed self.now.form self.now.bands self.now.height band.now.layout.height (drawings (band_shapes (seen_band band.now)))) }
-        ensures lines { IfOk result (λ markup. lines_in markup ≡ flat_map told_in band.now.columns.items) }
+        ensures draws { FramesBand result self.now.form self.now band.now }
+        ensures lines { IfOk result (λ markup. lines_in markup ≡ all_told band.now.columns.items) }
         ensures ended { IfOk result EndsAll }
     {
         match self.form {
@@ -219,8 +217,8 @@ impl Page {
 
     /// A band as a picture of its own.
     fn picture_of(&self, band: &Band) -> Result<Markup, AllocError>
-        ensures draws { IfOk result (λ markup. markup ≡ framed form_variants.Page self.now.bands self.now.height band.now.layout.height (drawings (band_shapes (seen_band band.now)))) }
-        ensures lines { IfOk result (λ markup. lines_in markup ≡ flat_map told_in band.now.columns.items) }
+        ensures draws { FramesBand result form_variants.Page self.now band.now }
+        ensures lines { IfOk result (λ markup. lines_in markup ≡ all_told band.now.columns.items) }
         ensures ended { IfOk result EndsAll }
     {
         let mut markup = Markup::new(self.alloc);
@@ -233,8 +231,8 @@ impl Page {
 
     /// A band as a group of one picture, whose bands begin at this height.
     fn group_of(&self, band: &Band, top: u64) -> Result<Markup, AllocError>
-        ensures draws { IfOk result (λ markup. markup ≡ framed (form_variants.Picture top) self.now.bands self.now.height band.now.layout.height (drawings (band_shapes (seen_band band.now)))) }
-        ensures lines { IfOk result (λ markup. lines_in markup ≡ flat_map told_in band.now.columns.items) }
+        ensures draws { FramesBand result (form_variants.Picture top) self.now band.now }
+        ensures lines { IfOk result (λ markup. lines_in markup ≡ all_told band.now.columns.items) }
         ensures ended { IfOk result EndsAll }
     {
         let mut markup = Markup::new(self.alloc);
@@ -248,7 +246,7 @@ impl Page {
 /// The tag of a band's own picture: the part of this number, so high.
 fn enter_band(number: u64, height: u16, markup: &mut Markup) -> Result<(), AllocError>
     ensures draws { OnOk result (markup.new ≡ markup.old ++ band_tag number height) }
-    ensures read { OnOk result (reading markup.new ≡ with_begun (codes "svg") (reading markup.old)) }
+    ensures read { Begins result markup.old markup.new (codes "svg") }
 {
     let view = format!(in markup.alloc(); "0 0 1200 {height}")?;
     let label = format!(in markup.alloc(); "Part {number} of the run")?;

@@ -1,6 +1,6 @@
 //! Reads that writes overlapped: what a picture shows of them beside the lines of the run.
-ghost use Rattle.std.specs.Prelude.{◌≡◌, ◌++◌, OnOk};
-ghost use Rattle.markup.specs.Figures.{drawings};
+ghost use Rattle.std.specs.Prelude.{◌≡◌, OnOk};
+ghost use Rattle.picture.specs.Adding.{Draws};
 ghost use Rattle.markup.specs.Readings.{reading};
 ghost use Rattle.picture.specs.Drawings.{open_shapes, read_shapes, seen_band};
 
@@ -24,7 +24,7 @@ pub(crate) fn draw_read(
     at: Point,
     markup: &mut Markup,
 ) -> Result<(), AllocError>
-    ensures draws { OnOk result (markup.new ≡ markup.old ++ drawings (read_shapes read.now at)) }
+    ensures draws { Draws result markup.old markup.new (read_shapes read.now at) }
     ensures read { OnOk result (reading markup.new ≡ reading markup.old) }
 {
     let title = read.title(alloc)?;
@@ -45,7 +45,7 @@ impl Band {
         x: u32,
         markup: &mut Markup,
     ) -> Result<(), AllocError>
-        ensures draws { OnOk result (markup.new ≡ markup.old ++ drawings (open_shapes (seen_band self.now) read.now x)) }
+        ensures draws { Draws result markup.old markup.new (open_shapes (seen_band self.now) read.now x) }
         ensures read { OnOk result (reading markup.new ≡ reading markup.old) }
     {
         let reader = self.layout.lane(read.reader).bar();

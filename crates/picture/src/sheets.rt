@@ -1,8 +1,9 @@
 //! What stands around the bands: the heading, the styles, the legend, the scenario and the slider.
 ghost use Rattle.std.specs.Prelude.{◌≡◌, [], ◌++◌, codes, IfOk, OnOk, Some};
+ghost use Rattle.picture.specs.Adding.{Begins};
 ghost use Rattle.std.specs.String.{string_bytes};
 ghost use Rattle.markup.specs.Elements.{opens_in};
-ghost use Rattle.markup.specs.Readings.{reading, with_begun};
+ghost use Rattle.markup.specs.Readings.{reading};
 ghost use Rattle.markup.specs.Titles.{lines_in};
 ghost use Rattle.picture.specs.Pages.{page_names, picture_names};
 ghost use Rattle.picture.specs.Sheets.{description_tag, ground_of, ground_tag, heading_of, heading_tag, height_of_legend, legend_front, legend_of, legend_tag, list_of, page_back, page_front, paper_of, picture_back, picture_front, plural_of, slider_of, svg_front, svg_tag, title_tag, titles_of};
@@ -67,7 +68,7 @@ fn add_paper(processes: u8, markup: &mut Markup) -> Result<(), AllocError>
 /// Begins the picture of the legend in a page.
 fn begin_legend(reads: Reads, markup: &mut Markup) -> Result<(), AllocError>
     ensures draws { OnOk result (markup.new ≡ markup.old ++ legend_front reads) }
-    ensures read { OnOk result (reading markup.new ≡ with_begun (codes "svg") (reading markup.old)) }
+    ensures read { Begins result markup.old markup.new (codes "svg") }
 {
     markup.constant("\n")?;
     enter_legend(reads, markup)?;
@@ -77,7 +78,7 @@ fn begin_legend(reads: Reads, markup: &mut Markup) -> Result<(), AllocError>
 /// The tag of that picture.
 fn enter_legend(reads: Reads, markup: &mut Markup) -> Result<(), AllocError>
     ensures draws { OnOk result (markup.new ≡ markup.old ++ legend_tag reads) }
-    ensures read { OnOk result (reading markup.new ≡ with_begun (codes "svg") (reading markup.old)) }
+    ensures read { Begins result markup.old markup.new (codes "svg") }
 {
     let height = legend_height(reads);
     let view = format!(in markup.alloc(); "0 0 1200 {height}")?;
@@ -186,7 +187,7 @@ pub fn picture_head(
 /// Begins one picture of this height.
 fn begin_picture(height: u64, markup: &mut Markup) -> Result<(), AllocError>
     ensures draws { OnOk result (markup.new ≡ markup.old ++ svg_front height) }
-    ensures read { OnOk result (reading markup.new ≡ with_begun (codes "svg") (reading markup.old)) }
+    ensures read { Begins result markup.old markup.new (codes "svg") }
 {
     markup.constant("<?xml version=\"1.0\" encoding=\"UTF-8\"?>\n")?;
     enter_picture(height, markup)?;
@@ -196,7 +197,7 @@ fn begin_picture(height: u64, markup: &mut Markup) -> Result<(), AllocError>
 /// The tag of one picture.
 fn enter_picture(height: u64, markup: &mut Markup) -> Result<(), AllocError>
     ensures draws { OnOk result (markup.new ≡ markup.old ++ svg_tag height) }
-    ensures read { OnOk result (reading markup.new ≡ with_begun (codes "svg") (reading markup.old)) }
+    ensures read { Begins result markup.old markup.new (codes "svg") }
 {
     let view = format!(in markup.alloc(); "0 0 1200 {height}")?;
     markup.enter(

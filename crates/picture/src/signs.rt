@@ -1,6 +1,6 @@
 //! The signs at the foot of a column.
-ghost use Rattle.std.specs.Prelude.{◌≤◌, ◌≡◌, ◌++◌, OnOk};
-ghost use Rattle.markup.specs.Figures.{drawings};
+ghost use Rattle.std.specs.Prelude.{◌≤◌, ◌≡◌, OnOk};
+ghost use Rattle.picture.specs.Adding.{Draws};
 ghost use Rattle.markup.specs.Readings.{reading};
 ghost use Rattle.picture.specs.Signs.{down_by, mark_sign, moved_by, settled_sign, sign, taken_sign};
 
@@ -16,7 +16,7 @@ pub(crate) fn draw_sign(
     at: Point,
     markup: &mut Markup,
 ) -> Result<(), AllocError>
-    ensures draws { OnOk result (markup.new ≡ markup.old ++ drawings (sign line.now.saying at)) }
+    ensures draws { Draws result markup.old markup.new (sign line.now.saying at) }
     ensures read { OnOk result (reading markup.new ≡ reading markup.old) }
 {
     match &line.saying {
@@ -40,7 +40,7 @@ fn draw_mark(
     at: Point,
     markup: &mut Markup,
 ) -> Result<(), AllocError>
-    ensures draws { OnOk result (markup.new ≡ markup.old ++ drawings (mark_sign mark.now changed at)) }
+    ensures draws { Draws result markup.old markup.new (mark_sign mark.now changed at) }
     ensures read { OnOk result (reading markup.new ≡ reading markup.old) }
 {
     match mark {
@@ -57,7 +57,7 @@ fn draw_mark(
 }
 
 fn draw_settled(value: bool, at: Point, markup: &mut Markup) -> Result<(), AllocError>
-    ensures draws { OnOk result (markup.new ≡ markup.old ++ drawings (settled_sign value at)) }
+    ensures draws { Draws result markup.old markup.new (settled_sign value at) }
     ensures read { OnOk result (reading markup.new ≡ reading markup.old) }
 {
     markup.path("diamond", moved(at, 0, 9), "l9 9l-9 9l-9 -9z")?;
@@ -73,7 +73,7 @@ fn draw_taken(
     at: Point,
     markup: &mut Markup,
 ) -> Result<(), AllocError>
-    ensures draws { OnOk result (markup.new ≡ markup.old ++ drawings (taken_sign changed place at)) }
+    ensures draws { Draws result markup.old markup.new (taken_sign changed place at) }
     ensures read { OnOk result (reading markup.new ≡ reading markup.old) }
 {
     let digits = place.to_string(alloc)?;

@@ -1,5 +1,6 @@
 //! The words in the bars of a lane.
-ghost use Rattle.std.specs.Prelude.{◌≡◌, ◌+◌, ◌*◌, ◌++◌, ◌&&◌, ◌||◌, not, [], codes, cond, IfOk, length, OnOk, option_map, string_bytes, take};
+ghost use Rattle.std.specs.Prelude.{◌≡◌, ◌+◌, ◌*◌, ◌++◌, ◌&&◌, ◌||◌, not, [], codes, cond, IfOk, length, OnOk, option_map, string_bytes};
+ghost use Rattle.picture.specs.Adding.{Draws};
 ghost use Rattle.std.specs.Fmt.{decimal};
 ghost use Rattle.markup.specs.Figures.{drawings};
 ghost use Rattle.markup.specs.Readings.{reading};
@@ -35,7 +36,7 @@ impl Band {
         process: u8,
         markup: &mut Markup,
     ) -> Result<(), AllocError>
-        ensures draws { OnOk result (markup.new ≡ markup.old ++ drawings (words_of_lane (seen_band self.now) process)) }
+        ensures draws { Draws result markup.old markup.new (words_of_lane (seen_band self.now) process) }
         ensures read { OnOk result (reading markup.new ≡ reading markup.old) }
     {
         let middle = self.layout.lane(process).bar() + 3;

@@ -1,0 +1,45 @@
+-- What a call that goes well adds to markup.
+use Rattle.std.specs.Prelude.{◌≡◌, ◌++◌, ℕ, List, Option, Result, IfOk, OnOk, flat_map}
+use Rattle.columns.specs.declared.columns.Column.{Column}
+use Rattle.columns.specs.Told.{told_in}
+use Rattle.markup.specs.Figures.{Shape, drawings}
+use Rattle.markup.specs.Markup.{Said, attribute_text, said_text}
+use Rattle.markup.specs.Readings.{reading, with_begun, with_lines}
+use Rattle.markup.specs.Titles.{lines_in}
+use Rattle.markup.specs.declared.attributes.Attribute.{Attribute}
+use Rattle.picture.specs.Bandings.{framed}
+use Rattle.picture.specs.Drawings.{band_shapes, seen_band}
+use Rattle.picture.specs.Pages.{lines_of_band}
+use Rattle.picture.specs.declared.bands.Band.{Band}
+use Rattle.picture.specs.declared.page.Form.{Form}
+use Rattle.picture.specs.declared.page.Page.{Page}
+
+module _ {A E : Type 0} where
+  -- these shapes
+  abbrev pub Draws : Result A E → List ℕ → List ℕ → List Shape → Type 0
+  Draws result old new shapes = OnOk result (new ≡ old ++ drawings shapes)
+
+  -- marks with these lines as their titles
+  abbrev pub TellsLines : Result A E → List ℕ → List ℕ → List (List ℕ) → Type 0
+  TellsLines result old new lines = OnOk result (reading new ≡ with_lines lines (reading old))
+
+  -- an element that goes on
+  abbrev pub Begins : Result A E → List ℕ → List ℕ → List ℕ → Type 0
+  Begins result old new tag = OnOk result (reading new ≡ with_begun tag (reading old))
+
+-- the lines that some columns tell
+abbrev pub all_told : List Column → List (List ℕ)
+all_told columns = flat_map told_in columns
+
+-- these lines are given with the band that is full, if one is
+abbrev pub GivesLines : {E : Type 0} → Result (Option (List ℕ)) E → List (List ℕ) → List (List ℕ) → Type 0
+GivesLines result kept lines = IfOk result (λ full. lines_of_band full ++ kept ≡ lines)
+
+-- a band is drawn in its frame
+abbrev pub FramesBand : {E : Type 0} → Result (List ℕ) E → Form → Page → Band → Type 0
+FramesBand result form page band =
+    IfOk result (λ markup. markup ≡ framed form page.bands page.height band.layout.height (drawings (band_shapes (seen_band band))))
+
+-- attributes that say this come behind the others
+abbrev pub AddsSaid : {A E : Type 0} → Result A E → List Attribute → List Attribute → List Said → Type 0
+AddsSaid result old new said = OnOk result (flat_map attribute_text new ≡ flat_map attribute_text old ++ flat_map said_text said)
