@@ -9,7 +9,7 @@ use Rattle.course.specs.Courses.{IsQuiet}
 use Rattle.course.specs.Happenings.{Happening, Tries, Lacks, Tires, Looks, past_after, refusals, refusals_at, tried}
 use Rattle.course.specs.Summaries.{counted}
 use Rattle.course.specs.Telling.{TellsOf, entry_made, told_text}
-use Rattle.course.specs.Texts.{entry_text, text_at}
+use Rattle.course.specs.Texts.{entry_text, store_text, text_at}
 use Rattle.record.specs.Shown.{refusal_line}
 use Rattle.course.specs.declared.summaries.Summary.{Summary}
 use Rattle.course.specs.declared.told.Told.{Told}
@@ -34,16 +34,16 @@ told_is s past (Tries event) (told.Accepted made) tells =
     accepted_text s past event (entry_made made) tells.1
 told_is s past (Tries event) (told.Refused p r) tells = refused_text s past event p r tells.0 tells.1
 told_is s past (Tries event) (told.Tired p) tells = absurd tells
-told_is s past (Tries event) (told.Shown line) tells = absurd tells
+told_is s past (Tries event) (told.Shown store) tells = absurd tells
 told_is s past (Lacks p) (told.Refused q r) tells = λ i. refusal_line (tells.0 i) (tells.1 i)
 told_is s past (Lacks p) (told.Accepted made) tells = absurd tells
 told_is s past (Lacks p) (told.Tired q) tells = absurd tells
-told_is s past (Lacks p) (told.Shown line) tells = absurd tells
+told_is s past (Lacks p) (told.Shown store) tells = absurd tells
 told_is s past (Tires p) (told.Tired q) tells = ap (λ p. text_at s past (Tires p)) tells
 told_is s past (Tires p) (told.Accepted made) tells = absurd tells
 told_is s past (Tires p) (told.Refused q r) tells = absurd tells
-told_is s past (Tires p) (told.Shown line) tells = absurd tells
-told_is s past Looks (told.Shown line) tells = tells
+told_is s past (Tires p) (told.Shown store) tells = absurd tells
+told_is s past Looks (told.Shown store) tells = ap store_text tells
 told_is s past Looks (told.Accepted made) tells = absurd tells
 told_is s past Looks (told.Refused q r) tells = absurd tells
 told_is s past Looks (told.Tired q) tells = absurd tells
@@ -75,16 +75,16 @@ counts_more s before (Tries event) (told.Accepted made) summary tells events ref
 counts_more s before (Tries event) (told.Refused p r) summary tells events refused =
     (events ∙ sym (as_long s (tried before) event r tells.1), omega (arith, refused, refused_counts s (past_after s before) event r tells.1))
 counts_more s before (Tries event) (told.Tired p) summary tells events refused = absurd tells
-counts_more s before (Tries event) (told.Shown line) summary tells events refused = absurd tells
+counts_more s before (Tries event) (told.Shown store) summary tells events refused = absurd tells
 counts_more s before (Lacks p) (told.Refused q r) summary tells events refused = (events, ap (λ n. n + 1) refused)
 counts_more s before (Lacks p) (told.Accepted made) summary tells events refused = absurd tells
 counts_more s before (Lacks p) (told.Tired q) summary tells events refused = absurd tells
-counts_more s before (Lacks p) (told.Shown line) summary tells events refused = absurd tells
+counts_more s before (Lacks p) (told.Shown store) summary tells events refused = absurd tells
 counts_more s before (Tires p) (told.Tired q) summary tells events refused = (events, refused ∙ sym (add-zero (refusals s before)))
 counts_more s before (Tires p) (told.Accepted made) summary tells events refused = absurd tells
 counts_more s before (Tires p) (told.Refused q r) summary tells events refused = absurd tells
-counts_more s before (Tires p) (told.Shown line) summary tells events refused = absurd tells
-counts_more s before Looks (told.Shown line) summary tells events refused = (events, refused ∙ sym (add-zero (refusals s before)))
+counts_more s before (Tires p) (told.Shown store) summary tells events refused = absurd tells
+counts_more s before Looks (told.Shown store) summary tells events refused = (events, refused ∙ sym (add-zero (refusals s before)))
 counts_more s before Looks (told.Accepted made) summary tells events refused = absurd tells
 counts_more s before Looks (told.Refused q r) summary tells events refused = absurd tells
 counts_more s before Looks (told.Tired q) summary tells events refused = absurd tells

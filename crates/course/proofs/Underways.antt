@@ -85,10 +85,10 @@ pub events_counted : (answer : Told) (summary : Summary) → (counted answer sum
 events_counted (told.Accepted made) summary = omega arith
 events_counted (told.Refused p r) summary = omega arith
 events_counted (told.Tired p) summary = omega arith
-events_counted (told.Shown line) summary = omega arith
+events_counted (told.Shown store) summary = omega arith
 
 pub refused_counted : (answer : Told) (summary : Summary) → (counted answer summary).refused ≤ summary.refused + 1
 refused_counted (told.Accepted made) summary = omega arith
 refused_counted (told.Refused p r) summary = omega arith
 refused_counted (told.Tired p) summary = omega arith
-refused_counted (told.Shown line) summary = omega arith
+refused_counted (told.Shown store) summary = omega arith

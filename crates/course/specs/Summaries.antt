@@ -21,7 +21,7 @@ abbrev pub counted : Told → Summary → Summary
 counted (told.Accepted made) summary = record summary { events = summary.events + 1 }
 counted (told.Refused p refusal) summary = record summary { refused = summary.refused + 1 }
 counted (told.Tired p) summary = summary
-counted (told.Shown line) summary = summary
+counted (told.Shown store) summary = summary
 
 -- so many more may be counted
 abbrev pub CanCount : Summary → ℕ → Type 0

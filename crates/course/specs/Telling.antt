@@ -1,6 +1,5 @@
 -- What a turn tells of what happens, and its text.
 use Rattle.std.specs.Prelude.{◌≡◌, ℕ, Bool, true, false, List, flat_map, map, Option, None, Some, Result, Ok, Err}
-use Rattle.std.specs.String.{string_bytes}
 use Rattle.record.specs.declared.access.Access.{Access}
 use Rattle.plain_store.specs.declared.setups.Setup.{Setup}
 use Rattle.record.specs.declared.events.Event.{Event}
@@ -42,7 +41,7 @@ TellsOf s past (Tries event) (told.Accepted made) = (made.event ≡ event) × (e
 TellsOf s past (Tries event) (told.Refused p refusal) = (p ≡ process_of event) × (refused s past event ≡ Some refusal)
 TellsOf s past (Lacks p) (told.Refused q refusal) = (q ≡ p) × (refusal ≡ NoProcess)
 TellsOf s past (Tires p) (told.Tired q) = q ≡ p
-TellsOf s past Looks (told.Shown line) = string_bytes line ≡ store_text (newest_store s past)
+TellsOf s past Looks (told.Shown store) = store ≡ newest_store s past
 TellsOf s past _ _ = ⊥
 
 -- the same, where something or nothing happens
@@ -56,7 +55,7 @@ abbrev pub told_text : ℕ → Told → List ℕ
 told_text number (told.Accepted made) = flat_map (mark_line number (process_of made.event)) (marks_made made)
 told_text number (told.Refused p refusal) = refusal_line p refusal
 told_text number (told.Tired p) = turns_line p
-told_text number (told.Shown line) = string_bytes line
+told_text number (told.Shown store) = store_text store
 
 -- a Step that is made or refused, with what it leads to
 abbrev pub with_told : Leads → Result Access Refusal → Result EventMade Refusal

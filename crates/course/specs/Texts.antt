@@ -16,7 +16,7 @@ use Rattle.scenario.specs.Reading.{Script, scenario_of}
 use Rattle.scenario.specs.files.declared.faults.LineFault.{LineFault}
 use Rattle.course.specs.Happenings.{Happening, Tries, Lacks, Tires, Looks, past_after}
 use Rattle.course.specs.Runs.{happenings}
-use Rattle.plain_store.specs.StoreLine.{show_text}
+use Rattle.plain_store.specs.StoreLine.{store_words}
 use Rattle.course.specs.Summaries.{summary_of}
 use Rattle.course.specs.declared.summaries.Summary.{Summary}
 
@@ -43,10 +43,14 @@ event_text s past event = elim (refused s past event) [
 abbrev pub newest_store : Setup → Past → Option Contents
 newest_store s past = cond (is_somebody_inside s past) None (Some (store_after s (history s past)))
 
--- a store, or that somebody is inside
+-- a store in words, or that somebody is inside
+abbrev pub newest_words : Option Contents → List ℕ
+newest_words None = codes "busy"
+newest_words (Some store) = store_words store.pairs
+
+-- the same on one line
 abbrev pub store_text : Option Contents → List ℕ
-store_text None = codes "show busy\n"
-store_text (Some store) = show_text store.pairs
+store_text store = codes "show " ++ newest_words store ++ codes "\n"
 
 -- what happens, against the past before it
 abbrev pub text_at : Setup → Past → Happening → List ℕ

@@ -17,6 +17,7 @@ pub use auditor::Watch;
 pub use judging::{Audit, Overheard};
 pub use listening::Listener;
 pub use record::{Access, Entry, Event, Mark, Record, Refusal, Taken, refusal_line};
+pub use store_line::{newest_line, newest_words};
 pub use summaries::Summary;
 pub use told::{Accepted, Drawn, Stepped, Told, Turns};
 pub use turns::{Course, Steppers};

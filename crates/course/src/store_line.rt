@@ -1,18 +1,26 @@
-//! The newest store of a run, on one line.
+//! The newest store of a run, in words and on one line.
 ghost use Rattle.std.specs.Prelude.{◌≡◌, IfOk};
 ghost use Rattle.std.specs.String.{string_bytes};
-ghost use Rattle.course.specs.Texts.{store_text};
+ghost use Rattle.course.specs.Texts.{newest_words as words_of, store_text};
 
-use plain_store::show_line;
+use plain_store::store_words;
 use std::alloc::{AllocError, Global};
 use world::Image;
 
-/// The newest store, or that somebody is inside.
-pub(crate) fn newest_line(alloc: Global, store: &Option<Image>) -> Result<String, AllocError>
-    ensures { IfOk result (λ line. string_bytes line ≡ store_text store.now) }
+/// The newest store in words, or `busy`, if somebody is inside.
+pub fn newest_words(alloc: Global, store: &Option<Image>) -> Result<String, AllocError>
+    ensures { IfOk result (λ words. string_bytes words ≡ words_of store.now) }
 {
     match store {
-        None => String::from_str(alloc, "show busy\n"),
-        Some(store) => show_line(alloc, store),
+        None => String::from_str(alloc, "busy"),
+        Some(store) => store_words(alloc, store),
     }
+}
+
+/// The same as a line, as `show a=c:5`.
+pub fn newest_line(alloc: Global, store: &Option<Image>) -> Result<String, AllocError>
+    ensures { IfOk result (λ line. string_bytes line ≡ store_text store.now) }
+{
+    let words = newest_words(alloc, store)?;
+    format!(in alloc; "show {words}\n")
 }

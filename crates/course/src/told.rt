@@ -6,7 +6,7 @@ use plain_store::NestedTypes;
 use record::{Access, Act, Entry, Event, Mark, Refusal};
 use smallvec::SmallVec;
 use std::alloc::Global;
-use world::Effect;
+use world::{Effect, Image};
 
 /// An event that was accepted, the access that it makes, if it makes one, and what it leads to. A command that it takes
 /// gets this place in the history.
@@ -67,8 +67,8 @@ pub enum Told {
     Refused { process: u8, refusal: Refusal },
     /// This process has made all the Steps of a `go`.
     Tired(u8),
-    /// The line that shows the newest store.
-    Shown(String),
+    /// The newest store; none while somebody is inside.
+    Shown(Option<Image>),
 }
 
 /// Turns of a line.

@@ -1,6 +1,5 @@
 //! A run, turn by turn: what the next turns of a line do on the world.
 ghost use Rattle.std.specs.Prelude.{◌≡◌, ◌^◌, ◌+◌, ◌-◌, ◌<◌, ◌≤◌, true, false, Ok, Some, IfOk, IfSome, length, List};
-ghost use Rattle.std.specs.String.{string_bytes};
 ghost use Rattle.plain_store.specs.Setups.{checked};
 ghost use Rattle.record.specs.declared.Event.{Event as Happening};
 ghost use Rattle.record.specs.declared.Refusal.TheVariants.{Memory};
@@ -12,14 +11,13 @@ ghost use Rattle.world.specs.Shows.{Shows};
 ghost use Rattle.course.specs.Courses.{Follows, Makes, MakesTurns, CourseState};
 ghost use Rattle.course.specs.Happenings.{Tries};
 ghost use Rattle.course.specs.Runs.{Run, is_there as is_target, past_in, run_at_start};
-ghost use Rattle.course.specs.Texts.{newest_store, store_text};
+ghost use Rattle.course.specs.Texts.{newest_store};
 ghost use Rattle.course.specs.Turns.{happens, turn_of, turns_in as turns_of};
 
 mod playing;
 mod steps;
 mod walks;
 
-use crate::store_line::newest_line;
 use crate::told::{Accepted, Told, Turns};
 use plain_store::{NestedTypes, Setup};
 use record::{Event, Refusal, Taken};
@@ -141,7 +139,7 @@ impl Course {
             }
             Line::Show => {
                 self.left -= 1;
-                Ok(Turns::one(Told::Shown(self.shown()?)))
+                Ok(Turns::one(Told::Shown(self.newest())))
             }
         }
     }
@@ -169,13 +167,6 @@ impl Course {
             }
             Err(refusal) => refused(event.process(), refusal),
         }
-    }
-
-    /// The line that shows the store after the history, or that somebody is inside.
-    fn shown(&self) -> Result<String, AllocError>
-        ensures { IfOk result (λ line. (events : List Happening) → Shows self.now.world events → string_bytes line ≡ store_text (newest_store self.now.world.setup (past_of self.now.world.setup events))) }
-    {
-        newest_line(self.alloc, &self.newest())
     }
 
     /// The store after the history; none while somebody is inside.

@@ -13,7 +13,7 @@ abbrev pub event_told : Told → List Event
 event_told (told.Accepted made) = made.event ∷ []
 event_told (told.Refused p refusal) = []
 event_told (told.Tired p) = []
-event_told (told.Shown line) = []
+event_told (told.Shown store) = []
 
 -- the world goes on by an event, and the record by its entry, if it adds one
 pub record Records (old new : WorldState) (events : List Event) (entries : List Entry) : Type 0 where

@@ -37,7 +37,7 @@ abbrev pub entry_told : Told → List ℕ
 entry_told (told.Accepted made) = entry_line (entry_made made)
 entry_told (told.Refused p refusal) = []
 entry_told (told.Tired p) = []
-entry_told (told.Shown line) = []
+entry_told (told.Shown store) = []
 
 -- from one run to another: the cursor, and the lines of the entries between, which were written
 pub record Copies (s : Setup) (before after : Run) (course : CourseState) (old new : Option (List ℕ)) : Type 0 where

@@ -8,7 +8,7 @@ ghost use Rattle.course.specs.Telling.{told_text};
 ghost use Rattle.course.specs.Texts.{mark_line as line_of_mark, turns_line as line_of_turns, end_line as line_at_end};
 ghost use Rattle.course.specs.Writing.{IsWriteFault, failed_write};
 
-use course::{Mark, Summary, Told, refusal_line};
+use course::{Mark, Summary, Told, newest_line, refusal_line};
 use scenario::{Fault, Sink, write_all};
 use std::alloc::{AllocError, Global};
 
@@ -29,7 +29,7 @@ fn write_told<W: Sink>(alloc: Global, number: u64, told: &Told, output: &mut W) 
             write_line(output, refusal_line(alloc, *process, refusal))
         }
         Told::Tired(process) => write_line(output, turns_line(alloc, *process)),
-        Told::Shown(line) => write_all(output, line.as_bytes()),
+        Told::Shown(store) => write_line(output, newest_line(alloc, store)),
     }
 }
 

@@ -52,16 +52,16 @@ past_told : (s : Setup) (before : List Happening) (this : Happening) (answer : T
 past_told s before (Tries event) (told.Accepted made) tells = event_added s before event (entry_made made) tells.1
 past_told s before (Tries event) (told.Refused p r) tells = past_kept s (tried before) event r tells.1
 past_told s before (Tries event) (told.Tired p) tells = absurd tells
-past_told s before (Tries event) (told.Shown line) tells = absurd tells
+past_told s before (Tries event) (told.Shown store) tells = absurd tells
 past_told s before (Lacks p) (told.Refused q r) tells = refl
 past_told s before (Lacks p) (told.Accepted made) tells = absurd tells
 past_told s before (Lacks p) (told.Tired q) tells = absurd tells
-past_told s before (Lacks p) (told.Shown line) tells = absurd tells
+past_told s before (Lacks p) (told.Shown store) tells = absurd tells
 past_told s before (Tires p) (told.Tired q) tells = refl
 past_told s before (Tires p) (told.Accepted made) tells = absurd tells
 past_told s before (Tires p) (told.Refused q r) tells = absurd tells
-past_told s before (Tires p) (told.Shown line) tells = absurd tells
-past_told s before Looks (told.Shown line) tells = refl
+past_told s before (Tires p) (told.Shown store) tells = absurd tells
+past_told s before Looks (told.Shown store) tells = refl
 past_told s before Looks (told.Accepted made) tells = absurd tells
 past_told s before Looks (told.Refused q r) tells = absurd tells
 past_told s before Looks (told.Tired q) tells = absurd tells
@@ -71,26 +71,26 @@ in_turn : (s : Setup) → checked s ≡ Ok tt → (before : List Happening) (thi
 in_turn s good before (Tries event) (told.Accepted made) tells = entry_in_turn s good (tried before) event (entry_made made) (ap process_of tells.0) tells.1
 in_turn s good before (Tries event) (told.Refused p r) tells = tt
 in_turn s good before (Tries event) (told.Tired p) tells = tt
-in_turn s good before (Tries event) (told.Shown line) tells = tt
+in_turn s good before (Tries event) (told.Shown store) tells = tt
 in_turn s good before (Lacks p) (told.Accepted made) tells = absurd tells
 in_turn s good before (Lacks p) (told.Refused q r) tells = tt
 in_turn s good before (Lacks p) (told.Tired q) tells = tt
-in_turn s good before (Lacks p) (told.Shown line) tells = tt
+in_turn s good before (Lacks p) (told.Shown store) tells = tt
 in_turn s good before (Tires p) (told.Accepted made) tells = absurd tells
 in_turn s good before (Tires p) (told.Refused q r) tells = tt
 in_turn s good before (Tires p) (told.Tired q) tells = tt
-in_turn s good before (Tires p) (told.Shown line) tells = tt
+in_turn s good before (Tires p) (told.Shown store) tells = tt
 in_turn s good before Looks (told.Accepted made) tells = absurd tells
 in_turn s good before Looks (told.Refused q r) tells = tt
 in_turn s good before Looks (told.Tired q) tells = tt
-in_turn s good before Looks (told.Shown line) tells = tt
+in_turn s good before Looks (told.Shown store) tells = tt
 
 -- the lines of the calls that have ended, with what is told
 lines_told : (s : Setup) (past : Past) (answer : Told) → ended_lines s (past_with past answer) ≡ ended_lines s past ++ told_line s past answer
 lines_told s past (told.Accepted made) = refl
 lines_told s past (told.Refused p r) = sym (append-nil (ended_lines s past))
 lines_told s past (told.Tired p) = sym (append-nil (ended_lines s past))
-lines_told s past (told.Shown line) = sym (append-nil (ended_lines s past))
+lines_told s past (told.Shown store) = sym (append-nil (ended_lines s past))
 
 -- what the table hears, and what is written of it
 told_heard : (s : Setup) (before : List Happening) (this : Happening) (answer : Told) (taken : List Taken) (old new : TableState) (a b : Option (List ℕ)) → Happens s before this answer taken → Tells answer old new a b → HasTabled s before old →

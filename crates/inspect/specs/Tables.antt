@@ -33,21 +33,21 @@ abbrev pub past_with : Past → Told → Past
 past_with past (told.Accepted made) = entry_made made ∷ past
 past_with past (told.Refused p refusal) = past
 past_with past (told.Tired p) = past
-past_with past (told.Shown line) = past
+past_with past (told.Shown store) = past
 
 -- the line of the call that ends with it, if one does
 abbrev pub told_line : Setup → Past → Told → List ℕ
 told_line s past (told.Accepted made) = line_of (length past) (ended_call s past (entry_made made))
 told_line s past (told.Refused p refusal) = []
 told_line s past (told.Tired p) = []
-told_line s past (told.Shown line) = []
+told_line s past (told.Shown store) = []
 
 -- the entry that is told, if one is, may come next
 abbrev pub IsInTurn : Setup → Past → Told → Type 0
 IsInTurn s past (told.Accepted made) = ComesInTurn s past (entry_made made)
 IsInTurn s past (told.Refused p refusal) = Unit {0}
 IsInTurn s past (told.Tired p) = Unit {0}
-IsInTurn s past (told.Shown line) = Unit {0}
+IsInTurn s past (told.Shown store) = Unit {0}
 
 -- a table has heard what is told, whatever has happened before, and the line of the call that ended was written
 abbrev pub Tells : Told → TableState → TableState → Option (List ℕ) → Option (List ℕ) → Type 0

@@ -1,15 +1,25 @@
--- A store on one line, pair by pair.
-use Rattle.std.proofs.Common.{◌≡◌, ℕ, ◌+◌, List, ◌++◌, Some, drop, ap, sym, ◌∙◌, slice_get, append_assoc, flat_map, codes}
+-- A store in words, pair by pair.
+use Rattle.std.proofs.Common.{◌≡◌, ℕ, ◌+◌, List, [], ◌∷◌, ◌++◌, None, Some, drop, ap, sym, refl, ◌∙◌, slice_get, append_assoc, flat_map, codes}
 use Rattle.plain_store.specs.Shown.{value_text}
 use Rattle.plain_store.specs.declared.commands.Value.{Value}
 use Rattle.plain_store.specs.Pairs.{Pair}
 use Rattle.plain_store.proofs.OpeningPairs.{drop-next}
-use Rattle.plain_store.specs.StoreLine.{pair_text}
+use Rattle.plain_store.specs.StoreLine.{next_pair, pair_text, store_words}
+
+-- no pairs
+pub no_pairs : (pairs : List Pair) → slice_get pairs 0 ≡ None → codes "empty" ≡ store_words pairs
+no_pairs [] none = refl
+no_pairs (pair ∷ pairs) none = absurd (cc)
+
+-- the first pair, and those behind it
+pub first_pair : (pairs : List Pair) (pair : Pair) → slice_get pairs 0 ≡ Some pair → pair_text pair ++ flat_map next_pair (drop 1 pairs) ≡ store_words pairs
+first_pair [] pair at = absurd (cc)
+first_pair (first ∷ pairs) pair at = let same : pair ≡ first = cc in ap (λ p. pair_text p ++ flat_map next_pair pairs) same
 
 -- a text and the pairs from a place on, one pair later
-pub pairs_more : (told : List ℕ) (pairs : List Pair) (k : ℕ) (p : Pair) → slice_get pairs k ≡ Some p → (told ++ pair_text p) ++ flat_map pair_text (drop (k + 1) pairs) ≡ told ++ flat_map pair_text (drop k pairs)
-pairs_more told pairs k p at = append_assoc told _ _ ∙ ap (λ ps. told ++ flat_map pair_text ps) (sym (drop-next pairs k p at))
+pub pairs_more : (told : List ℕ) (pairs : List Pair) (k : ℕ) (p : Pair) → slice_get pairs k ≡ Some p → (told ++ next_pair p) ++ flat_map next_pair (drop (k + 1) pairs) ≡ told ++ flat_map next_pair (drop k pairs)
+pairs_more told pairs k p at = append_assoc told _ _ ∙ ap (λ ps. told ++ flat_map next_pair ps) (sym (drop-next pairs k p at))
 
 -- a pair's text, as `format!` puts it together
-pub pair_text_is : (name : List ℕ) (value : Value) → codes " " ++ (name ++ (codes "=" ++ value_text value)) ≡ pair_text (name, value)
+pub pair_text_is : (name : List ℕ) (value : Value) → name ++ (codes "=" ++ value_text value) ≡ pair_text (name, value)
 pair_text_is name value = simp append_assoc

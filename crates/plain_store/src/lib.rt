@@ -32,6 +32,6 @@ pub use outcomes::{Outcome, changes_are_told_by_pairs, is_new};
 pub use padding::pad;
 pub use plain::PlainStore;
 pub use setups::{BadSetup, Setup};
-pub use store_line::show_line;
+pub use store_line::{pair_words, show_line, store_words};
 pub use stores::{Store, opened};
 pub use texts::{BadText, Text};

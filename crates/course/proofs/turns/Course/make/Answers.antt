@@ -40,10 +40,10 @@ returns-in-Flick-clause-made c =
     subst family c.self.view_is (one_told (course i.world i.flicks i.left) new c.args.line.now (line.Flick c.in-Flick.flick) c.ended-in-Flick.result None c.ended-in-Flick.ensures c.if-self-eq0.false c.in-Flick.is
     (flick_made i.world i.flicks c.set.new.self i.left c.in-Flick.flick few c.set.ensures))
 
-pub returns-in_ok-shown-in-Show-clause-made : goal.returns-in_ok-shown-in-Show-clause-made
-returns-in_ok-shown-in-Show-clause-made c =
+pub returns-in-Show-clause-made : goal.returns-in-Show-clause-made
+returns-in-Show-clause-made c =
     let i = c.self.inside in
     let new : CourseState = course i.world i.flicks (i.left - 1) in
     let family : CourseState → Type 0 = λ old. (run : Run) → Follows old run → MakesTurns old c.args.line.now run c.one.result new in
-    subst family c.self.view_is (one_told (course i.world i.flicks i.left) new c.args.line.now line.Show c.one.result (Some (told.Shown c.in_ok-shown-in-Show.field-0)) c.one.ensures c.if-self-eq0.false c.in-Show.is
-    (show_made i.world i.flicks i.left (told.Shown c.in_ok-shown-in-Show.field-0) c.in_ok-shown-in-Show.ensures))
+    subst family c.self.view_is (one_told (course i.world i.flicks i.left) new c.args.line.now line.Show c.one.result (Some (told.Shown c.newest.result)) c.one.ensures c.if-self-eq0.false c.in-Show.is
+    (show_made i.world i.flicks i.left (told.Shown c.newest.result) c.newest.ensures))
