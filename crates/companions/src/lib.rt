@@ -8,6 +8,6 @@ mod store_changes;
 pub use overlaps::{OverlapsHeard, hear, take_ended};
 pub use picture::{
     FIRST_BAND, Form, Markup, OverlappedRead, Page, Reads, RunLine, Saying, TakenChange, page_end,
-    page_head, picture_end, picture_head,
+    page_head, picture_end, picture_head, stages_are_the_records,
 };
 pub use store_changes::{apply, opening_store, store_words, words_by_pairs, words_shown};

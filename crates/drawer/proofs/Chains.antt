@@ -16,7 +16,7 @@ use Rattle.record.specs.Spans.{takings}
 use Rattle.record.proofs.Width.{IsGood, is_good}
 use Rattle.course.specs.history_laws.HistoryLaws.{taken_with}
 use Rattle.course.proofs.history_laws.Places.{at_its_place, grows_by_the_taken}
-use Rattle.picture.specs.columns.Stages.{marks_in}
+use Rattle.companions.specs.picture.columns.Stages.{marks_in}
 use Rattle.drawer.specs.Chains.{ChainIsTheHistory, Knot, knot_of, knots, numbered}
 
 -- a knot of what is taken

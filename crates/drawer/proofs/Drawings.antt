@@ -13,18 +13,18 @@ use Rattle.course.specs.Writing.{Counts}
 use Rattle.course.specs.declared.summaries.Summary.{Summary}
 use Rattle.course.proofs.Onwards.{Onward, onward_end}
 use Rattle.course.proofs.Written.{appends_none}
-use Rattle.picture.specs.Bandings.{Plan}
-use Rattle.picture.specs.Pages.{page_of}
-use Rattle.picture.specs.columns.Stages.{marks_in}
-use Rattle.picture.specs.declared.reads.Reads.{Reads as Mode}
+use Rattle.companions.specs.picture.Bandings.{Plan}
+use Rattle.companions.specs.picture.Pages.{page_of}
+use Rattle.companions.specs.picture.columns.Stages.{marks_in}
+use Rattle.companions.specs.picture.declared.reads.Reads.{Reads as Mode}
 use Rattle.drawer.specs.Drawings.{Advances, DrawsBands, DrawsLine, DrawsOn, DrawsRest, HasDrawn, Kept, Recalls, kept}
 use Rattle.drawer.specs.Items.{Gives, SaysEnd, first_line, given_at_end, given_by, given_from, given_last, lines_given, reads_since}
 use Rattle.drawer.specs.declared.drawing.Drawing.{Drawing}
-use Rattle.drawer.specs.declared.overlaps.Overlaps.{Overlaps}
+use Rattle.companions.specs.declared.overlaps.OverlapsHeard.{OverlapsHeard}
 use Rattle.drawer.proofs.Drawn.{draws_bands, draws_on_both, draws_on_none}
 
 -- from the start of a run on, between two lines, of which the last one has this number in the printed scenario
-pub record Drawn (plan : Plan) (mode : Mode) (s : Setup) (lines rest : List Line) (source : ℕ) (course : CourseState) (summary : Summary) (store : Contents) (overlaps : Option Overlaps) (has : Kept) (old new : Option (List ℕ)) : Type 0 where
+pub record Drawn (plan : Plan) (mode : Mode) (s : Setup) (lines rest : List Line) (source : ℕ) (course : CourseState) (summary : Summary) (store : Contents) (overlaps : Option OverlapsHeard) (has : Kept) (old new : Option (List ℕ)) : Type 0 where
   pub text : List ℕ
   pub marks : List (ℕ × Mark)
   pub gives : List Gives
@@ -39,7 +39,7 @@ pub record Drawn (plan : Plan) (mode : Mode) (s : Setup) (lines rest : List Line
   pub recalls : Recalls mode s onward.now.happened store overlaps
 
 -- at the start
-pub drawn_start : (plan : Plan) (mode : Mode) (s : Setup) (lines : List Line) (source : ℕ) (course : CourseState) (summary : Summary) (store : Contents) (overlaps : Option Overlaps) (has : Kept) (a : Option (List ℕ)) → course.world.setup ≡ s → Follows course run_at_start → summary ≡ record { events = 0; taken = 0; refused = 0 } → has.lines ≡ [] → has.page ≡ page_of plan [] →
+pub drawn_start : (plan : Plan) (mode : Mode) (s : Setup) (lines : List Line) (source : ℕ) (course : CourseState) (summary : Summary) (store : Contents) (overlaps : Option OverlapsHeard) (has : Kept) (a : Option (List ℕ)) → course.world.setup ≡ s → Follows course run_at_start → summary ≡ record { events = 0; taken = 0; refused = 0 } → has.lines ≡ [] → has.page ≡ page_of plan [] →
     source + 1 ≡ first_line s → Recalls mode s [] store overlaps → Drawn plan mode s lines lines source course summary store overlaps has a a
 drawn_start plan mode s lines source course summary store overlaps has a setup follows none empty page begins recalls = record {
   text = [];
@@ -105,7 +105,7 @@ drawn_on plan mode s lines rest line source course course' drawing drawings a b 
     }
 
 -- the whole run, once the last line and what was held back are drawn
-pub drawn_end : (plan : Plan) (mode : Mode) (s : Setup) (lines : List Line) (source : ℕ) (course : CourseState) (summary : Summary) (store : Contents) (overlaps : Option Overlaps) (has : Kept) (a b c : Option (List ℕ)) (ending : List ℕ) (events height : ℕ) →
+pub drawn_end : (plan : Plan) (mode : Mode) (s : Setup) (lines : List Line) (source : ℕ) (course : CourseState) (summary : Summary) (store : Contents) (overlaps : Option OverlapsHeard) (has : Kept) (a b c : Option (List ℕ)) (ending : List ℕ) (events height : ℕ) →
     (d : Drawn plan mode s lines [] source course summary store overlaps has a b) → events ≡ summary.events →
     DrawsRest has b c ending (lines_given mode (source + 1) events (reads_since s d.onward.now.happened) (SaysEnd (summary_of s (runs s lines run_at_start).happened) ∷ [])) height →
     DrawsBands plan a c (text_of s (runs s lines run_at_start).happened ++ ending) (marks_in (past_in s (runs s lines run_at_start)))

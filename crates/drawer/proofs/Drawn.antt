@@ -3,19 +3,19 @@ use Rattle.std.proofs.Common.{◌≡◌, ℕ, true, List, [], ◌∷◌, ◌++�
 use Rattle.std.proofs.lemmas.Grind.{flat_map-append}
 use Rattle.std.specs.Io.KnownBytes.{Appends}
 use Rattle.record.specs.declared.marks.Mark.{Mark}
-use Rattle.picture.specs.markup.Elements.{EndsAll, opens_in}
-use Rattle.picture.specs.markup.Titles.{is_at_rest, lines_in, tags_of}
-use Rattle.picture.proofs.markup.Lines.{lines_on, rests_on}
-use Rattle.picture.proofs.markup.Stacks.{opens_on}
-use Rattle.picture.specs.Bandings.{Item, Plan, Reads, Tells, bands_told, full_told}
-use Rattle.picture.specs.Pages.{GivesRest, GoesOn, SeenPage, band_text, lines_of_band, page_of}
-use Rattle.picture.specs.columns.Stages.{marks_said}
-use Rattle.picture.specs.Standings.{sayings}
-use Rattle.picture.specs.columns.Told.{text_of}
-use Rattle.picture.specs.declared.page.Form.{Form}
-use Rattle.picture.specs.columns.declared.reads.OverlappedRead.{OverlappedRead}
-use Rattle.picture.specs.declared.reads.Reads.{Reads as Mode}
-use Rattle.picture.specs.columns.declared.told.RunLine.{RunLine}
+use Rattle.companions.specs.picture.markup.Elements.{EndsAll, opens_in}
+use Rattle.companions.specs.picture.markup.Titles.{is_at_rest, lines_in, tags_of}
+use Rattle.companions.proofs.picture.markup.Lines.{lines_on, rests_on}
+use Rattle.companions.proofs.picture.markup.Stacks.{opens_on}
+use Rattle.companions.specs.picture.Bandings.{Item, Plan, Reads, Tells, bands_told, full_told}
+use Rattle.companions.specs.picture.Pages.{GivesRest, GoesOn, SeenPage, band_text, lines_of_band, page_of}
+use Rattle.companions.specs.picture.columns.Stages.{marks_said}
+use Rattle.companions.specs.picture.Standings.{sayings}
+use Rattle.companions.specs.picture.columns.Told.{text_of}
+use Rattle.companions.specs.picture.declared.page.Form.{Form}
+use Rattle.companions.specs.picture.columns.declared.reads.OverlappedRead.{OverlappedRead}
+use Rattle.companions.specs.picture.declared.reads.Reads.{Reads as Mode}
+use Rattle.companions.specs.picture.columns.declared.told.RunLine.{RunLine}
 use Rattle.scenario.specs.Reading.{Script}
 use Rattle.course.specs.Texts.{replayed}
 use Rattle.course.proofs.Written.{appends_both, appends_none}

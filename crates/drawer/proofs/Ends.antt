@@ -13,8 +13,8 @@ use Rattle.scenario.specs.Reading.{Script, scenario_of}
 use Rattle.course.specs.Replays.{ended}
 use Rattle.course.specs.Texts.{replay_text, replayed}
 use Rattle.course.specs.Writing.{IsWriteFault, failed_write}
-use Rattle.picture.specs.declared.page.Form.{Form}
-use Rattle.picture.specs.declared.reads.Reads.{Reads as Mode}
+use Rattle.companions.specs.picture.declared.page.Form.{Form}
+use Rattle.companions.specs.picture.declared.reads.Reads.{Reads as Mode}
 use Rattle.drawer.specs.Drawings.{DrawsAll, Drew}
 
 -- a fault of a line

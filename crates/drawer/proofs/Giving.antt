@@ -9,16 +9,16 @@ use Rattle.record.specs.declared.history.Taken.{Taken}
 use Rattle.record.specs.declared.marks.Mark.{Mark}
 use Rattle.record.specs.declared.marks.Mark.TheVariants as mark
 use Rattle.course.specs.Texts.{mark_line}
-use Rattle.picture.specs.columns.Told.{saying_text}
-use Rattle.picture.specs.columns.declared.reads.OverlappedRead.{OverlappedRead}
-use Rattle.picture.specs.declared.reads.Reads.{Reads as Mode}
-use Rattle.picture.specs.declared.reads.Reads.TheVariants.{Hidden, Shown}
-use Rattle.picture.specs.columns.declared.told.TakenChange.{TakenChange}
-use Rattle.picture.specs.columns.declared.told.Saying.TheVariants.{Marked}
+use Rattle.companions.specs.picture.columns.Told.{saying_text}
+use Rattle.companions.specs.picture.columns.declared.reads.OverlappedRead.{OverlappedRead}
+use Rattle.companions.specs.picture.declared.reads.Reads.{Reads as Mode}
+use Rattle.companions.specs.picture.declared.reads.Reads.TheVariants.{Hidden, Shown}
+use Rattle.companions.specs.picture.columns.declared.told.TakenChange.{TakenChange}
+use Rattle.companions.specs.picture.columns.declared.told.Saying.TheVariants.{Marked}
 use Rattle.drawer.specs.Changes.{IsNext, takes}
 use Rattle.drawer.specs.Drawings.{AreNext, all_take}
 use Rattle.drawer.specs.Items.{Gives, GivesLine, GivesRead, Says, first_line, lines_given, waiting}
-use Rattle.drawer.specs.Overlaps.{shown_of}
+use Rattle.companions.specs.Overlaps.{shown_of}
 
 -- one more, by what is made of each
 pub map_next : {A : Type 0} {B : Type 0} (f : A → B) (xs : List A) (k : ℕ) (d : A) → k < length xs → map f (take (k + 1) xs) ≡ map f (take k xs) ++ f (get_or xs k d) ∷ []

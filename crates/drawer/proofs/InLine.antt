@@ -29,11 +29,11 @@ use Rattle.course.proofs.laws.FrameEvents.{accepted}
 use Rattle.course.proofs.laws.FrameInside.{inside-is}
 use Rattle.course.proofs.laws.Invariant.{Inv}
 use Rattle.course.proofs.laws.Theorems.{Enters, enters, mutual_exclusion, of_entered}
-use Rattle.picture.specs.Bandings.{Item, Reads, Tells, state_after}
-use Rattle.picture.specs.columns.Stages.{StagesAreTheRecords, marks_in, stage_among}
-use Rattle.picture.specs.Standings.{sayings}
-use Rattle.picture.specs.columns.States.{at_first, before_in, line_of_first, state_told, ticket_in}
-use Rattle.picture.specs.columns.declared.state.State.{State}
+use Rattle.companions.specs.picture.Bandings.{Item, Reads, Tells, state_after}
+use Rattle.companions.specs.picture.columns.Stages.{StagesAreTheRecords, marks_in, stage_among}
+use Rattle.companions.specs.picture.Standings.{sayings}
+use Rattle.companions.specs.picture.columns.States.{at_first, before_in, line_of_first, state_told, ticket_in}
+use Rattle.companions.specs.picture.columns.declared.state.State.{State}
 use Rattle.course.specs.laws.Lines.{ticket_told}
 use Rattle.course.proofs.laws.FirstInLine.{first_inside}
 use Rattle.course.proofs.laws.HeldTickets.{insiders}

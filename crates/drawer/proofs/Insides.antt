@@ -13,8 +13,8 @@ use Rattle.record.specs.Stages.{inside, inside_after, stage, stage_after}
 use Rattle.record.proofs.Width.{is_good}
 use Rattle.course.proofs.laws.Always.{inv_of}
 use Rattle.course.proofs.laws.Theorems.{mutual_exclusion}
-use Rattle.picture.specs.columns.Stages.{StagesAreTheRecords, marks_in, marks_said, stage_among, stages_after}
-use Rattle.picture.specs.columns.declared.told.Saying.{Saying}
+use Rattle.companions.specs.picture.columns.Stages.{StagesAreTheRecords, marks_in, marks_said, stage_among, stages_after}
+use Rattle.companions.specs.picture.columns.declared.told.Saying.{Saying}
 use Rattle.drawer.specs.Insides.{OneIsInside}
 
 -- who has left is not inside

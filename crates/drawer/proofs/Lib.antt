@@ -1,7 +1,5 @@
 pub mod Drawn
 pub mod Giving
-mod Changing
-mod Overhearing
 mod Marked
 pub mod Shown
 pub mod Drawings

@@ -1,5 +1,5 @@
 -- What a drawing has drawn once more has happened.
-use Rattle.std.proofs.Common.{◌≡◌, ◌+◌, ◌-◌, ℕ, zero, suc, Bool, true, false, List, [], ◌∷◌, ◌++◌, length, map, Option, None, Some, is_some, refl, ap, sym, subst, ◌∙◌, append-nil, append_assoc, arith, true≢false}
+use Rattle.std.proofs.Common.{◌≡◌, ◌+◌, ℕ, zero, suc, false, List, [], ◌∷◌, ◌++◌, length, map, Option, None, Some, is_some, refl, ap, sym, subst, ◌∙◌, append-nil, append_assoc, arith, true≢false}
 use Rattle.plain_store.specs.Store.{Contents}
 use Rattle.plain_store.specs.declared.setups.Setup.{Setup}
 use Rattle.record.specs.declared.events.Event.{Event}
@@ -9,11 +9,11 @@ use Rattle.record.specs.declared.marks.Mark.{Mark}
 use Rattle.record.specs.Entries.{Entry, Past}
 use Rattle.record.specs.Histories.{history, store_after}
 use Rattle.record.specs.Records.{entry_of, past_of, process_of, refused}
-use Rattle.picture.specs.columns.Stages.{marks_in}
-use Rattle.picture.specs.columns.declared.reads.OverlappedRead.{OverlappedRead}
-use Rattle.picture.specs.declared.page.Page.{Page}
-use Rattle.picture.specs.declared.reads.Reads.{Reads as Mode}
-use Rattle.picture.specs.declared.reads.Reads.TheVariants.{Hidden, Shown}
+use Rattle.companions.specs.picture.columns.Stages.{marks_in}
+use Rattle.companions.specs.picture.columns.declared.reads.OverlappedRead.{OverlappedRead}
+use Rattle.companions.specs.picture.declared.page.Page.{Page}
+use Rattle.companions.specs.picture.declared.reads.Reads.{Reads as Mode}
+use Rattle.companions.specs.picture.declared.reads.Reads.TheVariants.{Hidden, Shown}
 use Rattle.course.specs.Courses.{IsQuiet}
 use Rattle.course.specs.Happenings.{Happening, Tries, Lacks, Tires, Looks, past_after, tried}
 use Rattle.course.specs.Listening.{Happens, PassQuietly, StepsOn}
@@ -26,13 +26,12 @@ use Rattle.course.specs.declared.told.Stepped.{Stepped}
 use Rattle.course.specs.declared.told.Told.{Told}
 use Rattle.course.specs.declared.told.Told.TheVariants as told
 use Rattle.course.proofs.Counting.{counts_heard, counts_passed, text_heard, text_passed, with_events}
-use Rattle.course.proofs.InTurn.{access_in_turn}
 use Rattle.course.proofs.Refusals.{past_kept}
 use Rattle.drawer.specs.Drawings.{DrawsOn, HasDrawn, Kept, Recalls, kept, marks_told}
 use Rattle.drawer.specs.Items.{Gives, given_at, given_last, lines_given, reads_since, said_of_event, waiting}
-use Rattle.drawer.specs.Overlaps.{ComesInTurn, Overhears, overlapped_by}
+use Rattle.companions.specs.Overlaps.{Overhears, overlapped_by}
 use Rattle.drawer.specs.declared.drawing.Drawing.{Drawing}
-use Rattle.drawer.specs.declared.overlaps.Overlaps.{Overlaps}
+use Rattle.companions.specs.declared.overlaps.OverlapsHeard.{OverlapsHeard}
 use Rattle.drawer.proofs.Drawn.{draws_on_both, draws_on_none}
 
 -- an event that is made adds the marks of its entry
@@ -99,13 +98,13 @@ gives_passed mode s m (suc n) k before after (this, quiet, more) =
     ∙ ap (λ l. given_last mode s m k before ++ l) (quiet_gives mode s m before this quiet) ∙ append-nil (given_last mode s m k before)
 
 -- who hears no single events waits for nothing
-still_waits : (mode : Mode) (s : Setup) (past then : Past) (reads more : List OverlappedRead) (overlaps : Option Overlaps) → is_some overlaps ≡ false → Overhears mode s past reads overlaps → Overhears mode s then more overlaps
+still_waits : (mode : Mode) (s : Setup) (past then : Past) (reads more : List OverlappedRead) (overlaps : Option OverlapsHeard) → is_some overlaps ≡ false → Overhears mode s past reads overlaps → Overhears mode s then more overlaps
 still_waits Hidden s past then reads more None none waits = tt
 still_waits Hidden s past then reads more (Some overlaps) none waits = absurd waits
 still_waits Shown s past then reads more None none waits = absurd waits
 still_waits Shown s past then reads more (Some overlaps) none waits = absurd (true≢false none)
 
-pub recalls_passed : (mode : Mode) (s : Setup) (n : ℕ) (before after : List Happening) (store : Contents) (overlaps : Option Overlaps) → is_some overlaps ≡ false → PassQuietly s n before after → Recalls mode s before store overlaps → Recalls mode s after store overlaps
+pub recalls_passed : (mode : Mode) (s : Setup) (n : ℕ) (before after : List Happening) (store : Contents) (overlaps : Option OverlapsHeard) → is_some overlaps ≡ false → PassQuietly s n before after → Recalls mode s before store overlaps → Recalls mode s after store overlaps
 recalls_passed mode s zero before after store overlaps none same recalls = subst (λ (l : List Happening). Recalls mode s l store overlaps) (sym same) recalls
 recalls_passed mode s (suc n) before after store overlaps none (this, quiet, more) recalls = recalls_passed mode s n (this ∷ before) after store overlaps none more (record {
   store_is = recalls.store_is ∙ ap (store_after s) (sym (quiet_takes s before this quiet));
@@ -113,8 +112,8 @@ recalls_passed mode s (suc n) before after store overlaps none (this, quiet, mor
 })
 
 -- a Step without a mark that is heard by its access
-pub recalls_stepped : (mode : Mode) (s : Setup) (before : List Happening) (made : Stepped) (store : Contents) (overlaps overlapping : Option Overlaps) (events : ℕ) → StepsOn s before made → events ≡ length (past_after s before) →
-    ((mode : Mode) (s : Setup) (past : Past) (reads : List OverlappedRead) (e : Entry) → e.access ≡ Some made.access → Overhears mode s past reads overlaps → events ≡ length past → ComesInTurn s past e → Overhears mode s (e ∷ past) (reads ++ overlapped_by s past e) overlapping) →
+pub recalls_stepped : (mode : Mode) (s : Setup) (before : List Happening) (made : Stepped) (store : Contents) (overlaps overlapping : Option OverlapsHeard) (events : ℕ) → StepsOn s before made → events ≡ length (past_after s before) →
+    ((mode : Mode) (s : Setup) (past : Past) (reads : List OverlappedRead) (e : Entry) → e.access ≡ Some made.access → Overhears mode s past reads overlaps → events ≡ length past → Overhears mode s (e ∷ past) (reads ++ overlapped_by s past e) overlapping) →
     Recalls mode s before store overlaps → Recalls mode s (Tries (Step made.process made.flick) ∷ before) store overlapping
 recalls_stepped mode s before made store overlaps overlapping events on number hears recalls =
     let event : Event = Step made.process made.flick in
@@ -127,7 +126,7 @@ recalls_stepped mode s before made store overlaps overlapping events on number h
       store_is = recalls.store_is ∙ ap (store_after s) (sym (quiet_takes s before (Tries event) (Some made.access, on.adds)));
       waits = subst (λ (l : List OverlappedRead). Overhears mode s (past_after s (Tries event ∷ before)) l overlapping) (sym since)
           (subst (λ (p : Past). Overhears mode s p (reads_since s before ++ overlapped_by s past e) overlapping) (sym here)
-          (hears mode s past (reads_since s before) e refl recalls.waits number (access_in_turn s on.good (tried before) event e on.adds)));
+          (hears mode s past (reads_since s before) e refl recalls.waits number));
     }
 
 -- A run that is being drawn.

@@ -1,19 +1,20 @@
 -- Head, bands and end are the picture of a run.
 use Rattle.std.proofs.Common.{◌≡◌, ℕ, List, ◌++◌, Option, ap, ◌∙◌}
 use Rattle.plain_store.specs.Setups.{opening_store}
-use Rattle.picture.specs.Bandings.{bands_told}
-use Rattle.picture.specs.Sheets.{page_back, page_front, picture_back, picture_front}
-use Rattle.picture.specs.declared.page.Form.TheVariants as form
-use Rattle.picture.specs.declared.reads.Reads.{Reads as Mode}
+use Rattle.companions.specs.picture.Bandings.{bands_told}
+use Rattle.companions.specs.picture.Sheets.{page_back, page_front, picture_back, picture_front}
+use Rattle.companions.specs.picture.declared.page.Form.TheVariants as form
+use Rattle.companions.specs.picture.declared.reads.Reads.{Reads as Mode}
 use Rattle.scenario.specs.Printing.{scenario_text}
 use Rattle.scenario.specs.Reading.{Script}
-use Rattle.picture.specs.columns.Stages.{marks_in}
+use Rattle.companions.specs.picture.columns.Stages.{marks_in}
 use Rattle.course.specs.Happenings.{past_after}
 use Rattle.course.specs.Runs.{happenings}
 use Rattle.course.specs.Texts.{replayed}
 use Rattle.drawer.specs.Drawings.{DrawsBands, IsPictureOf}
 use Rattle.drawer.specs.Items.{run_given}
-use Rattle.drawer.specs.Pictures.{plan_of, store_words}
+use Rattle.companions.specs.StoreChanges.{store_words}
+use Rattle.drawer.specs.Pictures.{plan_of}
 
 -- a page
 pub is_page : (reads : Mode) (said : Script) (printed opening head ending : List ℕ) (b c : Option (List ℕ)) (height : ℕ) → (bands : DrawsBands (plan_of form.Page said.setup) b c (replayed said) (marks_in (past_after said.setup (happenings said))) (run_given reads said) height) →

@@ -7,12 +7,12 @@ use Rattle.std.proofs.lemmas.List.{get_or-set_other, get_or-set_same, length-map
 use Rattle.record.specs.declared.marks.Mark.{Mark}
 use Rattle.record.specs.declared.marks.Mark.TheVariants as mark
 use Rattle.record.specs.declared.stages.Stage.{Stage}
-use Rattle.picture.specs.columns.Stages.{marks_said, stages_marked, stages_told}
-use Rattle.picture.specs.columns.States.{at_first, is_in_doorway, no_seat, not_awaiting, seats_marked, state_marked, state_told, ticket_in}
-use Rattle.picture.specs.columns.declared.seats.KnownProcess.{KnownProcess}
-use Rattle.picture.specs.columns.declared.state.State.{State}
-use Rattle.picture.specs.columns.declared.told.Saying.{Saying}
-use Rattle.picture.specs.columns.declared.told.Saying.TheVariants.{Marked, Refused, Tired, Shown, Ended}
+use Rattle.companions.specs.picture.columns.Stages.{marks_said, stages_marked, stages_told}
+use Rattle.companions.specs.picture.columns.States.{at_first, is_in_doorway, no_seat, not_awaiting, seats_marked, state_marked, state_told, ticket_in}
+use Rattle.companions.specs.picture.columns.declared.seats.KnownProcess.{KnownProcess}
+use Rattle.companions.specs.picture.columns.declared.state.State.{State}
+use Rattle.companions.specs.picture.columns.declared.told.Saying.{Saying}
+use Rattle.companions.specs.picture.columns.declared.told.Saying.TheVariants.{Marked, Refused, Tired, Shown, Ended}
 use Rattle.drawer.proofs.TicketsShown.{shown_after, shown_told}
 
 -- Of one mark.

@@ -25,7 +25,7 @@ use Rattle.course.proofs.laws.Doings as doings
 use Rattle.course.proofs.laws.Frame.{Happens, a_call, a_withdrawal, a_failure, a_restart, a_step, a_closing}
 use Rattle.course.proofs.laws.FrameEvents.{accepted}
 use Rattle.course.proofs.laws.FrameInside.{stage-is}
-use Rattle.picture.specs.columns.Stages.{marks_in}
+use Rattle.companions.specs.picture.columns.Stages.{marks_in}
 use Rattle.course.specs.laws.Lines.{ticket_after, ticket_told}
 
 -- what is shown after a mark

@@ -18,8 +18,8 @@ use Rattle.record.specs.declared.refusals.Refusal.{Refusal}
 use Rattle.record.proofs.Width.{is_good}
 use Rattle.course.specs.history_laws.HistoryLaws.{taken_with}
 use Rattle.course.proofs.history_laws.Places.{at_its_place, grows_by_the_taken}
-use Rattle.picture.specs.columns.declared.reads.OverlappedRead.{OverlappedRead}
-use Rattle.picture.specs.declared.reads.Reads.{Reads as Mode}
+use Rattle.companions.specs.picture.columns.declared.reads.OverlappedRead.{OverlappedRead}
+use Rattle.companions.specs.picture.declared.reads.Reads.{Reads as Mode}
 use Rattle.course.specs.Happenings.{Happening, Tries, Lacks, Tires, Looks, past_after, tried}
 use Rattle.course.specs.Telling.{TellsOf, entry_made, marks_made}
 use Rattle.course.specs.declared.told.Accepted.{Accepted}
@@ -28,12 +28,11 @@ use Rattle.course.specs.declared.told.Told.TheVariants as told
 use Rattle.course.proofs.Refusals.{none_added, past_kept}
 use Rattle.drawer.specs.Drawings.{AreNext, IsAmong, IsToDraw, Recalls, all_take}
 use Rattle.drawer.specs.Items.{Says, SaysRefusal, SaysStore, SaysTired, given_at, lines_given, read_at, reads_since, said_at, said_of_event, says_mark, waiting}
-use Rattle.drawer.specs.Overlaps.{ComesInTurn, Overhears, overlapped_by}
-use Rattle.drawer.specs.Pictures.{shown_words}
-use Rattle.drawer.specs.declared.overlaps.Overlaps.{Overlaps}
+use Rattle.companions.specs.Overlaps.{Overhears, overlapped_by}
+use Rattle.companions.specs.StoreChanges.{shown_words}
+use Rattle.companions.specs.declared.overlaps.OverlapsHeard.{OverlapsHeard}
 use Rattle.drawer.proofs.Chains.{few_taken}
 use Rattle.drawer.proofs.Giving.{are_next, as_many, waiting_map}
-use Rattle.course.proofs.InTurn.{access_in_turn}
 
 -- what happens says one line, ends no read that a write overlapped, and adds no entry
 pub record Speaks (s : Setup) (before : List Happening) (this : Happening) (line : Says) : Type 0 where
@@ -86,7 +85,7 @@ gives_one mode s n before this line speaks =
     ∙ sym (λ i. lines_given mode n at (reads_since s before ++ speaks.reads i) (speaks.says i))
 
 -- and no read waits then
-pub recalls_one : (mode : Mode) (s : Setup) (before : List Happening) (this : Happening) (line : Says) (store : Contents) (overlaps overlapping : Option Overlaps) → Speaks s before this line → Recalls mode s before store overlaps → Overhears mode s (past_after s before) [] overlapping →
+pub recalls_one : (mode : Mode) (s : Setup) (before : List Happening) (this : Happening) (line : Says) (store : Contents) (overlaps overlapping : Option OverlapsHeard) → Speaks s before this line → Recalls mode s before store overlaps → Overhears mode s (past_after s before) [] overlapping →
     Recalls mode s (this ∷ before) store overlapping
 recalls_one mode s before this line store overlaps overlapping speaks recalls waits =
     let none : reads_since s (this ∷ before) ≡ [] = ap (λ (l : List Says). waiting l (reads_since s before ++ read_at s before this)) speaks.says in
@@ -150,18 +149,18 @@ lengthens s good events event e is =
     }
 
 -- an event that is to be drawn, once it is heard
-pub record BeginsMarks (mode : Mode) (s : Setup) (taken : List Taken) (source events : ℕ) (store : Contents) (overlapping : Option Overlaps) (before : List Happening) (this : Happening) (made : Accepted) : Type 0 where
+pub record BeginsMarks (mode : Mode) (s : Setup) (taken : List Taken) (source events : ℕ) (store : Contents) (overlapping : Option OverlapsHeard) (before : List Happening) (this : Happening) (made : Accepted) : Type 0 where
   pub past : Past
   pub reads : List OverlappedRead
   pub n : ℕ
   pub among : IsAmong mode s past taken reads n store overlapping
   pub next : AreNext n taken (marks_made made)
   pub gives : lines_given mode source events reads (map (says_mark s taken (process_of made.event)) (marks_made made)) ≡ given_at mode s source before this
-  pub ends : (stores : Contents) (overlaps : Option Overlaps) → IsAmong mode s past taken (waiting (marks_made made) reads) (n + all_take (marks_made made)) stores overlaps → Recalls mode s (this ∷ before) stores overlaps
+  pub ends : (stores : Contents) (overlaps : Option OverlapsHeard) → IsAmong mode s past taken (waiting (marks_made made) reads) (n + all_take (marks_made made)) stores overlaps → Recalls mode s (this ∷ before) stores overlaps
 
-pub begins_marks : (mode : Mode) (s : Setup) (taken : List Taken) (source events : ℕ) (store : Contents) (overlaps overlapping : Option Overlaps) (before : List Happening) (this : Happening) (made : Accepted) →
+pub begins_marks : (mode : Mode) (s : Setup) (taken : List Taken) (source events : ℕ) (store : Contents) (overlaps overlapping : Option OverlapsHeard) (before : List Happening) (this : Happening) (made : Accepted) →
     IsToDraw mode s taken events store overlaps before this (told.Accepted made) →
-    ((mode : Mode) (s : Setup) (past : Past) (reads : List OverlappedRead) → Overhears mode s past reads overlaps → events ≡ length past → ComesInTurn s past (entry_made made) → Overhears mode s (entry_made made ∷ past) (reads ++ overlapped_by s past (entry_made made)) overlapping) →
+    ((mode : Mode) (s : Setup) (past : Past) (reads : List OverlappedRead) → Overhears mode s past reads overlaps → events ≡ length past → Overhears mode s (entry_made made ∷ past) (reads ++ overlapped_by s past (entry_made made)) overlapping) →
     BeginsMarks mode s taken source events store overlapping before this made
 begins_marks mode s taken source events store overlaps overlapping before this made d hears =
     let past : Past = past_after s before in
@@ -180,7 +179,7 @@ begins_marks mode s taken source events store overlaps overlapping before this m
       n = n;
       among = record {
         store_is = d.recalls.store_is ∙ ap (store_after s) (sym longer.front) ∙ ap (λ (l : List Taken). store_after s (take n l)) (sym is);
-        waits = hears mode s past (reads_since s before) d.recalls.waits d.number (access_in_turn s d.happens.good (tried before) m.event e m.entry);
+        waits = hears mode s past (reads_since s before) d.recalls.waits d.number;
       };
       next = subst (λ (l : List Taken). AreNext n l marks) (sym is) longer.next;
       gives = ap (λ (k : ℕ). lines_given mode source k reads (map (says_mark s taken (process_of made.event)) marks)) d.number

@@ -9,8 +9,8 @@ use Rattle.record.specs.declared.marks.Mark.{Mark}
 use Rattle.record.specs.declared.marks.Mark.TheVariants as mark
 use Rattle.record.specs.Histories.{history}
 use Rattle.record.specs.Records.{past_of}
-use Rattle.picture.specs.columns.Stages.{marks_in, marks_said}
-use Rattle.picture.specs.columns.declared.told.Saying.{Saying}
+use Rattle.companions.specs.picture.columns.Stages.{marks_in, marks_said}
+use Rattle.companions.specs.picture.columns.declared.told.Saying.{Saying}
 
 -- a knot of the chain: whose command was taken, at which place, and with which reply
 pub record Knot : Type 0 where

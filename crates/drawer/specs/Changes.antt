@@ -1,43 +1,24 @@
 -- What the commands taken change in the store.
-use Rattle.std.specs.Prelude.{◌≡◌, ℕ, suc, if◌then◌else◌, List, [], ◌++◌, codes, length, slice_get, take, Option, None, Some}
-use Rattle.std.specs.String.{string_bytes}
-use Rattle.plain_store.specs.Commands.{name_of}
-use Rattle.plain_store.specs.Pairs.{Pair}
-use Rattle.plain_store.specs.Shown.{value_text}
-use Rattle.plain_store.specs.Store.{Contents, after, changes, value_at}
+use Rattle.std.specs.Prelude.{◌≡◌, ℕ, suc, List, length, slice_get, take, Option, None, Some}
+use Rattle.plain_store.specs.Store.{Contents, after}
 use Rattle.plain_store.specs.declared.setups.Setup.{Setup}
 use Rattle.record.specs.Histories.{store_after}
 use Rattle.record.specs.declared.history.Taken.{Taken}
 use Rattle.record.specs.declared.marks.Mark.{Mark}
 use Rattle.record.specs.declared.marks.Mark.TheVariants as mark
-use Rattle.picture.specs.columns.declared.told.TakenChange.{TakenChange}
-use Rattle.drawer.specs.Pictures.{store_words}
-
--- what a command changed: the pair of its name, and the store after it
-pub record Changed : Type 0 where
-  pub pair : List ℕ
-  pub store : List ℕ
-
-abbrev pub changed : TakenChange → Changed
-changed change = record { pair = string_bytes change.pair; store = change.store.items }
-
--- the pair of a name, as `NAME=VALUE`
-abbrev pub pair_words : List Pair → Option (List ℕ) → List ℕ
-pair_words pairs None = []
-pair_words pairs (Some name) = elim (value_at pairs name) [ None ↦ [] | Some value ↦ name ++ codes "=" ++ value_text value ]
+use Rattle.companions.specs.StoreChanges.{Changed, change_by}
 
 -- the store after a command taken
 abbrev pub after_taken : Contents → Taken → Contents
 after_taken store t = after store t.command (record { process = t.process; number = t.number })
 
 -- what a command taken changes in a store, if it changes something
-abbrev pub change_by : Contents → Taken → Option Changed
-change_by store t =
-    if changes store t.command then Some (record { pair = pair_words (after_taken store t).pairs (name_of t.command); store = store_words (after_taken store t) }) else None
+abbrev pub change_taken : Contents → Taken → Option Changed
+change_taken store t = change_by store t.command (record { process = t.process; number = t.number })
 
 -- what the command at a place of a history changes in the store that those before it leave
 abbrev pub change_at : Setup → List Taken → ℕ → Option Changed
-change_at s taken k = elim (slice_get taken k) [ None ↦ None | Some t ↦ change_by (store_after s (take k taken)) t ]
+change_at s taken k = elim (slice_get taken k) [ None ↦ None | Some t ↦ change_taken (store_after s (take k taken)) t ]
 
 -- what the command of a mark changes, if one is taken
 abbrev pub change_of : Setup → List Taken → Mark → Option Changed

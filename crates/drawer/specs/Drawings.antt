@@ -1,8 +1,8 @@
 -- What was written of a run's picture, and what is read back of it.
 use Rattle.std.specs.Prelude.{◌≡◌, ◌<◌, ℕ, true, List, [], ◌∷◌, ◌+◌, ◌++◌, flat_map, length, map, take, Option, Some, IfSome, Result, Ok, Err}
 use Rattle.std.specs.Io.KnownBytes.{Appends, IsAtEnd}
-use Rattle.picture.specs.markup.Elements.{EndsAll, opens_in}
-use Rattle.picture.specs.markup.Titles.{is_at_rest, lines_in, tags_of}
+use Rattle.companions.specs.picture.markup.Elements.{EndsAll, opens_in}
+use Rattle.companions.specs.picture.markup.Titles.{is_at_rest, lines_in, tags_of}
 use Rattle.plain_store.specs.Store.{Contents}
 use Rattle.plain_store.specs.declared.setups.Setup.{Setup}
 use Rattle.record.specs.Entries.{Past}
@@ -15,20 +15,20 @@ use Rattle.files.specs.declared.faults.Fault.{Fault}
 use Rattle.files.specs.declared.faults.Fault.TheVariants as fault
 use Rattle.scenario.specs.Reading.{Script, scenario_of}
 use Rattle.scenario.specs.declared.lines.Line.{Line}
-use Rattle.picture.specs.Bandings.{Item, Plan, bands_told, full_told, heights_told}
-use Rattle.picture.specs.Pages.{SeenPage, held, page_of, seen_page}
-use Rattle.picture.specs.columns.Stages.{marks_in, marks_said}
-use Rattle.picture.specs.Standings.{sayings}
-use Rattle.picture.specs.declared.page.Form.{Form}
-use Rattle.picture.specs.declared.page.Page.{Page}
-use Rattle.picture.specs.columns.declared.reads.OverlappedRead.{OverlappedRead}
-use Rattle.picture.specs.declared.reads.Reads.{Reads as Mode}
+use Rattle.companions.specs.picture.Bandings.{Item, Plan, bands_told, full_told, heights_told}
+use Rattle.companions.specs.picture.Pages.{SeenPage, held, page_of, seen_page}
+use Rattle.companions.specs.picture.columns.Stages.{marks_in, marks_said}
+use Rattle.companions.specs.picture.Standings.{sayings}
+use Rattle.companions.specs.picture.declared.page.Form.{Form}
+use Rattle.companions.specs.picture.declared.page.Page.{Page}
+use Rattle.companions.specs.picture.columns.declared.reads.OverlappedRead.{OverlappedRead}
+use Rattle.companions.specs.picture.declared.reads.Reads.{Reads as Mode}
 use Rattle.drawer.specs.Changes.{IsNext, takes}
 use Rattle.drawer.specs.Items.{Gives, given, given_last, reads_since, run_given}
-use Rattle.drawer.specs.Overlaps.{Overhears}
+use Rattle.companions.specs.Overlaps.{Overhears}
 use Rattle.drawer.specs.Pictures.{ended_lines, lines_told, picture_of, plan_of}
 use Rattle.drawer.specs.declared.drawing.Drawing.{Drawing}
-use Rattle.drawer.specs.declared.overlaps.Overlaps.{Overlaps}
+use Rattle.companions.specs.declared.overlaps.OverlapsHeard.{OverlapsHeard}
 use Rattle.course.specs.Courses.{CourseState, Follows}
 use Rattle.course.specs.Happenings.{Happening, past_after}
 use Rattle.course.specs.Listening.{Happens}
@@ -121,18 +121,18 @@ marks_told (told.Tired p) = []
 marks_told (told.Shown line) = []
 
 -- a drawing stands where this has happened: its store is the one-thread store after the history, and the overlapped reads that wait are those since the last line
-pub record Recalls (mode : Mode) (s : Setup) (happened : List Happening) (store : Contents) (overlaps : Option Overlaps) : Type 0 where
+pub record Recalls (mode : Mode) (s : Setup) (happened : List Happening) (store : Contents) (overlaps : Option OverlapsHeard) : Type 0 where
   pub store_is : store ≡ store_after s (history s (past_after s happened))
   pub waits : Overhears mode s (past_after s happened) (reads_since s happened) overlaps
 
 -- what a turn tells is to be drawn, where so many events were accepted before it, and these commands are taken
-pub record IsToDraw (mode : Mode) (s : Setup) (taken : List Taken) (events : ℕ) (store : Contents) (overlaps : Option Overlaps) (before : List Happening) (this : Happening) (answer : Told) : Type 0 where
+pub record IsToDraw (mode : Mode) (s : Setup) (taken : List Taken) (events : ℕ) (store : Contents) (overlaps : Option OverlapsHeard) (before : List Happening) (this : Happening) (answer : Told) : Type 0 where
   pub happens : Happens s before this answer taken
   pub number : events ≡ length (past_after s before)
   pub recalls : Recalls mode s before store overlaps
 
 -- an event was made, these commands are taken, and its marks are being drawn: these reads wait for the next of them, and so many of the commands were applied
-pub record IsAmong (mode : Mode) (s : Setup) (past : Past) (taken : List Taken) (reads : List OverlappedRead) (n : ℕ) (store : Contents) (overlaps : Option Overlaps) : Type 0 where
+pub record IsAmong (mode : Mode) (s : Setup) (past : Past) (taken : List Taken) (reads : List OverlappedRead) (n : ℕ) (store : Contents) (overlaps : Option OverlapsHeard) : Type 0 where
   pub store_is : store ≡ store_after s (take n taken)
   pub waits : Overhears mode s past reads overlaps
 

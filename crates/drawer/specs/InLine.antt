@@ -7,12 +7,12 @@ use Rattle.record.specs.declared.stages.Stage.{Stage}
 use Rattle.record.specs.declared.stages.Stage.TheVariants.{Inside, Leaving, Settling}
 use Rattle.record.specs.Entries.{Entry, has, is_entered}
 use Rattle.record.specs.Records.{entry_of, past_of}
-use Rattle.picture.specs.Bandings.{Item, state_after}
-use Rattle.picture.specs.columns.Stages.{marks_in, marks_said, stage_among}
-use Rattle.picture.specs.Standings.{sayings}
-use Rattle.picture.specs.columns.States.{at_first, before_in, queue_of, state_told}
-use Rattle.picture.specs.columns.declared.state.State.{State}
-use Rattle.picture.specs.columns.declared.told.Saying.{Saying}
+use Rattle.companions.specs.picture.Bandings.{Item, state_after}
+use Rattle.companions.specs.picture.columns.Stages.{marks_in, marks_said, stage_among}
+use Rattle.companions.specs.picture.Standings.{sayings}
+use Rattle.companions.specs.picture.columns.States.{at_first, before_in, queue_of, state_told}
+use Rattle.companions.specs.picture.columns.declared.state.State.{State}
+use Rattle.companions.specs.picture.columns.declared.told.Saying.{Saying}
 
 -- what these lines have told of a run of so many processes
 abbrev pub state_of_lines : ℕ → List Saying → State

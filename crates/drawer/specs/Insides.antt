@@ -5,8 +5,8 @@ use Rattle.plain_store.specs.Setups.{checked}
 use Rattle.record.specs.declared.events.Event.{Event}
 use Rattle.record.specs.declared.stages.Stage.TheVariants.{Inside}
 use Rattle.record.specs.Records.{past_of}
-use Rattle.picture.specs.columns.Stages.{marks_in, marks_said, stage_among, stages_after}
-use Rattle.picture.specs.columns.declared.told.Saying.{Saying}
+use Rattle.companions.specs.picture.columns.Stages.{marks_in, marks_said, stage_among, stages_after}
+use Rattle.companions.specs.picture.columns.declared.told.Saying.{Saying}
 
 -- Where lines say the marks of a record, whatever else they say between them, at most one process is inside by the stages that they tell.
 abbrev pub OneIsInside : Type 0

@@ -16,14 +16,15 @@ use Rattle.course.specs.Runs.{Run, happenings, run_after, run_at_start}
 use Rattle.course.specs.Summaries.{summary_of}
 use Rattle.course.specs.Texts.{newest_store, store_text}
 use Rattle.course.specs.declared.summaries.Summary.{Summary}
-use Rattle.picture.specs.Bandings.{Item, Reads, Tells}
-use Rattle.picture.specs.columns.declared.reads.OverlappedRead.{OverlappedRead}
-use Rattle.picture.specs.declared.reads.Reads.{Reads as Mode}
-use Rattle.picture.specs.columns.declared.told.Saying.{Saying}
-use Rattle.picture.specs.columns.declared.told.Saying.TheVariants.{Marked, Refused, Tired, Shown, Ended}
-use Rattle.drawer.specs.Changes.{Changed, change_of, changed}
-use Rattle.drawer.specs.Overlaps.{overlapped_by, shown_of}
-use Rattle.drawer.specs.Pictures.{shown_words}
+use Rattle.companions.specs.picture.Bandings.{Item, Reads, Tells}
+use Rattle.companions.specs.picture.columns.declared.reads.OverlappedRead.{OverlappedRead}
+use Rattle.companions.specs.picture.declared.reads.Reads.{Reads as Mode}
+use Rattle.companions.specs.picture.columns.declared.told.Saying.{Saying}
+use Rattle.companions.specs.picture.columns.declared.told.Saying.TheVariants.{Marked, Refused, Tired, Shown, Ended}
+use Rattle.companions.specs.StoreChanges.{Changed, changed}
+use Rattle.drawer.specs.Changes.{change_of}
+use Rattle.companions.specs.Overlaps.{overlapped_by, shown_of}
+use Rattle.companions.specs.StoreChanges.{shown_words}
 
 -- what a line says
 pub data Says : Type 0 where

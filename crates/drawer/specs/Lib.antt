@@ -4,5 +4,4 @@ pub mod Drawings
 pub mod InLine
 pub mod Insides
 pub mod Items
-pub mod Overlaps
 pub mod Pictures

@@ -1,36 +1,22 @@
 -- What a run's picture is told, and what is written of it.
-use Rattle.std.specs.Prelude.{ℕ, ◌-◌, List, [], ◌∷◌, ◌++◌, codes, drop, flat_map, length, take}
-use Rattle.plain_store.specs.Pairs.{Pair}
-use Rattle.plain_store.specs.Store.{Contents}
-use Rattle.plain_store.specs.StoreLine.{show_text}
+use Rattle.std.specs.Prelude.{ℕ, List, [], ◌∷◌, ◌++◌, codes, flat_map}
 use Rattle.plain_store.specs.Setups.{opening_store}
 use Rattle.plain_store.specs.declared.setups.Setup.{Setup}
 use Rattle.scenario.specs.Printing.{scenario_text}
 use Rattle.scenario.specs.Reading.{Script}
-use Rattle.picture.specs.Bandings.{Item, Plan, Reads, Tells, bands_told}
-use Rattle.picture.specs.Sheets.{page_back, page_front, picture_back, picture_front}
-use Rattle.picture.specs.columns.Told.{text_of}
-use Rattle.picture.specs.declared.page.Form.{Form}
-use Rattle.picture.specs.declared.page.Form.TheVariants as form
-use Rattle.picture.specs.declared.reads.Reads.{Reads as Mode}
+use Rattle.companions.specs.picture.Bandings.{Item, Plan, Reads, Tells, bands_told}
+use Rattle.companions.specs.picture.Sheets.{page_back, page_front, picture_back, picture_front}
+use Rattle.companions.specs.picture.columns.Told.{text_of}
+use Rattle.companions.specs.picture.declared.page.Form.{Form}
+use Rattle.companions.specs.picture.declared.page.Form.TheVariants as form
+use Rattle.companions.specs.picture.declared.reads.Reads.{Reads as Mode}
+use Rattle.companions.specs.StoreChanges.{store_words, words_by}
 
 -- the lines among items, of which the newest stands first; they stand in their order
 abbrev pub lines_told : List Item → List (List ℕ)
 lines_told [] = []
 lines_told (Tells line ∷ before) = lines_told before ++ text_of line ∷ []
 lines_told (Reads read ∷ before) = lines_told before
-
--- the words of a line that shows a store, behind its first and without the line's end
-abbrev pub shown_words : List ℕ → List ℕ
-shown_words line = take (length line - 1 - 5) (drop 5 line)
-
--- a store as a picture shows it at first, and beside its history: there nothing, if it is empty
-abbrev pub store_words : Contents → List ℕ
-store_words store = shown_words (show_text store.pairs)
-
-abbrev pub words_by : List Pair → List ℕ
-words_by [] = []
-words_by (pair ∷ pairs) = shown_words (show_text (pair ∷ pairs))
 
 -- what is known of a run's picture from the start
 abbrev pub plan_of : Form → Setup → Plan

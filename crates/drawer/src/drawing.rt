@@ -3,11 +3,11 @@ ghost use Rattle.std.specs.Prelude.{◌≡◌, ◌+◌, ◌-◌, ◌^◌, ◌<�
 ghost use Rattle.plain_store.specs.Setups.{checked};
 ghost use Rattle.plain_store.specs.declared.setups.Setup.{Setup as Given};
 ghost use Rattle.record.specs.Entries.{Past};
-ghost use Rattle.picture.specs.columns.declared.reads.OverlappedRead.{OverlappedRead as Ended};
-ghost use Rattle.picture.specs.declared.reads.Reads.{Reads as Mode};
-ghost use Rattle.picture.specs.Pages.{held, page_of, seen_page};
-ghost use Rattle.picture.specs.columns.Stages.{marks_in, marks_said};
-ghost use Rattle.picture.specs.columns.Told.{saying_text};
+ghost use Rattle.companions.specs.picture.columns.declared.reads.OverlappedRead.{OverlappedRead as Ended};
+ghost use Rattle.companions.specs.picture.declared.reads.Reads.{Reads as Mode};
+ghost use Rattle.companions.specs.picture.Pages.{held, page_of, seen_page};
+ghost use Rattle.companions.specs.picture.columns.Stages.{marks_in, marks_said};
+ghost use Rattle.companions.specs.picture.columns.Told.{saying_text};
 ghost use Rattle.scenario.specs.Reads.{script};
 ghost use Rattle.course.specs.Happenings.{Happening, past_after};
 ghost use Rattle.course.specs.Runs.{happenings};
@@ -18,18 +18,20 @@ ghost use Rattle.course.specs.Writing.{IsWriteFault, failed_write};
 ghost use Rattle.drawer.specs.Changes.{IsNext, takes};
 ghost use Rattle.drawer.specs.Drawings.{AreNext, DrawsBands, DrawsOn, DrawsRest, IsAmong, IsToDraw, Recalls, all_take, kept, marks_told};
 ghost use Rattle.drawer.specs.Items.{GivesRead, SaysEnd, given_at, lines_given, run_given, says_mark, says_of, waiting};
-ghost use Rattle.drawer.specs.Overlaps.{Overhears, shown_of};
+ghost use Rattle.companions.specs.Overlaps.{Overhears, shown_of};
 ghost use Rattle.drawer.specs.Pictures.{plan_of};
 
 mod listening;
 
-use crate::changes::{Changes, words_shown};
-use crate::overlaps::{Overlaps, hear, take_ended};
+use crate::changes::Changes;
 use crate::writing::{write_band, write_markup};
+use companions::{
+    Form, OverlappedRead, OverlapsHeard, Page, Reads, RunLine, Saying, hear, take_ended,
+    words_shown,
+};
 use course::{Course, Summary, Taken, Told};
 use files::progress::{LinePlace, Onlooker};
 use listening::draw_line;
-use picture::{Form, OverlappedRead, Page, Reads, RunLine, Saying};
 use plain_store::{NestedTypes, Setup};
 use record::Mark;
 use scenario::{Fault, Scenario, Sink};
@@ -41,7 +43,7 @@ pub(crate) struct Drawing {
     alloc: Global,
     changes: Changes,
     /// What tells the reads that are overlapped, if they are shown.
-    overlaps: Option<Overlaps>,
+    overlaps: Option<OverlapsHeard>,
     summary: Summary,
     page: Page,
     /// The number of the line of the printed scenario.
@@ -95,7 +97,7 @@ impl Drawing {
         let changes = Changes::new(alloc, setup)?;
         let opening = changes.words_by_pairs()?;
         let page = Page::new(alloc, form, setup.processes, opening.as_slice())?;
-        let overlaps = Overlaps::new(alloc, setup, reads)?;
+        let overlaps = OverlapsHeard::new(alloc, setup, reads)?;
         Ok(Drawing {
             alloc,
             changes,

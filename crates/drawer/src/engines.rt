@@ -7,16 +7,16 @@ ghost use Rattle.course.specs.Replays.{IsSummaryOf, ended};
 ghost use Rattle.course.specs.Runs.{happenings};
 ghost use Rattle.course.specs.Summaries.{summary_of};
 ghost use Rattle.course.specs.Writing.{IsWriteFault, failed_write};
-ghost use Rattle.picture.specs.declared.page.Form.TheVariants as form_variants;
+ghost use Rattle.companions.specs.picture.declared.page.Form.TheVariants as form_variants;
 ghost use Rattle.drawer.specs.Drawings.{DrawsAll, Drew};
 
 use crate::changes::Changes;
 use crate::drawing::draw_bands;
 use crate::nowhere::Nowhere;
 use crate::writing::write_markup;
+use companions::{FIRST_BAND, Form, Reads, page_end, page_head, picture_end, picture_head};
 use course::Summary;
 use files::progress::{Again, Onlooker};
-use picture::{FIRST_BAND, Form, Reads, page_end, page_head, picture_end, picture_head};
 use scenario::{Fault, Scenario, Sink, Source, print_scenario, read_input, read_scenario};
 use std::alloc::Global;
 

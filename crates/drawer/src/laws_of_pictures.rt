@@ -3,7 +3,7 @@ ghost use Rattle.drawer.specs.Chains.{ChainIsTheHistory};
 ghost use Rattle.drawer.specs.InLine.{WhoEntersIsFirst, WhoIsInsideIsDrawnFirst, WhoIsInsideIsFirst};
 ghost use Rattle.drawer.specs.Insides.{OneIsInside};
 
-use picture::stages_are_the_records;
+use companions::stages_are_the_records;
 
 /// Where lines say the marks of a record, the k-th knot is the k-th command of the history.
 pub fn chain_is_the_history()

@@ -13,10 +13,9 @@ mod drawing;
 mod engines;
 mod laws_of_pictures;
 mod nowhere;
-mod overlaps;
 mod writing;
 
+pub use companions::Reads;
 pub use engines::{draw, draw_svg};
 pub use files::progress;
 pub use laws_of_pictures::{chain_is_the_history, one_is_inside, who_enters_is_first_in_line};
-pub use picture::Reads;

@@ -1,13 +1,13 @@
 //! How markup is written.
 ghost use Rattle.std.specs.Prelude.{◌≡◌, ◌+◌, ◌-◌, ◌^◌, ◌<◌, IfErr, IfSome, OnOk};
-ghost use Rattle.picture.specs.markup.Elements.{EndsAll};
-ghost use Rattle.picture.specs.markup.Titles.{lines_in};
-ghost use Rattle.picture.specs.Pages.{band_text, lines_of_band};
+ghost use Rattle.companions.specs.picture.markup.Elements.{EndsAll};
+ghost use Rattle.companions.specs.picture.markup.Titles.{lines_in};
+ghost use Rattle.companions.specs.picture.Pages.{band_text, lines_of_band};
 ghost use Rattle.course.specs.Writing.{IsWriteFault, failed_write};
 ghost use Rattle.drawer.specs.Drawings.{Draws, Writes};
 ghost use Rattle.drawer.specs.Pictures.{ended_lines};
 
-use picture::Markup;
+use companions::Markup;
 use scenario::{Fault, Sink, write_all};
 
 /// Writes markup.

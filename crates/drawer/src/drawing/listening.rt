@@ -6,7 +6,7 @@ ghost use Rattle.course.specs.Writing.{IsWriteFault, failed_write};
 ghost use Rattle.drawer.specs.Drawings.{DrawsLine, GoesOnDrawing};
 
 use super::Drawing;
-use crate::overlaps::hear;
+use companions::hear;
 use course::{Course, Listener, Stepped, Taken, Told};
 use scenario::{Fault, Line, Sink};
 

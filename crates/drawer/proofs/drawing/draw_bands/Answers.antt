@@ -17,7 +17,7 @@ use Rattle.drawer.specs.Drawings.{DrawsRest}
 use Rattle.drawer.specs.Items.{SaysEnd, lines_given, reads_since}
 use Rattle.course.specs.Happenings.{past_after}
 use Rattle.drawer.specs.Pictures.{plan_of}
-use Rattle.picture.specs.Bandings.{Plan}
+use Rattle.companions.specs.picture.Bandings.{Plan}
 use Rattle.drawer.specs.declared.drawing.Drawing.{Drawing}
 use Rattle.drawer.proofs.Drawn.{rest_at}
 use Rattle.drawer.proofs.Giving.{number_of_first}

@@ -1,8 +1,9 @@
 use Rattle.std.proofs.Common.{ap, ◌∙◌}
-use Rattle.picture.specs.Pages.{page_names}
-use Rattle.picture.specs.declared.page.Form.TheVariants as form
+use Rattle.companions.specs.picture.Pages.{page_names}
+use Rattle.companions.specs.picture.declared.page.Form.TheVariants as form
 use Rattle.scenario.specs.Reads.{script}
-use Rattle.drawer.specs.Pictures.{plan_of, store_words}
+use Rattle.companions.specs.StoreChanges.{store_words}
+use Rattle.drawer.specs.Pictures.{plan_of}
 use Rattle.drawer.proofs.Drawn.{draws_framed}
 use Rattle.drawer.proofs.Pictured.{is_page}
 use Rattle.drawer.proofs.engines.draw_page.Goals as goal

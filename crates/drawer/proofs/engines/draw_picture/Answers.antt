@@ -1,5 +1,5 @@
-use Rattle.picture.specs.Pages.{picture_names}
-use Rattle.picture.specs.declared.page.Form.TheVariants as form
+use Rattle.companions.specs.picture.Pages.{picture_names}
+use Rattle.companions.specs.picture.declared.page.Form.TheVariants as form
 use Rattle.scenario.specs.Reads.{script}
 use Rattle.drawer.specs.Pictures.{plan_of}
 use Rattle.drawer.proofs.Drawn.{draws_framed}

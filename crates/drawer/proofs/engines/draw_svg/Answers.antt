@@ -7,7 +7,7 @@ use Rattle.scenario.specs.Reads.{script}
 use Rattle.course.specs.Replays.{ended}
 use Rattle.course.specs.Texts.{replayed}
 use Rattle.course.proofs.ReplayEnds.{ended_err, replay_numbers}
-use Rattle.picture.specs.declared.page.Form.TheVariants as form
+use Rattle.companions.specs.picture.declared.page.Form.TheVariants as form
 use Rattle.drawer.proofs.Ends.{drew_all, drew_line}
 use Rattle.drawer.proofs.engines.draw_svg.Goals as goal
 

@@ -4,8 +4,8 @@ use Rattle.plain_store.specs.declared.setups.Setup.{Setup}
 use Rattle.record.specs.Entries.{Past}
 use Rattle.record.specs.declared.history.Taken.{Taken}
 use Rattle.record.specs.declared.marks.Mark.{Mark}
-use Rattle.picture.specs.columns.declared.reads.OverlappedRead.{OverlappedRead}
-use Rattle.picture.specs.declared.reads.Reads.{Reads as Mode}
+use Rattle.companions.specs.picture.columns.declared.reads.OverlappedRead.{OverlappedRead}
+use Rattle.companions.specs.picture.declared.reads.Reads.{Reads as Mode}
 use Rattle.course.specs.Texts.{mark_line}
 use Rattle.course.specs.declared.summaries.Summary.{Summary}
 use Rattle.course.proofs.Written.{failed_same, items_more}

@@ -2,8 +2,8 @@ use Rattle.std.proofs.Common.{◌≡◌, ℕ, ◌+◌, List, flat_map, map, take
 use Rattle.plain_store.specs.declared.setups.Setup.{Setup}
 use Rattle.record.specs.Entries.{Past}
 use Rattle.record.specs.declared.marks.Mark.{Mark}
-use Rattle.picture.specs.columns.declared.reads.OverlappedRead.{OverlappedRead}
-use Rattle.picture.specs.declared.reads.Reads.{Reads as Mode}
+use Rattle.companions.specs.picture.columns.declared.reads.OverlappedRead.{OverlappedRead}
+use Rattle.companions.specs.picture.declared.reads.Reads.{Reads as Mode}
 use Rattle.course.specs.Texts.{mark_line}
 use Rattle.drawer.specs.Drawings.{AreNext, DrawsOn, IsAmong, all_take, kept}
 use Rattle.drawer.specs.Items.{lines_given, says_mark, waiting}

@@ -1,7 +1,7 @@
 use Rattle.std.proofs.Common.{◌∙◌, false, List, [], ◌∷◌, get_or, map, take, arith, refl, subst, sym}
 use Rattle.std.proofs.lemmas.List.{take_all}
 use Rattle.record.specs.declared.access.Field.TheVariants.{Choosing}
-use Rattle.picture.specs.columns.declared.reads.OverlappedRead.{OverlappedRead}
+use Rattle.companions.specs.picture.columns.declared.reads.OverlappedRead.{OverlappedRead}
 use Rattle.drawer.specs.Drawings.{DrawsOn, kept}
 use Rattle.drawer.specs.Items.{GivesRead}
 use Rattle.course.proofs.Written.{failed_same}

@@ -5,7 +5,7 @@ use Rattle.plain_store.specs.declared.setups.Setup.{Setup}
 use Rattle.record.specs.Records.{process_of}
 use Rattle.record.specs.declared.history.Taken.{Taken}
 use Rattle.record.specs.declared.marks.Mark.{Mark}
-use Rattle.picture.specs.declared.reads.Reads.{Reads as Mode}
+use Rattle.companions.specs.picture.declared.reads.Reads.{Reads as Mode}
 use Rattle.course.specs.Happenings.{Happening, past_after}
 use Rattle.course.specs.Telling.{entry_made, marks_made, told_text}
 use Rattle.course.specs.Texts.{mark_line}
@@ -14,7 +14,7 @@ use Rattle.course.specs.declared.told.Told.TheVariants as told
 use Rattle.course.proofs.Written.{ok_then}
 use Rattle.drawer.specs.Drawings.{AreNext, DrawsOn, IsAmong, IsToDraw, Recalls, all_take, kept, marks_told}
 use Rattle.drawer.specs.Items.{SaysStore, given_at, lines_given, reads_since, says_mark, waiting}
-use Rattle.drawer.specs.Pictures.{shown_words}
+use Rattle.companions.specs.StoreChanges.{shown_words}
 use Rattle.drawer.proofs.Shown.{tells_line}
 use Rattle.drawer.proofs.Turning.{BeginsMarks, Speaks, begins_marks, gives_one, speaks_as}
 use Rattle.drawer.proofs.drawing.Drawing.draw_told.Goals as goal

@@ -1,5 +1,5 @@
 use Rattle.std.proofs.Common.{[], ◌∷◌}
-use Rattle.picture.specs.Pages.{seen_page}
+use Rattle.companions.specs.picture.Pages.{seen_page}
 use Rattle.course.proofs.Written.{ok_then}
 use Rattle.course.specs.Texts.{end_line}
 use Rattle.drawer.specs.Drawings.{kept}

@@ -1,4 +1,4 @@
-use Rattle.std.proofs.Common.{◌≡◌, ◌+◌, ◌^◌, ◌∙◌, ap, subst, sym}
+use Rattle.std.proofs.Common.{◌∙◌, ap, subst, sym}
 use Rattle.course.proofs.Endings.{failures_by, if_err, ok_with}
 use Rattle.course.proofs.Written.{ok_then}
 use Rattle.course.specs.Runs.{run_after}

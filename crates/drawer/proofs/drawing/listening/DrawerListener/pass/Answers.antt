@@ -1,4 +1,4 @@
-use Rattle.std.proofs.Common.{ap, refl, sym}
+use Rattle.std.proofs.Common.{ap, refl}
 use Rattle.course.proofs.Counting.{with_events}
 use Rattle.drawer.proofs.Marked.{quiet_drawn, recalls_passed}
 use Rattle.drawer.proofs.drawing.listening.DrawerListener.pass.Goals as goal

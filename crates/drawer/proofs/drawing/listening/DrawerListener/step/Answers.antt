@@ -3,7 +3,7 @@ use Rattle.record.specs.declared.events.Event.TheVariants.{Step}
 use Rattle.course.specs.Happenings.{Tries}
 use Rattle.course.proofs.Counting.{step_passes}
 use Rattle.course.proofs.Played.{on_fault}
-use Rattle.scenario.specs.files.declared.faults.Fault.TheVariants.{Memory}
+use Rattle.files.specs.declared.faults.Fault.TheVariants.{Memory}
 use Rattle.drawer.proofs.Marked.{quiet_drawn, recalls_stepped}
 use Rattle.drawer.proofs.drawing.listening.DrawerListener.step.Goals as goal
 

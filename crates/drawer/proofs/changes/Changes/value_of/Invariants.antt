@@ -1,7 +1,0 @@
-use Rattle.std.proofs.Common.{◌≡◌, drop}
-use Rattle.plain_store.specs.Store.{value_at}
-use Rattle.drawer.proofs.changes.Changes.value_of.Given as goal
-
--- the name has among the pairs to come what it has among all
-abbrev pub invariant-loop-place : goal.invariant-loop-place
-invariant-loop-place l = value_at (drop l.place l.self.store.pairs) l.name ≡ value_at l.self.store.pairs l.name
