@@ -1,10 +1,8 @@
 -- What the commands taken change: the value of a name among pairs, and a pair as it is shown.
-use Rattle.std.proofs.Common.{◌≡◌, ℕ, ◌+◌, true, false, List, ◌++◌, codes, drop, slice_get, append_assoc, Some, refl, ap, ◌∙◌}
+use Rattle.std.proofs.Common.{◌≡◌, ℕ, ◌+◌, true, false, List, drop, slice_get, Some, refl, ap, ◌∙◌}
 use Rattle.std.specs.Str.{bytes_eq}
 use Rattle.plain_store.specs.Pairs.{Pair}
-use Rattle.plain_store.specs.Shown.{value_text}
 use Rattle.plain_store.specs.Store.{value_at}
-use Rattle.plain_store.specs.declared.commands.Value.{Value}
 use Rattle.plain_store.proofs.OpeningPairs.{drop-next}
 
 -- the pair of the name that is sought
@@ -14,7 +12,3 @@ found_here pairs k pair name at same = ap (λ ps. value_at ps name) (drop-next p
 -- a pair of another name is passed over
 pub passed_over : (pairs : List Pair) (k : ℕ) (pair : Pair) (name : List ℕ) → slice_get pairs k ≡ Some pair → bytes_eq name pair.0 ≡ false → value_at (drop k pairs) name ≡ value_at (drop (k + 1) pairs) name
 passed_over pairs k pair name at differs = ap (λ ps. value_at ps name) (drop-next pairs k pair at) ∙ rw differs refl
-
--- a pair, as `format!` puts it together
-pub pair_said : (name : List ℕ) (value : Value) → name ++ (codes "=" ++ value_text value) ≡ name ++ codes "=" ++ value_text value
-pair_said name value = simp append_assoc

@@ -1,11 +1,10 @@
 -- What commands change in a store, and how that is shown.
-use Rattle.std.specs.Prelude.{ℕ, ◌-◌, if◌then◌else◌, List, [], ◌∷◌, ◌++◌, codes, drop, length, take, Option, None, Some}
+use Rattle.std.specs.Prelude.{ℕ, if◌then◌else◌, List, [], ◌∷◌, Option, None, Some}
 use Rattle.std.specs.String.{string_bytes}
 use Rattle.plain_store.specs.Commands.{name_of}
 use Rattle.plain_store.specs.Pairs.{Pair}
-use Rattle.plain_store.specs.Shown.{value_text}
 use Rattle.plain_store.specs.Store.{Contents, after, changes, value_at}
-use Rattle.plain_store.specs.StoreLine.{show_text}
+use Rattle.plain_store.specs.StoreLine.{pair_text, store_words as in_words}
 use Rattle.plain_store.specs.declared.commands.Caller.{Caller}
 use Rattle.plain_store.specs.declared.commands.Command.{Command}
 use Rattle.picture.specs.columns.declared.told.TakenChange.{TakenChange}
@@ -21,19 +20,15 @@ changed change = record { pair = string_bytes change.pair; store = change.store.
 -- the pair of a name, as `NAME=VALUE`
 abbrev pub pair_words : List Pair → Option (List ℕ) → List ℕ
 pair_words pairs None = []
-pair_words pairs (Some name) = elim (value_at pairs name) [ None ↦ [] | Some value ↦ name ++ codes "=" ++ value_text value ]
-
--- the words of a line that shows a store, behind its first and without the line's end
-abbrev pub shown_words : List ℕ → List ℕ
-shown_words line = take (length line - 1 - 5) (drop 5 line)
+pair_words pairs (Some name) = elim (value_at pairs name) [ None ↦ [] | Some value ↦ pair_text (name, value) ]
 
 -- a store as a picture shows it at first, and beside its history: there nothing, if it is empty
 abbrev pub store_words : Contents → List ℕ
-store_words store = shown_words (show_text store.pairs)
+store_words store = in_words store.pairs
 
 abbrev pub words_by : List Pair → List ℕ
 words_by [] = []
-words_by (pair ∷ pairs) = shown_words (show_text (pair ∷ pairs))
+words_by (pair ∷ pairs) = in_words (pair ∷ pairs)
 
 -- what a command of a caller changes in a store, if it changes something
 abbrev pub change_by : Contents → Command → Caller → Option Changed

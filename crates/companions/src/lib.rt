@@ -10,4 +10,4 @@ pub use picture::{
     FIRST_BAND, Form, Markup, OverlappedRead, Page, Reads, RunLine, Saying, TakenChange, page_end,
     page_head, picture_end, picture_head, stages_are_the_records,
 };
-pub use store_changes::{apply, opening_store, store_words, words_by_pairs, words_shown};
+pub use store_changes::{apply, opening_store, store_words, words_by_pairs};

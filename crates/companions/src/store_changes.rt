@@ -1,15 +1,14 @@
 //! What the commands taken change in the one-thread store beside a picture, and how that is shown.
-ghost use Rattle.std.specs.Prelude.{◌≡◌, ◌++◌, List, codes, Ok, IfOk, OnOk, option_map, ℕ};
+ghost use Rattle.std.specs.Prelude.{◌≡◌, Ok, IfOk, OnOk, option_map};
 ghost use Rattle.std.specs.String.{string_bytes};
 ghost use Rattle.plain_store.specs.Commands.{name_of};
 ghost use Rattle.plain_store.specs.Setups.{checked, opening_store as store_at_first};
-ghost use Rattle.plain_store.specs.Shown.{value_text};
 ghost use Rattle.plain_store.specs.Store.{after, changes, value_at};
-ghost use Rattle.companions.specs.StoreChanges.{change_by, changed, pair_words, shown_words, store_words as words_of_store, words_by};
+ghost use Rattle.companions.specs.StoreChanges.{change_by, changed, pair_words, store_words as words_of_store, words_by};
 
 use picture::TakenChange;
 use plain_store::{
-    Caller, Command, Name, NestedTypes, PlainStore, Setup, Store, Value, opened, show_line,
+    Caller, Command, Name, NestedTypes, PlainStore, Setup, Store, Value, opened,
 };
 use std::alloc::{AllocError, Global};
 
@@ -59,7 +58,7 @@ fn pair(alloc: Global, store: &PlainStore, command: &Command) -> Result<String, 
     if let Some(name) = command.name()
         && let Some(value) = value_of(store, &name)
     {
-        return shown_pair(alloc, &name, &value);
+        return plain_store::pair_words(alloc, &name, &value);
     }
     Ok(String::new(alloc))
 }
@@ -81,8 +80,7 @@ fn value_of(store: &PlainStore, name: &Name) -> Option<Value>
 pub fn store_words(alloc: Global, store: &PlainStore) -> Result<Vec<u8>, AllocError>
     ensures { IfOk result (λ words. words.items ≡ words_of_store store.now) }
 {
-    let line = show_line(alloc, store)?;
-    words_shown(alloc, line.as_bytes())
+    Ok(plain_store::store_words(alloc, store)?.into_bytes())
 }
 
 /// The same, and nothing where it is empty.
@@ -94,25 +92,4 @@ pub fn words_by_pairs(alloc: Global, store: &PlainStore) -> Result<Vec<u8>, Allo
         return Ok(Vec::new(alloc));
     }
     store_words(alloc, store)
-}
-
-/// The pair as `NAME=VALUE`.
-#[tactic(auto, using(crate::proofs::Changing::pair_said))]
-fn shown_pair(alloc: Global, name: &Name, value: &Value) -> Result<String, AllocError>
-    ensures { IfOk result (λ words. string_bytes words ≡ name.now ++ codes "=" ++ value_text value.now) }
-{
-    format!(in alloc; "{name}={value}")
-}
-
-/// The words of a `show` line behind its first, without the line's end.
-#[tactic(auto, using(crate::proofs::Shown::words_of_shown, crate::proofs::Shown::short_shown))]
-pub fn words_shown(alloc: Global, line: &[u8]) -> Result<Vec<u8>, AllocError>
-    ensures shown { IfOk result (λ shown. shown.items ≡ shown_words line.now) }
-    ensures words { IfOk result (λ shown. (words : List ℕ) → line.now ≡ codes "show " ++ words ++ codes "\n" → shown.items ≡ words) }
-{
-    let mut shown = Vec::new(alloc);
-    if line.len() >= 6 {
-        shown.extend_from_slice(&line[5..line.len() - 1])?;
-    }
-    Ok(shown)
 }

@@ -1,7 +1,6 @@
 pub mod Drawn
 pub mod Giving
 mod Marked
-pub mod Shown
 pub mod Drawings
 pub mod Ends
 pub mod Pictured

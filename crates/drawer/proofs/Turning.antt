@@ -2,7 +2,6 @@
 use Rattle.std.proofs.Common.{◌≡◌, ◌≤◌, ℕ, ◌+◌, List, [], ◌∷◌, ◌++◌, length, map, take, Option, None, Some, Ok, refl, ap, sym, subst, ◌∙◌, append-nil, arith}
 use Rattle.std.proofs.lemmas.List.{length-append, length-map, take_all}
 use Rattle.std.proofs.Math.Seq.{take-append_seam}
-use Rattle.std.specs.String.{string_bytes}
 use Rattle.plain_store.specs.declared.Reply.{Reply}
 use Rattle.plain_store.specs.Setups.{checked}
 use Rattle.plain_store.specs.Store.{Contents}
@@ -22,6 +21,7 @@ use Rattle.companions.specs.picture.columns.declared.reads.OverlappedRead.{Overl
 use Rattle.companions.specs.picture.declared.reads.Reads.{Reads as Mode}
 use Rattle.course.specs.Happenings.{Happening, Tries, Lacks, Tires, Looks, past_after, tried}
 use Rattle.course.specs.Telling.{TellsOf, entry_made, marks_made}
+use Rattle.course.specs.Texts.{newest_words}
 use Rattle.course.specs.declared.told.Accepted.{Accepted}
 use Rattle.course.specs.declared.told.Told.{Told}
 use Rattle.course.specs.declared.told.Told.TheVariants as told
@@ -29,7 +29,6 @@ use Rattle.course.proofs.Refusals.{none_added, past_kept}
 use Rattle.drawer.specs.Drawings.{AreNext, IsAmong, IsToDraw, Recalls, all_take}
 use Rattle.drawer.specs.Items.{Says, SaysRefusal, SaysStore, SaysTired, given_at, lines_given, read_at, reads_since, said_at, said_of_event, says_mark, waiting}
 use Rattle.companions.specs.Overlaps.{Overhears, overlapped_by}
-use Rattle.companions.specs.StoreChanges.{shown_words}
 use Rattle.companions.specs.declared.overlaps.OverlapsHeard.{OverlapsHeard}
 use Rattle.drawer.proofs.Chains.{few_taken}
 use Rattle.drawer.proofs.Giving.{are_next, as_many, waiting_map}
@@ -66,16 +65,16 @@ abbrev pub SpeaksAs : Setup → List Happening → Happening → Told → Type 0
 SpeaksAs s before this (told.Accepted made) = Unit {0}
 SpeaksAs s before this (told.Refused p r) = Speaks s before this (SaysRefusal p r)
 SpeaksAs s before this (told.Tired p) = Speaks s before this (SaysTired p)
-SpeaksAs s before this (told.Shown line) = Speaks s before this (SaysStore (shown_words (string_bytes line)))
+SpeaksAs s before this (told.Shown store) = Speaks s before this (SaysStore (newest_words store))
 
 pub speaks_as : (s : Setup) (before : List Happening) (this : Happening) (answer : Told) → TellsOf s (past_after s before) this answer → SpeaksAs s before this answer
 speaks_as s before this (told.Accepted made) tells = tt
 speaks_as s before this (told.Refused p r) tells = speaks_refusal s before this p r tells
 speaks_as s before this (told.Tired p) tells = speaks_tired s before this p tells
-speaks_as s before Looks (told.Shown line) tells = record { says = ap (λ (words : List ℕ). SaysStore (shown_words words) ∷ []) (sym tells); reads = refl; past = refl }
-speaks_as s before (Tries event) (told.Shown line) tells = absurd tells
-speaks_as s before (Lacks q) (told.Shown line) tells = absurd tells
-speaks_as s before (Tires q) (told.Shown line) tells = absurd tells
+speaks_as s before Looks (told.Shown store) tells = record { says = ap (λ (newest : Option Contents). SaysStore (newest_words newest) ∷ []) (sym tells); reads = refl; past = refl }
+speaks_as s before (Tries event) (told.Shown store) tells = absurd tells
+speaks_as s before (Lacks q) (told.Shown store) tells = absurd tells
+speaks_as s before (Tires q) (told.Shown store) tells = absurd tells
 
 -- so it gives that line
 pub gives_one : (mode : Mode) (s : Setup) (n : ℕ) (before : List Happening) (this : Happening) (line : Says) → Speaks s before this line → lines_given mode n (length (past_after s before)) (reads_since s before) (line ∷ []) ≡ given_at mode s n before this

@@ -14,7 +14,7 @@ use Rattle.scenario.specs.declared.lines.Line.{Line as ScenarioLine}
 use Rattle.course.specs.Happenings.{Happening, Tries, Lacks, Tires, Looks, past_after}
 use Rattle.course.specs.Runs.{Run, happenings, run_after, run_at_start}
 use Rattle.course.specs.Summaries.{summary_of}
-use Rattle.course.specs.Texts.{newest_store, store_text}
+use Rattle.course.specs.Texts.{newest_store, newest_words}
 use Rattle.course.specs.declared.summaries.Summary.{Summary}
 use Rattle.companions.specs.picture.Bandings.{Item, Reads, Tells}
 use Rattle.companions.specs.picture.columns.declared.reads.OverlappedRead.{OverlappedRead}
@@ -24,7 +24,6 @@ use Rattle.companions.specs.picture.columns.declared.told.Saying.TheVariants.{Ma
 use Rattle.companions.specs.StoreChanges.{Changed, changed}
 use Rattle.drawer.specs.Changes.{change_of}
 use Rattle.companions.specs.Overlaps.{overlapped_by, shown_of}
-use Rattle.companions.specs.StoreChanges.{shown_words}
 
 -- what a line says
 pub data Says : Type 0 where
@@ -66,7 +65,7 @@ abbrev pub said_at : Setup → List Happening → Happening → List Says
 said_at s before (Tries event) = said_of_event s (past_after s before) (process_of event) (refused s (past_after s before) event) (entry_of s (past_after s before) event)
 said_at s before (Lacks p) = SaysRefusal p NoProcess ∷ []
 said_at s before (Tires p) = SaysTired p ∷ []
-said_at s before Looks = SaysStore (shown_words (store_text (newest_store s (past_after s before)))) ∷ []
+said_at s before Looks = SaysStore (newest_words (newest_store s (past_after s before))) ∷ []
 
 -- the overlapped read that ends with what happens, if one does
 abbrev pub read_at : Setup → List Happening → Happening → List OverlappedRead

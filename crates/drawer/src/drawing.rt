@@ -27,9 +27,8 @@ use crate::changes::Changes;
 use crate::writing::{write_band, write_markup};
 use companions::{
     Form, OverlappedRead, OverlapsHeard, Page, Reads, RunLine, Saying, hear, take_ended,
-    words_shown,
 };
-use course::{Course, Summary, Taken, Told};
+use course::{Course, Summary, Taken, Told, newest_words};
 use files::progress::{LinePlace, Onlooker};
 use listening::draw_line;
 use plain_store::{NestedTypes, Setup};
@@ -160,9 +159,9 @@ impl Drawing {
                 self.draw(saying, output)
             }
             Told::Tired(process) => self.draw(Saying::Tired(*process), output),
-            Told::Shown(line) => {
-                let words = words_shown(self.alloc, line.as_bytes())?;
-                self.draw(Saying::Shown(words), output)
+            Told::Shown(store) => {
+                let words = newest_words(self.alloc, store)?;
+                self.draw(Saying::Shown(words.into_bytes()), output)
             }
         }
     }

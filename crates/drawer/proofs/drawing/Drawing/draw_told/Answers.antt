@@ -1,6 +1,5 @@
 use Rattle.std.proofs.Common.{◌≡◌, ℕ, ◌+◌, ◌++◌, List, [], ◌∷◌, ◌∙◌, codes, flat_map, map, ap, refl, subst, sym}
 use Rattle.std.specs.Result.{OnOk}
-use Rattle.std.specs.String.{string_bytes}
 use Rattle.plain_store.specs.declared.setups.Setup.{Setup}
 use Rattle.record.specs.Records.{process_of}
 use Rattle.record.specs.declared.history.Taken.{Taken}
@@ -8,14 +7,12 @@ use Rattle.record.specs.declared.marks.Mark.{Mark}
 use Rattle.companions.specs.picture.declared.reads.Reads.{Reads as Mode}
 use Rattle.course.specs.Happenings.{Happening, past_after}
 use Rattle.course.specs.Telling.{entry_made, marks_made, told_text}
-use Rattle.course.specs.Texts.{mark_line}
+use Rattle.course.specs.Texts.{mark_line, newest_words, store_text}
 use Rattle.course.specs.declared.told.Told.{Told}
 use Rattle.course.specs.declared.told.Told.TheVariants as told
 use Rattle.course.proofs.Written.{ok_then}
 use Rattle.drawer.specs.Drawings.{AreNext, DrawsOn, IsAmong, IsToDraw, Recalls, all_take, kept, marks_told}
 use Rattle.drawer.specs.Items.{SaysStore, given_at, lines_given, reads_since, says_mark, waiting}
-use Rattle.companions.specs.StoreChanges.{shown_words}
-use Rattle.drawer.proofs.Shown.{tells_line}
 use Rattle.drawer.proofs.Turning.{BeginsMarks, Speaks, begins_marks, gives_one, speaks_as}
 use Rattle.drawer.proofs.drawing.Drawing.draw_told.Goals as goal
 
@@ -56,19 +53,16 @@ returns-in_ok-hear-in-Accepted-clause-recalls g c =
 pub returns-in_ok-words-in-Shown-clause-ok : goal.returns-in_ok-words-in-Shown-clause-ok
 returns-in_ok-words-in-Shown-clause-ok g c =
     let self = c.args.self.now in
-    let line = c.in-Shown.line in
+    let store = c.in-Shown.store in
+    let words : List ℕ = newest_words store in
+    let is = c.into_bytes.ensures ∙ c.in_ok-words-in-Shown.ensures in
     subst (λ (t : Told). OnOk c.draw-in-Shown.result ((mode : Mode) (s : Setup) (before : List Happening) (this : Happening) → IsToDraw mode s c.args.taken.now self.summary.events self.changes.store self.overlaps before this t →
     DrawsOn (kept self.page) (kept c.draw-in-Shown.new.self.page) (g.W.Sink.taken c.args.output.now) (g.W.Sink.taken c.draw-in-Shown.new.output) (told_text self.summary.events t) (marks_told t) (given_at mode s self.source before this))) (sym c.in-Shown.is)
     (ok_then c.draw-in-Shown.result
     (λ drew mode s before this d.
-    let (words, is) = tells_line s (past_after s before) this (told.Shown line) d.happens.tells in
-    let speaks : Speaks s before this (SaysStore (shown_words (string_bytes line))) = speaks_as s before this (told.Shown line) d.happens.tells in
-    let said = c.in_ok-words-in-Shown.ensures.words words (c.as_bytes.ensures.value ∙ is) in
-    let shown = c.in_ok-words-in-Shown.ensures.shown ∙ ap shown_words c.as_bytes.ensures.value in
-    subst (λ l. DrawsOn (kept self.page) (kept c.draw-in-Shown.new.self.page) (g.W.Sink.taken c.args.output.now) (g.W.Sink.taken c.draw-in-Shown.new.output) (string_bytes line) [] l)
-    (ap (λ (l : List ℕ). lines_given mode self.source self.summary.events (reads_since s before) (SaysStore l ∷ [])) shown
-    ∙ ap (λ (n : ℕ). lines_given mode self.source n (reads_since s before) (SaysStore (shown_words (string_bytes line)) ∷ [])) d.number ∙ gives_one mode s self.source before this (SaysStore (shown_words (string_bytes line))) speaks)
-    (subst (λ l. DrawsOn (kept self.page) (kept c.draw-in-Shown.new.self.page) (g.W.Sink.taken c.args.output.now) (g.W.Sink.taken c.draw-in-Shown.new.output) l [] (lines_given mode self.source self.summary.events (reads_since s before) (SaysStore c.in_ok-words-in-Shown.words.items ∷ [])))
-    (ap (λ (l : List ℕ). codes "show " ++ l ++ codes "\n") said ∙ sym is)
+    let speaks : Speaks s before this (SaysStore words) = speaks_as s before this (told.Shown store) d.happens.tells in
+    subst (λ l. DrawsOn (kept self.page) (kept c.draw-in-Shown.new.self.page) (g.W.Sink.taken c.args.output.now) (g.W.Sink.taken c.draw-in-Shown.new.output) (store_text store) [] l)
+    (ap (λ (n : ℕ). lines_given mode self.source n (reads_since s before) (SaysStore words ∷ [])) d.number ∙ gives_one mode s self.source before this (SaysStore words) speaks)
+    (subst (λ (l : List ℕ). DrawsOn (kept self.page) (kept c.draw-in-Shown.new.self.page) (g.W.Sink.taken c.args.output.now) (g.W.Sink.taken c.draw-in-Shown.new.output) (codes "show " ++ l ++ codes "\n") [] (lines_given mode self.source self.summary.events (reads_since s before) (SaysStore l ∷ []))) is
     (drew mode s (past_after s before) (reads_since s before) d.recalls.waits)))
     c.draw-in-Shown.ensures.ok)
