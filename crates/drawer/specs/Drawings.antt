@@ -118,7 +118,7 @@ abbrev pub marks_told : Told → List (ℕ × Mark)
 marks_told (told.Accepted made) = map (λ mark. (process_of made.event, mark)) (marks_made made)
 marks_told (told.Refused p refusal) = []
 marks_told (told.Tired p) = []
-marks_told (told.Shown line) = []
+marks_told (told.Shown store) = []
 
 -- a drawing stands where this has happened: its store is the one-thread store after the history, and the overlapped reads that wait are those since the last line
 pub record Recalls (mode : Mode) (s : Setup) (happened : List Happening) (store : Contents) (overlaps : Option OverlapsHeard) : Type 0 where
