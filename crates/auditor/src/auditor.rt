@@ -12,7 +12,7 @@ ghost use Rattle.world.specs.Shows.{Shows};
 ghost use Rattle.auditor.specs.Hearing.{HasHeard, IsHeard, event_in, law_of_misplaced, law_of_wrong};
 ghost use Rattle.auditor.specs.Verdicts.{tells_event};
 
-use crate::matching::{are_at, event_in, flick_in, flick_of, is_alike, is_that, more, tells};
+use crate::matching::{are_at, event_in, flick_in, flick_of, is_alike, is_that, more, tells_event};
 use crate::verdicts::Law;
 use plain_store::Setup;
 use record::{Access, Entry, Event, Mark, Stage};
@@ -63,6 +63,20 @@ impl Auditor {
     {
         self.core.copy_from(&other.core);
         self.taken = other.taken;
+    }
+
+    /// The processes as they stand after the entries heard.
+    pub fn core(&self) -> &Core
+        ensures { result.now ≡ self.now.core }
+    {
+        &self.core
+    }
+
+    /// How many commands were taken in the entries heard; none from 2^64 on.
+    pub fn taken(&self) -> Option<u64>
+        ensures { result ≡ self.now.taken }
+    {
+        self.taken
     }
 
     /// One more entry: none, if it keeps all laws; else the first law after `Safe` that it breaks. An entry that breaks
@@ -186,7 +200,7 @@ fn different(made: Access, access: Access) -> Option<Law>
 fn wrong(marks: &[Mark], settles: bool) -> Law
     ensures { result ≡ law_of_wrong (list_any tells_event marks.now) settles }
 {
-    if tells(marks) || !settles {
+    if tells_event(marks) || !settles {
         Law::Program
     } else {
         Law::Unit
@@ -197,7 +211,7 @@ fn wrong(marks: &[Mark], settles: bool) -> Law
 fn misplaced(marks: &[Mark]) -> Law
     ensures { result ≡ law_of_misplaced (list_any tells_event marks.now) }
 {
-    if tells(marks) {
+    if tells_event(marks) {
         Law::Program
     } else {
         Law::History

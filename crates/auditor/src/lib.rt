@@ -21,6 +21,7 @@ pub use laws_of_verdicts::{
     good_records_access_what_is_there, good_records_are_of_events, records_have_one_verdict,
     records_of_events_are_good,
 };
+pub use matching::{event_in, tells_event};
 pub use read_law::Watch;
 pub use record::{Entry, Record};
 pub use verdicts::{Audited, Law, Verdict};

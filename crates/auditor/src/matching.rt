@@ -39,7 +39,7 @@ pub(crate) fn flick_of(access: Access) -> bool
 
 /// The event other than a step that an entry may be of.
 #[inline]
-pub(crate) fn event_in(process: u8, access: &Option<Access>, marks: &[Mark]) -> Option<Event>
+pub fn event_in(process: u8, access: &Option<Access>, marks: &[Mark]) -> Option<Event>
     ensures { result ≡ event_in (record { process = process; access = access.now; marks = marks.now }) }
 {
     if access.is_some() || marks.len() != 1 {
@@ -55,7 +55,7 @@ pub(crate) fn event_in(process: u8, access: &Option<Access>, marks: &[Mark]) -> 
 }
 
 /// Whether one of the marks is that of an event which is no step.
-pub(crate) fn tells(marks: &[Mark]) -> bool
+pub fn tells_event(marks: &[Mark]) -> bool
     ensures { result ≡ list_any tells_event marks.now }
 {
     marks.iter().any(|mark| {

@@ -9,3 +9,7 @@ pub mod Lines
 pub mod Judged
 -- What is told
 pub mod Tells
+-- What goes along, and reasons
+pub mod Followed
+pub mod Explained
+pub mod Mays

@@ -9,6 +9,7 @@ use Rattle.record.specs.Entries.{Entry}
 use Rattle.trial.specs.Ends.{TrialEnds}
 use Rattle.trial.specs.files.Engines.{Streams}
 use Rattle.trial.specs.files.declared.faults.Fault.{Fault}
+use Rattle.judge.specs.Explanations.{AreLinesOf}
 
 -- the line of a verdict on so many entries
 abbrev pub verdict_line : ℕ → Verdict → List ℕ
@@ -26,13 +27,14 @@ pub record TellsVerdict (s : Setup) (entries : List Entry) (numbers told : List 
   pub answer : status ≡ status_of_verdict verdict
   pub line : told ≡ verdict_line (length entries) verdict
 
--- the line of the verdict, and behind it the lines of its reasons, and its status
+-- the line of the verdict, behind it the lines of its reasons, and its status
 pub record TellsReasons (s : Setup) (entries : List Entry) (numbers told : List ℕ) (status : ℕ) : Type 0 where
   pub verdict : Verdict
   pub is : IsVerdict s entries verdict
   pub answer : status ≡ status_of_verdict verdict
-  pub reasons : List ℕ
-  pub text : told ≡ verdict_line (length entries) verdict ++ reasons
+  pub lines : List ℕ
+  pub are : AreLinesOf s entries numbers verdict lines
+  pub text : told ≡ verdict_line (length entries) verdict ++ lines
 
 -- How judging ends: with the verdict on what the whole input says, and with lines of reasons if they are asked for; or with its fault. Each fault has its cause, and nothing was written unless the verdict is known.
 abbrev pub JudgeEnds : Bool → Result ℕ Fault → Streams → Streams → Type 0

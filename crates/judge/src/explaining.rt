@@ -1,15 +1,18 @@
 //! A judge who tells the reasons of a bad verdict too.
-ghost use Rattle.std.specs.Prelude.{◌≡◌};
+ghost use Rattle.std.specs.Prelude.{◌≡◌, ◌↔◌, ◌++◌, IfOk, IsTrue, OnOk, codes};
+ghost use Rattle.std.specs.String.{string_bytes};
+ghost use Rattle.record.specs.Shown.{refusal_text as text_of_refusal};
+ghost use Rattle.auditor.specs.declared.verdicts.Verdict.TheVariants.{Good};
+ghost use Rattle.trial.specs.ReasonLines.{word_line};
+ghost use Rattle.judge.specs.Explanations.{HasExplained, ReasonsGoOn, Writes, event_or_step, is_crowded, may_line as line_of_may, may_lines, reason_lines, refusal_line, refused_line, without_twin};
 ghost use Rattle.judge.specs.Judgements.{TellsReasons};
-ghost use Rattle.judge.specs.Judging.{HasJudged};
 
-use crate::follower::{Follower, event_in};
+use crate::follower::Follower;
 use crate::judge::RecordJudge;
 use crate::verdicts::{status_of, verdict_line};
-use auditor::Verdict;
+use auditor::{Verdict, event_in, tells_event};
 use plain_store::{NestedTypes, Setup};
-use record::{Access, Act, Entry, Event, Mark, Refusal};
-use record_file::print_entry;
+use record::{Access, Act, Entry, Event, Refusal, Stage};
 use std::alloc::{AllocError, Global};
 use trial::reason_lines::{push_bad, push_entry, push_stage, push_word};
 use trial::{Hearer, Telling, step_entry};
@@ -23,7 +26,7 @@ pub(crate) struct Explaining {
 }
 
 impl Hearer for Explaining {
-    ghost HasHeard = { λ e s entries numbers. HasJudged e.judge s entries };
+    ghost HasHeard = { λ e s entries numbers. HasExplained e.judge e.follower e.reasons.items s entries numbers };
 
     ghost count = { λ e. e.judge.entries };
 
@@ -38,9 +41,18 @@ impl Hearer for Explaining {
     }
 
     fn take(&mut self, alloc: Global, number: u64, entry: &Entry) -> Result<(), AllocError> {
-        let was_good = is_good(&self.judge);
+        let was = self.judge.audited().verdict;
         self.judge.hear(entry);
-        self.go_on(was_good, alloc, number, entry)
+        let now = self.judge.audited().verdict;
+        go_on(
+            was,
+            now,
+            alloc,
+            number,
+            entry,
+            &mut self.follower,
+            &mut self.reasons,
+        )
     }
 
     fn take_access(
@@ -50,9 +62,19 @@ impl Hearer for Explaining {
         process: u8,
         access: Access,
     ) -> Result<(), AllocError> {
-        let was_good = is_good(&self.judge);
+        let was = self.judge.audited().verdict;
         self.judge.hear_access(process, access);
-        self.go_on(was_good, alloc, number, &step_entry(alloc, process, access))
+        let now = self.judge.audited().verdict;
+        let entry = step_entry(alloc, process, access);
+        go_on(
+            was,
+            now,
+            alloc,
+            number,
+            &entry,
+            &mut self.follower,
+            &mut self.reasons,
+        )
     }
 
     fn tell(&self, alloc: Global) -> Result<Telling, AllocError> {
@@ -65,37 +87,39 @@ impl Hearer for Explaining {
         })
     }
 
-    ghost counts = { λ e s entries numbers judged. judged.count };
+    ghost counts = { λ e s entries numbers explained. explained.judged.count };
 }
 
-impl Explaining {
-    /// Goes along with an entry that was judged, which stands in this line, if the verdict stays good; gives its reasons, if
-    /// it is the bad one.
-    fn go_on(
-        &mut self,
-        was_good: bool,
-        alloc: Global,
-        number: u64,
-        entry: &Entry,
-    ) -> Result<(), AllocError>
-        ensures { self.new.judge ≡ self.old.judge }
-    {
-        if !was_good {
-            return Ok(());
-        }
-        if is_good(&self.judge) {
-            let Act { access, marks } = &entry.act;
-            self.follower.follow(entry.process, access, marks);
-            return Ok(());
-        }
-        explain(alloc, number, entry, &mut self.follower, &mut self.reasons)
+/// With one more entry, which stands in this line, the verdict is `now`. It is gone along with, if the verdict stays good;
+/// its reasons are written, if it is the bad one.
+fn go_on(
+    was: Verdict,
+    now: Verdict,
+    alloc: Global,
+    number: u64,
+    entry: &Entry,
+    follower: &mut Follower,
+    lines: &mut Vec<u8>,
+) -> Result<(), AllocError>
+    ensures { OnOk result (ReasonsGoOn was now follower.old follower.new number entry.now
+        lines.old.items lines.new.items) }
+{
+    if !is_good(was) {
+        return Ok(());
     }
+    if is_good(now) {
+        follower.follow(entry);
+        return Ok(());
+    }
+    explain(alloc, number, entry, follower, lines)
 }
 
-/// Whether the verdict of a judge is good.
+/// Whether a verdict is good.
 #[inline]
-fn is_good(judge: &RecordJudge) -> bool {
-    matches!(judge.audited().verdict, Verdict::Good)
+fn is_good(verdict: Verdict) -> bool
+    ensures { IsTrue result ↔ (verdict ≡ Good) }
+{
+    verdict == Verdict::Good
 }
 
 /// Writes the reasons of a bad entry, which stands in this line, behind a record that the follower has followed.
@@ -105,73 +129,107 @@ fn explain(
     entry: &Entry,
     follower: &mut Follower,
     lines: &mut Vec<u8>,
-) -> Result<(), AllocError> {
+) -> Result<(), AllocError>
+    ensures { OnOk result (Writes follower.old (λ s past. reason_lines s past number entry.now)
+        lines.old.items lines.new.items) }
+{
     push_bad(alloc, number, entry, lines)?;
-    push_steps(alloc, entry.process, follower, lines)?;
+    push_may(alloc, entry.process, follower, lines)?;
     push_refused(alloc, entry, follower, lines)?;
     push_stage(alloc, follower.stage(entry.process), lines)
 }
 
-/// What a Step of a process adds: with flick 0, and with flick 1 if that is another entry.
-fn push_steps(
+/// Writes what a Step of a process adds: with flick 0, and with flick 1 if that is another entry.
+fn push_may(
     alloc: Global,
     process: u8,
     follower: &mut Follower,
     lines: &mut Vec<u8>,
-) -> Result<(), AllocError> {
+) -> Result<(), AllocError>
+    ensures same { follower.new ≡ follower.old }
+    ensures lines { OnOk result (Writes follower.old (λ s past. may_lines s past process)
+        lines.old.items lines.new.items) }
+{
+    let with_0 = may_line(alloc, &follower.stepped(alloc, process, false))?;
+    let with_1 = may_line(alloc, &follower.stepped(alloc, process, true))?;
+    push_both(&with_0, &with_1, lines)
+}
+
+/// The line of an entry, if there is one.
+fn may_line(alloc: Global, entry: &Option<Entry>) -> Result<Vec<u8>, AllocError>
+    ensures { IfOk result (λ line. line.items ≡ line_of_may entry.now) }
+{
     let _nested: NestedTypes = None;
-    let (Some(with_0), Some(with_1)) = (
-        follower.stepped(alloc, process, false),
-        follower.stepped(alloc, process, true),
-    ) else {
-        return Ok(());
-    };
-    push_entry(alloc, "may", &with_0, lines)?;
-    if are_spelled_alike(alloc, &with_0, &with_1)? {
+    let mut line = Vec::new(alloc);
+    if let Some(entry) = entry {
+        push_entry(alloc, "may", entry, &mut line)?;
+    }
+    Ok(line)
+}
+
+/// Writes a line and another one, unless they are the same.
+fn push_both(line: &[u8], other: &[u8], lines: &mut Vec<u8>) -> Result<(), AllocError>
+    ensures { OnOk result (lines.new.items ≡ lines.old.items ++ without_twin line.now other.now) }
+{
+    lines.extend_from_slice(line)?;
+    if line == other {
         return Ok(());
     }
-    push_entry(alloc, "may", &with_1, lines)
+    lines.extend_from_slice(other)
 }
 
-/// Whether two entries are spelled alike, and so are the same.
-fn are_spelled_alike(alloc: Global, entry: &Entry, other: &Entry) -> Result<bool, AllocError> {
-    let mut line = Vec::new(alloc);
-    print_entry(alloc, entry, &mut line)?;
-    let mut other_line = Vec::new(alloc);
-    print_entry(alloc, other, &mut other_line)?;
-    Ok(line.as_slice() == other_line.as_slice())
-}
-
-/// Why an entry is refused, if it is: the event that its mark tells, or else a Step. The mark of such an event in company
-/// does not stand alone.
+/// Writes why an entry is refused, if it is: the event that its mark tells, or else a Step. The mark of such an event in
+/// company does not stand alone.
 fn push_refused(
     alloc: Global,
     entry: &Entry,
     follower: &Follower,
     lines: &mut Vec<u8>,
-) -> Result<(), AllocError> {
-    let Act { access, marks } = &entry.act;
-    let told = event_in(entry.process, access, marks);
-    let is_there = follower.stage(entry.process).is_some();
-    if is_there && told.is_none() && marks.iter().any(tells_event) {
+) -> Result<(), AllocError>
+    ensures { OnOk result (Writes follower.now (λ s past. refused_line s past entry.now)
+        lines.old.items lines.new.items) }
+{
+    if is_crowded(follower.stage(entry.process), entry) {
         return push_word(alloc, "refused", "not-alone", lines);
     }
-    let event = told.unwrap_or(Event::Step(entry.process, false));
-    match follower.refusal(&event) {
+    push_refusal(alloc, &follower.refusal(&event_or_step(entry)), lines)
+}
+
+/// Whether the mark of an event that is no Step is in company, in an entry of a process that is there.
+fn is_crowded(stage: Option<Stage>, entry: &Entry) -> bool
+    ensures { result ≡ is_crowded stage entry.now }
+{
+    let Act { access, marks } = &entry.act;
+    stage.is_some() && event_in(entry.process, access, marks).is_none() && tells_event(marks)
+}
+
+/// The event that an entry tells, or else a Step.
+fn event_or_step(entry: &Entry) -> Event
+    ensures { result ≡ event_or_step entry.now }
+{
+    let Act { access, marks } = &entry.act;
+    event_in(entry.process, access, marks).unwrap_or(Event::Step(entry.process, false))
+}
+
+/// Writes a refusal, if there is one.
+fn push_refusal(
+    alloc: Global,
+    refusal: &Option<Refusal>,
+    lines: &mut Vec<u8>,
+) -> Result<(), AllocError>
+    ensures { OnOk result (lines.new.items ≡ lines.old.items ++ refusal_line refusal.now) }
+{
+    match refusal {
         None => Ok(()),
-        Some(refusal) => push_refusal(alloc, &refusal, lines),
+        Some(refusal) => {
+            let line = refusal_text(alloc, refusal)?;
+            lines.extend_from_slice(line.as_bytes())
+        }
     }
 }
 
-/// Whether a mark is that of an event which is no Step.
-fn tells_event(mark: &Mark) -> bool {
-    matches!(
-        mark,
-        Mark::Called(_) | Mark::Failed | Mark::Withdrew | Mark::Restarted
-    )
-}
-
-fn push_refusal(alloc: Global, refusal: &Refusal, lines: &mut Vec<u8>) -> Result<(), AllocError> {
-    let line = format!(in alloc; "refused {refusal}\n")?;
-    lines.extend_from_slice(line.as_bytes())
+fn refusal_text(alloc: Global, refusal: &Refusal) -> Result<String, AllocError>
+    ensures { IfOk result (λ line. string_bytes line ≡ word_line (codes "refused") (text_of_refusal refusal.now)) }
+{
+    format!(in alloc; "refused {refusal}\n")
 }

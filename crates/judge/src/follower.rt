@@ -1,96 +1,92 @@
 //! What goes along with a good record, one entry behind the judge: it tells what a process would do next.
-ghost use Rattle.std.specs.Prelude.{◌≡◌, [], ℕ, IfOk, Ok};
+ghost use Rattle.std.specs.Prelude.{◌≡◌, ◌^◌, ◌<◌, [], ◌∷◌, IfOk, Ok, length};
+ghost use Rattle.plain_store.specs.declared.setups.Setup.{Setup as Given};
 ghost use Rattle.plain_store.specs.Setups.{checked};
-ghost use Rattle.record.specs.Histories.{reply_taken};
-ghost use Rattle.world.specs.process.Telling.{marks_told};
-ghost use Rattle.auditor.specs.Hearing.{HasHeard, IsCount, event_in as event_told, flick_in as flick_told, with_reply};
+ghost use Rattle.record.specs.declared.events.Event.TheVariants.{Step as Stepped};
+ghost use Rattle.record.specs.Entries.{Past};
+ghost use Rattle.record.specs.Records.{entry_of, refused};
+ghost use Rattle.auditor.specs.Verdicts.{KeepsAll};
+ghost use Rattle.world.specs.Events.{stage_in};
+ghost use Rattle.judge.specs.Following.{HasFollowed};
 
+use auditor::Auditor;
 use plain_store::{NestedTypes, Setup};
-use record::{Access, Act, Entry, Event, Mark, Move, Refusal, Stage};
+use record::{Act, Entry, Event, Refusal, Stage};
 use std::alloc::{AllocError, Global};
 use std::marker::Model;
-use world::{Core, Effect, StepTold};
+use world::{Core, StepTold};
 
-/// The processes of this project's lock, as they stand after the entries of a good record, how many commands were taken,
-/// and room for one step that is tried.
+/// An auditor who has heard the entries of a good record, and room for one step that is tried. Behind an entry that broke
+/// a law it is lost, and tells nothing.
 #[derive(Drop)]
 pub(crate) struct Follower {
-    core: Core,
+    auditor: Auditor,
     tried: Core,
-    taken: Option<u64>,
+    is_lost: bool,
 }
 
 impl Model for Follower {
-    ghost use Rattle.std.specs.Prelude.{◌≡◌};
-    ghost use Rattle.auditor.specs.Hearing.{AuditorState};
+    ghost use Rattle.std.specs.Prelude.{◌≡◌, false};
+    ghost use Rattle.judge.specs.Following.{FollowerState};
 
-    ghost Value = { AuditorState };
+    ghost Value = { FollowerState };
 
-    ghost view = { λ f. record { core = f.core; taken = f.taken } };
+    ghost view = { λ f. record { auditor = f.auditor; is_lost = f.is_lost } };
 
-    ghost invariant = { λ f. f.tried.setup ≡ f.core.setup };
+    ghost invariant = { λ f. f.is_lost ≡ false → f.tried.setup ≡ f.auditor.core.setup };
 }
 
 impl Follower {
     /// Before the first entry. The one fault is want of memory; no later call takes any.
     pub fn new(alloc: Global, setup: &Setup) -> Result<Follower, AllocError>
         requires { checked setup.now ≡ Ok tt }
-        ensures setup { IfOk result (λ f. f.core.setup ≡ setup.now) }
-        ensures heard { IfOk result (λ f. HasHeard f []) }
+        ensures { IfOk result (λ f. HasFollowed f setup.now []) }
     {
         Ok(Follower {
-            core: Core::new(alloc, setup)?,
+            auditor: Auditor::new(alloc, setup)?,
             tried: Core::new(alloc, setup)?,
-            taken: Some(0),
+            is_lost: false,
         })
     }
 
     /// One more entry, which keeps all laws. It takes no memory.
-    pub fn follow(&mut self, process: u8, access: &Option<Access>, marks: &[Mark]) {
-        match event_in(process, access, marks) {
-            Some(event) => self.make(&event),
-            None => self.step(process, flick_in(access)),
+    pub fn follow(&mut self, entry: &Entry)
+        ensures { (s : Given) (past : Past) → KeepsAll s past entry.now → HasFollowed self.old s past → HasFollowed self.new s (entry.now ∷ past) }
+    {
+        if self.auditor.hear(entry).is_some() {
+            self.is_lost = true;
         }
     }
 
-    /// An event that is no step.
-    fn make(&mut self, event: &Event) {
-        let mut effect = Effect::Steps(StepTold::Nothing);
-        let Ok(_access) = self.core.event(event, &mut effect) else {
-            return;
-        };
-    }
-
-    /// A step.
-    fn step(&mut self, process: u8, flick: bool) {
-        let mut told = StepTold::Nothing;
-        let Ok(_access) = self.core.step(process, flick, &mut told) else {
-            return;
-        };
-        self.taken = more(self.taken, &told);
-    }
-
     /// The stage of a process, if it is there.
-    pub fn stage(&self, process: u8) -> Option<Stage> {
-        self.core.stage(process)
+    pub fn stage(&self, process: u8) -> Option<Stage>
+        ensures { (s : Given) (past : Past) → HasFollowed self.now s past → result ≡ stage_in s past process }
+    {
+        self.auditor.core().stage(process)
     }
 
     /// Why an event is refused, if it is.
-    pub fn refusal(&self, event: &Event) -> Option<Refusal> {
-        self.core.refusal(event)
+    pub fn refusal(&self, event: &Event) -> Option<Refusal>
+        ensures { (s : Given) (past : Past) → HasFollowed self.now s past → result ≡ refused s past event.now }
+    {
+        self.auditor.core().refusal(event)
     }
 
     /// The entry that a Step of a process adds, by this flick; none where it is refused.
     pub fn stepped(&mut self, alloc: Global, process: u8, flick: bool) -> Option<Entry>
         ensures same { self.new ≡ self.old }
+        ensures added { (s : Given) (past : Past) → HasFollowed self.old s past → length past < 2 ^ 64 → result ≡ entry_of s past (Stepped process flick) }
     {
         let _nested: NestedTypes = None;
-        self.tried.copy_from(&self.core);
+        if self.is_lost {
+            return None;
+        }
+        self.tried.copy_from(self.auditor.core());
         let mut told = StepTold::Nothing;
         let Ok(access) = self.tried.step(process, flick, &mut told) else {
             return None;
         };
-        let place = self.taken?;
+        let place = self.auditor.taken()?;
         Some(Entry {
             process,
             act: Act {
@@ -98,47 +94,5 @@ impl Follower {
                 marks: told.marks(alloc, place),
             },
         })
-    }
-}
-
-/// How many commands were taken, after what a step leads to.
-fn more(taken: Option<u64>, told: &StepTold) -> Option<u64>
-    ensures { (n : ℕ) → IsCount taken n → IsCount result (with_reply n (reply_taken (marks_told told.now))) }
-{
-    if told.reply().is_none() {
-        return taken;
-    }
-    match taken {
-        None => None,
-        Some(count) => count.checked_add(1),
-    }
-}
-
-/// The flick that an access tells, if there is one.
-fn flick_in(access: &Option<Access>) -> bool
-    ensures { result ≡ flick_told access.now }
-{
-    match access {
-        None => false,
-        Some(access) => match access.how {
-            Move::BeginWrite(value) | Move::EndRead(value) | Move::Settle(value) => value,
-            Move::EndWrite | Move::BeginRead => false,
-        },
-    }
-}
-
-/// The event other than a step that an entry may be of.
-pub(crate) fn event_in(process: u8, access: &Option<Access>, marks: &[Mark]) -> Option<Event>
-    ensures { result ≡ event_told (record { process = process; access = access.now; marks = marks.now }) }
-{
-    if access.is_some() || marks.len() != 1 {
-        return None;
-    }
-    match marks[0] {
-        Mark::Called(command) => Some(Event::Call(process, command)),
-        Mark::Failed => Some(Event::Fail(process)),
-        Mark::Withdrew => Some(Event::Withdraw(process)),
-        Mark::Restarted => Some(Event::Restart(process)),
-        _ => None,
     }
 }

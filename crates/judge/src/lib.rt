@@ -11,6 +11,7 @@ mod follower;
 mod hearing;
 mod judge;
 mod judging;
+mod laws_of_reasons;
 mod verdicts;
 
 pub use auditor::{
@@ -19,5 +20,6 @@ pub use auditor::{
 };
 pub use judge::RecordJudge;
 pub use judging::run_judge;
+pub use laws_of_reasons::only_steps_keep_all_laws;
 pub use record_file::{StepLine, print_entry, print_setup};
 pub use verdicts::{status_of, verdict_line};

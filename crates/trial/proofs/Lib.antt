@@ -7,3 +7,5 @@ pub mod Ends
 pub mod EngineEnds
 -- Texts
 pub mod Texts
+-- Reasons
+pub mod LinesAt

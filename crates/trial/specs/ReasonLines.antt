@@ -1,7 +1,8 @@
--- The lines of reasons that all judges have.
-use Rattle.std.specs.Prelude.{ℕ, List, [], ◌++◌, codes, Option, Some, None}
+-- The lines of reasons that all judges have, and whose reasons they are.
+use Rattle.std.specs.Prelude.{◌≡◌, ℕ, List, [], ◌∷◌, ◌++◌, codes, length, reverse, slice_get, Option, Some, None}
 use Rattle.std.specs.Fmt.{decimal}
-use Rattle.record.specs.Entries.{Entry}
+use Rattle.plain_store.specs.declared.setups.Setup.{Setup}
+use Rattle.record.specs.Entries.{Entry, Past}
 use Rattle.record.specs.declared.stages.Stage.{Stage}
 use Rattle.record.specs.declared.stages.Stage.TheVariants.{Idle, Doorway, Waiting, Inside, Leaving, Settling, Down}
 use Rattle.record_file.specs.Printing.{entry_line}
@@ -36,3 +37,14 @@ stage_word Down = codes "down"
 abbrev pub stage_line : Option Stage → List ℕ
 stage_line None = []
 stage_line (Some stage) = word_line (codes "stage") (stage_word stage)
+
+-- these are the lines of the reasons of the bad entry of a record: entry k, which stands in the line with its number; what they are is told by the entries before it
+pub record AreLinesAt (Are : Setup → Past → ℕ → Entry → List ℕ → Type 0) (s : Setup) (entries : List Entry) (numbers : List ℕ) (k : ℕ) (lines : List ℕ) : Type 0 where
+  pub entry : Entry
+  pub past : Past
+  pub later : Past
+  pub splits : reverse entries ≡ later ++ entry ∷ past
+  pub place : length past ≡ k
+  pub number : ℕ
+  pub line : slice_get numbers k ≡ Some number
+  pub are : Are s past number entry lines

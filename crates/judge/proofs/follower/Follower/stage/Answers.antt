@@ -1,0 +1,12 @@
+use Rattle.std.proofs.Common.{◌≡◌, List, ap, ◌∙◌}
+use Rattle.plain_store.specs.declared.setups.Setup.{Setup}
+use Rattle.record.specs.declared.history.Taken.{Taken}
+use Rattle.record.specs.Entries.{Past}
+use Rattle.world.specs.Events.{stage_in}
+use Rattle.judge.specs.Following.{FollowerState}
+use Rattle.judge.proofs.Followed.{followed}
+use Rattle.judge.proofs.follower.Follower.stage.Goals as goal
+
+pub returns : goal.returns
+returns c = λ s past h.
+    followed c.args.self.now s past (λ (taken : List Taken) (s : Setup) (past : Past). c.stage.result ≡ stage_in s past c.args.process) c.core.result.now (c.core.ensures ∙ ap (λ (f : FollowerState). f.auditor.core) c.self.view_is) h c.stage.ensures
