@@ -1,5 +1,5 @@
 -- The reasons behind a verdict, as entries are heard.
-use Rattle.std.proofs.Common.{◌≡◌, ℕ, zero, suc, not, ◌&&◌, Bool, true, false, List, [], ◌∷◌, ◌++◌, length, reverse, Option, None, Some, Result, Ok, Err, OnOk, slice_get, refl, ap, sym, subst, ◌∙◌, true≢false, arith}
+use Rattle.std.proofs.Common.{◌≡◌, ℕ, not, ◌&&◌, Bool, true, false, List, [], ◌∷◌, ◌++◌, length, reverse, Option, None, Some, refl, ap, sym, subst, ◌∙◌, true≢false, arith}
 use Rattle.std.proofs.lemmas.List.{length-append, length-reverse}
 use Rattle.plain_store.specs.declared.setups.Setup.{Setup}
 use Rattle.record.specs.Entries.{Entry, Past}
@@ -12,7 +12,9 @@ use Rattle.any_lock.specs.declared.verdicts.AnyLockLaw.{AnyLockLaw}
 use Rattle.any_lock.specs.declared.verdicts.AnyLockVerdict.{AnyLockVerdict}
 use Rattle.any_lock.specs.declared.verdicts.AnyLockVerdict.TheVariants.{Good, Bad}
 use Rattle.any_lock.proofs.Told.{newest_first, verdict_bad, verdict_good}
-use Rattle.any_judge.specs.Explanations.{AreLinesAt, AreLinesOf, Explains, ExplainsIf, HasExplained, TellsReasons, is_good}
+use Rattle.trial.specs.ReasonLines.{AreLinesAt}
+use Rattle.trial.proofs.LinesAt.{counted_on, lines_of_newest, lines_stay}
+use Rattle.any_judge.specs.Explanations.{AreLines, AreLinesOf, Explains, ExplainsIf, HasExplained, TellsReasons, is_good}
 use Rattle.any_judge.specs.Judgements.{TellsVerdict, status_of_verdict, verdict_line}
 use Rattle.any_judge.specs.ReasonLines.{reason_lines}
 
@@ -21,20 +23,6 @@ newest_is : (e y : Entry) (xs ys later : Past) → e ∷ xs ≡ later ++ y ∷ y
 newest_is e y xs ys [] splits long = (cc, cc)
 newest_is e y xs ys (z ∷ later) splits long =
     let both = ap length splits in let more = length-append later (y ∷ ys) in absurd (omega (arith, both, more, long))
-
--- the number at the end
-last_number : (ns : List ℕ) (n k : ℕ) → length ns ≡ k → slice_get (ns ++ n ∷ []) k ≡ Some n
-last_number ns n k long = subst (λ k. slice_get (ns ++ n ∷ []) k ≡ Some n) long (at ns)
-  where
-    at : (ns : List ℕ) → slice_get (ns ++ n ∷ []) (length ns) ≡ Some n
-    at [] = refl
-    at (m ∷ ns) = at ns
-
--- and one before it
-number_before : (ns : List ℕ) (n k m : ℕ) → slice_get ns k ≡ Some m → slice_get (ns ++ n ∷ []) k ≡ Some m
-number_before [] n k m is = absurd (cc)
-number_before (x ∷ ns) n zero m is = is
-number_before (x ∷ ns) n (suc k) m is = number_before ns n k m is
 
 and_false : (b : Bool) → (b && not true) ≡ false
 and_false true = refl
@@ -66,19 +54,9 @@ explained_now j j' lines lines' n e s entries numbers explained good judged bad 
         (subst (λ (x : Entry). AreReasons s at.past x l at.told) (sym same.0) at.are)) in
         record {
           judged = judged;
-          counted = let had : length numbers ≡ length entries = explained.counted in omega (arith, had, length-append numbers (n ∷ []), length-append entries (e ∷ []));
-          are = subst (λ (v : AnyLockVerdict). AreLinesOf s (entries ++ e ∷ []) (numbers ++ n ∷ []) v lines') (sym (judged.verdict ∙ is)) (record {
-            entry = e;
-            past = reverse entries;
-            later = [];
-            splits = newest_first entries e;
-            place = length-reverse entries;
-            number = n;
-            line = last_number numbers n (length entries) explained.counted;
-            reasons = told.0;
-            are = are;
-            text = told.2 ∙ ap (λ (l : List ℕ). l ++ reason_lines n e told.0) empty;
-          });
+          counted = counted_on entries numbers n e explained.counted;
+          are = subst (λ (v : AnyLockVerdict). AreLinesOf s (entries ++ e ∷ []) (numbers ++ n ∷ []) v lines') (sym (judged.verdict ∙ is))
+              (lines_of_newest (AreLines l) s entries numbers n e lines' explained.counted (told.0, are, told.2 ∙ ap (λ (l : List ℕ). l ++ reason_lines n e told.0) empty));
         }
 
 -- any other
@@ -86,7 +64,7 @@ pub explained_still : (j j' : JudgeState) (lines : List ℕ) (n : ℕ) (e : Entr
     HasExplained j' lines s (entries ++ e ∷ []) (numbers ++ n ∷ [])
 explained_still j j' lines n e s entries numbers explained judged never = record {
   judged = judged;
-  counted = let had : length numbers ≡ length entries = explained.counted in omega (arith, had, length-append numbers (n ∷ []), length-append entries (e ∷ []));
+  counted = counted_on entries numbers n e explained.counted;
   are = by j.verdict refl never;
 }
   where
@@ -99,19 +77,9 @@ explained_still j j' lines n e s entries numbers explained judged never = record
         subst (λ (v : AnyLockVerdict). AreLinesOf s (entries ++ e ∷ []) (numbers ++ n ∷ []) v lines) (sym (good_is j'.verdict (not_not (is_good j'.verdict) never)))
         (subst (λ (v : AnyLockVerdict). AreLinesOf s entries numbers v lines) is explained.are)
     by (Bad k l) is never =
-        let at : AreLinesAt s entries numbers k l lines = subst (λ (v : AnyLockVerdict). AreLinesOf s entries numbers v lines) is explained.are in
-        subst (λ (v : AnyLockVerdict). AreLinesOf s (entries ++ e ∷ []) (numbers ++ n ∷ []) v lines) (sym (judged.verdict ∙ verdict_bad s entries e k l (sym explained.judged.verdict ∙ is))) (record {
-          entry = at.entry;
-          past = at.past;
-          later = e ∷ at.later;
-          splits = newest_first entries e ∙ ap (λ (x : Past). e ∷ x) at.splits;
-          place = at.place;
-          number = at.number;
-          line = number_before numbers n k at.number at.line;
-          reasons = at.reasons;
-          are = at.are;
-          text = at.text;
-        })
+        let at : AreLinesAt (AreLines l) s entries numbers k lines = subst (λ (v : AnyLockVerdict). AreLinesOf s entries numbers v lines) is explained.are in
+        subst (λ (v : AnyLockVerdict). AreLinesOf s (entries ++ e ∷ []) (numbers ++ n ∷ []) v lines) (sym (judged.verdict ∙ verdict_bad s entries e k l (sym explained.judged.verdict ∙ is)))
+        (lines_stay (AreLines l) s entries numbers n e k lines at)
 
 -- either
 pub explained_on : (j j' : JudgeState) (lines lines' : List ℕ) (n : ℕ) (e : Entry) (s : Setup) (entries : List Entry) (numbers : List ℕ) → HasExplained j lines s entries numbers → HasJudged j' s (entries ++ e ∷ []) →
@@ -145,11 +113,6 @@ tells_verdict s entries numbers told status n v is count answer line = record {
   answer = answer ∙ ap status_of_verdict is;
   line = line ∙ ap (λ k. verdict_line k v) count ∙ ap (verdict_line (length entries)) is;
 }
-
--- what follows, where there was memory
-pub ok_then : {A E : Type 0} (r : Result A E) {P Q : Type 0} → (P → Q) → OnOk r P → OnOk r Q
-ok_then (Ok a) then p = then p
-ok_then (Err e) then p = tt
 
 -- whether reasons are there or not
 pub explains_none : (j : JudgeState) (n : ℕ) (e : Entry) (lines : List ℕ) → ((s : Setup) (entries : List Entry) → HasJudged j s entries → AreReasonsOf s entries (verdict_of s entries) None) → Explains j n e lines lines

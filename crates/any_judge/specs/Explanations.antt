@@ -1,5 +1,5 @@
 -- The reasons that stand behind a bad verdict.
-use Rattle.std.specs.Prelude.{◌≡◌, ℕ, Bool, true, false, List, [], ◌∷◌, ◌++◌, length, reverse, slice_get, Some, Result}
+use Rattle.std.specs.Prelude.{◌≡◌, ℕ, Bool, true, false, List, [], ◌++◌, length, Some, Result}
 use Rattle.plain_store.specs.declared.setups.Setup.{Setup}
 use Rattle.record.specs.Entries.{Entry, Past}
 use Rattle.any_lock.specs.Judging.{AreReasonsAt, HasJudged, JudgeState}
@@ -11,27 +11,19 @@ use Rattle.any_lock.specs.declared.verdicts.AnyLockVerdict.{AnyLockVerdict}
 use Rattle.any_lock.specs.declared.verdicts.AnyLockVerdict.TheVariants.{Good, Bad}
 use Rattle.trial.specs.Ends.{TrialEnds}
 use Rattle.trial.specs.files.Engines.{Streams}
+use Rattle.trial.specs.ReasonLines.{AreLinesAt}
 use Rattle.trial.specs.files.declared.faults.Fault.{Fault}
 use Rattle.any_judge.specs.Judgements.{TellsVerdict, status_of_verdict, verdict_line}
 use Rattle.any_judge.specs.ReasonLines.{reason_lines}
 
--- these are the lines of the reasons of the bad entry of a record: entry k breaks law l first, and stands in the line with its number
-pub record AreLinesAt (s : Setup) (entries : List Entry) (numbers : List ℕ) (k : ℕ) (l : AnyLockLaw) (lines : List ℕ) : Type 0 where
-  pub entry : Entry
-  pub past : Past
-  pub later : Past
-  pub splits : reverse entries ≡ later ++ entry ∷ past
-  pub place : length past ≡ k
-  pub number : ℕ
-  pub line : slice_get numbers k ≡ Some number
-  pub reasons : Reasons
-  pub are : AreReasons s past entry l reasons
-  pub text : lines ≡ reason_lines number entry reasons
+-- these are the lines of the reasons of an entry that breaks this law first, and stands in line n
+abbrev pub AreLines : AnyLockLaw → Setup → Past → ℕ → Entry → List ℕ → Type 0
+AreLines l s past n e lines = (reasons : Reasons) × AreReasons s past e l reasons × (lines ≡ reason_lines n e reasons)
 
 -- these are the lines of the reasons of a verdict on a record: a good one has none
 abbrev pub AreLinesOf : Setup → List Entry → List ℕ → AnyLockVerdict → List ℕ → Type 0
 AreLinesOf s entries numbers Good lines = lines ≡ []
-AreLinesOf s entries numbers (Bad k l) lines = AreLinesAt s entries numbers k l lines
+AreLinesOf s entries numbers (Bad k l) lines = AreLinesAt (AreLines l) s entries numbers k lines
 
 -- a judge has heard these entries, and these are the lines of his reasons
 pub record HasExplained (j : JudgeState) (lines : List ℕ) (s : Setup) (entries : List Entry) (numbers : List ℕ) : Type 0 where

@@ -2,7 +2,8 @@ use Rattle.std.proofs.Common.{Option, subst}
 use Rattle.any_lock.specs.Judging.{AreReasonsOf}
 use Rattle.any_lock.specs.Verdicts.{verdict_of}
 use Rattle.any_lock.specs.declared.reasons.Reasons.{Reasons}
-use Rattle.any_judge.proofs.Explained.{explains_some, ok_then}
+use Rattle.any_judge.proofs.Explained.{explains_some}
+use Rattle.trial.proofs.LinesAt.{ok_then}
 use Rattle.any_judge.proofs.explaining.explain.Goals as goal
 
 pub returns : goal.returns

@@ -1,6 +1,7 @@
 use Rattle.std.proofs.Common.{not, ◌&&◌, Bool, OnOk, subst}
 use Rattle.any_judge.specs.Explanations.{ExplainsIf, is_good}
-use Rattle.any_judge.proofs.Explained.{explained_on, ok_then}
+use Rattle.any_judge.proofs.Explained.{explained_on}
+use Rattle.trial.proofs.LinesAt.{ok_then}
 use Rattle.any_judge.proofs.explaining.ExplainingAnyLockHearer.take.Goals as goal
 
 pub returns : goal.returns

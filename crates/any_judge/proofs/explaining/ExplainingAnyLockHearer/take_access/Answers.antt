@@ -2,7 +2,8 @@ use Rattle.std.proofs.Common.{◌≡◌, not, ◌&&◌, true, false, sym, ap, �
 use Rattle.record.specs.Entries.{Entry}
 use Rattle.record_file.specs.Printing.{step_entry as entry_of_step}
 use Rattle.any_judge.specs.Explanations.{Explains, is_good}
-use Rattle.any_judge.proofs.Explained.{explained_now, explained_still, good_is, ok_then}
+use Rattle.any_judge.proofs.Explained.{explained_now, explained_still, good_is}
+use Rattle.trial.proofs.LinesAt.{ok_then}
 use Rattle.any_judge.proofs.explaining.ExplainingAnyLockHearer.take_access.Goals as goal
 use Rattle.any_judge.proofs.explaining.ExplainingAnyLockHearer.take_access.Goals.{then-not-was_good-via-then-not-was_good, then-not-was_good-via-else-not-was_good+then-is_good}
 
