@@ -9,7 +9,7 @@ pub loop-number-preserved : goal.loop-number-preserved
 loop-number-preserved c =
     let l = c.loop-number in
     subst (λ items. AreOpened c.args.setup.now items (l.number + 1)) (sym c.in_ok-push.ensures.items)
-    (opened_more c.args.setup.now l.registers.items l.number c.in_ok-looks.looks l.invariant (record { bits = c.in_ok-looks.ensures.bits; looks = c.in_ok-looks.ensures.looks }))
+    (opened_more c.args.setup.now l.registers.items l.number c.in_ok-looks.looks l.invariant c.in_ok-looks.ensures)
 
 pub invariant_of-result : goal.invariant_of-result
 invariant_of-result c =
