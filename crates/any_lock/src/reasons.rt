@@ -1,5 +1,5 @@
 //! The reasons of a verdict: what is looked up for the bad entry.
-ghost use Rattle.std.specs.Prelude.{◌≡◌, None, Some};
+ghost use Rattle.std.specs.Prelude.{◌≡◌, None};
 ghost use Rattle.any_lock.specs.declared.verdicts.AnyLockLaw.TheVariants as broken;
 ghost use Rattle.any_lock.specs.Judging.{AreReasonsBy, AreReasonsIf, TellsDoorway, TellsEntered};
 ghost use Rattle.any_lock.specs.Keeping.{IsOfAccess, IsOfEntry, IsOfProcess, OfEntry, OfPast};

@@ -1,16 +1,10 @@
-ghost use Rattle.std.specs.Prelude.{◌≡◌, ◌<◌, ◌*◌, ◌%◌, ℕ, IfOk, Ok, Some, [], ◌∷◌, length, slice_index_or, false, true};
+ghost use Rattle.std.specs.Prelude.{◌≡◌, ◌<◌, IfOk, Ok, Some, [], ◌∷◌, length, false, true};
 ghost use Rattle.plain_store.specs.Setups.{checked, opening_store};
 ghost use Rattle.store_image.specs.Image.{image_of};
-ghost use Rattle.record.specs.Entries.{Entry as Noted, Past};
-ghost use Rattle.record.specs.Moves.{begins_read, field_number, moves_of};
-ghost use Rattle.record.specs.Registers.{opening_bit, width};
-ghost use Rattle.record.specs.safe_number.Bytes.{bit_in};
-ghost use Rattle.record.specs.declared.access.Access.{Access as Made};
-ghost use Rattle.record.specs.declared.access.Field.{Field as Register};
+ghost use Rattle.record.specs.Registers.{width};
 ghost use Rattle.laws.specs.Held.{IsThere};
-ghost use Rattle.read_law.specs.Looks.{ends_overlapped, look_of};
 ghost use Rattle.read_law.specs.Safe.{TellsSafe};
-ghost use Rattle.read_law.specs.Watching.{HasHeard, HearsOn, IfAllThere, IfThere, IsOpened, OfHeard, OpenAs, PassesStray, TellsBehind, TellsEnd, TellsEndThere, TellsThere, copy_of, register_of};
+ghost use Rattle.read_law.specs.Watching.{HasHeard, HearsOn, IfAllThere, IfThere, IsOpened, OfHeard, OpenAs, PassesStray, TellsBehind, TellsEnd, TellsEndThere, TellsThere};
 
 use crate::look::Look;
 use crate::opening::bit_of;

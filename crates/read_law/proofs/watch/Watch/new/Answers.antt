@@ -1,4 +1,4 @@
-use Rattle.std.proofs.Common.{◌≡◌, ◌+◌, ◌*◌, ◌∙◌, arith, refl, sym, ap, subst, ◌++◌, ◌∷◌, []}
+use Rattle.std.proofs.Common.{◌+◌, arith, sym, subst}
 use Rattle.read_law.proofs.Opened.{AreOpened, opened_heard, opened_more, opened_none, opened_watch}
 use Rattle.read_law.proofs.watch.Watch.new.Goals as goal
 
