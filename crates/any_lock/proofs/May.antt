@@ -352,7 +352,7 @@ mays_keep s past good e l c breaks may = by l breaks may
     taking true is = cc
     taking false is = absurd (cc)
 
-    by : (l : AnyLockLaw) → first_broken s past e ≡ Some l → change_of s past e l ≡ Some c → first_broken s past (changed c e) ≡ None
+    by : (l : AnyLockLaw) → first_broken s past e ≡ Some l → change_of l s past e ≡ Some c → first_broken s past (changed c e) ≡ None
     by law.Safe breaks may = with_other_value s past e c (safe (breaks_safe s past e) refl breaks) may
     by law.History breaks may = subst (λ (c : Remedy). first_broken s past (changed c e) ≡ None) (taking (nat_lt e.process s.processes) may) (with_right_taking s past e (all_keep s past good) breaks)
     by law.Access breaks may = absurd (cc)

@@ -43,15 +43,15 @@ pub record AreTold (j : JudgeState) (e : Entry) (is_safe : Bool) (w : WatchState
   pub watch : (past : Past) → HasWatched j.watch past → HasWatched w (e ∷ past)
   pub safe : (past : Past) → HasWatched j.watch past → AllAreOfThere j.watch.setup past → breaks_safe j.watch.setup past e ≡ not is_safe
   pub kept : k.setup ≡ j.kept.setup
-  pub law : (past : Past) → breaks_safe j.kept.setup past e ≡ not is_safe → Knows j.kept past → found ≡ first_broken j.kept.setup past e
-  pub knows : (past : Past) → found ≡ None → Knows j.kept past → Knows k (e ∷ past)
+  pub law : (past : Past) → Knows j.kept past → breaks_safe j.kept.setup past e ≡ not is_safe → found ≡ first_broken j.kept.setup past e
+  pub knows : (past : Past) → Knows j.kept past → found ≡ None → Knows k (e ∷ past)
 
 pub told_law : (j : JudgeState) (e : Entry) (is_safe : Bool) (w : WatchState) (law : Option AnyLockLaw) (k : KeptState) → AreTold j e is_safe w law k →
     (s : Setup) (past : Past) → BothHeard j s past → law ≡ first_broken s past e
 told_law j e is_safe w law k told s past both =
     let there : AllAreOfThere j.watch.setup past = subst (λ (t : Setup). AllAreOfThere t past) (sym both.watched) both.there in
     let safe : breaks_safe j.kept.setup past e ≡ not is_safe = subst (λ (t : Setup). breaks_safe t past e ≡ not is_safe) (both.watched ∙ sym both.kept) (told.safe past both.watch there) in
-    told.law past safe both.knows ∙ ap (λ t. first_broken t past e) both.kept
+    told.law past both.knows safe ∙ ap (λ t. first_broken t past e) both.kept
 
 pub told_on : (j : JudgeState) (e : Entry) (is_safe : Bool) (w : WatchState) (law : Option AnyLockLaw) (k : KeptState) (r : Option Reasons) → AreTold j e is_safe w law k →
     (s : Setup) (past : Past) → BothHeard j s past → law ≡ None → BothHeard (record { watch = w; kept = k; verdict = j.verdict; entries = j.entries; reasons = r }) s (e ∷ past)
@@ -61,7 +61,7 @@ told_on j e is_safe w law k r told s past both none =
       watched = told.watched ∙ both.watched;
       watch = told.watch past both.watch;
       kept = told.kept ∙ both.kept;
-      knows = told.knows past none both.knows;
+      knows = told.knows past both.knows none;
       there = (access_there s past e (unrefused s past e (unbroken s past e first).1), both.there);
     }
 
@@ -70,14 +70,14 @@ pub with_entries : (j : JudgeState) (n : ℕ) (s : Setup) (past : Past) → Both
 with_entries j n s past both = record { watched = both.watched; watch = both.watch; kept = both.kept; knows = both.knows; there = both.there }
 
 -- the reasons of an entry that is the first that breaks a law
-reasons_at : (s : Setup) (entries : List Entry) (e : Entry) (law : Option AnyLockLaw) (r : Option Reasons) → AreReasonsIf s (reverse entries) e law r → AreReasonsOf s (entries ++ e ∷ []) (verdict_with (length entries) law) r
+reasons_at : (s : Setup) (entries : List Entry) (e : Entry) (law : Option AnyLockLaw) (r : Option Reasons) → AreReasonsIf law r s (reverse entries) e → AreReasonsOf s (entries ++ e ∷ []) (verdict_with (length entries) law) r
 reasons_at s entries e None r are = are
 reasons_at s entries e (Some l) r are = record { entry = e; past = reverse entries; later = []; splits = newest_first entries e; number = length-reverse entries; told = are.0; is = are.1; are = are.2 }
 
 -- a judge with a good verdict and one more entry
 pub hears_on : (old new : JudgeState) (e : Entry) (found : AnyLockVerdict) (s : Setup) (entries : List Entry) → HasJudged old s entries → old.verdict ≡ Good → new.entries ≡ old.entries + 1 →
     ((past : Past) → BothHeard old s past → found ≡ verdict_with old.entries (first_broken s past e)) →
-    ((past : Past) → BothHeard old s past → AreReasonsIf s past e (first_broken s past e) new.reasons) →
+    ((past : Past) → BothHeard old s past → AreReasonsIf (first_broken s past e) new.reasons s past e) →
     ((past : Past) → BothHeard old s past → found ≡ Good → BothHeard new s (e ∷ past)) →
     HasJudged (record new { verdict = found }) s (entries ++ e ∷ [])
 hears_on old new e found s entries judged good more heard reasons on =
@@ -111,8 +111,8 @@ hears_bad old e s entries judged bad = by old.verdict refl judged.reasons
 
 -- the reasons that are given by what is kept after an entry: where it breaks a law nothing was changed
 pub reasons_given : (k then : KeptState) (s : Setup) (past : Past) (e : Entry) (law : Option AnyLockLaw) (r : Option Reasons) → k.setup ≡ s → Knows k past →
-    ((l : AnyLockLaw) → law ≡ Some l → then ≡ k) → (law ≡ None → r ≡ None) → (Knows then past → AreReasonsIf then.setup past e law r) → AreReasonsIf s past e law r
+    ((l : AnyLockLaw) → law ≡ Some l → then ≡ k) → (law ≡ None → r ≡ None) → (Knows then past → AreReasonsIf law r then.setup past e) → AreReasonsIf law r s past e
 reasons_given k then s past e None r setup knows same none some = none refl
 reasons_given k then s past e (Some l) r setup knows same none some =
     let is : then ≡ k = same l refl in
-    subst (λ (t : Setup). AreReasonsIf t past e (Some l) r) (ap (λ (x : KeptState). x.setup) is ∙ setup) (some (subst (λ (x : KeptState). Knows x past) (sym is) knows))
+    subst (λ (t : Setup). AreReasonsIf (Some l) r t past e) (ap (λ (x : KeptState). x.setup) is ∙ setup) (some (subst (λ (x : KeptState). Knows x past) (sym is) knows))

@@ -30,4 +30,4 @@ changed change e = record { process = e.process; access = access_with change e.a
 
 -- Behind a good record: an entry that breaks a law, with the change that is told of it, keeps all laws.
 abbrev pub MaysKeepAllLaws : Type 0
-MaysKeepAllLaws = (s : Setup) (past : Past) → verdict_after s past ≡ Good → (e : Entry) (l : AnyLockLaw) (c : Remedy) → first_broken s past e ≡ Some l → change_of s past e l ≡ Some c → first_broken s past (changed c e) ≡ None
+MaysKeepAllLaws = (s : Setup) (past : Past) → verdict_after s past ≡ Good → (e : Entry) (l : AnyLockLaw) (c : Remedy) → first_broken s past e ≡ Some l → change_of l s past e ≡ Some c → first_broken s past (changed c e) ≡ None

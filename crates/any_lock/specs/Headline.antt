@@ -6,6 +6,7 @@ use Rattle.record.specs.Headline.{AnswersNoCutCall, CallsTakeOnce, IsAlone, IsAn
 use Rattle.record.specs.Spans.{all_takings}
 use Rattle.record.specs.declared.marks.Mark.TheVariants.{Answered}
 use Rattle.plain_store.specs.declared.Answer.{Answer}
+use Rattle.any_lock.specs.declared.verdicts.AnyLockVerdict.{AnyLockVerdict}
 use Rattle.any_lock.specs.declared.verdicts.AnyLockVerdict.TheVariants.{Good}
 use Rattle.any_lock.specs.Laws.{waits_before}
 use Rattle.any_lock.specs.Standings.{its_call, standing}
@@ -33,6 +34,10 @@ pub record KeepsHeadline (s : Setup) (past : Past) (e : Entry) : Type 0 where
 -- Each entry of these keeps it.
 abbrev pub KeepsHeadlineThroughout : Setup → Past → Type 0
 KeepsHeadlineThroughout s past = (later earlier : Past) (e : Entry) → past ≡ later ++ e ∷ earlier → KeepsHeadline s earlier e
+
+-- If this is a good verdict, each entry of these keeps it.
+abbrev pub SaysHeadline : AnyLockVerdict → Setup → List Entry → Type 0
+SaysHeadline verdict s entries = verdict ≡ Good → KeepsHeadlineThroughout s (reverse entries)
 
 -- A good verdict says the headline.
 abbrev pub GoodSaysTheHeadline : Type 0

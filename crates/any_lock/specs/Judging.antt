@@ -1,17 +1,21 @@
 -- What a judge keeps of the entries that it has heard.
-use Rattle.std.specs.Prelude.{◌≡◌, ℕ, List, ◌∷◌, ◌++◌, length, reverse, Option, None, Some, Ok}
+use Rattle.std.specs.Prelude.{◌≡◌, ◌<◌, ℕ, Bool, not, [], List, ◌∷◌, ◌++◌, length, reverse, Option, None, Some, Ok}
 use Rattle.plain_store.specs.declared.Setup.{Setup}
 use Rattle.plain_store.specs.Setups.{checked}
 use Rattle.record.specs.Entries.{Entry, Past}
 use Rattle.read_law.specs.Watching.{AllAreOfThere, WatchState}
 use Rattle.read_law.specs.Watching.{HasHeard as HasWatched}
+use Rattle.record.specs.declared.access.Access.{Access}
 use Rattle.any_lock.specs.declared.reasons.Reasons.{Reasons}
+use Rattle.any_lock.specs.declared.standings.Standing.{Standing}
 use Rattle.any_lock.specs.declared.verdicts.AnyLockLaw.{AnyLockLaw}
 use Rattle.any_lock.specs.declared.verdicts.AnyLockVerdict.{AnyLockVerdict}
 use Rattle.any_lock.specs.declared.verdicts.AnyLockVerdict.TheVariants.{Good, Bad}
 use Rattle.any_lock.specs.Keeping.{KeptState, Knows}
-use Rattle.any_lock.specs.Reasons.{AreReasons}
-use Rattle.any_lock.specs.Verdicts.{verdict_of}
+use Rattle.any_lock.specs.Reasons.{AreReasons, doorway_with, entered}
+use Rattle.any_lock.specs.Standings.{standing}
+use Rattle.any_lock.specs.Laws.{breaks_safe, first_broken}
+use Rattle.any_lock.specs.Verdicts.{verdict_of, verdict_with}
 
 -- a watch, what is kept beside it, the verdict so far, and how many entries were heard
 pub record JudgeState : Type 0 where
@@ -45,10 +49,38 @@ abbrev pub AreReasonsOf : Setup → List Entry → AnyLockVerdict → Option Rea
 AreReasonsOf s entries Good reasons = reasons ≡ None
 AreReasonsOf s entries (Bad k l) reasons = AreReasonsAt s entries k l reasons
 
--- these are the reasons of an entry that breaks this law first, if it breaks one
-abbrev pub AreReasonsIf : Setup → Past → Entry → Option AnyLockLaw → Option Reasons → Type 0
-AreReasonsIf s past e None reasons = reasons ≡ None
-AreReasonsIf s past e (Some l) reasons = (told : Reasons) × (reasons ≡ Some told) × AreReasons s past e l told
+-- where a process stands so, its doorway began there, in a past that is known or with this access
+abbrev pub TellsDoorway : KeptState → Option Access → Standing → Option ℕ → Type 0
+TellsDoorway k access at told = (past : Past) (e : Entry) → e.access ≡ access → Knows k past → told ≡ doorway_with past e at
+
+-- process p got inside there, if it is one
+abbrev pub TellsEntered : KeptState → ℕ → Option (ℕ × ℕ) → Type 0
+TellsEntered k p told = (past : Past) → p < k.setup.processes → Knows k past → told ≡ entered p (standing k.setup p past)
+
+-- these are the reasons of an entry that breaks this law first
+abbrev pub AreReasonsBy : AnyLockLaw → Reasons → Setup → Past → Entry → Type 0
+AreReasonsBy l told s past e = AreReasons s past e l told
+
+-- and if it breaks one
+abbrev pub AreReasonsIf : Option AnyLockLaw → Option Reasons → Setup → Past → Entry → Type 0
+AreReasonsIf None reasons s past e = reasons ≡ None
+AreReasonsIf (Some l) reasons s past e = (told : Reasons) × (reasons ≡ Some told) × AreReasonsBy l told s past e
+
+-- the answer tells whether an entry keeps the law `Safe`, if the accesses before are there
+abbrev pub IsSafe : Bool → Setup → Past → Entry → Type 0
+IsSafe told s past e = AllAreOfThere s past → breaks_safe s past e ≡ not told
+
+-- where both have heard the entries before, this is the verdict with an entry of this number
+abbrev pub Finds : JudgeState → ℕ → Entry → AnyLockVerdict → Type 0
+Finds j number e verdict = (s : Setup) (past : Past) → BothHeard j s past → verdict ≡ verdict_with number (first_broken s past e)
+
+-- it has the reasons of that entry
+abbrev pub TellsReasons : JudgeState → Entry → JudgeState → Type 0
+TellsReasons j e then = (s : Setup) (past : Past) → BothHeard j s past → AreReasonsIf (first_broken s past e) then.reasons s past e
+
+-- and both go on, if the verdict is good
+abbrev pub HearOn : JudgeState → Entry → AnyLockVerdict → JudgeState → Type 0
+HearOn j e verdict then = (s : Setup) (past : Past) → BothHeard j s past → verdict ≡ Good → BothHeard then s (e ∷ past)
 
 -- It has heard these entries: it has the verdict on them and its reasons, and as long as that is good the watch and what is kept go on.
 pub record HasJudged (j : JudgeState) (s : Setup) (entries : List Entry) : Type 0 where
@@ -57,3 +89,15 @@ pub record HasJudged (j : JudgeState) (s : Setup) (entries : List Entry) : Type 
   pub verdict : j.verdict ≡ verdict_of s entries
   pub reasons : AreReasonsOf s entries j.verdict j.reasons
   pub goes_on : j.verdict ≡ Good → BothHeard j s (reverse entries)
+
+-- this holds of each list of entries that it has judged
+abbrev pub OfJudged : JudgeState → (Setup → List Entry → Type 0) → Type 0
+OfJudged j P = (s : Setup) (entries : List Entry) → HasJudged j s entries → P s entries
+
+-- it goes on by an entry
+abbrev pub JudgesOn : JudgeState → Entry → JudgeState → Type 0
+JudgesOn j e then = OfJudged j (λ s entries. HasJudged then s (entries ++ e ∷ []))
+
+-- these are the reasons of its verdict
+abbrev pub IsExplained : Option Reasons → Setup → List Entry → Type 0
+IsExplained reasons s entries = AreReasonsOf s entries (verdict_of s entries) reasons

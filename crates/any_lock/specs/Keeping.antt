@@ -1,20 +1,21 @@
 -- What a judge keeps of the entries that it has heard, and how that goes on.
-use Rattle.std.specs.Prelude.{◌≡◌, ℕ, ◌+◌, ◌==◌, ◌<◌, ◌≤◌, Bool, true, false, ◌&&◌, List, [], ◌∷◌, fold, length, slice_get, cond, Option, None, Some, Ok}
+use Rattle.std.specs.Prelude.{slice_set, Result, MatchResult, ◌≡◌, ℕ, ◌+◌, ◌==◌, ◌<◌, ◌≤◌, Bool, true, false, ◌&&◌, List, [], ◌∷◌, fold, length, slice_get, cond, Option, None, Some, Ok}
 use Rattle.plain_store.specs.declared.Command.TheVariants.{Ask}
 use Rattle.plain_store.specs.declared.Reply.{Reply}
 use Rattle.plain_store.specs.declared.Setup.{Setup}
 use Rattle.plain_store.specs.Setups.{checked}
-use Rattle.plain_store.specs.Store.{Contents}
+use Rattle.plain_store.specs.Store.{Contents, after}
 use Rattle.record.specs.declared.access.Access.{Access}
 use Rattle.record.specs.declared.marks.Mark.{Mark}
 use Rattle.record.specs.declared.marks.Mark.TheVariants as mark
 use Rattle.record.specs.declared.stages.Stage.TheVariants as stage
 use Rattle.record.specs.Doorways.{first_of}
-use Rattle.record.specs.Entries.{Past}
+use Rattle.record.specs.Entries.{Entry, Past}
 use Rattle.record.specs.Histories.{history, store_after}
 use Rattle.record.specs.Stages.{stage_after}
 use Rattle.any_lock.specs.declared.refusals.MarkRefusal.{MarkRefusal}
 use Rattle.any_lock.specs.declared.standings.Standing.{Standing}
+use Rattle.any_lock.specs.declared.verdicts.AnyLockLaw.{AnyLockLaw}
 use Rattle.any_lock.specs.Refusals.{mark_refusal, same_reply}
 use Rattle.any_lock.specs.Standings.{begun_by, standing, torn_after, write_of}
 
@@ -67,6 +68,10 @@ abbrev pub refusal_on : Setup → ℕ → Standing → List Mark → Option Mark
 refusal_on s entry k [] = None
 refusal_on s entry k (m ∷ marks) = elim (mark_refusal k m) [ Some r ↦ Some r | None ↦ refusal_on s entry (marked s entry k m) marks ]
 
+-- this is the refusal
+abbrev pub IsRefusedFor : Setup → ℕ → Standing → List Mark → MarkRefusal → Type 0
+IsRefusedFor s entry k marks why = refusal_on s entry k marks ≡ Some why
+
 -- where it stands after these marks
 abbrev pub marked_all : Setup → ℕ → Standing → List Mark → Standing
 marked_all s entry = fold (marked s entry)
@@ -89,6 +94,14 @@ pub record KeptState : Type 0 where
   pub taken : ℕ
   pub entries : ℕ
 
+-- the same, where process p stands so
+abbrev pub with_standing : ℕ → Standing → KeptState → KeptState
+with_standing p standing k = record k { standings = slice_set k.standings p standing }
+
+-- its store then, if a command of process p is taken
+abbrev pub TakesInto : KeptState → ℕ → Bool → Contents → Type 0
+TakesInto k p takes store = (at : Standing) → slice_get k.standings p ≡ Some at → store ≡ cond takes (after k.store at.command (record { process = p; number = at.number })) k.store
+
 -- there is a standing for each process of a good setup, and there are no more commands than entries
 pub record IsKept (k : KeptState) : Type 0 where
   pub good : checked k.setup ≡ Ok tt
@@ -101,3 +114,48 @@ pub record Knows (k : KeptState) (past : Past) : Type 0 where
   pub store : k.store ≡ store_after k.setup (history k.setup past)
   pub taken : k.taken ≡ length (history k.setup past)
   pub entries : k.entries ≡ length past
+
+-- this holds of each past that is known
+abbrev pub OfPast : KeptState → (Setup → Past → Type 0) → Type 0
+OfPast k P = (past : Past) → Knows k past → P k.setup past
+
+-- and of each entry of process p with this access and these marks
+abbrev pub OfEntry : KeptState → ℕ → Option Access → List Mark → (Setup → Past → Entry → Type 0) → Type 0
+OfEntry k p access marks P = (past : Past) (e : Entry) → e.process ≡ p → e.access ≡ access → e.marks ≡ marks → Knows k past → P k.setup past e
+
+-- this is what a definition says of each entry of process p with this access and these marks
+abbrev pub IsOfEntry : {A : Type 0} → A → (Setup → Past → Entry → A) → KeptState → ℕ → Option Access → List Mark → Type 0
+IsOfEntry told f k p access marks = OfEntry k p access marks (λ s past e. told ≡ f s past e)
+
+-- with this access
+abbrev pub IsOfAccess : {A : Type 0} → A → (Setup → Past → Entry → A) → KeptState → ℕ → Option Access → Type 0
+IsOfAccess told f k p access = (past : Past) (e : Entry) → e.process ≡ p → e.access ≡ access → Knows k past → told ≡ f k.setup past e
+
+-- with these marks
+abbrev pub IsOfMarks : {A : Type 0} → A → (Setup → Past → Entry → A) → KeptState → ℕ → List Mark → Type 0
+IsOfMarks told f k p marks = (past : Past) (e : Entry) → e.process ≡ p → e.marks ≡ marks → Knows k past → told ≡ f k.setup past e
+
+-- of each entry of process p
+abbrev pub IsOfProcess : {A : Type 0} → A → (Setup → Past → Entry → A) → KeptState → ℕ → Type 0
+IsOfProcess told f k p = (past : Past) (e : Entry) → e.process ≡ p → Knows k past → told ≡ f k.setup past e
+
+-- where process p stands after its access
+abbrev pub made_at : KeptState → ℕ → Option Access → Past → Standing
+made_at k p access past = accessed_by k.entries (standing k.setup p past) access
+
+-- where process p stands after its entry, or what a definition says against that
+abbrev pub StandsAfter : {R : Type 0} → (Setup → Past → Entry → Option R) → Result Standing R → KeptState → ℕ → Option Access → List Mark → Type 0
+StandsAfter f told k p access marks =
+    OfEntry k p access marks (λ s past e. MatchResult told (λ at. (f s past e ≡ None) × (at ≡ standing s p (e ∷ past))) (λ against. f s past e ≡ Some against))
+
+-- what is kept then is to be known of the past with the entry
+abbrev pub KnowsOn : KeptState → Setup → Past → Entry → Type 0
+KnowsOn then s past e = Knows then (e ∷ past)
+
+-- if the entry breaks no law
+abbrev pub GoesOn : Option AnyLockLaw → KeptState → Setup → Past → Entry → Type 0
+GoesOn law then s past e = law ≡ None → KnowsOn then s past e
+
+-- so it is with each entry of process p with these marks, after which the process stands so
+abbrev pub KnowsOnAt : KeptState → ℕ → List Mark → Standing → KeptState → Type 0
+KnowsOnAt k p marks at then = (past : Past) (e : Entry) → e.process ≡ p → e.marks ≡ marks → at ≡ standing k.setup p (e ∷ past) → Knows k past → Knows then (e ∷ past)

@@ -1,5 +1,5 @@
 -- The laws that an entry of the record of any lock keeps, by looking back over the entries before it.
-use Rattle.std.specs.Prelude.{ℕ, zero, suc, ◌==◌, Bool, false, not, ◌&&◌, List, [], ◌∷◌, length, cond, Option, None, Some, is_some, if◌then◌else◌}
+use Rattle.std.specs.Prelude.{◌≡◌, ℕ, zero, suc, ◌==◌, Bool, false, not, ◌&&◌, List, [], ◌∷◌, length, cond, Option, None, Some, is_some, if◌then◌else◌}
 use Rattle.std.specs.List.{list_all}
 use Rattle.record.specs.safe_bit.declared.Move.{Move}
 use Rattle.record.specs.safe_bit.declared.Move.TheVariants.{EndRead}
@@ -7,6 +7,7 @@ use Rattle.record.specs.safe_bit.SafeRule.{before_read, is_overlapped, last_writ
 use Rattle.plain_store.specs.declared.Reply.{Reply}
 use Rattle.plain_store.specs.declared.Setup.{Setup}
 use Rattle.plain_store.specs.Store.{reply_to}
+use Rattle.record.specs.declared.marks.Mark.{Mark}
 use Rattle.record.specs.Doorways.{first_of, is_before, is_waiting_stage}
 use Rattle.record.specs.Entries.{Entry, Past, has, is_entered}
 use Rattle.record.specs.Histories.{history, store_after}
@@ -45,17 +46,37 @@ lowest_below (suc n) test = first_of (lowest_below n test) (cond (test n) (Some 
 abbrev pub lowest_other : Setup → ℕ → (ℕ → Bool) → Option ℕ
 lowest_other s p test = lowest_below s.processes (λ q. not (q == p) && test q)
 
+-- q is another than p, and is inside
+abbrev pub is_other_inside : Setup → Past → ℕ → ℕ → Bool
+is_other_inside s past p q = not (q == p) && (standing s q past).inside
+
+-- the lowest that is
+abbrev pub other_inside : Setup → Past → ℕ → Option ℕ
+other_inside s past p = lowest_other s p (λ q. (standing s q past).inside)
+
 -- Together: who gets inside does so while no other is inside.
 abbrev pub breaks_together : Setup → Past → Entry → Bool
-breaks_together s past e = has is_entered e && is_some (lowest_other s e.process (λ q. (standing s q past).inside))
+breaks_together s past e = has is_entered e && is_some (other_inside s past e.process)
 
 -- one that stands so waits, and its `wait` stands before the doorway of another began, or that has not begun
 abbrev pub waits_before : Standing → Standing → Bool
 waits_before k other = is_waiting_stage k.stage && is_before k.waits other.doorway
 
+-- q is ahead of p: it waits since before p's doorway began
+abbrev pub is_ahead : Setup → Past → ℕ → ℕ → Bool
+is_ahead s past p q = waits_before (standing s q past) (standing s p past)
+
+-- it is another than p, and is ahead of it
+abbrev pub is_other_ahead : Setup → Past → ℕ → ℕ → Bool
+is_other_ahead s past p q = not (q == p) && is_ahead s past p q
+
+-- the lowest that is
+abbrev pub other_ahead : Setup → Past → ℕ → Option ℕ
+other_ahead s past p = lowest_other s p (is_ahead s past p)
+
 -- Overtaken: nobody is ahead of who gets inside.
 abbrev pub breaks_overtaken : Setup → Past → Entry → Bool
-breaks_overtaken s past e = has is_entered e && is_some (lowest_other s e.process (λ q. waits_before (standing s q past) (standing s e.process past)))
+breaks_overtaken s past e = has is_entered e && is_some (other_ahead s past e.process)
 
 -- the one-thread store's reply to p's command, after the history
 abbrev pub right_reply : Setup → Past → ℕ → Reply
@@ -65,9 +86,13 @@ right_reply s past p = let k = standing s p past in reply_to (store_after s (his
 abbrev pub is_that : ℕ → Reply → ℕ × Reply → Bool
 is_that place reply t = (t.0 == place) && same_reply t.1 reply
 
+-- what these marks of p take has that place and that reply
+abbrev pub takes_rightly : Setup → Past → ℕ → List Mark → Bool
+takes_rightly s past p marks = list_all (is_that (length (history s past)) (right_reply s past p)) (takings marks)
+
 -- History: what is taken has the history's length as its place, and the one-thread store's reply after the history.
 abbrev pub breaks_history : Setup → Past → Entry → Bool
-breaks_history s past e = not (list_all (is_that (length (history s past)) (right_reply s past e.process)) (takings e.marks))
+breaks_history s past e = not (takes_rightly s past e.process e.marks)
 
 -- the first law that an entry breaks whose access and marks are not refused
 abbrev pub broken_inside : Setup → Past → Entry → Option AnyLockLaw
@@ -87,3 +112,7 @@ broken_later s past e =
 -- the first law that it breaks
 abbrev pub first_broken : Setup → Past → Entry → Option AnyLockLaw
 first_broken s past e = if breaks_safe s past e then Some law.Safe else broken_later s past e
+
+-- the answer is that, where it is known whether the entry keeps the law `Safe`
+abbrev pub IsFirst : Bool → Option AnyLockLaw → Setup → Past → Entry → Type 0
+IsFirst is_safe told s past e = breaks_safe s past e ≡ not is_safe → told ≡ first_broken s past e

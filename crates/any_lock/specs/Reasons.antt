@@ -1,8 +1,9 @@
 -- The reasons of an entry that breaks a law, by looking back.
-use Rattle.std.specs.Prelude.{◌≡◌, ℕ, ◌<◌, ◌==◌, nat_lt, Bool, true, false, not, ◌&&◌, length, slice_index_or, cond, Option, None, Some, is_none}
+use Rattle.std.specs.Prelude.{◌≡◌, ℕ, ◌<◌, nat_lt, Bool, true, false, not, ◌&&◌, List, length, slice_index_or, cond, Option, None, Some, is_none}
 use Rattle.record.specs.safe_bit.declared.Move.TheVariants.{BeginWrite, EndWrite, BeginRead, EndRead, Settle}
 use Rattle.plain_store.specs.declared.Setup.{Setup}
 use Rattle.record.specs.declared.access.Access.{Access}
+use Rattle.record.specs.declared.stages.Stage.{Stage}
 use Rattle.record.specs.Doorways.{first_of}
 use Rattle.record.specs.Entries.{Entry, Past}
 use Rattle.record.specs.Histories.{history}
@@ -15,7 +16,7 @@ use Rattle.any_lock.specs.declared.standings.Begun.{Begun}
 use Rattle.any_lock.specs.declared.standings.Standing.{Standing}
 use Rattle.any_lock.specs.declared.verdicts.AnyLockLaw.{AnyLockLaw}
 use Rattle.any_lock.specs.declared.verdicts.AnyLockLaw.TheVariants as law
-use Rattle.any_lock.specs.Laws.{broken_later, lowest_other, right_reply, waits_before}
+use Rattle.any_lock.specs.Laws.{broken_later, is_other_ahead, other_inside, right_reply}
 use Rattle.any_lock.specs.Refusals.{refusal_of_access, refusal_of_marks}
 use Rattle.any_lock.specs.Standings.{has_access, standing}
 
@@ -40,6 +41,18 @@ abbrev pub entry_of : Option Begun → Option ℕ
 entry_of None = None
 entry_of (Some b) = Some b.entry
 
+-- its stage
+abbrev pub stage_of : Setup → Past → ℕ → Option Stage
+stage_of s past p = of_standing (λ (k : Standing). Some k.stage) (stands s past p)
+
+-- where the access began that it has open
+abbrev pub opened_by : Setup → Past → ℕ → Option ℕ
+opened_by s past p = of_standing (λ (k : Standing). entry_of k.opened) (stands s past p)
+
+-- where the write of its torn bit began
+abbrev pub torn_by : Setup → Past → ℕ → Option ℕ
+torn_by s past p = of_standing (λ (k : Standing). entry_of k.torn) (stands s past p)
+
 -- a process and an entry, if there is one
 abbrev pub since : ℕ → Option ℕ → Option (ℕ × ℕ)
 since q None = None
@@ -51,15 +64,19 @@ entered q k = since q k.enters
 
 -- who but p is inside, and since which entry
 abbrev pub inside_since : Setup → Past → ℕ → Option (ℕ × ℕ)
-inside_since s past p = elim (lowest_other s p (λ q. (standing s q past).inside)) [ None ↦ None | Some q ↦ entered q (standing s q past) ]
+inside_since s past p = elim (other_inside s past p) [ None ↦ None | Some q ↦ entered q (standing s q past) ]
 
 -- the entry of q's `wait`, if q is ahead of p
 abbrev pub wait_ahead : Setup → Past → ℕ → ℕ → Option ℕ
-wait_ahead s past p q = cond (nat_lt q s.processes && nat_lt p s.processes && not (q == p) && waits_before (standing s q past) (standing s p past)) (standing s q past).waits None
+wait_ahead s past p q = cond (nat_lt q s.processes && nat_lt p s.processes && is_other_ahead s past p q) (standing s q past).waits None
 
 -- where its process's doorway began, in the past or with its access
 abbrev pub doorway_with : Past → Entry → Standing → Option ℕ
 doorway_with past e k = first_of k.doorway (cond (has_access e) (Some (length past)) None)
+
+-- the same, if its process is there
+abbrev pub doorway_of : Setup → Past → Entry → Option ℕ
+doorway_of s past e = of_standing (doorway_with past e) (stands s past e.process)
 
 -- the value with which its read ends
 abbrev pub value_in : Option Access → Option Bool
@@ -83,10 +100,10 @@ other_value s past e = elim (value_in e.access) [
 ]
 
 -- how the entry would keep all laws
-abbrev pub change_of : Setup → Past → Entry → AnyLockLaw → Option Remedy
-change_of s past e law.Safe = other_value s past e
-change_of s past e law.History = cond (nat_lt e.process s.processes) (Some (Taking (length (history s past)) (right_reply s past e.process))) None
-change_of s past e _ = None
+abbrev pub change_of : AnyLockLaw → Setup → Past → Entry → Option Remedy
+change_of law.Safe s past e = other_value s past e
+change_of law.History s past e = cond (nat_lt e.process s.processes) (Some (Taking (length (history s past)) (right_reply s past e.process))) None
+change_of _ s past e = None
 
 -- the law is this one
 abbrev pub is_together : AnyLockLaw → Bool
@@ -97,13 +114,27 @@ abbrev pub is_overtaken : AnyLockLaw → Bool
 is_overtaken law.Overtaken = true
 is_overtaken _ = false
 
+-- what is told of these with each law
+abbrev pub inside_by : AnyLockLaw → Setup → Past → ℕ → Option (ℕ × ℕ)
+inside_by l s past p = cond (is_together l) (inside_since s past p) None
+
+abbrev pub wait_by : AnyLockLaw → Setup → Past → ℕ → ℕ → Option ℕ
+wait_by l s past p q = cond (is_overtaken l) (wait_ahead s past p q) None
+
+abbrev pub doorway_by : AnyLockLaw → Setup → Past → Entry → Option ℕ
+doorway_by l s past e = cond (is_overtaken l) (doorway_of s past e) None
+
+-- of each process this is told
+abbrev pub AreWaits : List (Option ℕ) → (ℕ → Option ℕ) → Type 0
+AreWaits waits told = (q : ℕ) → q < 16 → slice_index_or waits q None ≡ told q
+
 -- these are the reasons of an entry that breaks this law first
 pub record AreReasons (s : Setup) (past : Past) (e : Entry) (l : AnyLockLaw) (r : Reasons) : Type 0 where
-  pub may : r.may ≡ change_of s past e l
+  pub may : r.may ≡ change_of l s past e
   pub refused : r.refused ≡ refused s past e
-  pub stage : r.stage ≡ of_standing (λ k. Some k.stage) (stands s past e.process)
-  pub opened : r.opened ≡ of_standing (λ k. entry_of k.opened) (stands s past e.process)
-  pub torn : r.torn ≡ of_standing (λ k. entry_of k.torn) (stands s past e.process)
-  pub inside : r.inside ≡ cond (is_together l) (inside_since s past e.process) None
-  pub waits : (q : ℕ) → q < 16 → slice_index_or r.waits q None ≡ cond (is_overtaken l) (wait_ahead s past e.process q) None
-  pub doorway : r.doorway ≡ cond (is_overtaken l) (of_standing (doorway_with past e) (stands s past e.process)) None
+  pub stage : r.stage ≡ stage_of s past e.process
+  pub opened : r.opened ≡ opened_by s past e.process
+  pub torn : r.torn ≡ torn_by s past e.process
+  pub inside : r.inside ≡ inside_by l s past e.process
+  pub waits : AreWaits r.waits (wait_by l s past e.process)
+  pub doorway : r.doorway ≡ doorway_by l s past e

@@ -207,6 +207,10 @@ has_nothing e = is_none e.access && (length e.marks == 0)
 abbrev pub has_one_mark : Entry → Bool
 has_one_mark e = is_none e.access && (length e.marks == 1)
 
+-- one of its marks stands alone, and is not alone
+abbrev pub is_crowded : Entry → Bool
+is_crowded e = list_any stands_alone e.marks && not (has_one_mark e)
+
 -- What an entry is refused for, after a past.
 
 -- its access
@@ -232,5 +236,5 @@ refusal_behind s past e earlier (m ∷ later) = elim (mark_refusal (standing s e
 abbrev pub refusal_of_marks : Setup → Past → Entry → Option MarkRefusal
 refusal_of_marks s past e =
     if has_nothing e then Some mark.Nothing else
-    if list_any stands_alone e.marks && not (has_one_mark e) then Some mark.NotAlone else
+    if is_crowded e then Some mark.NotAlone else
     refusal_behind s past e [] e.marks

@@ -1,13 +1,10 @@
 //! What a judge makes of one entry: whether it keeps the laws after `Safe`, and what is kept then.
-ghost use Rattle.std.specs.Prelude.{◌≡◌, ◌+◌, ◌-◌, ◌^◌, ◌<◌, ◌≤◌, not, [], ◌∷◌, IfOk, length, MatchResult, None, Some};
+ghost use Rattle.std.specs.Prelude.{◌≡◌, ◌+◌, ◌-◌, ◌^◌, ◌<◌, ◌≤◌, [], IfOk, Some};
 ghost use Rattle.std.specs.List.{list_all, list_any};
-ghost use Rattle.record.specs.Entries.{Entry as Noted, Past, is_entered};
-ghost use Rattle.record.specs.Histories.{history};
-ghost use Rattle.record.specs.Spans.{takings};
+ghost use Rattle.record.specs.Entries.{is_entered};
 ghost use Rattle.any_lock.specs.declared.verdicts.AnyLockLaw.{AnyLockLaw as Named};
-ghost use Rattle.any_lock.specs.Keeping.{Knows, is_taken_as};
-ghost use Rattle.any_lock.specs.Laws.{breaks_overtaken, breaks_safe, breaks_together, broken_inside, broken_later, first_broken, is_that, right_reply};
-ghost use Rattle.any_lock.specs.Standings.{standing as standing_of};
+ghost use Rattle.any_lock.specs.Keeping.{GoesOn, IsOfEntry, IsOfMarks, OfEntry, OfPast, StandsAfter, is_taken_as};
+ghost use Rattle.any_lock.specs.Laws.{IsFirst, breaks_overtaken, breaks_together, broken_inside, broken_later, takes_rightly};
 
 use crate::kept::{Kept, takes};
 use crate::mark_rules::same_reply;
@@ -26,7 +23,7 @@ impl Kept {
         marks: &[Mark],
     ) -> Result<Standing, AnyLockLaw>
         ensures there { IfOk result (λ _. process < self.now.setup.processes) }
-        ensures laws { (past : Past) (e : Noted) → e.process ≡ process → e.access ≡ access.now → e.marks ≡ marks.now → Knows self.now past → MatchResult result (λ k. (broken_later self.now.setup past e ≡ None) × (k ≡ standing_of self.now.setup process (e ∷ past))) (λ law. broken_later self.now.setup past e ≡ Some law) }
+        ensures laws { StandsAfter broken_later result self.now process access.now marks.now }
     {
         let _nested: NestedTypes = None;
         if let Some(_refusal) = self.refusal_of_access(process, access) {
@@ -47,7 +44,7 @@ impl Kept {
     /// The first law that an entry breaks whose access and marks are not refused.
     fn broken_by(&self, process: u8, marks: &[Mark]) -> Option<AnyLockLaw>
         requires { process < self.now.setup.processes }
-        ensures { (past : Past) (e : Noted) → e.process ≡ process → e.marks ≡ marks.now → Knows self.now past → result ≡ broken_inside self.now.setup past e }
+        ensures { IsOfMarks result broken_inside self.now process marks.now }
     {
         if self.joins_another(process, marks) {
             Some(AnyLockLaw::Together)
@@ -62,7 +59,7 @@ impl Kept {
 
     /// Whether a process gets inside with these marks while another is inside.
     fn joins_another(&self, process: u8, marks: &[Mark]) -> bool
-        ensures { (past : Past) (e : Noted) → e.process ≡ process → e.marks ≡ marks.now → Knows self.now past → result ≡ breaks_together self.now.setup past e }
+        ensures { IsOfMarks result breaks_together self.now process marks.now }
     {
         enters(marks) && self.other_inside(process).is_some()
     }
@@ -70,7 +67,7 @@ impl Kept {
     /// Whether a process gets inside with these marks while another is ahead of it.
     fn overtakes(&self, process: u8, marks: &[Mark]) -> bool
         requires { process < self.now.setup.processes }
-        ensures { (past : Past) (e : Noted) → e.process ≡ process → e.marks ≡ marks.now → Knows self.now past → result ≡ breaks_overtaken self.now.setup past e }
+        ensures { IsOfMarks result breaks_overtaken self.now process marks.now }
     {
         enters(marks) && self.other_ahead(process).is_some()
     }
@@ -78,7 +75,7 @@ impl Kept {
     /// Whether each command that marks take has its place and its reply.
     fn takes_rightly(&self, process: u8, marks: &[Mark]) -> bool
         requires { process < self.now.setup.processes }
-        ensures { (past : Past) → Knows self.now past → result ≡ list_all (is_that (length (history self.now.setup past)) (right_reply self.now.setup past process)) (takings marks.now) }
+        ensures { OfPast self.now (λ s past. result ≡ takes_rightly s past process marks.now) }
     {
         let _nested: NestedTypes = None;
         if !takes(marks) {
@@ -101,8 +98,8 @@ impl Kept {
         ensures setup { self.new.setup ≡ self.old.setup }
         ensures entries { self.new.entries ≤ self.old.entries + 1 }
         ensures same { (l : Named) → result ≡ Some l → self.new ≡ self.old }
-        ensures law { (past : Past) (e : Noted) → e.process ≡ process → e.access ≡ access.now → e.marks ≡ marks.now → breaks_safe self.old.setup past e ≡ not is_safe → Knows self.old past → result ≡ first_broken self.old.setup past e }
-        ensures knows { (past : Past) (e : Noted) → e.process ≡ process → e.access ≡ access.now → e.marks ≡ marks.now → result ≡ None → Knows self.old past → Knows self.new (e ∷ past) }
+        ensures law { OfEntry self.old process access.now marks.now (IsFirst is_safe result) }
+        ensures knows { OfEntry self.old process access.now marks.now (GoesOn result self.new) }
     {
         let _nested: NestedTypes = None;
         if !is_safe {
@@ -127,8 +124,8 @@ impl Kept {
         ensures setup { self.new.setup ≡ self.old.setup }
         ensures entries { self.new.entries ≤ self.old.entries + 1 }
         ensures same { (l : Named) → result ≡ Some l → self.new ≡ self.old }
-        ensures law { (past : Past) (e : Noted) → e.process ≡ process → e.access ≡ access.now → e.marks ≡ marks.now → Knows self.old past → result ≡ broken_later self.old.setup past e }
-        ensures knows { (past : Past) (e : Noted) → e.process ≡ process → e.access ≡ access.now → e.marks ≡ marks.now → result ≡ None → Knows self.old past → Knows self.new (e ∷ past) }
+        ensures law { IsOfEntry result broken_later self.old process access.now marks.now }
+        ensures knows { OfEntry self.old process access.now marks.now (GoesOn result self.new) }
     {
         let _nested: NestedTypes = None;
         match self.after(process, access, marks) {
@@ -147,8 +144,8 @@ impl Kept {
         ensures setup { self.new.setup ≡ self.old.setup }
         ensures entries { self.new.entries ≤ self.old.entries + 1 }
         ensures same { (l : Named) → result ≡ Some l → self.new ≡ self.old }
-        ensures law { (past : Past) (e : Noted) → e.process ≡ process → e.access ≡ access.now → e.marks ≡ [] → Knows self.old past → result ≡ broken_later self.old.setup past e }
-        ensures knows { (past : Past) (e : Noted) → e.process ≡ process → e.access ≡ access.now → e.marks ≡ [] → result ≡ None → Knows self.old past → Knows self.new (e ∷ past) }
+        ensures law { IsOfEntry result broken_later self.old process access.now [] }
+        ensures knows { OfEntry self.old process access.now [] (GoesOn result self.new) }
     {
         if let Some(_refusal) = self.refusal_of_access(process, access) {
             return Some(AnyLockLaw::Access);

@@ -1,12 +1,9 @@
-ghost use Rattle.std.specs.Prelude.{◌≡◌, ◌+◌, ◌-◌, ◌^◌, ◌<◌, ◌∷◌, ◌++◌, [], not, IfOk, List, Ok, Some, length, reverse};
-ghost use Rattle.plain_store.specs.declared.Setup.{Setup as Given};
+ghost use Rattle.std.specs.Prelude.{◌≡◌, ◌+◌, ◌-◌, ◌^◌, ◌<◌, ◌∷◌, [], IfOk, Ok, Some, length};
 ghost use Rattle.plain_store.specs.Setups.{checked};
-ghost use Rattle.record.specs.Entries.{Entry as Noted, Past};
-ghost use Rattle.read_law.specs.Watching.{AllAreOfThere, HasHeard as HasWatched};
-ghost use Rattle.any_lock.specs.declared.verdicts.AnyLockVerdict.TheVariants.{Good};
-ghost use Rattle.any_lock.specs.Headline.{KeepsHeadlineThroughout};
-ghost use Rattle.any_lock.specs.Judging.{AreReasonsIf, AreReasonsOf, BothHeard, HasJudged};
-ghost use Rattle.any_lock.specs.Laws.{breaks_safe, first_broken};
+ghost use Rattle.read_law.specs.Entries.{entry_by};
+ghost use Rattle.read_law.specs.Watching.{HasHeard as HasWatched, OfHeard};
+ghost use Rattle.any_lock.specs.Headline.{SaysHeadline};
+ghost use Rattle.any_lock.specs.Judging.{HasJudged, HearOn, IsExplained, IsSafe, JudgesOn, OfJudged, TellsReasons, Finds};
 ghost use Rattle.any_lock.specs.Verdicts.{verdict_of, verdict_with};
 
 use crate::kept::Kept;
@@ -59,7 +56,7 @@ impl Judge {
     /// One more entry, whatever it is. It takes no memory.
     pub fn hear(&mut self, entry: &Entry)
         requires { self.old.entries < 2 ^ 64 - 1 }
-        ensures heard { (s : Given) (entries : List Noted) → HasJudged self.old s entries → HasJudged self.new s (entries ++ entry.now ∷ []) }
+        ensures heard { JudgesOn self.old entry.now self.new }
         ensures count { self.new.entries ≡ self.old.entries + 1 }
     {
         self.hear_parts(entry.process, &entry.act.access, &entry.act.marks);
@@ -68,7 +65,7 @@ impl Judge {
     /// The same of an entry that is given by its parts: so it need not stand anywhere.
     pub fn hear_parts(&mut self, process: u8, access: &Option<Access>, marks: &[Mark])
         requires { self.old.entries < 2 ^ 64 - 1 }
-        ensures heard { (s : Given) (entries : List Noted) → HasJudged self.old s entries → HasJudged self.new s (entries ++ record { process = process; access = access.now; marks = marks.now } ∷ []) }
+        ensures heard { JudgesOn self.old (entry_by process access.now marks.now) self.new }
         ensures count { self.new.entries ≡ self.old.entries + 1 }
     {
         let number = self.entries;
@@ -82,7 +79,7 @@ impl Judge {
     #[inline]
     pub fn hear_access(&mut self, process: u8, access: Access)
         requires { self.old.entries < 2 ^ 64 - 1 }
-        ensures heard { (s : Given) (entries : List Noted) → HasJudged self.old s entries → HasJudged self.new s (entries ++ record { process = process; access = Some access; marks = [] } ∷ []) }
+        ensures heard { JudgesOn self.old (entry_by process (Some access) []) self.new }
         ensures count { self.new.entries ≡ self.old.entries + 1 }
     {
         self.hear_parts(process, &Some(access), &[]);
@@ -99,9 +96,9 @@ impl Judge {
         requires few { self.old.kept.entries < self.old.entries }
         ensures verdict { self.new.verdict ≡ self.old.verdict }
         ensures entries { self.new.entries ≡ self.old.entries }
-        ensures heard { (s : Given) (past : Past) → BothHeard self.old s past → result ≡ verdict_with number (first_broken s past (record { process = process; access = access.now; marks = marks.now })) }
-        ensures reasons { (s : Given) (past : Past) → BothHeard self.old s past → AreReasonsIf s past (record { process = process; access = access.now; marks = marks.now }) (first_broken s past (record { process = process; access = access.now; marks = marks.now })) self.new.reasons }
-        ensures goes_on { (s : Given) (past : Past) → BothHeard self.old s past → result ≡ Good → BothHeard self.new s (record { process = process; access = access.now; marks = marks.now } ∷ past) }
+        ensures heard { Finds self.old number (entry_by process access.now marks.now) result }
+        ensures reasons { TellsReasons self.old (entry_by process access.now marks.now) self.new }
+        ensures goes_on { HearOn self.old (entry_by process access.now marks.now) result self.new }
     {
         let _nested: NestedTypes = None;
         let is_safe = keeps_safe(&mut self.watch, access);
@@ -114,9 +111,9 @@ impl Judge {
     /// that it breaks.
     pub fn judged(&self) -> Judged
         ensures now { result.verdict ≡ self.now.verdict }
-        ensures verdict { (s : Given) (entries : List Noted) → HasJudged self.now s entries → result.verdict ≡ verdict_of s entries }
-        ensures entries { (s : Given) (entries : List Noted) → HasJudged self.now s entries → result.entries ≡ length entries }
-        ensures headline { (s : Given) (entries : List Noted) → HasJudged self.now s entries → result.verdict ≡ Good → KeepsHeadlineThroughout s (reverse entries) }
+        ensures verdict { OfJudged self.now (λ s entries. result.verdict ≡ verdict_of s entries) }
+        ensures entries { OfJudged self.now (λ _ entries. result.entries ≡ length entries) }
+        ensures headline { OfJudged self.now (SaysHeadline result.verdict) }
     {
         Judged {
             verdict: self.verdict,
@@ -126,7 +123,7 @@ impl Judge {
 
     /// The reasons of the verdict on the entries so far: what is looked up for the bad entry, and none of a good verdict.
     pub fn reasons(&self) -> Option<Reasons>
-        ensures { (s : Given) (entries : List Noted) → HasJudged self.now s entries → AreReasonsOf s entries (verdict_of s entries) result }
+        ensures { OfJudged self.now (IsExplained result) }
     {
         self.reasons
     }
@@ -135,8 +132,8 @@ impl Judge {
 /// Whether an entry with this access keeps the law `Safe`, which a watch hears.
 fn keeps_safe(watch: &mut Watch, access: &Option<Access>) -> bool
     ensures setup { watch.new.setup ≡ watch.old.setup }
-    ensures heard { (past : Past) (e : Noted) → e.access ≡ access.now → HasWatched watch.old past → HasWatched watch.new (e ∷ past) }
-    ensures safe { (past : Past) (e : Noted) → e.access ≡ access.now → HasWatched watch.old past → AllAreOfThere watch.old.setup past → breaks_safe watch.old.setup past e ≡ not result }
+    ensures heard { OfHeard watch.old access.now (λ _ past e. HasWatched watch.new (e ∷ past)) }
+    ensures safe { OfHeard watch.old access.now (IsSafe result) }
 {
     match access {
         None => true,

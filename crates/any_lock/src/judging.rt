@@ -1,8 +1,7 @@
-ghost use Rattle.std.specs.Prelude.{◌≡◌, IfOk, Ok, length, reverse};
+ghost use Rattle.std.specs.Prelude.{◌≡◌, IfOk, Ok, length};
 ghost use Rattle.plain_store.specs.Setups.{checked};
-ghost use Rattle.any_lock.specs.declared.verdicts.AnyLockVerdict.TheVariants.{Good};
 ghost use Rattle.any_lock.specs.Changes.{MaysKeepAllLaws};
-ghost use Rattle.any_lock.specs.Headline.{GoodSaysTheHeadline, KeepsHeadlineThroughout};
+ghost use Rattle.any_lock.specs.Headline.{GoodSaysTheHeadline, SaysHeadline};
 ghost use Rattle.any_lock.specs.Verdicts.{verdict_of};
 
 use crate::judge::Judge;
@@ -17,7 +16,7 @@ pub fn judge_all(alloc: Global, setup: &Setup, entries: &[Entry]) -> Result<Judg
     requires good { checked setup.now ≡ Ok tt }
     ensures verdict { IfOk result (λ judged. judged.verdict ≡ verdict_of setup.now entries.now) }
     ensures entries { IfOk result (λ judged. judged.entries ≡ length entries.now) }
-    ensures headline { IfOk result (λ judged. judged.verdict ≡ Good → KeepsHeadlineThroughout setup.now (reverse entries.now)) }
+    ensures headline { IfOk result (λ judged. SaysHeadline judged.verdict setup.now entries.now) }
 {
     let mut judge = Judge::new(alloc, setup)?;
     for entry in entries {

@@ -1,15 +1,13 @@
 //! What a judge keeps of the entries that it has heard, but for bits: where each process stands, the one-thread store,
 //! and how many commands and entries there were.
-ghost use Rattle.std.specs.Prelude.{◌≡◌, ℕ, ◌+◌, ◌-◌, ◌^◌, ◌<◌, ◌==◌, ◌&&◌, not, cond, [], ◌∷◌, IfOk, MatchOption, MatchResult, None, Ok, Some, slice_get, slice_set};
+ghost use Rattle.std.specs.Prelude.{◌≡◌, ℕ, ◌+◌, ◌-◌, ◌^◌, ◌<◌, cond, [], IfOk, Ok, Some, option_map, slice_get};
 ghost use Rattle.std.specs.List.{list_any};
 ghost use Rattle.plain_store.specs.Setups.{checked};
 ghost use Rattle.record.specs.Doorways.{is_before as before};
-ghost use Rattle.record.specs.Entries.{Entry as Noted, Past};
-ghost use Rattle.plain_store.specs.Store.{after};
-ghost use Rattle.any_lock.specs.declared.standings.Standing.{Standing as Stood};
-ghost use Rattle.any_lock.specs.Keeping.{Knows, accessed_by, is_taken};
-ghost use Rattle.any_lock.specs.Laws.{lowest_other, right_reply, waits_before};
-ghost use Rattle.any_lock.specs.Refusals.{has_nothing, has_one_mark, refusal_of_access, refusal_of_marks, stands_alone as is_alone};
+ghost use Rattle.read_law.specs.Entries.{entry_by};
+ghost use Rattle.any_lock.specs.Keeping.{IsOfAccess, Knows, KnowsOn, KnowsOnAt, OfEntry, OfPast, StandsAfter, TakesInto, made_at, is_taken, with_standing};
+ghost use Rattle.any_lock.specs.Laws.{is_ahead, is_other_ahead, is_other_inside, other_ahead, other_inside, right_reply};
+ghost use Rattle.any_lock.specs.Refusals.{has_nothing, is_crowded, refusal_of_access, refusal_of_marks, stands_alone as is_alone};
 ghost use Rattle.any_lock.specs.Standings.{standing as standing_of};
 
 use crate::mark_rules::{stands_alone, waits};
@@ -77,7 +75,7 @@ impl Kept {
 
     /// Where a process stands, if it is there.
     pub fn standing(&self, process: u8) -> Option<&Standing>
-        ensures { MatchOption result (slice_get self.now.standings process ≡ None) (λ k. slice_get self.now.standings process ≡ Some k.now) }
+        ensures { option_map (λ k. k.now) result ≡ slice_get self.now.standings process }
     {
         self.standings.get(usize::from(process))
     }
@@ -85,14 +83,14 @@ impl Kept {
     /// Where a process stands that is there.
     pub fn stands(&self, process: u8) -> Standing
         requires { process < self.now.setup.processes }
-        ensures { (past : Past) → Knows self.now past → result ≡ standing_of self.now.setup process past }
+        ensures { OfPast self.now (λ s past. result ≡ standing_of s process past) }
     {
         self.standings[usize::from(process)]
     }
 
     /// Why the access of an entry is refused, if it is.
     pub fn refusal_of_access(&self, process: u8, access: &Option<Access>) -> Option<AccessRefusal>
-        ensures { (past : Past) (e : Noted) → e.process ≡ process → e.access ≡ access.now → Knows self.now past → result ≡ refusal_of_access self.now.setup past e }
+        ensures { IsOfAccess result refusal_of_access self.now process access.now }
     {
         if process >= self.setup.processes {
             return Some(AccessRefusal::NoProcess);
@@ -114,7 +112,7 @@ impl Kept {
         marks: &[Mark],
     ) -> Result<Standing, MarkRefusal>
         requires { process < self.now.setup.processes }
-        ensures { (past : Past) (e : Noted) → e.process ≡ process → e.access ≡ access.now → e.marks ≡ marks.now → Knows self.now past → MatchResult result (λ k. (refusal_of_marks self.now.setup past e ≡ None) × (k ≡ standing_of self.now.setup process (e ∷ past))) (λ refusal. refusal_of_marks self.now.setup past e ≡ Some refusal) }
+        ensures { StandsAfter refusal_of_marks result self.now process access.now marks.now }
     {
         let _nested: NestedTypes = None;
         if has_nothing(access, marks) {
@@ -133,7 +131,7 @@ impl Kept {
     /// Where the process of an entry stands after its access.
     fn accessed(&self, process: u8, access: &Option<Access>) -> Standing
         requires { process < self.now.setup.processes }
-        ensures { (past : Past) → Knows self.now past → result ≡ accessed_by self.now.entries (standing_of self.now.setup process past) access.now }
+        ensures { OfPast self.now (λ _ past. result ≡ made_at self.now process access.now past) }
     {
         let mut standing = self.standings[usize::from(process)];
         if let Some(access) = access {
@@ -144,7 +142,7 @@ impl Kept {
 
     /// The lowest process but this one that is inside.
     pub fn other_inside(&self, process: u8) -> Option<u8>
-        ensures { (past : Past) → Knows self.now past → result ≡ lowest_other self.now.setup process (λ q. (standing_of self.now.setup q past).inside) }
+        ensures { OfPast self.now (λ s past. result ≡ other_inside s past process) }
     {
         for other in 0..self.processes() {
             if self.is_inside_beside(other, process) {
@@ -157,7 +155,7 @@ impl Kept {
     /// Whether one process is inside, and is another than this one.
     fn is_inside_beside(&self, other: u8, process: u8) -> bool
         requires { other < self.now.setup.processes }
-        ensures { (past : Past) → Knows self.now past → result ≡ (not (other == process) && (standing_of self.now.setup other past).inside) }
+        ensures { OfPast self.now (λ s past. result ≡ is_other_inside s past process other) }
     {
         other != process && self.standings[usize::from(other)].inside
     }
@@ -165,7 +163,7 @@ impl Kept {
     /// The lowest process that is ahead of this one.
     pub fn other_ahead(&self, process: u8) -> Option<u8>
         requires { process < self.now.setup.processes }
-        ensures { (past : Past) → Knows self.now past → result ≡ lowest_other self.now.setup process (λ q. waits_before (standing_of self.now.setup q past) (standing_of self.now.setup process past)) }
+        ensures { OfPast self.now (λ s past. result ≡ other_ahead s past process) }
     {
         for other in 0..self.processes() {
             if self.is_ahead(other, process) {
@@ -179,7 +177,7 @@ impl Kept {
     pub fn is_ahead(&self, other: u8, process: u8) -> bool
         requires other { other < self.now.setup.processes }
         requires process { process < self.now.setup.processes }
-        ensures { (past : Past) → Knows self.now past → result ≡ (not (other == process) && waits_before (standing_of self.now.setup other past) (standing_of self.now.setup process past)) }
+        ensures { OfPast self.now (λ s past. result ≡ is_other_ahead s past process other) }
     {
         other != process && self.waits_before(other, process)
     }
@@ -188,7 +186,7 @@ impl Kept {
     fn waits_before(&self, other: u8, process: u8) -> bool
         requires other { other < self.now.setup.processes }
         requires process { process < self.now.setup.processes }
-        ensures { (past : Past) → Knows self.now past → result ≡ waits_before (standing_of self.now.setup other past) (standing_of self.now.setup process past) }
+        ensures { OfPast self.now (λ s past. result ≡ is_ahead s past process other) }
     {
         let standing = &self.standings[usize::from(other)];
         let doorway = self.standings[usize::from(process)].doorway;
@@ -199,7 +197,7 @@ impl Kept {
     pub fn right_taking(&self, process: u8) -> (u64, Reply)
         requires { process < self.now.setup.processes }
         ensures place { result.0 ≡ self.now.taken }
-        ensures reply { (past : Past) → Knows self.now past → result.1 ≡ right_reply self.now.setup past process }
+        ensures reply { OfPast self.now (λ s past. result.1 ≡ right_reply s past process) }
     {
         let _nested: NestedTypes = None;
         let standing = &self.standings[usize::from(process)];
@@ -219,7 +217,7 @@ impl Kept {
         requires few { self.old.entries < 2 ^ 64 - 1 }
         ensures setup { self.new.setup ≡ self.old.setup }
         ensures entries { self.new.entries ≡ self.old.entries + 1 }
-        ensures knows { (past : Past) (e : Noted) → e.process ≡ process → e.access ≡ Some access → e.marks ≡ [] → Knows self.old past → Knows self.new (e ∷ past) }
+        ensures knows { OfEntry self.old process (Some access) [] (KnowsOn self.new) }
     {
         let entry = self.entries;
         self.standings[usize::from(process)].make(entry, access);
@@ -232,7 +230,7 @@ impl Kept {
         requires few { self.old.entries < 2 ^ 64 - 1 }
         ensures setup { self.new.setup ≡ self.old.setup }
         ensures entries { self.new.entries ≡ self.old.entries + 1 }
-        ensures knows { (past : Past) (e : Noted) → e.process ≡ process → e.marks ≡ marks.now → standing.now ≡ standing_of self.old.setup process (e ∷ past) → Knows self.old past → Knows self.new (e ∷ past) }
+        ensures knows { KnowsOnAt self.old process marks.now standing.now self.new }
     {
         self.count();
         self.take(process, takes(marks));
@@ -256,7 +254,7 @@ impl Kept {
         ensures standings { self.new.standings ≡ self.old.standings }
         ensures entries { self.new.entries ≡ self.old.entries }
         ensures taken { self.new.taken ≡ cond takes (self.old.taken + 1) self.old.taken }
-        ensures store { (k : Stood) → slice_get self.old.standings process ≡ Some k → self.new.store ≡ cond takes (after self.old.store k.command (record { process = process; number = k.number })) self.old.store }
+        ensures store { TakesInto self.old process takes self.new.store }
     {
         let _nested: NestedTypes = None;
         if !takes {
@@ -274,7 +272,7 @@ impl Kept {
     /// A process stands so.
     fn stand(&mut self, process: u8, standing: &Standing)
         requires { process < self.old.setup.processes }
-        ensures { self.new ≡ record self.old { standings = slice_set self.old.standings process standing.now } }
+        ensures { self.new ≡ with_standing process standing.now self.old }
     {
         self.standings[usize::from(process)] = *standing;
     }
@@ -282,14 +280,14 @@ impl Kept {
 
 /// Whether an entry has neither an access nor a mark.
 fn has_nothing(access: &Option<Access>, marks: &[Mark]) -> bool
-    ensures { (p : ℕ) → result ≡ has_nothing (record { process = p; access = access.now; marks = marks.now }) }
+    ensures { (p : ℕ) → result ≡ has_nothing (entry_by p access.now marks.now) }
 {
     access.is_none() && marks.len() == 0
 }
 
 /// Whether one of the marks of an entry stands alone, and is not alone.
 fn is_crowded(access: &Option<Access>, marks: &[Mark]) -> bool
-    ensures { (p : ℕ) → result ≡ (list_any is_alone marks.now && not (has_one_mark (record { process = p; access = access.now; marks = marks.now }))) }
+    ensures { (p : ℕ) → result ≡ is_crowded (entry_by p access.now marks.now) }
 {
     any_stands_alone(marks) && !(access.is_none() && marks.len() == 1)
 }

@@ -56,7 +56,7 @@ impl Standing {
 
     /// Why taking a command is refused, if it is.
     fn refuses_taking(&self) -> Option<MarkRefusal>
-        ensures { (place : ℕ) (reply : Replied) → result ≡ mark_refusal self.now (Taken place reply) }
+        ensures { (n : ℕ) (reply : Replied) → result ≡ mark_refusal self.now (Taken n reply) }
     {
         if !self.inside {
             Some(MarkRefusal::NotInside)

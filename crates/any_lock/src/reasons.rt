@@ -1,11 +1,9 @@
 //! The reasons of a verdict: what is looked up for the bad entry.
-ghost use Rattle.std.specs.Prelude.{◌≡◌, ◌<◌, ℕ, None, Some, cond, slice_index_or};
-ghost use Rattle.record.specs.Entries.{Entry as Noted, Past};
+ghost use Rattle.std.specs.Prelude.{◌≡◌, None};
 ghost use Rattle.any_lock.specs.declared.verdicts.AnyLockLaw.TheVariants as broken;
-ghost use Rattle.any_lock.specs.Judging.{AreReasonsIf};
-ghost use Rattle.any_lock.specs.Keeping.{Knows};
-ghost use Rattle.any_lock.specs.Standings.{standing as standing_of};
-ghost use Rattle.any_lock.specs.Reasons.{AreReasons, change_of, doorway_with, entered, entry_of as began_at, inside_since, is_overtaken, is_together, of_standing, other_value, refused, since, stands, wait_ahead};
+ghost use Rattle.any_lock.specs.Judging.{AreReasonsBy, AreReasonsIf, TellsDoorway, TellsEntered};
+ghost use Rattle.any_lock.specs.Keeping.{IsOfAccess, IsOfEntry, IsOfProcess, OfEntry, OfPast};
+ghost use Rattle.any_lock.specs.Reasons.{AreWaits, change_of, doorway_by, doorway_of, entry_of as began_at, inside_by, inside_since, opened_by, other_value, refused, since, stage_of, stands, torn_by, wait_ahead, wait_by};
 
 use crate::kept::Kept;
 use crate::refusals::{AccessRefusal, MarkRefusal};
@@ -66,7 +64,7 @@ impl Kept {
         marks: &[Mark],
     ) -> Option<Reasons>
         ensures none { law ≡ None → result ≡ None }
-        ensures some { (past : Past) (e : Noted) → e.process ≡ process → e.access ≡ access.now → e.marks ≡ marks.now → Knows self.now past → AreReasonsIf self.now.setup past e law result }
+        ensures some { OfEntry self.now process access.now marks.now (AreReasonsIf law result) }
     {
         match law {
             None => None,
@@ -83,7 +81,7 @@ impl Kept {
         access: &Option<Access>,
         marks: &[Mark],
     ) -> Reasons
-        ensures { (past : Past) (e : Noted) → e.process ≡ process → e.access ≡ access.now → e.marks ≡ marks.now → Knows self.now past → AreReasons self.now.setup past e law result }
+        ensures { OfEntry self.now process access.now marks.now (AreReasonsBy law result) }
     {
         let _nested: NestedTypes = None;
         Reasons {
@@ -100,7 +98,7 @@ impl Kept {
 
     /// Where a process stands, if it is there.
     fn looked_up(&self, process: u8) -> Option<Standing>
-        ensures { (past : Past) → Knows self.now past → result ≡ stands self.now.setup past process }
+        ensures { OfPast self.now (λ s past. result ≡ stands s past process) }
     {
         if process < self.processes() {
             Some(self.stands(process))
@@ -111,7 +109,7 @@ impl Kept {
 
     /// The stage of a process, if it is there.
     fn stage(&self, process: u8) -> Option<Stage>
-        ensures { (past : Past) → Knows self.now past → result ≡ of_standing (λ k. Some k.stage) (stands self.now.setup past process) }
+        ensures { OfPast self.now (λ s past. result ≡ stage_of s past process) }
     {
         match self.looked_up(process) {
             None => None,
@@ -121,7 +119,7 @@ impl Kept {
 
     /// Where the access began that a process has open.
     fn opened(&self, process: u8) -> Option<u64>
-        ensures { (past : Past) → Knows self.now past → result ≡ of_standing (λ k. began_at k.opened) (stands self.now.setup past process) }
+        ensures { OfPast self.now (λ s past. result ≡ opened_by s past process) }
     {
         match self.looked_up(process) {
             None => None,
@@ -131,7 +129,7 @@ impl Kept {
 
     /// Where the write of its torn bit began.
     fn torn(&self, process: u8) -> Option<u64>
-        ensures { (past : Past) → Knows self.now past → result ≡ of_standing (λ k. began_at k.torn) (stands self.now.setup past process) }
+        ensures { OfPast self.now (λ s past. result ≡ torn_by s past process) }
     {
         match self.looked_up(process) {
             None => None,
@@ -141,7 +139,7 @@ impl Kept {
 
     /// Why an entry is refused, if it is.
     fn refusal(&self, process: u8, access: &Option<Access>, marks: &[Mark]) -> Option<Refused>
-        ensures { (past : Past) (e : Noted) → e.process ≡ process → e.access ≡ access.now → e.marks ≡ marks.now → Knows self.now past → result ≡ refused self.now.setup past e }
+        ensures { IsOfEntry result refused self.now process access.now marks.now }
     {
         if let Some(refusal) = self.refusal_of_access(process, access) {
             return Some(Refused::Access(refusal));
@@ -163,7 +161,7 @@ impl Kept {
         access: &Option<Access>,
         marks: &[Mark],
     ) -> Option<Remedy>
-        ensures { (past : Past) (e : Noted) → e.process ≡ process → e.access ≡ access.now → e.marks ≡ marks.now → Knows self.now past → result ≡ change_of self.now.setup past e law }
+        ensures { IsOfEntry result (change_of law) self.now process access.now marks.now }
     {
         match law {
             AnyLockLaw::Safe => self.other_value(process, access, marks),
@@ -175,7 +173,7 @@ impl Kept {
 
     /// The right place and reply of a command that is taken, if its process is there.
     fn right_change(&self, process: u8) -> Option<Remedy>
-        ensures { (past : Past) (e : Noted) → e.process ≡ process → Knows self.now past → result ≡ change_of self.now.setup past e broken.History }
+        ensures { IsOfProcess result (change_of broken.History) self.now process }
     {
         let _nested: NestedTypes = None;
         if process >= self.processes() {
@@ -187,7 +185,7 @@ impl Kept {
 
     /// The other value of a read's end, if the entry would keep all later laws with it.
     fn other_value(&self, process: u8, access: &Option<Access>, marks: &[Mark]) -> Option<Remedy>
-        ensures { (past : Past) (e : Noted) → e.process ≡ process → e.access ≡ access.now → e.marks ≡ marks.now → Knows self.now past → result ≡ other_value self.now.setup past e }
+        ensures { IsOfEntry result other_value self.now process access.now marks.now }
     {
         let Some(told) = access else {
             return None;
@@ -207,7 +205,7 @@ impl Kept {
 
     /// `Together`: who but a process is inside, and since which entry.
     fn inside(&self, law: AnyLockLaw, process: u8) -> Option<(u8, u64)>
-        ensures { (past : Past) → Knows self.now past → result ≡ cond (is_together law) (inside_since self.now.setup past process) None }
+        ensures { OfPast self.now (λ s past. result ≡ inside_by law s past process) }
     {
         if !matches!(law, AnyLockLaw::Together) {
             return None;
@@ -217,7 +215,7 @@ impl Kept {
 
     /// Who but a process is inside, and since which entry.
     fn inside_since(&self, process: u8) -> Option<(u8, u64)>
-        ensures { (past : Past) → Knows self.now past → result ≡ inside_since self.now.setup past process }
+        ensures { OfPast self.now (λ s past. result ≡ inside_since s past process) }
     {
         match self.other_inside(process) {
             None => None,
@@ -227,7 +225,7 @@ impl Kept {
 
     /// A process, and the entry of its call with which it got inside.
     fn entered(&self, process: u8) -> Option<(u8, u64)>
-        ensures { (past : Past) → process < self.now.setup.processes → Knows self.now past → result ≡ entered process (standing_of self.now.setup process past) }
+        ensures { TellsEntered self.now process result }
     {
         match self.looked_up(process) {
             None => None,
@@ -237,7 +235,7 @@ impl Kept {
 
     /// `Overtaken`: of each process that is ahead of this one the entry of its `wait`.
     fn waits(&self, law: AnyLockLaw, process: u8) -> [Option<u64>; MOST_PROCESSES]
-        ensures { (past : Past) → Knows self.now past → (q : ℕ) → q < 16 → slice_index_or result q None ≡ cond (is_overtaken law) (wait_ahead self.now.setup past process q) None }
+        ensures { OfPast self.now (λ s past. AreWaits result (wait_by law s past process)) }
     {
         if !matches!(law, AnyLockLaw::Overtaken) {
             return [None; MOST_PROCESSES];
@@ -247,7 +245,7 @@ impl Kept {
 
     /// Of each process that is ahead of this one the entry of its `wait`.
     fn waits_ahead(&self, process: u8) -> [Option<u64>; MOST_PROCESSES]
-        ensures { (past : Past) → Knows self.now past → (q : ℕ) → q < 16 → slice_index_or result q None ≡ wait_ahead self.now.setup past process q }
+        ensures { OfPast self.now (λ s past. AreWaits result (wait_ahead s past process)) }
     {
         let mut waits = [None; MOST_PROCESSES];
         for other in 0..MOST_PROCESSES {
@@ -258,7 +256,7 @@ impl Kept {
 
     /// The entry of the `wait` of a process, if that is there and is ahead of another that is there.
     fn wait_ahead(&self, other: u8, process: u8) -> Option<u64>
-        ensures { (past : Past) → Knows self.now past → result ≡ wait_ahead self.now.setup past process other }
+        ensures { OfPast self.now (λ s past. result ≡ wait_ahead s past process other) }
     {
         if other >= self.processes() || process >= self.processes() {
             return None;
@@ -271,7 +269,7 @@ impl Kept {
 
     /// `Overtaken`: where the doorway of a process began, in the past or with this access.
     fn doorway(&self, law: AnyLockLaw, process: u8, access: &Option<Access>) -> Option<u64>
-        ensures { (past : Past) (e : Noted) → e.process ≡ process → e.access ≡ access.now → Knows self.now past → result ≡ cond (is_overtaken law) (of_standing (doorway_with past e) (stands self.now.setup past process)) None }
+        ensures { IsOfAccess result (doorway_by law) self.now process access.now }
     {
         if !matches!(law, AnyLockLaw::Overtaken) {
             return None;
@@ -281,7 +279,7 @@ impl Kept {
 
     /// Where the doorway of a process began, in the past or with this access.
     fn doorway_with(&self, process: u8, access: &Option<Access>) -> Option<u64>
-        ensures { (past : Past) (e : Noted) → e.process ≡ process → e.access ≡ access.now → Knows self.now past → result ≡ of_standing (doorway_with past e) (stands self.now.setup past process) }
+        ensures { IsOfAccess result doorway_of self.now process access.now }
     {
         match self.looked_up(process) {
             None => None,
@@ -291,7 +289,7 @@ impl Kept {
 
     /// Where the doorway of a process that stands so began, in the past or with this access.
     fn doorway_of(&self, standing: &Standing, access: &Option<Access>) -> Option<u64>
-        ensures { (past : Past) (e : Noted) → e.access ≡ access.now → Knows self.now past → result ≡ doorway_with past e standing.now }
+        ensures { TellsDoorway self.now access.now standing.now result }
     {
         match standing.doorway {
             Some(entry) => Some(entry),

@@ -3,7 +3,7 @@ ghost use Rattle.std.specs.Prelude.{◌≡◌, ◌<◌, ℕ, None, Some, IfErr, 
 ghost use Rattle.plain_store.specs.declared.Setup.{Setup as Given};
 ghost use Rattle.record.specs.declared.marks.Mark.TheVariants.{Called, Left};
 ghost use Rattle.record.specs.Doorways.{first_of};
-ghost use Rattle.any_lock.specs.Keeping.{accessed, at_rest, marked, marked_all, refusal_on};
+ghost use Rattle.any_lock.specs.Keeping.{IsRefusedFor, accessed, at_rest, marked, marked_all, refusal_on};
 ghost use Rattle.any_lock.specs.Refusals.{mark_refusal};
 ghost use Rattle.any_lock.specs.Standings.{begins as begins_access, settles as settles_bit, write_of as write_in};
 
@@ -89,7 +89,7 @@ impl Standing {
     ) -> Result<(), MarkRefusal>
         ensures marked { OnOk result (self.new ≡ marked_all setup.now entry self.old marks.now) }
         ensures allowed { OnOk result (refusal_on setup.now entry self.old marks.now ≡ None) }
-        ensures refused { IfErr result (λ refusal. refusal_on setup.now entry self.old marks.now ≡ Some refusal) }
+        ensures refused { IfErr result (IsRefusedFor setup.now entry self.old marks.now) }
     {
         let _nested: NestedTypes = None;
         for mark in marks {

@@ -32,7 +32,7 @@ use Rattle.world.specs.process.Telling.{act_of, marks_of, marks_told}
 use Rattle.world.specs.Shows.{Shows, WorldState}
 use Rattle.world.proofs.WorldShows.{past-after}
 use Rattle.auditor.specs.declared.verdicts.Law.TheVariants as law
-use Rattle.auditor.specs.Hearing.{AreAt, AuditorState, BreaksNext, HasHeard, IsCount, IsHeard, event_in, event_marked, flick_in, law_of_misplaced, law_of_wrong, stepped_as, with_reply}
+use Rattle.auditor.specs.Hearing.{AreAt, AuditorState, BreaksNext, HasHeard, IsCount, IsHeard, event_in, event_marked, flick_in, law_of_misplaced, law_of_wrong, step_told, stepped_as, with_reply}
 use Rattle.auditor.specs.Verdicts.{IsAlike, KeepsAll, tells_event}
 use Rattle.auditor.proofs.Events.{told-adds}
 use Rattle.auditor.proofs.Marks.{all_placed-again}
@@ -74,14 +74,10 @@ at-placed n (mark.Taken j q ∷ ms) k r (zero, l, e) = sym (ap (λ (t : ℕ × R
 at-placed n (mark.Taken j q ∷ ms) k r (suc i, l, e) = at-placed n ms k r (i, omega (arith, l), e)
 at-placed n (_ ∷ ms) k r h = at-placed n ms k r h
 
--- the entry of a step with this place
-abbrev step_entry : ℕ → ℕ → Access → StepTold → Entry
-step_entry n p a t = record { process = p; access = Some a; marks = map (placed n) (marks_told t) }
-
-alike-open : (n : ℕ) (e : Entry) (a : Access) (t : StepTold) → IsAlike e (step_entry n e.process a t) → IsAlike e (stepped_as e.process a t)
+alike-open : (n : ℕ) (e : Entry) (a : Access) (t : StepTold) → IsAlike e (step_told n e.process a t) → IsAlike e (stepped_as e.process a t)
 alike-open n e a t h = record { process = h.process; access = h.access; marks = h.marks ∙ all_placed-again 0 n (marks_told t) }
 
-alike-placed : (n : ℕ) (e : Entry) (a : Access) (t : StepTold) → IsAlike e (stepped_as e.process a t) → IsAlike e (step_entry n e.process a t)
+alike-placed : (n : ℕ) (e : Entry) (a : Access) (t : StepTold) → IsAlike e (stepped_as e.process a t) → IsAlike e (step_told n e.process a t)
 alike-placed n e a t h = record { process = h.process; access = h.access; marks = h.marks ∙ sym (all_placed-again 0 n (marks_told t)) }
 
 -- what the auditor knows of the step that it has made
@@ -91,7 +87,7 @@ pub record StepMade (a : AuditorState) (past : Past) (e : Entry) (access : Acces
   pub adds : (taken : List Taken) → Adds (with_history a.core taken) (event.Step e.process (flick_in e.access)) e.process (act_of (length taken) (record { access = Some access; effect = Steps told }))
 
 made_try : (a : AuditorState) (past : Past) (e : Entry) (access : Access) (told : StepTold) (h : StepMade a past e access told) →
-    IsTried a.core.setup h.heard.events e (step_entry (length (history a.core.setup past)) e.process access told)
+    IsTried a.core.setup h.heard.events e (step_told (length (history a.core.setup past)) e.process access told)
 made_try a past e access told h = record {
   good = h.heard.shows.good;
   given = h.heard.shows.given;
@@ -112,19 +108,19 @@ heard_wrong a past e access told settles h wrong at = subst (λ past. BreaksNext
     n : ℕ
     n = length (history s past)
 
-    t : IsTried s h.heard.events e (step_entry n e.process access told)
+    t : IsTried s h.heard.events e (step_told n e.process access told)
     t = made_try a past e access told h
 
-    no_match : IsAlike e (step_entry n e.process access told) → ⊥
+    no_match : IsAlike e (step_told n e.process access told) → ⊥
     no_match k = wrong (alike-open n e access told k)
 
     settling : IsTrue settles ↔ (stage e.process (past_of s h.heard.events) ≡ stages.Settling)
-    settling = at (tried s h.heard.events e (step_entry n e.process access told) t).0
+    settling = at (tried s h.heard.events e (step_told n e.process access told) t).0
 
     go : (b : Bool) → has tells_event e ≡ b → (c : Bool) → settles ≡ c → BreaksNext (law_of_wrong b c) s (past_of s h.heard.events) e
-    go true k c l = wrong_event s h.heard.events e (step_entry n e.process access told) t (λ same. no_match (subst (IsAlike e) same (record { process = refl; access = refl; marks = refl }))) h.none k
-    go false k true l = wrong_unit s h.heard.events e (step_entry n e.process access told) t no_match k (settling.0 l)
-    go false k false l = wrong_step s h.heard.events e (step_entry n e.process access told) t no_match k (λ st. true≢false (sym (settling.1 st) ∙ l))
+    go true k c l = wrong_event s h.heard.events e (step_told n e.process access told) t (λ same. no_match (subst (IsAlike e) same (record { process = refl; access = refl; marks = refl }))) h.none k
+    go false k true l = wrong_unit s h.heard.events e (step_told n e.process access told) t no_match k (settling.0 l)
+    go false k false l = wrong_step s h.heard.events e (step_told n e.process access told) t no_match k (λ st. true≢false (sym (settling.1 st) ∙ l))
 
 pub heard_misplaced : (a : AuditorState) (past : Past) (e : Entry) (access : Access) (told : StepTold) → StepMade a past e access told → IsAlike e (stepped_as e.process access told) → (AreAt (length (history a.core.setup past)) e.marks → ⊥) →
     BreaksNext (law_of_misplaced (has tells_event e)) a.core.setup past e
@@ -136,15 +132,15 @@ heard_misplaced a past e access told h alike wrong = subst (λ past. BreaksNext 
     n : ℕ
     n = length (history s past)
 
-    t : IsTried s h.heard.events e (step_entry n e.process access told)
+    t : IsTried s h.heard.events e (step_told n e.process access told)
     t = made_try a past e access told h
 
     same_place : length (history s (past_of s h.heard.events)) ≡ n
     same_place = ap (λ l. length (history s l)) h.heard.past_is
 
     go : (b : Bool) → has tells_event e ≡ b → BreaksNext (law_of_misplaced b) s (past_of s h.heard.events) e
-    go true k = wrong_event s h.heard.events e (step_entry n e.process access told) t (λ same. wrong (subst (λ (x : Entry). AreAt n x.marks) (sym same) (at-placed n (marks_told told)))) h.none k
-    go false k = wrong_place s h.heard.events e (step_entry n e.process access told) t (alike-placed n e access told alike) k (λ at. wrong (subst (λ m. AreAt m e.marks) same_place at))
+    go true k = wrong_event s h.heard.events e (step_told n e.process access told) t (λ same. wrong (subst (λ (x : Entry). AreAt n x.marks) (sym same) (at-placed n (marks_told told)))) h.none k
+    go false k = wrong_place s h.heard.events e (step_told n e.process access told) t (alike-placed n e access told alike) k (λ at. wrong (subst (λ m. AreAt m e.marks) same_place at))
 
 count-more : (taken : List Taken) (p : ℕ) (command : Rattle.plain_store.specs.declared.Command.Command) (number : ℕ) (o : Option Reply) → with_reply (length taken) o ≡ length (with_taken taken p command number o)
 count-more taken p command number None = refl
@@ -164,11 +160,11 @@ heard_step a past e access told new after h alike at same steps counts =
     n : ℕ
     n = length (history s past)
 
-    t : IsTried s h.heard.events e (step_entry n e.process access told)
+    t : IsTried s h.heard.events e (step_told n e.process access told)
     t = made_try a past e access told h
 
-    is : e ≡ step_entry n e.process access told
-    is = right_place s h.heard.events e (step_entry n e.process access told) t (alike-placed n e access told alike) (subst (λ m. AreAt m e.marks) (sym (ap (λ l. length (history s l)) h.heard.past_is)) at)
+    is : e ≡ step_told n e.process access told
+    is = right_place s h.heard.events e (step_told n e.process access told) t (alike-placed n e access told alike) (subst (λ m. AreAt m e.marks) (sym (ap (λ l. length (history s l)) h.heard.past_is)) at)
 
 -- An event that is no step.
 

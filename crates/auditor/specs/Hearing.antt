@@ -1,5 +1,5 @@
 -- What an auditor keeps, and what it answers to an entry.
-use Rattle.std.specs.Prelude.{◌≡◌, ℕ, ◌+◌, ◌<◌, ◌≤◌, ◌^◌, Bool, true, false, Contains, List, [], ◌∷◌, length, Option, None, Some}
+use Rattle.std.specs.Prelude.{◌≡◌, ◌↔◌, ℕ, ◌+◌, ◌<◌, ◌≤◌, ◌^◌, IsTrue, map, nat_lt, Bool, true, false, Contains, List, [], ◌∷◌, length, Option, None, Some}
 use Rattle.record.specs.safe_bit.declared.Move.TheVariants.{BeginWrite, EndWrite, BeginRead, EndRead, Settle}
 use Rattle.record.specs.declared.access.Access.{Access}
 use Rattle.plain_store.specs.declared.Setup.{Setup}
@@ -8,9 +8,13 @@ use Rattle.record.specs.declared.events.Event.TheVariants.{Call, Fail, Withdraw,
 use Rattle.record.specs.declared.marks.Mark.{Mark}
 use Rattle.record.specs.declared.marks.Mark.TheVariants.{Called, Failed, Withdrew, Restarted}
 use Rattle.record.specs.Entries.{Entry, Past}
-use Rattle.record.specs.Histories.{history}
-use Rattle.record.specs.Records.{past_of}
+use Rattle.record.specs.Histories.{history, reply_taken}
+use Rattle.record.specs.Records.{past_of, placed}
 use Rattle.record.specs.Spans.{takings}
+use Rattle.record.specs.Stages.{stage}
+use Rattle.record.specs.declared.history.Taken.{Taken}
+use Rattle.record.specs.declared.stages.Stage.TheVariants.{Settling}
+use Rattle.read_law.specs.Entries.{entry_by}
 use Rattle.plain_store.specs.declared.Reply.{Reply}
 use Rattle.world.specs.Cores.{CoreState, with_history}
 use Rattle.world.specs.Shows.{Shows}
@@ -18,7 +22,7 @@ use Rattle.world.specs.process.declared.told.StepTold.{StepTold}
 use Rattle.world.specs.process.Telling.{marks_told}
 use Rattle.auditor.specs.declared.verdicts.Law.{Law}
 use Rattle.auditor.specs.declared.verdicts.Law.TheVariants as law
-use Rattle.auditor.specs.Verdicts.{Keeps, KeepsAll, number_of}
+use Rattle.auditor.specs.Verdicts.{IsAlike, Keeps, KeepsAll, number_of}
 
 -- the flick that an access tells: the value with which a read ends, or a write begins or is settled
 abbrev pub flick_in : Option Access → Bool
@@ -53,6 +57,10 @@ abbrev pub IsHeard : Setup → Past → Entry → AuditorState → Option Law �
 IsHeard s past e then None = KeepsAll s past e × HasHeard then (e ∷ past)
 IsHeard s past e then (Some l) = BreaksNext l s past e
 
+-- this is what is answered to an entry, whatever past was heard
+abbrev pub Hears : AuditorState → Entry → AuditorState → Option Law → Type 0
+Hears a e then law = (past : Past) → HasHeard a past → IsHeard a.core.setup past e then law
+
 -- the event of a process that one mark alone tells, if it tells one
 abbrev pub event_marked : ℕ → List Mark → Option Event
 event_marked p (Called c ∷ []) = Some (Call p c)
@@ -65,10 +73,23 @@ event_marked p _ = None
 abbrev pub event_in : Entry → Option Event
 event_in e = elim e.access [ None ↦ event_marked e.process e.marks | Some a ↦ None ]
 
+-- this is answered to each entry of an event
+abbrev pub HearsEvent : AuditorState → Event → AuditorState → Option Law → Type 0
+HearsEvent a event then law = (past : Past) (e : Entry) → event_in e ≡ Some event → HasHeard a past → IsHeard a.core.setup past e then law
+
 -- one more, if a command is taken
 abbrev pub with_reply : ℕ → Option Reply → ℕ
 with_reply n None = n
 with_reply n (Some r) = n + 1
+
+-- the count of commands goes on by what a step leads to
+abbrev pub CountsOn : Option ℕ → StepTold → Option ℕ → Type 0
+CountsOn taken told then = (n : ℕ) → IsCount taken n → IsCount then (with_reply n (reply_taken (marks_told told)))
+
+-- the answer tells whether a process that there is settles, whatever the core shows
+abbrev pub TellsSettling : CoreState → ℕ → Bool → Type 0
+TellsSettling core p told =
+    (taken : List Taken) (events : List Event) → Shows (with_history core taken) events → nat_lt p core.setup.processes ≡ true → IsTrue told ↔ (stage p (past_of core.setup events) ≡ Settling)
 
 -- each command that marks take has this place
 abbrev pub AreAt : ℕ → List Mark → Type 0
@@ -88,3 +109,11 @@ law_of_misplaced false = law.History
 -- the entry of a step that has this access and leads to this, its place left open
 abbrev pub stepped_as : ℕ → Access → StepTold → Entry
 stepped_as p a t = record { process = p; access = Some a; marks = marks_told t }
+
+-- the same with this place
+abbrev pub step_told : ℕ → ℕ → Access → StepTold → Entry
+step_told n p a t = record { process = p; access = Some a; marks = map (placed n) (marks_told t) }
+
+-- the answer tells whether an entry with this access and these marks is that of the step, but for places, whoever makes both
+abbrev pub TellsAlike : Option Access → List Mark → Access → StepTold → Bool → Type 0
+TellsAlike access marks made t told = (p : ℕ) → IsTrue told ↔ IsAlike (entry_by p access marks) (stepped_as p made t)

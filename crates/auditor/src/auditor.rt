@@ -1,15 +1,9 @@
-ghost use Rattle.std.specs.Prelude.{◌≡◌, ◌↔◌, true, false, IfOk, IfSome, IsTrue, Ok, Some, None, List, [], nat_lt};
+ghost use Rattle.std.specs.Prelude.{◌≡◌, ◌↔◌, false, IfOk, IfSome, IsTrue, Ok, Some, None, []};
 ghost use Rattle.std.specs.List.{list_any};
 ghost use Rattle.plain_store.specs.Setups.{checked};
-ghost use Rattle.record.specs.declared.events.Event.{Event as Happening};
-ghost use Rattle.record.specs.declared.history.Taken.{Taken as Seen};
 ghost use Rattle.record.specs.declared.stages.Stage.TheVariants.{Settling};
-ghost use Rattle.record.specs.Entries.{Entry as Noted, Past};
-ghost use Rattle.record.specs.Records.{past_of};
-ghost use Rattle.record.specs.Stages.{stage as stage_then};
-ghost use Rattle.world.specs.Cores.{with_history};
-ghost use Rattle.world.specs.Shows.{Shows};
-ghost use Rattle.auditor.specs.Hearing.{HasHeard, IsHeard, event_in, law_of_misplaced, law_of_wrong};
+ghost use Rattle.read_law.specs.Entries.{entry_by};
+ghost use Rattle.auditor.specs.Hearing.{HasHeard, Hears, HearsEvent, TellsSettling, event_in, law_of_misplaced, law_of_wrong};
 ghost use Rattle.auditor.specs.Verdicts.{tells_event};
 
 use crate::matching::{are_at, event_in, flick_in, flick_of, is_alike, is_that, more, tells_event};
@@ -84,7 +78,7 @@ impl Auditor {
     /// broke a law nothing is known of the auditor.
     pub fn hear(&mut self, entry: &Entry) -> Option<Law>
         ensures setup { result ≡ None → self.new.core.setup ≡ self.old.core.setup }
-        ensures heard { (past : Past) → HasHeard self.old past → IsHeard self.old.core.setup past entry.now self.new result }
+        ensures heard { Hears self.old entry.now self.new result }
     {
         self.hear_parts(entry.process, &entry.act.access, &entry.act.marks)
     }
@@ -99,7 +93,7 @@ impl Auditor {
         marks: &[Mark],
     ) -> Option<Law>
         ensures setup { result ≡ None → self.new.core.setup ≡ self.old.core.setup }
-        ensures heard { (past : Past) → HasHeard self.old past → IsHeard self.old.core.setup past (record { process = process; access = access.now; marks = marks.now }) self.new result }
+        ensures heard { Hears self.old (entry_by process access.now marks.now) self.new result }
     {
         let Some(told) = access else {
             return self.hear_without_access(process, access, marks);
@@ -115,7 +109,7 @@ impl Auditor {
     #[inline]
     pub fn hear_access(&mut self, process: u8, access: Access) -> Option<Law>
         ensures setup { result ≡ None → self.new.core.setup ≡ self.old.core.setup }
-        ensures heard { (past : Past) → HasHeard self.old past → IsHeard self.old.core.setup past (record { process = process; access = Some access; marks = [] }) self.new result }
+        ensures heard { Hears self.old (entry_by process (Some access) []) self.new result }
     {
         match self.core.step_told(process, flick_of(access)) {
             Some(made) => different(made, access),
@@ -127,7 +121,7 @@ impl Auditor {
     #[inline(never)]
     fn hear_elsewhere(&mut self, process: u8, access: Access) -> Option<Law>
         ensures setup { result ≡ None → self.new.core.setup ≡ self.old.core.setup }
-        ensures heard { (past : Past) → HasHeard self.old past → IsHeard self.old.core.setup past (record { process = process; access = Some access; marks = [] }) self.new result }
+        ensures heard { Hears self.old (entry_by process (Some access) []) self.new result }
     {
         self.hear_step(process, &Some(access), &[])
     }
@@ -141,7 +135,7 @@ impl Auditor {
         marks: &[Mark],
     ) -> Option<Law>
         ensures setup { result ≡ None → self.new.core.setup ≡ self.old.core.setup }
-        ensures heard { (past : Past) → HasHeard self.old past → IsHeard self.old.core.setup past (record { process = process; access = access.now; marks = marks.now }) self.new result }
+        ensures heard { Hears self.old (entry_by process access.now marks.now) self.new result }
     {
         match event_in(process, access, marks) {
             Some(event) => self.hear_event(&event),
@@ -152,7 +146,7 @@ impl Auditor {
     /// An entry that tells an event which is no step.
     fn hear_event(&mut self, event: &Event) -> Option<Law>
         ensures setup { result ≡ None → self.new.core.setup ≡ self.old.core.setup }
-        ensures heard { (past : Past) (e : Noted) → event_in e ≡ Some event.now → HasHeard self.old past → IsHeard self.old.core.setup past e self.new result }
+        ensures heard { HearsEvent self.old event.now self.new result }
     {
         let mut effect = Effect::Steps(StepTold::Nothing);
         let Ok(_access) = self.core.event(event, &mut effect) else {
@@ -163,9 +157,9 @@ impl Auditor {
 
     /// An entry that tells no event but a step.
     fn hear_step(&mut self, process: u8, access: &Option<Access>, marks: &[Mark]) -> Option<Law>
-        requires { event_in (record { process = process; access = access.now; marks = marks.now }) ≡ None }
+        requires { event_in (entry_by process access.now marks.now) ≡ None }
         ensures setup { result ≡ None → self.new.core.setup ≡ self.old.core.setup }
-        ensures heard { (past : Past) → HasHeard self.old past → IsHeard self.old.core.setup past (record { process = process; access = access.now; marks = marks.now }) self.new result }
+        ensures heard { Hears self.old (entry_by process access.now marks.now) self.new result }
     {
         let settles = settles(&self.core, process);
         let mut told = StepTold::Nothing;
@@ -221,7 +215,7 @@ fn misplaced(marks: &[Mark]) -> Law
 /// Whether a process that is there settles.
 #[inline]
 fn settles(core: &Core, process: u8) -> bool
-    ensures { (taken : List Seen) (events : List Happening) → Shows (with_history core.now taken) events → nat_lt process core.now.setup.processes ≡ true → IsTrue result ↔ (stage_then process (past_of core.now.setup events) ≡ Settling) }
+    ensures { TellsSettling core.now process result }
 {
     match core.stage(process) {
         Some(stage) => is_settling(stage),

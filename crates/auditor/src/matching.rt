@@ -2,13 +2,12 @@
 ghost use Rattle.std.specs.Prelude.{◌≡◌, ◌↔◌, ℕ, ◌+◌, Bool, true, false, IsTrue, Option, Some, None, map, length};
 ghost use Rattle.std.specs.List.{list_any};
 ghost use Rattle.record.specs.Entries.{has};
-ghost use Rattle.record.specs.Histories.{reply_taken};
 ghost use Rattle.record.specs.Records.{placed};
 ghost use Rattle.world.specs.process.Telling.{marks_told};
-ghost use Rattle.auditor.specs.Hearing.{IsCount, event_in, flick_in, with_reply};
+ghost use Rattle.auditor.specs.Hearing.{CountsOn, IsCount, TellsAlike, event_in, flick_in};
 ghost use Rattle.auditor.specs.Verdicts.{tells_event};
-ghost use Rattle.auditor.specs.Hearing.{AreAt, stepped_as};
-ghost use Rattle.auditor.specs.Verdicts.{IsAlike};
+ghost use Rattle.auditor.specs.Hearing.{AreAt};
+ghost use Rattle.read_law.specs.Entries.{entry_by};
 
 use plain_store::{Answer, Command, Name, Reply, Text, Value};
 use record::{Access, Entry, Event, Field, Mark, Move};
@@ -40,7 +39,7 @@ pub(crate) fn flick_of(access: Access) -> bool
 /// The event other than a step that an entry may be of.
 #[inline]
 pub fn event_in(process: u8, access: &Option<Access>, marks: &[Mark]) -> Option<Event>
-    ensures { result ≡ event_in (record { process = process; access = access.now; marks = marks.now }) }
+    ensures { result ≡ event_in (entry_by process access.now marks.now) }
 {
     if access.is_some() || marks.len() != 1 {
         return None;
@@ -76,7 +75,7 @@ pub(crate) fn is_alike(
     made: &Access,
     told: &StepTold,
 ) -> bool
-    ensures { (p : ℕ) → IsTrue result ↔ IsAlike (record { process = p; access = access.now; marks = marks.now }) (stepped_as p made.now told.now) }
+    ensures { TellsAlike access.now marks.now made.now told.now result }
 {
     is_access(access, made) && are_told(alloc, marks, told)
 }
@@ -178,7 +177,7 @@ pub(crate) fn are_at(marks: &[Mark], taken: Option<u64>) -> bool
 /// How many commands were taken, after what a step leads to.
 #[inline]
 pub(crate) fn more(taken: Option<u64>, told: &StepTold) -> Option<u64>
-    ensures { (n : ℕ) → IsCount taken n → IsCount result (with_reply n (reply_taken (marks_told told.now))) }
+    ensures { CountsOn taken told.now result }
 {
     if told.reply().is_none() {
         return taken;

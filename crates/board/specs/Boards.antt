@@ -1,5 +1,5 @@
 -- What a board is to its callers, and which ports are of it.
-use Rattle.std.specs.Prelude.{◌≡◌, ◌≤◌, ℕ, List, [], Ok, Some, true, length, slice_get, vec_capacity}
+use Rattle.std.specs.Prelude.{◌≡◌, ◌≤◌, ℕ, suc, List, [], Ok, Some, true, length, slice_get, vec_capacity}
 use Rattle.std.specs.Global.{Vec}
 use Rattle.atomic_table.specs.Seated.{TableId}
 use Rattle.plain_store.specs.declared.Setup.{Setup}
@@ -7,6 +7,7 @@ use Rattle.plain_store.specs.Setups.{checked}
 use Rattle.plain_store.specs.Store.{are_pairs}
 use Rattle.board.specs.declared.layout.WordLayout.{WordLayout}
 use Rattle.board.specs.Ports.{PortState}
+use Rattle.board.specs.Views.{new_own}
 use Rattle.board.specs.Words.{layout_of, words_in}
 use Rattle.record.specs.declared.calls.Placed.{Placed}
 
@@ -29,6 +30,14 @@ pub record KeepsBoard (s : Setup) (layout : WordLayout) (key : Setup) (id : Tabl
 -- the port was made with the board
 abbrev pub IsOf : BoardState → PortState → Type 0
 IsOf board port = (port.table_id ≡ board.table_id) × (port.setup ≡ board.setup)
+
+-- these are of processes that have done nothing, in order
+abbrev pub AreIdle : List PortState → Type 0
+AreIdle ports = (k : ℕ) (port : PortState) → slice_get ports k ≡ Some port → port.view.own ≡ new_own k
+
+-- the same of all processes but the first
+abbrev pub AreOthersIdle : List PortState → Type 0
+AreOthersIdle ports = (k : ℕ) (port : PortState) → slice_get ports k ≡ Some port → port.view.own ≡ new_own (suc k)
 
 -- these are the ports of the board, of each process one, in order
 pub record ArePortsOf (board : BoardState) (ports : List PortState) : Type 0 where

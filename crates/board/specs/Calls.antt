@@ -1,5 +1,6 @@
 -- The calls of a process, as its port lists them, and the changes of the store.
 use Rattle.std.specs.Prelude.{◌≡◌, ℕ, ◌==◌, cond, List, [], ◌∷◌, ◌++◌, fold, Option, None, Some, option_map}
+use Rattle.plain_store.specs.declared.Answer.{Answer}
 use Rattle.plain_store.specs.declared.Command.{Command}
 use Rattle.plain_store.specs.declared.Setup.{Setup}
 use Rattle.plain_store.specs.Setups.{opening_store}
@@ -46,12 +47,24 @@ abbrev pub and_then : List Placed → Option Placed → List Placed
 and_then done None = done
 and_then done (Some call) = done ++ call ∷ []
 
+-- the call that is not finished was taken at this place
+abbrev pub with_place : Option ℕ → Calls → Calls
+with_place place calls = record calls { now = option_map (λ (call : Placed). record call { place = place }) calls.now }
+
+-- it has this answer
+abbrev pub with_answer : Answer → Calls → Calls
+with_answer answer calls = record calls { now = option_map (λ (call : Placed). record call { answer = Some answer }) calls.now }
+
+-- it is finished
+abbrev pub finished : Calls → Calls
+finished calls = record { done = and_then calls.done calls.now; now = None }
+
 -- the calls after a mark, where so many changes were taken before: a call is finished where it is answered, or where the process is down
 abbrev pub calls_after : ℕ → Calls → Mark → Calls
 calls_after place calls (Called command) = record calls { now = Some (called command) }
-calls_after place calls (mark.Taken _ reply) = record calls { now = option_map (λ (call : Placed). record call { place = Some place }) calls.now }
-calls_after place calls (Answered answer) = record { done = and_then calls.done (option_map (λ (call : Placed). record call { answer = Some answer }) calls.now); now = None }
-calls_after place calls Down = record { done = and_then calls.done calls.now; now = None }
+calls_after place calls (mark.Taken _ reply) = with_place (Some place) calls
+calls_after place calls (Answered answer) = finished (with_answer answer calls)
+calls_after place calls Down = finished calls
 calls_after place calls _ = calls
 
 -- the calls of a process in a past

@@ -1,15 +1,22 @@
 -- Closing a board: what its words show, and what is handed back.
-use Rattle.std.specs.Prelude.{◌≡◌, ◌⊎◌, ℕ, ◌+◌, ◌<◌, ◌≤◌, ◌==◌, Bool, false, List, length, map, slice_get, slice_index, slice_index_or, Some}
+use Rattle.std.specs.Prelude.{◌≡◌, ◌⊎◌, ℕ, ◌+◌, ◌<◌, ◌≤◌, ◌==◌, ◌++◌, Bool, false, List, length, map, take, drop, slice_get, slice_index, slice_index_or, Some}
+use Rattle.std.specs.Global.{Vec}
 use Rattle.std.specs.List.{range_with_len}
+use Rattle.std.specs.Slots.{slots_items}
+use Rattle.std.specs.declared.alloc.Global.{Global}
+use Rattle.atomic_table.specs.declared.Closed.{Closed}
 use Rattle.atomic_table.specs.Seated.{TableId}
 use Rattle.record.specs.declared.access.Field.{Field}
 use Rattle.record.specs.declared.access.Field.TheVariants.{Commit}
 use Rattle.record.specs.safe_number.Bytes.{number_of_bits}
 use Rattle.plain_store.specs.declared.Setup.{Setup}
+use Rattle.plain_store.specs.Setups.{callers_of}
 use Rattle.plain_store.specs.Store.{Contents}
+use Rattle.store_image.specs.Reading.{store_in}
 use Rattle.record.specs.declared.events.Event.{Event}
 use Rattle.record.specs.declared.history.Taken.{Taken}
 use Rattle.record.specs.declared.stages.Stage.TheVariants.{Down, Idle}
+use Rattle.record.specs.CallLists.{lists_of}
 use Rattle.record.specs.Given.{AreGiven}
 use Rattle.record.specs.Headline.{KeepsHeadlineThroughout}
 use Rattle.record.specs.Histories.{store_after}
@@ -20,6 +27,7 @@ use Rattle.record.specs.Registers.{bytes_of_bits, image_bytes, processes, width}
 use Rattle.process.specs.laws.Doings.{doing}
 use Rattle.board.specs.Agreement.{IsIn, IsQuiet}
 use Rattle.board.specs.Boards.{BoardState, IsOf}
+use Rattle.board.specs.declared.closing.Closing.{Closing}
 use Rattle.board.specs.Calls.{Calls, IsPrefix, calls_of, changes_of}
 use Rattle.board.specs.Lists.{StandsIn}
 use Rattle.board.specs.Ports.{PortState}
@@ -31,10 +39,22 @@ use Rattle.record.specs.declared.calls.Placed.{Placed}
 abbrev pub bits_shown : Setup → List ℕ → ℕ → Field → List Bool
 bits_shown s words owner field = map (λ k. slice_index words (word_of s (copy owner field 0 k)) == 1) (range_with_len 0 (width s field))
 
+-- one of these bits
+abbrev pub bit_shown : Setup → List ℕ → ℕ → Field → ℕ → Bool
+bit_shown s words owner field bit = slice_index_or (bits_shown s words owner field) bit false
+
+-- the number of so many of them, from a bit on
+abbrev pub number_shown : Setup → List ℕ → ℕ → Field → (from count : ℕ) → ℕ
+number_shown s words owner field from count = number_of_bits (take count (drop from (bits_shown s words owner field)))
+
+-- so many of the bytes that they make
+abbrev pub bytes_of : Setup → List ℕ → ℕ → Field → ℕ → List ℕ
+bytes_of s words owner field count = bytes_of_bits count (bits_shown s words owner field)
+
 -- the version that they show as committed by a process
 abbrev pub version_shown : Setup → List ℕ → ℕ → Version
 version_shown s words p =
-    let commit = slice_index_or (bits_shown s words p Commit) 0 false in
+    let commit = bit_shown s words p Commit 0 in
     (commit, number_of_bits (bits_shown s words p (stamp_field commit)))
 
 -- the versions of all processes
@@ -46,7 +66,15 @@ abbrev pub bytes_shown : Setup → List ℕ → List ℕ
 bytes_shown s words =
     let versions = versions_shown s words in
     let newest = newest_process versions in
-    bytes_of_bits (image_bytes s) (bits_shown s words newest (image_field (version_of versions newest)))
+    bytes_of s words newest (image_field (version_of versions newest)) (image_bytes s)
+
+-- the store that these bytes say
+abbrev pub store_shown : Setup → List ℕ → Contents
+store_shown s words = store_in s.slots (callers_of s) (bytes_shown s words)
+
+-- the words of a board that is closed
+abbrev pub words_of : Closed (Unit {0}) Global → List ℕ
+words_of closed = slots_items closed.words
 
 -- each of these ports was made with the board
 abbrev pub AreMadeWith : BoardState → List PortState → Type 0
@@ -116,6 +144,22 @@ done_calls ports = map (λ (port : PortState). port.view.own.calls.done) ports
 pub record AreListsOf (ports : List PortState) (lists : List (List Placed)) : Type 0 where
   pub all : length lists ≡ length ports
   pub each : (k : ℕ) (port : PortState) → slice_get ports k ≡ Some port → slice_get lists port.view.own.process ≡ Some port.view.own.calls.done
+
+-- a board can be closed with these ports: that of each process is among them, and each process is idle or down
+abbrev pub CanClose : Setup → List PortState → Type 0
+CanClose s ports = AreOfAll s.processes ports × AreQuiet ports
+
+-- the lists that a closed board leaves
+abbrev pub lists_in : Closing → List (List Placed)
+lists_in closing = lists_of closing.answers.items
+
+-- the lists then have the finished calls of each of these ports too
+abbrev pub AddsCallsOf : List PortState → List (Vec Placed) → List (Vec Placed) → Type 0
+AddsCallsOf ports lists then = lists_of then ≡ lists_of lists ++ done_calls ports
+
+-- the board of these ports, of which the first is process 0's, leaves this store
+abbrev pub HeadLeaves : Setup → List PortState → Contents → Type 0
+HeadLeaves s ports image = (port : PortState) → slice_get ports 0 ≡ Some port → Leaves s port.view.own.calls port.view.seen image
 
 -- the board of these ports leaves this store: process 0's is the port by which it is told
 abbrev pub FirstLeaves : Setup → List PortState → Contents → Type 0

@@ -7,6 +7,7 @@ use Rattle.record.specs.declared.stages.Stage.TheVariants.{Down, Idle}
 use Rattle.process.specs.declared.told.StepTold.TheVariants as told
 use Rattle.board.specs.declared.driving.Driven.{Driven}
 use Rattle.board.specs.declared.driving.Driven.TheVariants as driven
+use Rattle.board.specs.Ports.{PortState}
 use Rattle.board.specs.Views.{ViewState, stage_in}
 use Rattle.board.specs.WordSteps.{LeadsTo, WordStep, goes}
 
@@ -37,3 +38,7 @@ pub record Drives (s : Setup) (v : ViewState) (turns : ℕ) (flicks : FlickState
   pub made : ℕ
   pub ends : EndsWith s flicks v turns driven made w
   pub taken : flicks_then ≡ flicks_after made flicks
+
+-- the view of a port is driven
+abbrev pub DrivesPort : PortState → (turns : ℕ) → FlickState → Driven → PortState → FlickState → Type 0
+DrivesPort port turns flicks driven then flicks_then = Drives port.setup port.view turns flicks driven then.view flicks_then

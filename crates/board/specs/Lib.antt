@@ -12,6 +12,7 @@ pub mod Listing
 pub mod Lists
 pub mod Pending
 pub mod Ports
+pub mod Seats
 pub mod Views
 pub mod Words
 pub mod WordSteps

@@ -6,7 +6,7 @@ use Rattle.history_laws.specs.Stamps.{stamp_read}
 use Rattle.process.specs.declared.told.StepTold.{StepTold}
 use Rattle.process.specs.declared.told.StepTold.TheVariants as told
 use Rattle.process.specs.Telling.{marks_told}
-use Rattle.board.specs.Calls.{calls_after}
+use Rattle.board.specs.Calls.{Calls, calls_after}
 use Rattle.board.specs.Views.{ViewState}
 
 -- this is the place of the command that is taken, if one is; the stamp is what was kept for a memory unit
@@ -14,6 +14,10 @@ abbrev pub IsPlace : StepTold → (stamp : Option ℕ) → ℕ → Type 0
 IsPlace (told.Took reply changes) stamp place = changes ≡ place
 IsPlace (told.SettlesAndTakes value reply) stamp place = stamp ≡ Some place
 IsPlace _ stamp place = Unit {0}
+
+-- the calls go on by what a word step leads to, wherever that places what is taken
+abbrev pub GoOnBy : StepTold → (stamp : Option ℕ) → Calls → Calls → Type 0
+GoOnBy told stamp calls then = (place : ℕ) → IsPlace told stamp place → then ≡ fold (calls_after place) calls (marks_told told)
 
 -- a memory unit may take the command
 abbrev pub may_take : Doing → Bool

@@ -2,8 +2,11 @@
 use Rattle.std.specs.Prelude.{◌≡◌, ◌⊎◌, ℕ, Bool, false, List, [], ◌∷◌, Option, Result, Ok, Err, None, Some}
 use Rattle.atomic_table.specs.Seated.{TableId}
 use Rattle.record.specs.declared.access.Access.{Access}
+use Rattle.plain_store.specs.declared.Command.{Command}
 use Rattle.plain_store.specs.declared.Setup.{Setup}
+use Rattle.record.specs.declared.calls.Placed.{Placed}
 use Rattle.record.specs.declared.events.Event.{Event}
+use Rattle.record.specs.declared.events.Event.TheVariants.{Call}
 use Rattle.record.specs.declared.refusals.Refusal.{Refusal}
 use Rattle.record.specs.declared.refusals.Refusal.TheVariants.{Memory}
 use Rattle.process.specs.laws.Doings.{Doing}
@@ -13,7 +16,7 @@ use Rattle.process.specs.Steps.{IsAt}
 use Rattle.board.specs.declared.pending.Pending.{Pending}
 use Rattle.board.specs.Calls.{Calls}
 use Rattle.board.specs.Listing.{KnowsPlace}
-use Rattle.board.specs.Lists.{StandsInSeen}
+use Rattle.board.specs.Lists.{StandsIn, StandsInSeen}
 use Rattle.board.specs.Pending.{events_of}
 use Rattle.board.specs.Views.{MayAllHappen, ViewState, at_events, process_at, refusal_in}
 use Rattle.board.specs.Words.{word_of}
@@ -38,6 +41,10 @@ answer_to port event = elim (refusal_in port.setup port.view.own event) [ Some r
 abbrev pub IsBegun : PortState → Event → Result (Unit {0}) Refusal → Type 0
 IsBegun port event answer = (answer ≡ answer_to port event) ⊎ ((answer ≡ Err Memory) × (answer_to port event ≡ Ok tt))
 
+-- the call of a command by its process
+abbrev pub call_of : PortState → Command → Event
+call_of port command = Call port.view.own.process command
+
 -- the port then: a refused event leaves it
 abbrev pub port_after : PortState → Event → PortState
 port_after port event = elim (refusal_in port.setup port.view.own event) [ Some refusal ↦ port | None ↦ record port { view = at_events port.setup port.view (event ∷ []) } ]
@@ -61,6 +68,10 @@ pub record KeepsPort (s : Setup) (pending : Pending) (process : ProcessState) (v
   pub place : KnowsPlace stamp (with_pending s pending v)
   pub stands : StandsInSeen s (with_pending s pending v)
   pub none : held ≡ []
+
+-- these calls of its process stand in what the port has seen
+abbrev pub StandInSeen : PortState → List Placed → Type 0
+StandInSeen port calls = StandsIn port.setup port.view.own.process calls port.view.seen
 
 -- the next access of a process is this one, on this word
 pub record IsNext (s : Setup) (process : ProcessState) (flick : Bool) (word : ℕ) (access : Access) : Type 0 where

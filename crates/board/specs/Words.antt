@@ -1,5 +1,5 @@
 -- The words of a board: one for each single-reader bit of each register, and what it shows of that bit.
-use Rattle.std.specs.Prelude.{ℕ, ◌+◌, ◌-◌, ◌*◌, ◌/◌, ◌%◌, ◌==◌, nat_lt, Bool, true, false, cond, List, [], ◌∷◌, map, take}
+use Rattle.std.specs.Prelude.{◌≡◌, ◌<◌, slice_index, ℕ, ◌+◌, ◌-◌, ◌*◌, ◌/◌, ◌%◌, ◌==◌, nat_lt, Bool, true, false, cond, List, [], ◌∷◌, map, take}
 use Rattle.safe_bit.specs.Cell.{Cell}
 use Rattle.safe_bit.specs.declared.Move.{Move}
 use Rattle.safe_bit.specs.declared.Move.TheVariants.{BeginWrite, EndWrite, BeginRead, EndRead, Settle}
@@ -59,6 +59,10 @@ closed_word false = 0
 -- what a word opens at: the opening value of its bit
 abbrev pub opening_word : Setup → ℕ → ℕ
 opening_word s word = closed_word (opening_bit s (bit_of s word))
+
+-- these are the words at which a board opens
+abbrev pub AreOpening : Setup → List ℕ → Type 0
+AreOpening s words = (word : ℕ) → word < words_in s → slice_index words word ≡ opening_word s word
 
 -- the word of a bit that has this cell: 2 while a write is open, else its value
 abbrev pub shown : Cell → ℕ

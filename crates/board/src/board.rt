@@ -1,6 +1,6 @@
 //! Boards, and the making of one with its ports.
-ghost use Rattle.std.specs.Prelude.{◌≡◌, ◌+◌, ◌<◌, ℕ, suc, Ok, IfOk, OnOk, [], Some, slice_get, vec_len};
-ghost use Rattle.board.specs.Ports.{PortState};
+ghost use Rattle.std.specs.Prelude.{◌≡◌, ◌+◌, ◌<◌, Ok, IfOk, OnOk, [], vec_len};
+ghost use Rattle.board.specs.Seats.{IsSeated};
 ghost use Rattle.board.specs.Views.{first_view};
 ghost use Rattle.plain_store.specs.Setups.{checked};
 
@@ -38,15 +38,16 @@ impl Model for Board {
 }
 
 impl Board {
-    ghost use Rattle.board.specs.Boards.{ArePortsOf, IsOf};
-    ghost use Rattle.board.specs.Views.{new_own, new_view, with_made};
+    ghost use Rattle.board.specs.Boards.{AreIdle, AreOthersIdle, ArePortsOf};
+    ghost use Rattle.board.specs.Closings.{AreMadeWith};
+    ghost use Rattle.board.specs.Views.{new_view, with_made};
 
     /// A board on which nothing has happened, and a port for each process, ascending. The one fault is want of memory.
     pub fn new(alloc: Global, setup: &Setup) -> Result<(Board, Vec<Port>), AllocError>
         requires good { checked setup.now ≡ Ok tt }
         ensures setup { IfOk result (λ made. made.0.setup ≡ setup.now) }
         ensures ports { IfOk result (λ made. ArePortsOf made.0 made.1.items) }
-        ensures idle { IfOk result (λ made. (k : ℕ) (port : PortState) → slice_get made.1.items k ≡ Some port → port.view.own ≡ new_own k) }
+        ensures idle { IfOk result (λ made. AreIdle made.1.items) }
     {
         let (board, mut seat) = opened(alloc, setup)?;
         let mut ports = board.others(alloc, &mut seat)?;
@@ -62,7 +63,8 @@ impl Board {
         ensures board { OnOk result (first.new.table_id ≡ self.now.table_id) }
         ensures first { OnOk result (first.new.me ≡ (new_view 0 self.now.setup.processes, [])) }
         ensures all { IfOk result (λ ports. vec_len ports + 1 ≡ self.now.setup.processes) }
-        ensures each { IfOk result (λ ports. (k : ℕ) (port : PortState) → slice_get ports.items k ≡ Some port → IsOf self.now port × (port.view.own ≡ new_own (suc k))) }
+        ensures made_with { IfOk result (λ ports. AreMadeWith self.now ports.items) }
+        ensures idle { IfOk result (λ ports. AreOthersIdle ports.items) }
     {
         let mut ports: Vec<Port> = Vec::with_capacity(alloc, usize::from(self.setup.processes))?;
         for number in 1..self.setup.processes {
@@ -78,8 +80,8 @@ impl Board {
         requires board { first.old.table_id ≡ self.now.table_id }
         requires first { first.old.me ≡ (new_view 0 first.old.me.0.made, []) }
         requires made { first.old.me.0.made < self.now.setup.processes }
-        ensures first { (first.new.table_id ≡ self.now.table_id) × (first.new.me ≡ (with_made first.old.me.0, [])) }
-        ensures seat { (result.table_id ≡ self.now.table_id) × (result.me ≡ (new_view first.old.me.0.made 0, [])) }
+        ensures first { IsSeated self.now.table_id (with_made first.old.me.0) first.new }
+        ensures seat { IsSeated self.now.table_id (new_view first.old.me.0.made 0) result }
     {
         self.table.shared.split_seat::<Newcomer>(first)
     }
@@ -88,7 +90,8 @@ impl Board {
 /// The words of a board at their opening values, and port 0's seat.
 fn opened(alloc: Global, setup: &Setup) -> Result<(Board, WordSeat), AllocError>
     requires { checked setup.now ≡ Ok tt }
-    ensures { IfOk result (λ made. (made.0.setup ≡ setup.now) × (made.1.table_id ≡ made.0.table_id) × (made.1.me ≡ (first_view, []))) }
+    ensures setup { IfOk result (λ made. made.0.setup ≡ setup.now) }
+    ensures seat { IfOk result (λ made. IsSeated made.0.table_id first_view made.1) }
 {
     setup.opening.pairs_are_sound();
     let words = opening_words(alloc, setup)?;

@@ -1,10 +1,8 @@
 //! The calls of a port: those that are finished, and the one that is not.
-ghost use Rattle.std.specs.Prelude.{◌≡◌, ℕ, None, OnErr, OnOk, Some, fold, option_map};
+ghost use Rattle.std.specs.Prelude.{◌≡◌, OnErr, OnOk};
 ghost use Rattle.record.specs.declared.Mark.TheVariants.{Called};
-ghost use Rattle.process.specs.Telling.{marks_told};
-ghost use Rattle.board.specs.Calls.{and_then, calls_after, no_calls};
-ghost use Rattle.board.specs.Listing.{IsPlace};
-ghost use Rattle.record.specs.declared.calls.Placed.{Placed as Call};
+ghost use Rattle.board.specs.Calls.{calls_after, finished, no_calls, with_answer, with_place};
+ghost use Rattle.board.specs.Listing.{GoOnBy};
 
 use plain_store::{Answer, Command, NestedTypes};
 use process::StepTold;
@@ -73,7 +71,7 @@ impl CallList {
     /// Goes on by what a word step leads to. `stamp` is the place of a command that a memory unit takes.
     #[inline]
     pub fn tell(&mut self, told: &StepTold, stamp: Option<u32>)
-        ensures { (place : ℕ) → IsPlace told.now stamp place → self.new ≡ fold (calls_after place) self.old (marks_told told.now) }
+        ensures { GoOnBy told.now stamp self.old self.new }
     {
         match *told {
             StepTold::Took { changes, .. } => self.take(Some(changes)),
@@ -89,7 +87,7 @@ impl CallList {
 
     /// The command of the call is taken at this place.
     fn take(&mut self, place: Option<u32>)
-        ensures { self.new ≡ record self.old { now = option_map (λ (call : Call). record call { place = place }) self.old.now } }
+        ensures { self.new ≡ with_place place self.old }
     {
         let _nested: NestedTypes = None;
         if let Some(call) = &mut self.current {
@@ -99,7 +97,7 @@ impl CallList {
 
     /// The call is answered.
     fn answer(&mut self, answer: Answer)
-        ensures { self.new ≡ record self.old { now = option_map (λ (call : Call). record call { answer = Some answer }) self.old.now } }
+        ensures { self.new ≡ with_answer answer self.old }
     {
         let _nested: NestedTypes = None;
         if let Some(call) = &mut self.current {
@@ -109,7 +107,7 @@ impl CallList {
 
     /// The call is finished.
     fn finish(&mut self)
-        ensures { self.new ≡ record { done = and_then self.old.done self.old.now; now = None } }
+        ensures { self.new ≡ finished self.old }
     {
         let _nested: NestedTypes = None;
         if let Some(call) = self.current.take() {

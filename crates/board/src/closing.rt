@@ -1,7 +1,6 @@
 //! Closing a board.
-ghost use Rattle.std.specs.Prelude.{◌≡◌, ◌≤◌, ◌+◌, ◌<◌, ◌↔◌, ◌∷◌, ◌++◌, ℕ, IsOk, IfOk, IfErr, IsTrue, Some, false, length, slice_get, vec_capacity, vec_len};
-ghost use Rattle.board.specs.Closings.{AreFirstPortsOf, AreListsOf, AreMadeWith, AreOfAll, AreOthers, AreQuiet, EachStandsInRecord, FirstLeaves, HasJoined, IsStill, Leaves, StandsInRecord, done_calls};
-ghost use Rattle.board.specs.Ports.{PortState};
+ghost use Rattle.std.specs.Prelude.{◌≡◌, ◌≤◌, ◌+◌, ◌<◌, ◌↔◌, ◌∷◌, IsOk, IfOk, IfErr, IsTrue, false, length, vec_capacity, vec_len};
+ghost use Rattle.board.specs.Closings.{AddsCallsOf, AreFirstPortsOf, AreListsOf, AreMadeWith, AreOthers, AreQuiet, CanClose, EachStandsInRecord, FirstLeaves, HasJoined, HeadLeaves, IsStill, Leaves, StandsInRecord, done_calls, lists_in};
 ghost use Rattle.record.specs.CallLists.{lists_of};
 
 use crate::board::Board;
@@ -32,11 +31,12 @@ impl Board {
     /// gives all back. It takes no memory.
     pub fn close(self, mut ports: Vec<Port>) -> Result<Closing, NotQuiet>
         requires ports { AreMadeWith self ports.items }
-        ensures quiet { IsOk result ↔ (AreOfAll self.setup.processes ports.items × AreQuiet ports.items) }
+        ensures quiet { IsOk result ↔ CanClose self.setup ports.items }
         ensures leaves { IfOk result (λ closing. FirstLeaves self.setup ports.items closing.image) }
-        ensures answers { IfOk result (λ closing. AreListsOf ports.items (lists_of closing.answers.items)) }
-        ensures stand { IfOk result (λ closing. EachStandsInRecord self.setup (lists_of closing.answers.items)) }
-        ensures back { IfErr result (λ back. (back.board ≡ self) × (back.ports.items ≡ ports.items)) }
+        ensures answers { IfOk result (λ closing. AreListsOf ports.items (lists_in closing)) }
+        ensures stand { IfOk result (λ closing. EachStandsInRecord self.setup (lists_in closing)) }
+        ensures board { IfErr result (λ back. back.board ≡ self) }
+        ensures back { IfErr result (λ back. back.ports.items ≡ ports.items) }
     {
         if !are_of_all(&ports, self.setup.processes) || !are_quiet(&ports) {
             return Err(NotQuiet { board: self, ports });
@@ -51,9 +51,9 @@ impl Board {
         requires some { 0 < length ports.items }
         requires all { length ports.items ≡ self.setup.processes }
         requires quiet { AreQuiet ports.items }
-        ensures leaves { (port : PortState) → slice_get ports.items 0 ≡ Some port → Leaves self.setup port.view.own.calls port.view.seen result.image }
-        ensures answers { lists_of result.answers.items ≡ done_calls ports.items }
-        ensures stand { EachStandsInRecord self.setup (lists_of result.answers.items) }
+        ensures leaves { HeadLeaves self.setup ports.items result.image }
+        ensures answers { lists_in result ≡ done_calls ports.items }
+        ensures stand { EachStandsInRecord self.setup (lists_in result) }
     {
         let (first, calls) = ports.remove(0).into_parts();
         self.shut(first, calls, ports)
@@ -62,13 +62,16 @@ impl Board {
     /// The image that its words show, once all seats are joined, and the lists: first that of port 0.
     fn shut(self, mut first: WordSeat, calls: Vec<Placed>, others: Vec<Port>) -> Closing
         requires board { first.table_id ≡ self.table_id }
-        requires first { (first.me.0.spent ≡ false) × (first.me.0.own.process ≡ 0) × IsStill self.setup first.me.0.own }
-        requires others { AreOthers self.table_id self.setup 1 others.items × AreQuiet others.items }
+        requires live { first.me.0.spent ≡ false }
+        requires first { first.me.0.own.process ≡ 0 }
+        requires still { IsStill self.setup first.me.0.own }
+        requires others { AreOthers self.table_id self.setup 1 others.items }
+        requires quiet { AreQuiet others.items }
         requires all { vec_len others + 1 ≡ self.setup.processes }
         requires calls { StandsInRecord self.setup 0 calls.items }
         ensures leaves { Leaves self.setup first.me.0.own.calls first.me.0.seen result.image }
-        ensures answers { lists_of result.answers.items ≡ calls.items ∷ done_calls others.items }
-        ensures stand { EachStandsInRecord self.setup (lists_of result.answers.items) }
+        ensures answers { lists_in result ≡ calls.items ∷ done_calls others.items }
+        ensures stand { EachStandsInRecord self.setup (lists_in result) }
     {
         let Board {
             table,
@@ -107,13 +110,14 @@ fn join_all(
 )
     requires table { (first.old.table_id ≡ words.now.table_id) × (0 < words.now.table_id.words) }
     requires first { (first.old.me.0.spent ≡ false) × (first.old.me.0.own.process ≡ 0) }
-    requires others { AreOthers words.now.table_id words.now.key (vec_len answers.old) others.items × AreQuiet others.items }
+    requires order { AreOthers words.now.table_id words.now.key (vec_len answers.old) others.items }
+    requires quiet { AreQuiet others.items }
     requires answers { vec_len answers.old ≡ 1 }
     requires stand { EachStandsInRecord words.now.key (lists_of answers.old.items) }
     requires room { vec_len answers.old + vec_len others ≤ vec_capacity answers.old }
     ensures seat { (first.new.table_id ≡ first.old.table_id) × (first.new.id ≡ first.old.id) }
     ensures joined { HasJoined (vec_len others) first.old.me.0 first.new.me.0 }
-    ensures answers { lists_of answers.new.items ≡ lists_of answers.old.items ++ done_calls others.items }
+    ensures answers { AddsCallsOf others.items answers.old.items answers.new.items }
     ensures stand { EachStandsInRecord words.now.key (lists_of answers.new.items) }
 {
     while !others.is_empty() {

@@ -1,5 +1,4 @@
 //! Driving a port.
-ghost use Rattle.std.specs.Prelude.{◌≡◌};
 ghost use Rattle.board.specs.Boards.{IsOf};
 ghost use Rattle.board.specs.Ports.{SamePort};
 
@@ -23,14 +22,14 @@ pub enum Driven {
 }
 
 impl Port {
-    ghost use Rattle.board.specs.Driving.{Drives};
+    ghost use Rattle.board.specs.Driving.{DrivesPort};
 
     /// Makes word steps, at most `turns` of them, until one answers the call or the process is down. Where it is idle or
     /// down none is made. Each takes one flick.
     pub fn drive(&mut self, board: &Board, turns: u64, flicks: &mut Flicks) -> Driven
         requires { IsOf board.now self.old }
         ensures same { SamePort self.old self.new }
-        ensures drives { Drives self.old.setup self.old.view turns flicks.old result self.new.view flicks.new }
+        ensures drives { DrivesPort self.old turns flicks.old result self.new flicks.new }
     {
         match self.stage() {
             Stage::Idle => return Driven::Idle,

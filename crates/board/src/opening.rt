@@ -1,9 +1,9 @@
 //! What the words of a board open at: each at its bit's opening value.
-ghost use Rattle.std.specs.Prelude.{◌≡◌, ◌*◌, ◌<◌, ℕ, Ok, IfOk, slice_index, vec_len};
+ghost use Rattle.std.specs.Prelude.{◌≡◌, ◌*◌, ◌<◌, Ok, IfOk, vec_len};
 ghost use Rattle.record.specs.safe_number.Bytes.{bit_in};
 ghost use Rattle.plain_store.specs.Setups.{checked, opening_store};
 ghost use Rattle.store_image.specs.Image.{image_of};
-ghost use Rattle.board.specs.Words.{opening_word, row_bits, words_in};
+ghost use Rattle.board.specs.Words.{AreOpening, opening_word, row_bits, words_in};
 
 use crate::words::{bit_of, row_bits, words_in};
 use plain_store::{Setup, opened};
@@ -46,7 +46,7 @@ fn opening_word(setup: &Setup, image: &[u8], own: usize, word: usize) -> u64
 pub(crate) fn opening_words(alloc: Global, setup: &Setup) -> Result<Vec<u64>, AllocError>
     requires { checked setup.now ≡ Ok tt }
     ensures length { IfOk result (λ words. vec_len words ≡ words_in setup.now) }
-    ensures words { IfOk result (λ words. (word : ℕ) → word < words_in setup.now → slice_index words.items word ≡ opening_word setup.now word) }
+    ensures words { IfOk result (λ words. AreOpening setup.now words.items) }
 {
     let image = opened(Image::empty(setup.slots, setup.callers()), setup)?;
     let count = words_in(setup);

@@ -1,11 +1,12 @@
 //! Ports, each of which runs one process.
 ghost use Rattle.std.specs.Prelude.{◌≡◌, ◌↔◌, Bool, IsTrue, ℕ, OnErr, OnOk, true, []};
 ghost use Rattle.plain_store.specs.Store.{are_pairs};
-ghost use Rattle.record.specs.declared.Event.TheVariants.{Call, Fail, Restart, Withdraw};
+ghost use Rattle.record.specs.declared.Event.TheVariants.{Fail, Restart, Withdraw};
 ghost use Rattle.board.specs.Boards.{IsOf};
 ghost use Rattle.board.specs.Closings.{IsSeatOf, IsStill, StandsInRecord};
-ghost use Rattle.board.specs.Lists.{AreFirstChanges, StandsIn};
-ghost use Rattle.board.specs.Ports.{IsBegun, SamePort, answer_to, port_after};
+ghost use Rattle.board.specs.Lists.{AreFirstChanges};
+ghost use Rattle.board.specs.Ports.{IsBegun, SamePort, StandInSeen, answer_to, call_of, port_after};
+ghost use Rattle.board.specs.Seats.{port_at};
 ghost use Rattle.board.specs.Views.{new_view, stage_in};
 ghost use Rattle.board.specs.WordSteps.{LeadsTo, WordStep, goes};
 ghost use Rattle.process.specs.Processes.{process_after};
@@ -51,7 +52,7 @@ impl Port {
         requires process { process ≡ process_after process.setup [] process.process }
         requires seat { (made : ℕ) × (seat.me ≡ (new_view process.process made, [])) }
         requires pairs { are_pairs process.setup.opening ≡ true }
-        ensures { result ≡ record { table_id = seat.table_id; id = seat.id; setup = process.setup; view = seat.me.0 } }
+        ensures { result ≡ port_at seat process.setup }
     {
         Port {
             seat,
@@ -101,7 +102,7 @@ impl Port {
     /// changes that all ports see.
     pub fn answers(&self) -> &[Placed]
         ensures list { result.now ≡ self.now.view.own.calls.done }
-        ensures stands { StandsIn self.now.setup self.now.view.own.process result.now self.now.view.seen }
+        ensures stands { StandInSeen self.now result.now }
         ensures seen { AreFirstChanges self.now.setup self.now.view.seen }
     {
         self.calls.done()
@@ -160,8 +161,8 @@ impl Port {
     pub fn begin(&mut self, board: &Board, command: Command) -> Result<(), Refusal>
         requires { IsOf board.now self.old }
         ensures same { SamePort self.old self.new }
-        ensures answer { IsBegun self.old (Call self.old.view.own.process command) result }
-        ensures port { OnOk result (self.new ≡ port_after self.old (Call self.old.view.own.process command)) }
+        ensures answer { IsBegun self.old (call_of self.old command) result }
+        ensures port { OnOk result (self.new ≡ port_after self.old (call_of self.old command)) }
         ensures unchanged { OnErr result (self.new ≡ self.old) }
     {
         if let Err(refusal) = self.answer(&Event::Call(self.process.process(), command)) {

@@ -1,12 +1,11 @@
 //! The image that the words of a board show, off the copies of reader 0.
-ghost use Rattle.std.specs.Prelude.{◌≡◌, ◌+◌, ◌*◌, ◌<◌, ◌≤◌, false, length, slice_index_or, take, drop, Ok};
-ghost use Rattle.std.specs.Slots.{slots_items, slots_len, IsFull};
-ghost use Rattle.record.specs.safe_number.Bytes.{number_of_bits};
+ghost use Rattle.std.specs.Prelude.{◌≡◌, ◌+◌, ◌*◌, ◌<◌, ◌≤◌, length, take, Ok};
+ghost use Rattle.std.specs.Slots.{slots_len, IsFull};
 ghost use Rattle.store_image.specs.Reading.{store_in};
 ghost use Rattle.plain_store.specs.Setups.{callers_of, checked};
-ghost use Rattle.record.specs.Program.{image_field, newest_process, version_of};
-ghost use Rattle.record.specs.Registers.{bytes_of_bits, image_bytes, width};
-ghost use Rattle.board.specs.Closings.{bits_shown, bytes_shown, version_shown, versions_shown};
+ghost use Rattle.record.specs.Program.{newest_process, version_of};
+ghost use Rattle.record.specs.Registers.{image_bytes, width};
+ghost use Rattle.board.specs.Closings.{bit_shown, bytes_of, number_shown, store_shown, version_shown, versions_shown, words_of};
 ghost use Rattle.board.specs.Words.{words_in};
 
 use crate::layout::WordLayout;
@@ -28,7 +27,7 @@ fn bit_shown(setup: &Setup, words: &ClosedWords, owner: u8, field: Field, bit: u
     requires good { checked setup.now ≡ Ok tt }
     requires words { (slots_len words.now.words ≡ words_in setup.now) × IsFull words.now.words }
     requires there { (owner < setup.now.processes) × (bit < width setup.now field) }
-    ensures { result ≡ slice_index_or (bits_shown setup.now (slots_items words.now.words) owner field) bit false }
+    ensures { result ≡ bit_shown setup.now (words_of words.now) owner field bit }
 {
     let access = Access {
         owner,
@@ -54,7 +53,7 @@ fn number_shown(
     requires few { count ≤ 32 }
     requires inside { from + count ≤ 1728 }
     requires there { (owner < setup.now.processes) × (from + count ≤ width setup.now field) }
-    ensures { result ≡ number_of_bits (take count (drop from (bits_shown setup.now (slots_items words.now.words) owner field))) }
+    ensures { result ≡ number_shown setup.now (words_of words.now) owner field from count }
 {
     let mut number = 0;
     for done in 0..count {
@@ -77,7 +76,7 @@ fn bytes_of(
     requires few { count ≤ 216 }
     requires there { (owner < setup.now.processes) × (8 * count ≤ width setup.now field) }
     ensures length { length result ≡ 216 }
-    ensures bytes { take count result ≡ bytes_of_bits count (bits_shown setup.now (slots_items words.now.words) owner field) }
+    ensures bytes { take count result ≡ bytes_of setup.now (words_of words.now) owner field count }
 {
     let mut bytes = [0; MOST_IMAGE_BYTES];
     for k in 0..count {
@@ -91,7 +90,7 @@ fn version_shown(setup: &Setup, words: &ClosedWords, owner: u8) -> (bool, u32)
     requires good { checked setup.now ≡ Ok tt }
     requires words { (slots_len words.now.words ≡ words_in setup.now) × IsFull words.now.words }
     requires there { owner < setup.now.processes }
-    ensures { result ≡ version_shown setup.now (slots_items words.now.words) owner }
+    ensures { result ≡ version_shown setup.now (words_of words.now) owner }
 {
     let bits = u16::from(setup.stamp_bits);
     if bit_shown(setup, words, owner, Field::Commit, 0) {
@@ -111,8 +110,8 @@ fn version_shown(setup: &Setup, words: &ClosedWords, owner: u8) -> (bool, u32)
 fn newest_shown(setup: &Setup, words: &ClosedWords) -> (u8, bool)
     requires good { checked setup.now ≡ Ok tt }
     requires words { (slots_len words.now.words ≡ words_in setup.now) × IsFull words.now.words }
-    ensures process { result.0 ≡ newest_process (versions_shown setup.now (slots_items words.now.words)) }
-    ensures commit { result.1 ≡ version_of (versions_shown setup.now (slots_items words.now.words)) result.0 }
+    ensures process { result.0 ≡ newest_process (versions_shown setup.now (words_of words.now)) }
+    ensures bit { result.1 ≡ version_of (versions_shown setup.now (words_of words.now)) result.0 }
     ensures there { result.0 < setup.now.processes }
 {
     let mut newest = 0;
@@ -146,7 +145,7 @@ fn image_in(setup: &Setup, bytes: &[u8]) -> Image
 pub(crate) fn image_shown(setup: &Setup, words: &ClosedWords) -> Image
     requires good { checked setup.now ≡ Ok tt }
     requires words { (slots_len words.now.words ≡ words_in setup.now) × IsFull words.now.words }
-    ensures { result ≡ store_in setup.now.slots (callers_of setup.now) (bytes_shown setup.now (slots_items words.now.words)) }
+    ensures { result ≡ store_shown setup.now (words_of words.now) }
 {
     let (newest, commit) = newest_shown(setup, words);
     let count = 23 * u16::from(setup.slots) + 2 * u16::from(setup.callers());

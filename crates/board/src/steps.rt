@@ -1,18 +1,14 @@
 //! One word step of a port: a load or a store of one word.
-ghost use Rattle.std.specs.Prelude.{◌≡◌, ◌<◌, ℕ, Bool, Option, Some, true};
-ghost use Rattle.atomic_table.specs.Table.{Allows};
+ghost use Rattle.std.specs.Prelude.{◌≡◌, ◌<◌, Bool, true};
 ghost use Rattle.record.specs.reader_copies.Written.{IsWrite};
-ghost use Rattle.safe_bit.specs.declared.Move.TheVariants.{BeginRead};
-ghost use Rattle.record.specs.declared.access.Access.{Access as Made};
 ghost use Rattle.process.specs.Steps.{bits_within, may_step};
 ghost use Rattle.process.specs.declared.told.StepTold.TheVariants as tells;
-ghost use Rattle.board.specs.Agreement.{Agree};
-ghost use Rattle.board.specs.Listing.{KnowsPlace, Lists};
 ghost use Rattle.board.specs.Lists.{StandsInSeen};
 ghost use Rattle.board.specs.Pending.{nothing};
-ghost use Rattle.board.specs.Ports.{IsNext, IsTied, with_pending};
+ghost use Rattle.board.specs.Ports.{IsTied};
+ghost use Rattle.board.specs.Seats.{MayLoad, MayStore, ReadsNext, SameSeat, SeatLeads, SeatLists, SeatSteps, StaysTied, WriteTies, WritesNext};
 ghost use Rattle.board.specs.Words.{layout_of, loaded, stored, words_in};
-ghost use Rattle.board.specs.WordSteps.{LeadsTo, Loads, Stores, WordStep, value_after};
+ghost use Rattle.board.specs.WordSteps.{Loads, Stores, value_after};
 
 use crate::layout::WordLayout;
 use crate::pending::Pending;
@@ -39,8 +35,8 @@ fn load<T: Turn>(
     _pending: Pending,
 ) -> u64
     requires place { (seat.old.table_id ≡ words.now.table_id) × (word < words.now.table_id.words) }
-    requires keeps { Allows (λ s. Agree words.now.key s.words s.views) words.now.table_id.slots seat.old.id seat.old.me word (λ k. k) (λ found after. Loads T.setup T.flick T.view found after.0 × (after.1 ≡ seat.old.me.1)) }
-    ensures same { (seat.new.table_id ≡ seat.old.table_id) × (seat.new.id ≡ seat.old.id) × (seat.new.me.1 ≡ seat.old.me.1) }
+    requires keeps { MayLoad words.now.key words.now.table_id seat.old word T.setup T.flick T.view }
+    ensures same { SameSeat seat.old seat.new }
     ensures told { Loads T.setup T.flick T.view result seat.new.me.0 }
 {
     words.load::<Load<T>>(seat, word)
@@ -57,8 +53,8 @@ fn store<T: Turn>(
     _pending: Pending,
 )
     requires place { (seat.old.table_id ≡ words.now.table_id) × (word < words.now.table_id.words) }
-    requires keeps { Allows (λ s. Agree words.now.key s.words s.views) words.now.table_id.slots seat.old.id seat.old.me word (λ _. new) (λ _ after. Stores T.setup T.flick T.view after.0 × (after.1 ≡ seat.old.me.1)) }
-    ensures same { (seat.new.table_id ≡ seat.old.table_id) × (seat.new.id ≡ seat.old.id) × (seat.new.me.1 ≡ seat.old.me.1) }
+    requires keeps { MayStore words.now.key words.now.table_id seat.old word new T.setup T.flick T.view }
+    ensures same { SameSeat seat.old seat.new }
     ensures told { Stores T.setup T.flick T.view seat.new.me.0 }
 {
     words.store::<WordStore<T>>(seat, word, new);
@@ -95,13 +91,13 @@ fn read(
 ) -> StepTold
     requires place { (seat.old.table_id ≡ words.now.table_id) × (word < words.now.table_id.words) }
     requires tied { (value : Bool) × IsTied words.now.key pending process.old value seat.old.me.0 }
-    requires next { (access : Made) × IsNext words.now.key process.old flick word access × (access.how ≡ BeginRead) }
+    requires next { ReadsNext words.now.key process.old flick word }
     requires goes { may_step process.old.kept ≡ true }
-    ensures same { (seat.new.table_id ≡ seat.old.table_id) × (seat.new.id ≡ seat.old.id) × (seat.new.me.1 ≡ seat.old.me.1) }
-    ensures tied { (value : Bool) → IsTied words.now.key pending process.old value seat.old.me.0 → IsTied words.now.key nothing process.new value seat.new.me.0 }
-    ensures step { WordStep words.now.key flick (with_pending words.now.key pending seat.old.me.0) seat.new.me.0 }
-    ensures leads { LeadsTo words.now.key result (with_pending words.now.key pending seat.old.me.0).own seat.new.me.0.own }
-    ensures lists { (stamp : Option ℕ) → KnowsPlace stamp (with_pending words.now.key pending seat.old.me.0) → Lists stamp result (with_pending words.now.key pending seat.old.me.0) seat.new.me.0 }
+    ensures same { SameSeat seat.old seat.new }
+    ensures tied { StaysTied words.now.key pending process.old process.new seat.old seat.new }
+    ensures step { SeatSteps words.now.key pending flick seat.old seat.new }
+    ensures leads { SeatLeads words.now.key pending result seat.old seat.new }
+    ensures lists { SeatLists words.now.key pending result seat.old seat.new }
     ensures stands { StandsInSeen words.now.key seat.new.me.0 }
 {
     let found = load::<Brand>(words, seat, word, flick, pending);
@@ -121,13 +117,13 @@ fn read_within(
 )
     requires place { (seat.old.table_id ≡ words.now.table_id) × (word < words.now.table_id.words) }
     requires tied { (value : Bool) × IsTied words.now.key pending process.old value seat.old.me.0 }
-    requires next { (access : Made) × IsNext words.now.key process.old flick word access × (access.how ≡ BeginRead) }
+    requires next { ReadsNext words.now.key process.old flick word }
     requires within { 1 < bits_within process.old.kept }
-    ensures same { (seat.new.table_id ≡ seat.old.table_id) × (seat.new.id ≡ seat.old.id) × (seat.new.me.1 ≡ seat.old.me.1) }
-    ensures tied { (value : Bool) → IsTied words.now.key pending process.old value seat.old.me.0 → IsTied words.now.key nothing process.new value seat.new.me.0 }
-    ensures step { WordStep words.now.key flick (with_pending words.now.key pending seat.old.me.0) seat.new.me.0 }
-    ensures leads { LeadsTo words.now.key tells.Nothing (with_pending words.now.key pending seat.old.me.0).own seat.new.me.0.own }
-    ensures lists { (stamp : Option ℕ) → KnowsPlace stamp (with_pending words.now.key pending seat.old.me.0) → Lists stamp tells.Nothing (with_pending words.now.key pending seat.old.me.0) seat.new.me.0 }
+    ensures same { SameSeat seat.old seat.new }
+    ensures tied { StaysTied words.now.key pending process.old process.new seat.old seat.new }
+    ensures step { SeatSteps words.now.key pending flick seat.old seat.new }
+    ensures leads { SeatLeads words.now.key pending tells.Nothing seat.old seat.new }
+    ensures lists { SeatLists words.now.key pending tells.Nothing seat.old seat.new }
     ensures stands { StandsInSeen words.now.key seat.new.me.0 }
 {
     let found = load::<Brand>(words, seat, word, flick, pending);
@@ -147,13 +143,13 @@ fn write(
     flick: bool,
 ) -> StepTold
     requires place { (seat.old.table_id ≡ words.now.table_id) × (word < words.now.table_id.words) }
-    requires next { (value : Bool) × ((access : Made) × IsTied words.now.key pending process.old value seat.old.me.0 × IsNext words.now.key process.old flick word access × IsWrite access.how × (new ≡ stored value access.how)) }
+    requires next { WritesNext words.now.key pending process.old seat.old flick word new }
     requires goes { may_step process.old.kept ≡ true }
-    ensures same { (seat.new.table_id ≡ seat.old.table_id) × (seat.new.id ≡ seat.old.id) × (seat.new.me.1 ≡ seat.old.me.1) }
-    ensures tied { (value : Bool) (access : Made) → IsTied words.now.key pending process.old value seat.old.me.0 → IsNext words.now.key process.old flick word access → IsWrite access.how → IsTied words.now.key nothing process.new (value_after access.how value) seat.new.me.0 }
-    ensures step { WordStep words.now.key flick (with_pending words.now.key pending seat.old.me.0) seat.new.me.0 }
-    ensures leads { LeadsTo words.now.key result (with_pending words.now.key pending seat.old.me.0).own seat.new.me.0.own }
-    ensures lists { (stamp : Option ℕ) → KnowsPlace stamp (with_pending words.now.key pending seat.old.me.0) → Lists stamp result (with_pending words.now.key pending seat.old.me.0) seat.new.me.0 }
+    ensures same { SameSeat seat.old seat.new }
+    ensures tied { WriteTies words.now.key pending flick process.old process.new seat.old seat.new }
+    ensures step { SeatSteps words.now.key pending flick seat.old seat.new }
+    ensures leads { SeatLeads words.now.key pending result seat.old seat.new }
+    ensures lists { SeatLists words.now.key pending result seat.old seat.new }
     ensures stands { StandsInSeen words.now.key seat.new.me.0 }
 {
     store::<Brand>(words, seat, word, new, flick, pending);
@@ -172,13 +168,13 @@ fn write_within(
     flick: bool,
 )
     requires place { (seat.old.table_id ≡ words.now.table_id) × (word < words.now.table_id.words) }
-    requires next { (value : Bool) × ((access : Made) × IsTied words.now.key pending process.old value seat.old.me.0 × IsNext words.now.key process.old flick word access × IsWrite access.how × (new ≡ stored value access.how)) }
+    requires next { WritesNext words.now.key pending process.old seat.old flick word new }
     requires within { 0 < bits_within process.old.kept }
-    ensures same { (seat.new.table_id ≡ seat.old.table_id) × (seat.new.id ≡ seat.old.id) × (seat.new.me.1 ≡ seat.old.me.1) }
-    ensures tied { (value : Bool) (access : Made) → IsTied words.now.key pending process.old value seat.old.me.0 → IsNext words.now.key process.old flick word access → IsWrite access.how → IsTied words.now.key nothing process.new (value_after access.how value) seat.new.me.0 }
-    ensures step { WordStep words.now.key flick (with_pending words.now.key pending seat.old.me.0) seat.new.me.0 }
-    ensures leads { LeadsTo words.now.key tells.Nothing (with_pending words.now.key pending seat.old.me.0).own seat.new.me.0.own }
-    ensures lists { (stamp : Option ℕ) → KnowsPlace stamp (with_pending words.now.key pending seat.old.me.0) → Lists stamp tells.Nothing (with_pending words.now.key pending seat.old.me.0) seat.new.me.0 }
+    ensures same { SameSeat seat.old seat.new }
+    ensures tied { WriteTies words.now.key pending flick process.old process.new seat.old seat.new }
+    ensures step { SeatSteps words.now.key pending flick seat.old seat.new }
+    ensures leads { SeatLeads words.now.key pending tells.Nothing seat.old seat.new }
+    ensures lists { SeatLists words.now.key pending tells.Nothing seat.old seat.new }
     ensures stands { StandsInSeen words.now.key seat.new.me.0 }
 {
     store::<Brand>(words, seat, word, new, flick, pending);
@@ -216,14 +212,16 @@ pub(crate) fn word_step(
     flick: bool,
 ) -> StepTold
     requires laid { layout.now ≡ layout_of setup.now }
-    requires table { (seat.old.table_id ≡ words.now.table_id) × (words.now.table_id.words ≡ words_in setup.now) × (words.now.key ≡ setup.now) }
+    requires table { seat.old.table_id ≡ words.now.table_id }
+    requires size { words.now.table_id.words ≡ words_in setup.now }
+    requires key { words.now.key ≡ setup.now }
     requires tied { IsTied words.now.key pending process.old value.old seat.old.me.0 }
     requires goes { may_step process.old.kept ≡ true }
-    ensures same { (seat.new.table_id ≡ seat.old.table_id) × (seat.new.id ≡ seat.old.id) × (seat.new.me.1 ≡ seat.old.me.1) }
+    ensures same { SameSeat seat.old seat.new }
     ensures tied { IsTied words.now.key nothing process.new value.new seat.new.me.0 }
-    ensures step { WordStep words.now.key flick (with_pending words.now.key pending seat.old.me.0) seat.new.me.0 }
-    ensures leads { LeadsTo words.now.key result (with_pending words.now.key pending seat.old.me.0).own seat.new.me.0.own }
-    ensures lists { (stamp : Option ℕ) → KnowsPlace stamp (with_pending words.now.key pending seat.old.me.0) → Lists stamp result (with_pending words.now.key pending seat.old.me.0) seat.new.me.0 }
+    ensures step { SeatSteps words.now.key pending flick seat.old seat.new }
+    ensures leads { SeatLeads words.now.key pending result seat.old seat.new }
+    ensures lists { SeatLists words.now.key pending result seat.old seat.new }
     ensures stands { StandsInSeen words.now.key seat.new.me.0 }
 {
     let access = process.next(flick);
@@ -251,14 +249,16 @@ pub(crate) fn step_within(
     flick: bool,
 )
     requires laid { layout.now ≡ layout_of setup.now }
-    requires table { (seat.old.table_id ≡ words.now.table_id) × (words.now.table_id.words ≡ words_in setup.now) × (words.now.key ≡ setup.now) }
+    requires table { seat.old.table_id ≡ words.now.table_id }
+    requires size { words.now.table_id.words ≡ words_in setup.now }
+    requires key { words.now.key ≡ setup.now }
     requires tied { IsTied words.now.key pending process.old value.old seat.old.me.0 }
     requires within { 1 < bits_within process.old.kept }
-    ensures same { (seat.new.table_id ≡ seat.old.table_id) × (seat.new.id ≡ seat.old.id) × (seat.new.me.1 ≡ seat.old.me.1) }
+    ensures same { SameSeat seat.old seat.new }
     ensures tied { IsTied words.now.key nothing process.new value.new seat.new.me.0 }
-    ensures step { WordStep words.now.key flick (with_pending words.now.key pending seat.old.me.0) seat.new.me.0 }
-    ensures leads { LeadsTo words.now.key tells.Nothing (with_pending words.now.key pending seat.old.me.0).own seat.new.me.0.own }
-    ensures lists { (stamp : Option ℕ) → KnowsPlace stamp (with_pending words.now.key pending seat.old.me.0) → Lists stamp tells.Nothing (with_pending words.now.key pending seat.old.me.0) seat.new.me.0 }
+    ensures step { SeatSteps words.now.key pending flick seat.old seat.new }
+    ensures leads { SeatLeads words.now.key pending tells.Nothing seat.old seat.new }
+    ensures lists { SeatLists words.now.key pending tells.Nothing seat.old seat.new }
     ensures stands { StandsInSeen words.now.key seat.new.me.0 }
 {
     let access = process.next_at_data();

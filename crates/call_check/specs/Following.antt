@@ -1,5 +1,5 @@
 -- The calls by their places, the stores that they lead through, and what those tell of them.
-use Rattle.std.specs.Prelude.{◌≡◌, ◌≢◌, ◌↔◌, ℕ, suc, ◌+◌, ◌<◌, ◌≤◌, ◌==◌, nat_lt, nat_le, Bool, false, List, [], ◌∷◌, length, take, Option, slice_get, None, Some, All, IsTrue}
+use Rattle.std.specs.Prelude.{◌≡◌, ◌≢◌, ◌↔◌, ℕ, suc, ◌+◌, ◌<◌, ◌≤◌, ◌==◌, nat_lt, nat_le, Bool, false, List, [], ◌∷◌, length, take, Option, slice_get, None, Some, All, IsTrue, ◌++◌, cond}
 use Rattle.std.specs.List.{list_any}
 use Rattle.std.specs.Global.{Vec}
 use Rattle.plain_store.specs.declared.Answer.TheVariants as answer
@@ -11,11 +11,14 @@ use Rattle.plain_store.specs.Setups.{callers_of}
 use Rattle.plain_store.specs.Store.{Contents, changes, reply_to, after}
 use Rattle.call_check.specs.declared.calls.Call.{Call}
 use Rattle.record.specs.declared.calls.Placed.{Placed}
+use Rattle.call_check.specs.declared.chains.Chains.{Chains}
 use Rattle.call_check.specs.declared.chains.Link.{Link}
 use Rattle.call_check.specs.declared.notes.Changers.{Changers}
 use Rattle.call_check.specs.declared.notes.Changers.TheVariants.{Nothing, One, Several}
+use Rattle.call_check.specs.declared.notes.Followed.{Followed}
 use Rattle.call_check.specs.declared.notes.Note.{Note}
-use Rattle.call_check.specs.Weighing.{HasWrongReply, IsBadIn, caller_of, changes_at, changes_there, is_past, store_at}
+use Rattle.record.specs.CallLists.{lists_of}
+use Rattle.call_check.specs.Weighing.{HasWrongReply, IsBad, IsBadIn, all_calls, caller_of, calls_from, changes_at, changes_there, falls, is_one_of_several, is_past, store_at}
 
 -- in version 2 a call is one of the first 16 lists, and among the first 65,535 of its list
 abbrev pub IsFew : Setup → Call → Type 0
@@ -25,16 +28,28 @@ IsFew s call = (s.version == 1) ≡ false → (call.port < 16) × (call.index < 
 abbrev pub AreFew : Setup → List Call → Type 0
 AreFew s calls = All (IsFew s) calls
 
+-- all calls of these lists
+abbrev pub calls_in : List (Vec Placed) → List Call
+calls_in vecs = all_calls (lists_of vecs)
+
+-- the store knows the setup's callers
+abbrev pub KnowsCallers : Setup → Contents → Type 0
+KnowsCallers s store = length store.numbers ≡ callers_of s
+
 -- a caller is as good as that of the call: each store that knows the setup's callers does the same for both
 pub record IsCaller (s : Setup) (call : Call) (caller : Caller) : Type 0 where
-  pub reply : (store : Contents) → length store.numbers ≡ callers_of s → (command : Command) → reply_to store command caller ≡ reply_to store command (caller_of s call)
-  pub after : (store : Contents) → length store.numbers ≡ callers_of s → (command : Command) → after store command caller ≡ after store command (caller_of s call)
+  pub reply : (store : Contents) → KnowsCallers s store → (command : Command) → reply_to store command caller ≡ reply_to store command (caller_of s call)
+  pub after : (store : Contents) → KnowsCallers s store → (command : Command) → after store command caller ≡ after store command (caller_of s call)
 
 -- which changes there are
 abbrev pub changes_of : List Call → Changers
 changes_of [] = Nothing
 changes_of (call ∷ []) = One call
 changes_of (call ∷ other ∷ calls) = Several
+
+-- one call more: it counts, if it is a change
+abbrev pub Counts : Changers → Call → Bool → Changers → Type 0
+Counts changers call is_change then = (calls : List Call) → changers ≡ changes_of calls → then ≡ changes_of (cond is_change (call ∷ calls) calls)
 
 -- Chains of calls.
 
@@ -58,6 +73,20 @@ pub record AreChains (calls : List Call) (n : ℕ) (heads : List ℕ) (links : L
   pub head : (k m : ℕ) → slice_get heads k ≡ Some m → IsLast calls k (length calls) m
   pub link : (i : ℕ) (call : Call) → slice_get calls i ≡ Some call → (link : Link) × (slice_get links i ≡ Some link) × IsLink calls n i call link
 
+-- the chains of all calls of these lists, which may have as many places
+abbrev pub AreChainsOf : List (Vec Placed) → Chains → Type 0
+AreChainsOf vecs chains = AreChains (calls_in vecs) (length (calls_in vecs)) chains.heads.items chains.links.items
+
+-- a call of this port, index and place is put to the chains
+abbrev pub Puts : ℕ → ℕ → Option ℕ → (heads : Vec ℕ) → (links : Vec Link) → Vec ℕ → Vec Link → Type 0
+Puts port index place heads links heads_then links_then =
+    (calls : List Call) (n : ℕ) (call : Call) → call.port ≡ port → call.index ≡ index → call.placed.place ≡ place → AreChains calls n heads.items links.items → AreChains (calls ++ call ∷ []) n heads_then.items links_then.items
+
+-- so are the calls of a list
+abbrev pub PutsList : ℕ → List Placed → (heads : Vec ℕ) → (links : Vec Link) → Vec ℕ → Vec Link → Type 0
+PutsList port list heads links heads_then links_then =
+    (calls : List Call) (n : ℕ) → AreChains calls n heads.items links.items → AreChains (calls ++ calls_from port 0 list) n heads_then.items links_then.items
+
 -- heads that lead to no call
 abbrev pub AreNothing : List ℕ → Type 0
 AreNothing heads = (k m : ℕ) → slice_get heads k ≡ Some m → m ≡ 0
@@ -77,6 +106,14 @@ pub record IsWrongBy (s : Setup) (store : Contents) (call : Call) : Type 0 where
   pub reply : Reply
   pub answered : call.placed.answer ≡ Some (answer.Reply reply)
   pub wrong : reply ≢ reply_to store call.placed.command (caller_of s call)
+
+-- the answer tells of a call of few whether its reply is another than that of this store, which knows the callers
+abbrev pub TellsWrong : Setup → Contents → Call → Bool → Type 0
+TellsWrong s store call told = IsFew s call → KnowsCallers s store → IsTrue told ↔ IsWrongBy s store call
+
+-- whether this is that of the store
+abbrev pub TellsReply : Setup → Contents → Call → Reply → Bool → Type 0
+TellsReply s store call reply told = IsFew s call → KnowsCallers s store → IsTrue told ↔ (reply ≡ reply_to store call.placed.command (caller_of s call))
 
 -- what this store tells of a call
 pub record IsNoteBy (s : Setup) (store : Contents) (call : Call) (note : Note) : Type 0 where
@@ -103,6 +140,10 @@ pub record AreNotedAt (s : Setup) (calls : List Call) (k : ℕ) (store : Content
   pub own : (i : ℕ) (call : Call) → slice_get calls i ≡ Some call → call.placed.place ≡ Some k → (note : Note) × (slice_get notes i ≡ Some note) × IsNoteBy s store call note
   pub others : (i : ℕ) (call : Call) → slice_get calls i ≡ Some call → call.placed.place ≢ Some k → slice_get notes i ≡ slice_get before i
 
+-- so it is, if the calls are few and the store knows the callers
+abbrev pub AreNotedBy : Setup → List Call → ℕ → Contents → Vec Note → Vec Note → Type 0
+AreNotedBy s calls k store before notes = AreFew s calls → KnowsCallers s store → AreNotedAt s calls k store before.items notes.items
+
 -- the same, of the calls with place k from call m on
 pub record AreNotedFrom (s : Setup) (calls : List Call) (k m : ℕ) (store : Contents) (before notes : List Note) : Type 0 where
   pub own : (i : ℕ) (call : Call) → m ≤ i → slice_get calls i ≡ Some call → call.placed.place ≡ Some k → (note : Note) × (slice_get notes i ≡ Some note) × IsNoteBy s store call note
@@ -121,6 +162,19 @@ pub record IsFollowed (s : Setup) (calls : List Call) (notes : List Note) (c : �
   pub several_is : several ≡ nat_le 2 (length (changes_at calls c store))
   pub size : length notes ≡ length calls
   pub each : (i : ℕ) (call : Call) → slice_get calls i ≡ Some call → (note : Note) × (slice_get notes i ≡ Some note) × IsNote s calls call note
+
+-- the same, as they are kept
+abbrev pub Follows : Setup → List Call → Followed → Type 0
+Follows s calls found = IsFollowed s calls found.notes.items found.count found.store found.several
+
+-- if the calls are few
+abbrev pub FollowsIfFew : Setup → List Call → Followed → Type 0
+FollowsIfFew s calls found = AreFew s calls → Follows s calls found
+
+-- the answer tells whether the call of this place and this note is one of several changes of the last store
+abbrev pub TellsSeveral : Followed → Option ℕ → Note → Bool → Type 0
+TellsSeveral found place note told =
+    (s : Setup) (calls : List Call) (call : Call) → call.placed.place ≡ place → Follows s calls found → IsNote s calls call note → told ≡ is_one_of_several calls found.count found.store call.placed
 
 -- Lists that are judged.
 
@@ -141,3 +195,23 @@ IsFirstBad s calls c store p list (Some i) = IsBadIn s calls c store p list i ×
 pub record IsJudged (s : Setup) (calls : List Call) (c : ℕ) (store : Contents) (p : ℕ) (list : List Placed) (i least : ℕ) : Type 0 where
   pub least_is : IsLeast s calls (take i list) least
   pub good : (j : ℕ) → j < i → IsBadIn s calls c store p list j → ⊥
+
+-- the answer is the lowest bad call of this list, which has the calls from call `before` on
+abbrev pub FindsFirstBad : Followed → ℕ → List Placed → Option ℕ → Type 0
+FindsFirstBad found before list told =
+    (s : Setup) (calls : List Call) (p : ℕ) → ArePart calls p before list → Follows s calls found → IsFirstBad s calls found.count found.store p list told
+
+-- the answer tells whether a call is bad, by its note and the least place
+abbrev pub TellsBad : Followed → Placed → Note → ℕ → Bool → Type 0
+TellsBad found placed note least told =
+    (s : Setup) (calls : List Call) (earlier : List Placed) (call : Call) → call.placed ≡ placed → Follows s calls found → IsNote s calls call note → IsLeast s calls earlier least →
+    IsTrue told ↔ IsBad s calls found.count found.store earlier call
+
+-- whether its place falls
+abbrev pub TellsFall : ℕ → Option ℕ → Bool → Type 0
+TellsFall least place told = (s : Setup) (calls : List Call) (earlier : List Placed) → IsLeast s calls earlier least → told ≡ falls s calls earlier place
+
+-- the least place after a call of this place and this note
+abbrev pub LeavesLeast : Option ℕ → Note → ℕ → ℕ → Type 0
+LeavesLeast place note least then =
+    (s : Setup) (calls : List Call) (earlier : List Placed) (call : Call) → call.placed.place ≡ place → IsNote s calls call note → IsLeast s calls earlier least → IsLeast s calls (earlier ++ call.placed ∷ []) then

@@ -1,5 +1,5 @@
 -- What weighing finds in the ports' lists of finished calls: list p is that of process p, its oldest call first. A place counts the changes taken before a call.
-use Rattle.std.specs.Prelude.{◌≡◌, ◌≢◌, ◌⊎◌, ℕ, zero, suc, ◌+◌, ◌<◌, ◌==◌, nat_lt, nat_le, Bool, true, false, ◌&&◌, ◌||◌, if◌then◌else◌, List, [], ◌∷◌, ◌++◌, length, take, filter, slice_get, Option, None, Some, is_none, is_some, IsTrue}
+use Rattle.std.specs.Prelude.{◌≡◌, ◌≢◌, ◌⊎◌, ℕ, zero, suc, ◌+◌, ◌<◌, ◌≤◌, All, ◌==◌, nat_lt, nat_le, Bool, true, false, ◌&&◌, ◌||◌, if◌then◌else◌, List, [], ◌∷◌, ◌++◌, length, take, filter, slice_get, Option, None, Some, is_none, is_some, IsTrue}
 use Rattle.std.specs.List.{list_any}
 use Rattle.plain_store.specs.declared.Answer.{Answer}
 use Rattle.plain_store.specs.declared.Answer.TheVariants as answer
@@ -138,6 +138,12 @@ pub data IsBad (s : Setup) (calls : List Call) (c : ℕ) (store : Contents) (ear
   wrong_reply : HasWrongReply s calls call → IsBad s calls c store earlier call
   without_place : IsTrue (is_reply_without_place call.placed) → IsBad s calls c store earlier call
   with_place : IsTrue (is_other_with_place call.placed) → IsBad s calls c store earlier call
+
+-- Lists that are short enough for numbers of version 2.
+
+-- none has more than 65,535 members
+abbrev pub AreShort : {A : Type 0} → List (List A) → Type 0
+AreShort {A} lists = All (λ (list : List A). length list ≤ 65535) lists
 
 -- The verdict.
 

@@ -1,9 +1,6 @@
 //! The calls of all lists in their order, chained by their places.
-ghost use Rattle.std.specs.Prelude.{◌≡◌, ◌+◌, ◌++◌, ◌∷◌, [], ℕ, List, Some, length, IfOk, OnOk};
-ghost use Rattle.call_check.specs.declared.calls.Call.{Call as Given};
-ghost use Rattle.call_check.specs.Following.{AreChains, AreNothing};
-ghost use Rattle.record.specs.CallLists.{lists_of};
-ghost use Rattle.call_check.specs.Weighing.{all_calls, calls_from};
+ghost use Rattle.std.specs.Prelude.{◌≡◌, ◌+◌, Some, length, IfOk, OnOk};
+ghost use Rattle.call_check.specs.Following.{AreChainsOf, AreNothing, Puts, PutsList, calls_in};
 
 use record::Placed;
 use std::alloc::{AllocError, Global};
@@ -27,7 +24,7 @@ pub(crate) struct Chains {
 
 /// The chains of the calls of all lists.
 pub(crate) fn chain(alloc: Global, lists: &[Vec<Placed>]) -> Result<Chains, AllocError>
-    ensures { IfOk result (λ chains. AreChains (all_calls (lists_of lists.now)) (length (all_calls (lists_of lists.now))) chains.heads.items chains.links.items) }
+    ensures { IfOk result (AreChainsOf lists.now) }
 {
     let mut heads = nothing(alloc, lists)?;
     let mut links = Vec::new(alloc);
@@ -39,7 +36,7 @@ pub(crate) fn chain(alloc: Global, lists: &[Vec<Placed>]) -> Result<Chains, Allo
 
 /// As many places as calls, with no call.
 fn nothing(alloc: Global, lists: &[Vec<Placed>]) -> Result<Vec<usize>, AllocError>
-    ensures size { IfOk result (λ heads. length heads.items ≡ length (all_calls (lists_of lists.now))) }
+    ensures size { IfOk result (λ heads. length heads.items ≡ length (calls_in lists.now)) }
     ensures nothing { IfOk result (λ heads. AreNothing heads.items) }
 {
     let mut heads = Vec::new(alloc);
@@ -67,7 +64,7 @@ fn chain_list(
     port: usize,
     list: &[Placed],
 ) -> Result<(), AllocError>
-    ensures { OnOk result ((calls : List Given) (n : ℕ) → AreChains calls n heads.old.items links.old.items → AreChains (calls ++ calls_from port 0 list.now) n heads.new.items links.new.items) }
+    ensures { OnOk result (PutsList port list.now heads.old links.old heads.new links.new) }
 {
     for (index, placed) in list.iter().enumerate() {
         put(heads, links, port, index, placed.place)?;
@@ -83,7 +80,7 @@ fn put(
     index: usize,
     place: Option<u32>,
 ) -> Result<(), AllocError>
-    ensures { OnOk result ((calls : List Given) (n : ℕ) (call : Given) → call.port ≡ port → call.index ≡ index → call.placed.place ≡ place → AreChains calls n heads.old.items links.old.items → AreChains (calls ++ call ∷ []) n heads.new.items links.new.items) }
+    ensures { OnOk result (Puts port index place heads.old links.old heads.new links.new) }
 {
     match place {
         None => {
@@ -106,7 +103,7 @@ fn put_at(
     index: usize,
     place: usize,
 ) -> Result<(), AllocError>
-    ensures { OnOk result ((calls : List Given) (n : ℕ) (call : Given) → call.port ≡ port → call.index ≡ index → call.placed.place ≡ Some place → AreChains calls n heads.old.items links.old.items → AreChains (calls ++ call ∷ []) n heads.new.items links.new.items) }
+    ensures { OnOk result (Puts port index (Some place) heads.old links.old heads.new links.new) }
 {
     if heads.len() <= place {
         links.push(Link {

@@ -1,11 +1,8 @@
 //! Which calls are bad, by what the stores tell of them.
-ghost use Rattle.std.specs.Prelude.{◌≡◌, ◌↔◌, ◌≤◌, ◌+◌, ◌++◌, ◌∷◌, [], ℕ, List, length, IsTrue};
-ghost use Rattle.plain_store.specs.declared.Setup.{Setup as Made};
+ghost use Rattle.std.specs.Prelude.{◌≡◌, ◌↔◌, ◌≤◌, ◌+◌, length, IsTrue};
 ghost use Rattle.store_image.specs.Image.{image_of};
-ghost use Rattle.call_check.specs.declared.calls.Call.{Call as Given};
-ghost use Rattle.record.specs.declared.calls.Placed.{Placed as Finished};
-ghost use Rattle.call_check.specs.Following.{ArePart, IsFirstBad, IsFollowed, IsLeast, IsNote};
-ghost use Rattle.call_check.specs.Weighing.{IsBad, falls, is_above, is_one_of_several, is_other_with_place, is_reply_without_place};
+ghost use Rattle.call_check.specs.Following.{FindsFirstBad, LeavesLeast, TellsBad, TellsFall, TellsSeveral};
+ghost use Rattle.call_check.specs.Weighing.{is_above, is_other_with_place, is_reply_without_place};
 
 use crate::notes::{Followed, Note};
 use plain_store::Answer;
@@ -16,7 +13,7 @@ impl Followed {
     /// The lowest call of a list that is bad; so many calls stand in the lists before it.
     pub(crate) fn first_bad(&self, before: usize, list: &[Placed]) -> Option<usize>
         requires { before + length list.now ≤ length self.now.notes.items }
-        ensures { (s : Made) (calls : List Given) (p : ℕ) → ArePart calls p before list.now → IsFollowed s calls self.now.notes.items self.now.count self.now.store self.now.several → IsFirstBad s calls self.now.count self.now.store p list.now result }
+        ensures { FindsFirstBad self.now before list.now result }
     {
         let mut least = 0;
         for (index, placed) in list.iter().enumerate() {
@@ -31,7 +28,7 @@ impl Followed {
 
     /// Whether a call is bad, where the calls of its list before it leave it no place below the least.
     fn is_bad(&self, placed: &Placed, note: Note, least: u64) -> bool
-        ensures { (s : Made) (calls : List Given) (earlier : List Finished) (call : Given) → call.placed ≡ placed.now → IsFollowed s calls self.now.notes.items self.now.count self.now.store self.now.several → IsNote s calls call note → IsLeast s calls earlier least → IsTrue result ↔ IsBad s calls self.now.count self.now.store earlier call }
+        ensures { TellsBad self.now placed.now note least result }
     {
         if self.is_above(placed.place) {
             return true;
@@ -63,7 +60,7 @@ impl Followed {
 
     /// Whether the call would change the last store, as several would.
     fn is_one_of_several(&self, place: Option<u32>, note: Note) -> bool
-        ensures { (s : Made) (calls : List Given) (call : Given) → call.placed.place ≡ place → IsFollowed s calls self.now.notes.items self.now.count self.now.store self.now.several → IsNote s calls call note → result ≡ is_one_of_several calls self.now.count self.now.store call.placed }
+        ensures { TellsSeveral self.now place note result }
     {
         match place {
             None => false,
@@ -81,7 +78,7 @@ impl Followed {
 
 /// The least place that a call may have after this one.
 fn least_after(place: Option<u32>, note: Note, least: u64) -> u64
-    ensures { (s : Made) (calls : List Given) (earlier : List Finished) (call : Given) → call.placed.place ≡ place → IsNote s calls call note → IsLeast s calls earlier least → IsLeast s calls (earlier ++ call.placed ∷ []) result }
+    ensures { LeavesLeast place note least result }
 {
     match place {
         None => least,
@@ -94,7 +91,7 @@ fn least_after(place: Option<u32>, note: Note, least: u64) -> u64
 
 /// Whether a place is below the least.
 fn is_below(place: Option<u32>, least: u64) -> bool
-    ensures { (s : Made) (calls : List Given) (earlier : List Finished) → IsLeast s calls earlier least → result ≡ falls s calls earlier place }
+    ensures { TellsFall least place result }
 {
     match place {
         None => false,

@@ -1,11 +1,10 @@
 //! What the stores tell of the calls, one store after each change, up to the place where there is not exactly one change.
-ghost use Rattle.std.specs.Prelude.{◌≡◌, ◌≢◌, ◌↔◌, ◌<◌, ◌+◌, ◌∷◌, IfOk, IsTrue, Ok, List, Some, cond, length};
-ghost use Rattle.plain_store.specs.Setups.{callers_of, checked};
-ghost use Rattle.plain_store.specs.Store.{changes, reply_to};
+ghost use Rattle.std.specs.Prelude.{◌≡◌, ◌↔◌, ◌<◌, ◌+◌, IfOk, IsTrue, Ok, length};
+ghost use Rattle.plain_store.specs.Setups.{checked};
+ghost use Rattle.plain_store.specs.Store.{changes};
 ghost use Rattle.call_check.specs.declared.calls.Call.{Call as Given};
-ghost use Rattle.call_check.specs.Following.{AreChains, AreFew, AreNotedAt, IsCaller, IsFew, AreBlank, IsFollowed, IsOf, IsWrongBy, changes_of};
-ghost use Rattle.record.specs.CallLists.{lists_of};
-ghost use Rattle.call_check.specs.Weighing.{all_calls, caller_of, changes_at};
+ghost use Rattle.call_check.specs.Following.{AreBlank, AreChainsOf, AreNotedBy, Counts, FollowsIfFew, IsCaller, IsFew, IsOf, TellsReply, TellsWrong, calls_in, changes_of};
+ghost use Rattle.call_check.specs.Weighing.{changes_at};
 
 use crate::calls::Call;
 use crate::chains::{Chains, Link, chain};
@@ -47,7 +46,7 @@ pub(crate) enum Changers {
 impl Changers {
     /// With a call before them, if it is a change.
     fn with(self, call: &Call, is_change: bool) -> Changers
-        ensures { (calls : List Given) → self ≡ changes_of calls → result ≡ changes_of (cond is_change (call.now ∷ calls) calls) }
+        ensures { Counts self call.now is_change result }
     {
         if !is_change {
             return self;
@@ -67,7 +66,7 @@ impl Followed {
         lists: &[Vec<Placed>],
     ) -> Result<Followed, AllocError>
         requires { checked setup.now ≡ Ok tt }
-        ensures { IfOk result (λ found. AreFew setup.now (all_calls (lists_of lists.now)) → IsFollowed setup.now (all_calls (lists_of lists.now)) found.notes.items found.count found.store found.several) }
+        ensures { IfOk result (FollowsIfFew setup.now (calls_in lists.now)) }
     {
         let _nested: NestedTypes = None;
         let chains = chain(alloc, lists)?;
@@ -125,12 +124,12 @@ fn note_place(
     store: &Image,
     notes: &mut Vec<Note>,
 ) -> Changers
-    requires chains { AreChains (all_calls (lists_of lists.now)) (length (all_calls (lists_of lists.now))) chains.now.heads.items chains.now.links.items }
-    requires place { place < length (all_calls (lists_of lists.now)) }
-    requires notes { length notes.old.items ≡ length (all_calls (lists_of lists.now)) }
-    ensures changes { result ≡ changes_of (changes_at (all_calls (lists_of lists.now)) place store.now) }
+    requires chains { AreChainsOf lists.now chains.now }
+    requires place { place < length (calls_in lists.now) }
+    requires notes { length notes.old.items ≡ length (calls_in lists.now) }
+    ensures changes { result ≡ changes_of (changes_at (calls_in lists.now) place store.now) }
     ensures size { length notes.new.items ≡ length notes.old.items }
-    ensures notes { AreFew setup.now (all_calls (lists_of lists.now)) → length store.now.numbers ≡ callers_of setup.now → AreNotedAt setup.now (all_calls (lists_of lists.now)) place store.now notes.old.items notes.new.items }
+    ensures notes { AreNotedBy setup.now (calls_in lists.now) place store.now notes.old notes.new }
 {
     let mut found = Changers::Nothing;
     let mut calls = chains.heads[place];
@@ -161,7 +160,7 @@ fn call_of(lists: &[Vec<Placed>], link: Link) -> Call
 /// What a store tells of a call.
 fn note_of(setup: &Setup, call: &Call, store: &Image) -> Note
     ensures changes { result.changes ≡ changes store.now call.now.placed.command }
-    ensures wrong { IsFew setup.now call.now → length store.now.numbers ≡ callers_of setup.now → IsTrue result.is_wrong ↔ IsWrongBy setup.now store.now call.now }
+    ensures wrong { TellsWrong setup.now store.now call.now result.is_wrong }
 {
     Note {
         changes: would_change(store, &call.placed.command),
@@ -179,7 +178,7 @@ fn would_change(store: &Image, command: &Command) -> bool
 
 /// Whether a call has another reply than that of a store.
 fn is_wrong(setup: &Setup, call: &Call, store: &Image) -> bool
-    ensures { IsFew setup.now call.now → length store.now.numbers ≡ callers_of setup.now → IsTrue result ↔ IsWrongBy setup.now store.now call.now }
+    ensures { TellsWrong setup.now store.now call.now result }
 {
     let Some(answer) = call.placed.answer else {
         return false;
@@ -192,7 +191,7 @@ fn is_wrong(setup: &Setup, call: &Call, store: &Image) -> bool
 
 /// Whether this is the store's reply to the call.
 fn replies(setup: &Setup, store: &Image, call: &Call, reply: &Reply) -> bool
-    ensures { IsFew setup.now call.now → length store.now.numbers ≡ callers_of setup.now → IsTrue result ↔ (reply.now ≡ reply_to store.now call.now.placed.command (caller_of setup.now call.now)) }
+    ensures { TellsReply setup.now store.now call.now reply.now result }
 {
     let mut after = *store;
     match after.apply(&call.placed.command, caller(setup, call)) {

@@ -1,8 +1,7 @@
-ghost use Rattle.std.specs.Prelude.{◌≡◌, ◌≤◌, All, IfOk, List, Ok, length};
+ghost use Rattle.std.specs.Prelude.{◌≡◌, ◌≤◌, IfOk, Ok, length};
 ghost use Rattle.plain_store.specs.Setups.{checked};
-ghost use Rattle.record.specs.declared.calls.Placed.{Placed as Finished};
 ghost use Rattle.record.specs.CallLists.{lists_of};
-ghost use Rattle.call_check.specs.Weighing.{IsWeighed};
+ghost use Rattle.call_check.specs.Weighing.{AreShort, IsWeighed};
 
 use crate::notes::Followed;
 use crate::verdicts::Weighed;
@@ -22,7 +21,7 @@ pub fn weigh(
 ) -> Result<Weighed, AllocError>
     requires good { checked setup.now ≡ Ok tt }
     requires few_lists { setup.now.version ≡ 2 → length lists.now ≤ setup.now.processes }
-    requires few_calls { setup.now.version ≡ 2 → All (λ (list : List Finished). length list ≤ 65535) (lists_of lists.now) }
+    requires few_calls { setup.now.version ≡ 2 → AreShort (lists_of lists.now) }
     ensures { IfOk result (λ weighed. IsWeighed setup.now (lists_of lists.now) image.now weighed) }
 {
     let followed = Followed::follow(alloc, setup, lists)?;

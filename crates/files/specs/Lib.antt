@@ -9,4 +9,5 @@ pub mod Reads
 pub mod SourceLines
 pub mod Statuses
 pub mod Streams
+pub mod Texts
 pub mod Words

@@ -1,10 +1,11 @@
 -- What a call that takes the next line of a source does.
-use Rattle.std.specs.Prelude.{◌≡◌, ℕ, ◌+◌, ◌≤◌, Bool, true, false, List, [], length, Option, Some, None, IfSome, Result, Ok, Err}
+use Rattle.std.specs.Prelude.{◌≡◌, ℕ, ◌+◌, ◌<◌, ◌≤◌, Bool, true, false, List, [], length, Option, Some, None, IfSome, IfOk, Result, Ok, Err}
+use Rattle.std.specs.Global.{Vec}
 use Rattle.std.specs.Io.KnownBytes.{IsAtEnd, Keeps, prepend_known}
 use Rattle.files.specs.declared.faults.Fault.{Fault}
 use Rattle.files.specs.declared.faults.Fault.TheVariants as fault
 use Rattle.files.specs.declared.faults.FaultKind.TheVariants.{TooLong}
-use Rattle.files.specs.Lines.{IsTooLong, TakesLine}
+use Rattle.files.specs.Lines.{IsTooLong, MovesAll, MovesEnded, TakesLine}
 
 -- the bytes that a source has given and that no line has taken, and whether the source has told its end
 pub record Given : Type 0 where
@@ -30,19 +31,52 @@ coming ahead to_come = prepend_known ahead.bytes (unless_ended ahead.ended to_co
 abbrev pub EndHolds : Given → Option (List ℕ) → Type 0
 EndHolds ahead to_come = ahead.ended ≡ true → IsAtEnd to_come
 
+-- and has none after a call either
+abbrev pub KeepsEnd : Given → Option (List ℕ) → Given → Option (List ℕ) → Type 0
+KeepsEnd old to_come new rest = EndHolds old to_come → EndHolds new rest
+
 -- the bytes to come are the same
 abbrev pub Stays : Option (List ℕ) → Option (List ℕ) → Type 0
 Stays old new = Keeps old new
 
+-- they wait on, if a call found some
+abbrev pub Waits : Result Bool Fault → Given → Option (List ℕ) → Given → Option (List ℕ) → Type 0
+Waits found old to_come new rest = IfOk found (λ some. some ≡ true → Stays (coming old to_come) (coming new rest))
+
 -- there were none to come, and now it is told that there are none
 abbrev pub ComesToEnd : Option (List ℕ) → Option (List ℕ) → Type 0
 ComesToEnd old new = IsAtEnd old × (new ≡ Some [])
+
+-- if it found none
+abbrev pub Ends : Result Bool Fault → Given → Option (List ℕ) → Given → Option (List ℕ) → Type 0
+Ends found old to_come new rest = IfOk found (λ some. some ≡ false → ComesToEnd (coming old to_come) (coming new rest))
+
+-- there were none to come, and there are none
+abbrev pub NoneCome : Result Bool Fault → Given → Option (List ℕ) → Given → Option (List ℕ) → Type 0
+NoneCome found old to_come new rest = IfOk found (λ some. some ≡ false → IsAtEnd (coming old to_come) × IsAtEnd (coming new rest))
+
+-- the bytes that wait were moved behind a line, as far as its end
+abbrev pub MovesToEnd : {E : Type 0} → Result Bool E → Given → Given → (line longer : Vec ℕ) → Type 0
+MovesToEnd ended old new line longer = IfOk ended (λ is. is ≡ true → MovesEnded old.bytes new.bytes line.items longer.items)
+
+-- all of them, if its end is not there
+abbrev pub MovesOn : {E : Type 0} → Result Bool E → Given → Given → (line longer : Vec ℕ) → Type 0
+MovesOn ended old new line longer = IfOk ended (λ is. is ≡ false → MovesAll old.bytes new.bytes line.items longer.items)
 
 -- a fact on the bytes to come before a call and after it, where they are told
 abbrev pub Told : Option (List ℕ) → Option (List ℕ) → (List ℕ → List ℕ → Type 0) → Type 0
 Told None rest P = Unit {0}
 Told (Some text) None P = ⊥
 Told (Some text) (Some rest) P = P text rest
+
+-- the first line of the bytes to come was taken, if it is short enough
+abbrev pub TakesShort : Result Bool Fault → Given → Option (List ℕ) → Given → Option (List ℕ) → Vec ℕ → Type 0
+TakesShort found old to_come new rest line =
+    IfOk found (λ some. some ≡ true → length line.items ≤ 128 → Told (coming old to_come) (coming new rest) (λ text left. TakesLine text line.items left))
+
+-- a longer line is too long
+abbrev pub TakesLong : Result Bool Fault → Given → Option (List ℕ) → Vec ℕ → Type 0
+TakesLong found old to_come line = IfOk found (λ some. some ≡ true → 128 < length line.items → IfSome (coming old to_come) IsTooLong)
 
 -- the next line was taken
 pub record TakesNext (old new : LineState) (to_come rest : Option (List ℕ)) : Type 0 where
@@ -64,3 +98,11 @@ GoesToNext (Err (fault.Line f)) old new to_come rest = (f ≡ record { line = ol
 GoesToNext (Err fault.Read) old new to_come rest = Unit {0}
 GoesToNext (Err fault.Memory) old new to_come rest = Unit {0}
 GoesToNext (Err fault.Write) old new to_come rest = ⊥
+
+-- the same, by what the source has given and still has
+abbrev pub GoesOn : Result Bool Fault → LineState → Option (List ℕ) → LineState → Option (List ℕ) → Type 0
+GoesOn found old to_come new rest = GoesToNext found old new (coming old.ahead to_come) (coming new.ahead rest)
+
+-- it keeps its end
+abbrev pub LinesKeepEnd : LineState → Option (List ℕ) → LineState → Option (List ℕ) → Type 0
+LinesKeepEnd old to_come new rest = KeepsEnd old.ahead to_come new.ahead rest

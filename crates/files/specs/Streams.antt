@@ -1,5 +1,6 @@
 -- What calls of a source and a sink do to the bytes that are told.
-use Rattle.std.specs.Prelude.{◌≡◌, ◌<◌, ◌≤◌, ℕ, ◌==◌, not, ◌&&◌, if◌then◌else◌, List, length, take, Option, None, Result, Ok, Err, MatchResult}
+use Rattle.std.specs.Prelude.{◌≡◌, ◌<◌, ◌≤◌, ℕ, ◌==◌, not, ◌&&◌, if◌then◌else◌, List, length, take, Option, None, Result, Ok, Err, IfOk, MatchResult}
+use Rattle.std.specs.Global.{Vec}
 use Rattle.std.specs.Option.{option_to_list}
 use Rattle.std.specs.Io.KnownBytes.{Appends, Consumes, IsAtEnd, Keeps}
 use Rattle.files.specs.Cuts.{input_limit}
@@ -26,6 +27,10 @@ pub record ReadsInput (old new : Option (List ℕ)) (bytes : List ℕ) : Type 0 
   pub front : Consumes old new bytes
   pub within : length bytes ≤ input_limit
   pub whole : length bytes < input_limit → IsAtEnd new
+
+-- a call gives them, unless it fails
+abbrev pub GivesInput : {E : Type 0} → Result (Vec ℕ) E → Option (List ℕ) → Option (List ℕ) → Type 0
+GivesInput result old new = IfOk result (λ (bytes : Vec ℕ). ReadsInput old new bytes.items)
 
 -- some bytes came from the front, no more than the limit
 pub record ReadsFront (old new : Option (List ℕ)) : Type 0 where

@@ -1,8 +1,8 @@
 //! Key words, in tables that grammars read.
-ghost use Rattle.std.specs.Prelude.{◌≡◌, find, option_map};
+ghost use Rattle.std.specs.Prelude.{◌≡◌, option_map};
 ghost use Rattle.std.specs.Map.{lookup};
 ghost use Rattle.std.specs.Str.{bytes_eq};
-ghost use Rattle.files.specs.KeyWords.{KeyWord, rows_of};
+ghost use Rattle.files.specs.KeyWords.{row_of, rows_of};
 
 /// What a word means by a table of key words, in which each word stands once.
 pub fn meaning_of<M: Copy>(table: &[(&'static str, M)], word: &[u8]) -> Option<M>
@@ -16,7 +16,7 @@ pub fn meaning_of<M: Copy>(table: &[(&'static str, M)], word: &[u8]) -> Option<M
 
 /// The first row of a table that has this word.
 fn row_of<'a, M>(table: &'a [(&'static str, M)], word: &[u8]) -> Option<&'a (&'static str, M)>
-    ensures { option_map (λ row. row.now) result ≡ find (λ (row : KeyWord M). bytes_eq word.now row.0.now) table.now }
+    ensures { option_map (λ row. row.now) result ≡ row_of word.now table.now }
 {
     table.iter().find(|row| word == row.0.as_bytes())
 }

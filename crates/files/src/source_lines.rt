@@ -1,9 +1,8 @@
 //! The lines of a source, one at a time: a file of any length is read in memory that does not grow.
-ghost use Rattle.std.specs.Prelude.{◌≡◌, ◌+◌, ◌^◌, ◌-◌, ◌<◌, ◌≤◌, [], true, false, length, IfErr, IfOk, IfSome};
-ghost use Rattle.std.specs.Io.KnownBytes.{IsAtEnd};
+ghost use Rattle.std.specs.Prelude.{◌≡◌, ◌+◌, ◌^◌, ◌-◌, ◌<◌, [], true, false, IfErr, IfOk};
 ghost use Rattle.files.specs.Streams.{IsReadFault, failed_reading};
-ghost use Rattle.files.specs.Lines.{IsTooLong, TakesLine, without_return};
-ghost use Rattle.files.specs.SourceLines.{EndHolds, GoesToNext, Told, coming};
+ghost use Rattle.files.specs.Lines.{without_return};
+ghost use Rattle.files.specs.SourceLines.{GoesOn, KeepsEnd, LinesKeepEnd, NoneCome, TakesLong, TakesShort};
 
 mod ahead;
 
@@ -74,10 +73,11 @@ impl Lines {
     /// source has told its end it is not asked again, so a last line without an end asks a terminal no more than once.
     pub fn next<R: Source>(&mut self, input: &mut R) -> Result<bool, Fault>
         requires { R.failures input.old < 2 ^ 64 - 1 }
-        ensures next { GoesToNext result self.old self.new (coming self.old.ahead (R.to_come input.old)) (coming self.new.ahead (R.to_come input.new)) }
+        ensures next { GoesOn result self.old (R.to_come input.old) self.new (R.to_come input.new) }
         ensures ended { IfOk result (λ some. some ≡ false → self.new.ahead.ended ≡ true) }
-        ensures holds { EndHolds self.old.ahead (R.to_come input.old) → EndHolds self.new.ahead (R.to_come input.new) }
-        ensures left_alone { self.old.ahead.ended ≡ true → (self.new.ahead.ended ≡ true) × (input.new ≡ input.old) }
+        ensures holds { LinesKeepEnd self.old (R.to_come input.old) self.new (R.to_come input.new) }
+        ensures stays_ended { self.old.ahead.ended ≡ true → self.new.ahead.ended ≡ true }
+        ensures left_alone { self.old.ahead.ended ≡ true → input.new ≡ input.old }
         ensures failures { R.failures input.new ≡ R.failures input.old + failed_reading result }
     {
         if !take_line(input, &mut self.ahead, &mut self.bytes)? {
@@ -117,12 +117,13 @@ impl Lines {
 /// Takes the bytes of the first line without its end, or more than 128 of them; `false` if there is no line.
 fn take_line<R: Source>(input: &mut R, ahead: &mut Ahead, line: &mut Vec<u8>) -> Result<bool, Fault>
     requires { R.failures input.old < 2 ^ 64 - 1 }
-    ensures line { IfOk result (λ some. some ≡ true → length line.new.items ≤ 128 → Told (coming ahead.old (R.to_come input.old)) (coming ahead.new (R.to_come input.new)) (λ text rest. TakesLine text line.new.items rest)) }
-    ensures long { IfOk result (λ some. some ≡ true → 128 < length line.new.items → IfSome (coming ahead.old (R.to_come input.old)) IsTooLong) }
-    ensures end { IfOk result (λ some. some ≡ false → IsAtEnd (coming ahead.old (R.to_come input.old)) × IsAtEnd (coming ahead.new (R.to_come input.new))) }
+    ensures line { TakesShort result ahead.old (R.to_come input.old) ahead.new (R.to_come input.new) line.new }
+    ensures long { TakesLong result ahead.old (R.to_come input.old) line.new }
+    ensures end { NoneCome result ahead.old (R.to_come input.old) ahead.new (R.to_come input.new) }
     ensures ended { IfOk result (λ some. some ≡ false → ahead.new.ended ≡ true) }
-    ensures holds { EndHolds ahead.old (R.to_come input.old) → EndHolds ahead.new (R.to_come input.new) }
-    ensures left_alone { ahead.old.ended ≡ true → (ahead.new.ended ≡ true) × (input.new ≡ input.old) }
+    ensures holds { KeepsEnd ahead.old (R.to_come input.old) ahead.new (R.to_come input.new) }
+    ensures stays_ended { ahead.old.ended ≡ true → ahead.new.ended ≡ true }
+    ensures left_alone { ahead.old.ended ≡ true → input.new ≡ input.old }
     ensures fault { IfErr result IsReadFault }
     ensures failures { R.failures input.new ≡ R.failures input.old + failed_reading result }
 {

@@ -2,7 +2,7 @@
 ghost use Rattle.std.specs.Prelude.{◌≡◌, ℕ, ◌+◌, ◌-◌, ◌^◌, ◌<◌, List, Option, Result, Ok, Err, IsErr, IfErr, IfOk, OnOk, OnErr};
 ghost use Rattle.std.specs.Io.{ReadsAtMost, WritesAtMost};
 ghost use Rattle.std.specs.Io.KnownBytes.{Appends, ReadConsumes, WriteAppends};
-ghost use Rattle.files.specs.Streams.{GivesByte, failed_read, failed_put, failed_reading, failed_writing, IsReadFault, ReadsInput, ReadsFront, WritesFront};
+ghost use Rattle.files.specs.Streams.{GivesByte, failed_read, failed_put, failed_reading, failed_writing, GivesInput, IsReadFault, ReadsFront, WritesFront};
 
 use crate::faults::Fault;
 use std::alloc::Global;
@@ -164,7 +164,7 @@ pub const INPUT_LIMIT: usize = 532_481;
 #[tactic(auto, using(crate::proofs::Appending::front_read))]
 pub fn read_input<R: Source>(alloc: Global, input: &mut R) -> Result<Vec<u8>, Fault>
     requires { R.failures input.old < 2 ^ 64 - 1 }
-    ensures ok { IfOk result (λ bytes. ReadsInput (R.to_come input.old) (R.to_come input.new) bytes.items) }
+    ensures ok { GivesInput result (R.to_come input.old) (R.to_come input.new) }
     ensures front { ReadsFront (R.to_come input.old) (R.to_come input.new) }
     ensures fault { IfErr result IsReadFault }
     ensures failures { R.failures input.new ≡ R.failures input.old + failed_reading result }

@@ -10,8 +10,7 @@ use Rattle.record.specs.Moves.{begins_read, moves_of}
 use Rattle.record.specs.Registers.{opening_bit}
 use Rattle.read_law.specs.declared.look.ReadEnd.{ReadEnd}
 use Rattle.read_law.specs.declared.look.ReadEnd.TheVariants.{Free, Writing, Bound}
-use Rattle.read_law.specs.declared.look.Look.{Look}
-use Rattle.read_law.specs.Looks.{ending_of, look_of}
+use Rattle.read_law.specs.Looks.{ending_of}
 use Rattle.read_law.specs.Safe.{KeepsSafe, MatchBool}
 
 -- while a write is open, the read that began last is overlapped

@@ -1,5 +1,5 @@
 -- The entries of a list, one after the other.
-use Rattle.std.proofs.Common.{◌≡◌, ℕ, ◌+◌, ◌<◌, List, [], ◌∷◌, ◌++◌, length, reverse, take, slice_index_or, sym, ap, ◌∙◌}
+use Rattle.std.proofs.Common.{◌≡◌, ℕ, ◌+◌, ◌<◌, List, [], ◌∷◌, length, reverse, take, slice_index_or, sym, ap, ◌∙◌}
 use Rattle.std.proofs.lemmas.List.{reverse-append, take_more}
 use Rattle.record.specs.Entries.{Entry}
 

@@ -1,5 +1,5 @@
 -- The registers of a watch before the first entry.
-use Rattle.std.proofs.Common.{◌≡◌, ℕ, ◌+◌, ◌*◌, ◌<◌, ◌≤◌, ◌%◌, false, List, [], ◌∷◌, ◌++◌, Ok, length, replicate, slice_index_or, slice_set, sym, ap, ◌∙◌, subst, arith, inl, inr, eq-eqb}
+use Rattle.std.proofs.Common.{◌≡◌, ℕ, ◌+◌, ◌*◌, ◌<◌, ◌%◌, false, List, [], ◌∷◌, ◌++◌, Ok, length, replicate, slice_index_or, slice_set, sym, ap, ◌∙◌, subst, arith, inl, inr, eq-eqb}
 use Rattle.std.proofs.Math.Seq.{get_or-append_seam}
 use Rattle.std.proofs.lemmas.Bool.{cases_eq, cases_lt}
 use Rattle.std.proofs.lemmas.List.{get_or_append_left, get_or-replicate, get_or-set_other, get_or-set_same, length-append}
@@ -18,16 +18,11 @@ use Rattle.laws.specs.Held.{IsThere}
 use Rattle.laws.proofs.FrameCells.{field-same}
 use Rattle.read_law.specs.declared.look.Look.{Look}
 use Rattle.read_law.specs.Looks.{look_of}
-use Rattle.read_law.specs.Watching.{HasHeard, IsWatch, copy_of, look_at, register_of}
+use Rattle.read_law.specs.Watching.{HasHeard, IsOpened, IsWatch, copy_of, look_at, register_of}
 use Rattle.read_law.proofs.Openings.{opens_low}
 use Rattle.read_law.proofs.OwnPlaces.{copy_below, field_below, register_below}
 
--- the bits of register n look as they open
-pub record IsOpened (s : Setup) (n : ℕ) (register : List Look) : Type 0 where
-  pub bits : (f : Field) → n % 7 ≡ field_number f → length register ≡ s.processes * width s f
-  pub looks : (a : Access) → register_of a ≡ n → IsThere s a → slice_index_or register (copy_of s a) (look_of false []) ≡ look_of (opening_bit s a) []
-
--- so do those of the first k registers
+-- the bits of the first k registers look as they open
 pub record AreOpened (s : Setup) (registers : List (List Look)) (k : ℕ) : Type 0 where
   pub count : length registers ≡ k
   pub bits : (n : ℕ) → n < k → (f : Field) → n % 7 ≡ field_number f → length (slice_index_or registers n []) ≡ s.processes * width s f

@@ -1,15 +1,12 @@
 -- Looks in bytes.
-use Rattle.std.proofs.Common.{◌≡◌, ℕ, ◌+◌, ◌*◌, ◌<◌, ◌≤◌, ◌/◌, ◌%◌, ◌==◌, Bool, true, false, cond, List, [], map, set, get_or, length, replicate, refl, sym, ap, ◌∙◌, arith, inl, inr}
-use Rattle.std.specs.List.{range_with_len}
+use Rattle.std.proofs.Common.{◌≡◌, ℕ, ◌*◌, ◌<◌, ◌≤◌, ◌/◌, ◌%◌, ◌==◌, Bool, true, false, cond, List, [], set, get_or, length, replicate, refl, sym, ap, ◌∙◌, arith, inl, inr}
 use Rattle.std.proofs.lemmas.List.{get_or-set_same, get_or-set_other, length-replicate, get_or-replicate, ext_get_or, get_or_default}
 use Rattle.std.proofs.lemmas.List.FromFn.{length-map-range_with_len, get_or-map-range_with_len}
 use Rattle.std.proofs.lemmas.Bool.{cases_eq}
 use Rattle.record.proofs.reader_copies.Flags.{made-set}
-use Rattle.read_law.specs.declared.look.ReadEnd.{ReadEnd}
-use Rattle.read_law.specs.declared.look.ReadEnd.TheVariants.{Free, Writing, Bound}
 use Rattle.read_law.specs.declared.look.Look.{Look}
 use Rattle.read_law.specs.Looks.{look_of}
-use Rattle.read_law.specs.Packing.{ending_from, four_bits, look_from, look_in, looks_of}
+use Rattle.read_law.specs.Packing.{four_bits, look_from, look_in, looks_of}
 
 pub length-looks : (bytes : List ℕ) (n : ℕ) → length (looks_of bytes n) ≡ n
 length-looks bytes n = length-map-range_with_len (look_in bytes) 0 n

@@ -1,7 +1,7 @@
 -- What the moves of one bit leave, as far as the safe rule looks back at them.
-use Rattle.std.specs.Prelude.{◌≡◌, Bool, true, false, not, ◌&&◌, List, ◌∷◌, cond}
+use Rattle.std.specs.Prelude.{◌≡◌, Bool, true, false, not, ◌&&◌, List, ◌∷◌, ◌++◌, cond}
 use Rattle.record.specs.safe_bit.declared.Move.{Move}
-use Rattle.record.specs.safe_bit.declared.Move.TheVariants.{EndRead}
+use Rattle.record.specs.safe_bit.declared.Move.TheVariants.{BeginRead, EndRead}
 use Rattle.record.specs.safe_bit.SafeRule.{before_read, is_overlapped, is_write_open, last_begun, last_written}
 use Rattle.record.specs.Moves.{begins_read}
 use Rattle.read_law.specs.declared.look.ReadEnd.{ReadEnd}
@@ -23,6 +23,30 @@ abbrev pub ends_overlapped : List Move → Move → Bool
 ends_overlapped moves (EndRead v) = is_overlapped moves
 ends_overlapped moves _ = false
 
+-- the answer tells of a read that has begun whether it is so
+abbrev pub TellsOverlap : Bool → List Move → Move → Type 0
+TellsOverlap told moves how = begins_read moves ≡ true → told ≡ ends_overlapped moves how
+
+-- this holds of all moves that leave that end of a read, and of what the bit opened at
+abbrev pub LeftBy : ReadEnd → (Bool → List Move → Type 0) → Type 0
+LeftBy end P = (opening : Bool) (moves : List Move) → end ≡ ending_of opening moves → P opening moves
+
 -- so it is after one more move, whatever the moves were
+abbrev pub EndsOn : ReadEnd → Move → ReadEnd → Type 0
+EndsOn end how then = LeftBy end (λ opening moves. then ≡ ending_of opening (how ∷ moves))
+
+-- the same where a read begins and this was written last
+abbrev pub ReadsOn : ReadEnd → Bool → ReadEnd → Type 0
+ReadsOn end written then = LeftBy end (λ opening moves. written ≡ last_written opening moves → then ≡ ending_of opening (BeginRead ∷ moves))
+
+-- this holds of all moves that leave that look
+abbrev pub LookLeftBy : Look → (Bool → List Move → Type 0) → Type 0
+LookLeftBy l P = (opening : Bool) (moves : List Move) → l ≡ look_of opening moves → P opening moves
+
+-- so it is after these moves, whatever the earlier ones were
+abbrev pub LooksOnBy : Look → List Move → Look → Type 0
+LooksOnBy l more then = LookLeftBy l (λ opening moves. then ≡ look_of opening (more ++ moves))
+
+-- and after one more
 abbrev pub LooksOn : Look → Move → Look → Type 0
-LooksOn l how then = (opening : Bool) (moves : List Move) → l ≡ look_of opening moves → then ≡ look_of opening (how ∷ moves)
+LooksOn l how then = LookLeftBy l (λ opening moves. then ≡ look_of opening (how ∷ moves))

@@ -1,5 +1,5 @@
 -- How looks are packed: each in four bits, two in a byte.
-use Rattle.std.specs.Prelude.{ℕ, suc, ◌/◌, ◌%◌, ◌==◌, Bool, false, true, List, map, slice_index_or, cond}
+use Rattle.std.specs.Prelude.{ℕ, ◌/◌, ◌%◌, ◌==◌, List, map, slice_index_or, cond}
 use Rattle.std.specs.List.{range_with_len}
 use Rattle.read_law.specs.declared.look.ReadEnd.{ReadEnd}
 use Rattle.read_law.specs.declared.look.ReadEnd.TheVariants.{Free, Writing, Bound}

@@ -1,5 +1,6 @@
 -- The law `Safe` of an entry, by looking back over the entries before it.
-use Rattle.std.specs.Prelude.{◌≡◌, Bool, true, false, List, [], ◌∷◌, Some}
+use Rattle.std.specs.Prelude.{◌≡◌, Bool, true, false, List, Some}
+use Rattle.record.specs.safe_bit.declared.Move.{Move}
 use Rattle.record.specs.safe_bit.declared.Move.TheVariants.{EndRead}
 use Rattle.record.specs.safe_bit.SafeRule.{MayEndWith}
 use Rattle.record.specs.declared.access.Access.{Access}
@@ -8,11 +9,27 @@ use Rattle.record.specs.Entries.{Entry, Past}
 use Rattle.record.specs.Moves.{begins_read, moves_of}
 use Rattle.record.specs.Registers.{opening_bit}
 
+-- what the read may end with that began last after these moves, if one began
+abbrev pub MayGive : Bool → List Move → Bool → Type 0
+MayGive opening moves value = begins_read moves ≡ true → MayEndWith opening moves value
+
 -- A read that no write of its bit overlapped ends with the value last written or settled before it began, and else with the opening value. The read is the one of its bit that began last, whoever began it.
 abbrev pub KeepsSafe : Setup → Past → Entry → Type 0
-KeepsSafe s past e = (a : Access) (v : Bool) → e.access ≡ Some a → a.how ≡ EndRead v → begins_read (moves_of a past) ≡ true → MayEndWith (opening_bit s a) (moves_of a past) v
+KeepsSafe s past e = (a : Access) (v : Bool) → e.access ≡ Some a → a.how ≡ EndRead v → MayGive (opening_bit s a) (moves_of a past) v
 
 -- a fact for each answer
 abbrev pub MatchBool : Bool → Type 0 → Type 0 → Type 0
 MatchBool true P Q = P
 MatchBool false P Q = Q
+
+-- the answer tells whether this is so
+abbrev pub Tells : Bool → Type 0 → Type 0
+Tells told P = MatchBool told P (P → ⊥)
+
+-- whether an entry keeps the law
+abbrev pub TellsSafe : Bool → Setup → Past → Entry → Type 0
+TellsSafe told s past e = Tells told (KeepsSafe s past e)
+
+-- whether it breaks it
+abbrev pub TellsUnsafe : Bool → Setup → Past → Entry → Type 0
+TellsUnsafe told s past e = MatchBool told (KeepsSafe s past e → ⊥) (KeepsSafe s past e)

@@ -1,6 +1,8 @@
 -- What a watch keeps: a look for each single-reader bit.
-use Rattle.std.specs.Prelude.{◌≡◌, ℕ, ◌+◌, ◌*◌, ◌<◌, Bool, false, List, [], ◌∷◌, length, slice_index_or, Ok, Some}
+use Rattle.std.specs.Prelude.{◌≡◌, ℕ, ◌+◌, ◌*◌, ◌%◌, ◌<◌, Bool, false, List, [], ◌∷◌, length, slice_index_or, Option, Ok, Some, true}
 use Rattle.record.specs.declared.access.Access.{Access}
+use Rattle.record.specs.safe_bit.declared.Move.{Move}
+use Rattle.record.specs.safe_number.Bytes.{bit_in}
 use Rattle.record.specs.declared.access.Field.{Field}
 use Rattle.plain_store.specs.declared.Setup.{Setup}
 use Rattle.plain_store.specs.Setups.{checked}
@@ -9,7 +11,8 @@ use Rattle.record.specs.Moves.{field_number, moves_of}
 use Rattle.record.specs.Registers.{opening_bit, width}
 use Rattle.laws.specs.Held.{IsThere}
 use Rattle.read_law.specs.declared.look.Look.{Look}
-use Rattle.read_law.specs.Looks.{look_of}
+use Rattle.read_law.specs.Looks.{TellsOverlap, look_of}
+use Rattle.read_law.specs.Safe.{TellsSafe}
 
 -- for each register of each process the looks of its bits
 pub record WatchState : Type 0 where
@@ -38,6 +41,14 @@ pub record IsWatch (w : WatchState) : Type 0 where
 abbrev pub HasHeard : WatchState → Past → Type 0
 HasHeard w past = (a : Access) → IsThere w.setup a → look_at w.registers (register_of a) (copy_of w.setup a) ≡ look_of (opening_bit w.setup a) (moves_of a past)
 
+-- this holds of each past that it has heard, and each entry with this access
+abbrev pub OfHeard : WatchState → Option Access → (Setup → Past → Entry → Type 0) → Type 0
+OfHeard w access P = (past : Past) (e : Entry) → e.access ≡ access → HasHeard w past → P w.setup past e
+
+-- it goes on by an entry
+abbrev pub HearsOn : WatchState → Entry → WatchState → Type 0
+HearsOn w e then = (past : Past) → HasHeard w past → HasHeard then (e ∷ past)
+
 -- an entry's access, if it has one, is of a bit that there is
 abbrev pub IsOfThere : Setup → Entry → Type 0
 IsOfThere s e = (a : Access) → e.access ≡ Some a → IsThere s a
@@ -46,3 +57,45 @@ IsOfThere s e = (a : Access) → e.access ≡ Some a → IsThere s a
 abbrev pub AllAreOfThere : Setup → Past → Type 0
 AllAreOfThere s [] = Unit {0}
 AllAreOfThere s (e ∷ past) = IsOfThere s e × AllAreOfThere s past
+
+-- by a look the answer tells of each entry with this move whether it keeps the law
+abbrev pub LookTellsSafe : Look → Move → Bool → Type 0
+LookTellsSafe l how told =
+    (s : Setup) (past : Past) (e : Entry) (a : Access) → e.access ≡ Some a → a.how ≡ how → l ≡ look_of (opening_bit s a) (moves_of a past) → TellsSafe told s past e
+
+-- the answer tells whether an entry keeps the law, if its bit is there
+abbrev pub TellsThere : WatchState → Entry → Bool → Type 0
+TellsThere w e told = (past : Past) → HasHeard w past → IsOfThere w.setup e → TellsSafe told w.setup past e
+
+-- if so are the bits of all entries before
+abbrev pub TellsBehind : WatchState → Entry → Bool → Type 0
+TellsBehind w e told = (past : Past) → HasHeard w past → AllAreOfThere w.setup past → TellsSafe told w.setup past e
+
+-- an entry whose bit is not there is let pass
+abbrev pub PassesStray : Setup → Entry → Bool → Type 0
+PassesStray s e told = (a : Access) → e.access ≡ Some a → (IsThere s a → ⊥) → told ≡ true
+
+-- the answer tells whether an entry with this access keeps the law, if the access is there
+abbrev pub IfThere : Access → Bool → Setup → Past → Entry → Type 0
+IfThere a told s past e = IsThere s a → TellsSafe told s past e
+
+-- if all accesses before are
+abbrev pub IfAllThere : Bool → Setup → Past → Entry → Type 0
+IfAllThere told s past e = AllAreOfThere s past → TellsSafe told s past e
+
+-- the answer tells whether an access ends a read that a write overlapped
+abbrev pub TellsEnd : WatchState → Access → Bool → Type 0
+TellsEnd w a told = (past : Past) → HasHeard w past → TellsOverlap told (moves_of a past) a.how
+
+-- the same, if the access is there
+abbrev pub TellsEndThere : WatchState → Access → Bool → Type 0
+TellsEndThere w a told = (past : Past) → HasHeard w past → IsThere w.setup a → TellsOverlap told (moves_of a past) a.how
+
+-- the bits of register n look as they open
+pub record IsOpened (s : Setup) (n : ℕ) (register : List Look) : Type 0 where
+  pub bits : (f : Field) → n % 7 ≡ field_number f → length register ≡ s.processes * width s f
+  pub looks : (a : Access) → register_of a ≡ n → IsThere s a → slice_index_or register (copy_of s a) (look_of false []) ≡ look_of (opening_bit s a) []
+
+-- these looks are of copies of that many bits, which open as in these bytes
+abbrev pub OpenAs : List ℕ → ℕ → ℕ → List Look → Type 0
+OpenAs bytes width n looks = (k : ℕ) → k < n → slice_index_or looks k (look_of false []) ≡ look_of (bit_in bytes (k % width)) []

@@ -1,15 +1,11 @@
 //! What the moves of one bit leave, kept up move by move.
-ghost use Rattle.std.specs.Prelude.{◌≡◌, [], ◌∷◌, Bool, true, List, Some};
-ghost use Rattle.record.specs.safe_bit.declared.Move.{Move as Moved};
-ghost use Rattle.record.specs.safe_bit.declared.Move.TheVariants.{BeginRead, EndWrite, Settle};
-ghost use Rattle.record.specs.safe_bit.SafeRule.{MayEndWith, is_overlapped, last_written};
-ghost use Rattle.record.specs.declared.access.Access.{Access as Made};
-ghost use Rattle.plain_store.specs.declared.Setup.{Setup as Given};
-ghost use Rattle.record.specs.Entries.{Entry as Noted, Past};
-ghost use Rattle.record.specs.Moves.{begins_read, moves_of};
-ghost use Rattle.record.specs.Registers.{opening_bit};
-ghost use Rattle.read_law.specs.Looks.{LooksOn, ending_of, ends_overlapped, look_of};
-ghost use Rattle.read_law.specs.Safe.{KeepsSafe, MatchBool};
+ghost use Rattle.std.specs.Prelude.{◌≡◌, [], Bool, true};
+ghost use Rattle.record.specs.safe_bit.declared.Move.TheVariants.{EndWrite, Settle};
+ghost use Rattle.record.specs.safe_bit.SafeRule.{is_overlapped};
+ghost use Rattle.record.specs.Moves.{begins_read};
+ghost use Rattle.read_law.specs.Looks.{EndsOn, LeftBy, LookLeftBy, LooksOn, ReadsOn, TellsOverlap, look_of};
+ghost use Rattle.read_law.specs.Safe.{MayGive, Tells};
+ghost use Rattle.read_law.specs.Watching.{LookTellsSafe};
 
 use record::Move;
 
@@ -28,8 +24,8 @@ impl ReadEnd {
     /// Once no write is open.
     #[inline]
     fn closed(self) -> ReadEnd
-        ensures ended { (opening : Bool) (moves : List Moved) → self ≡ ending_of opening moves → result ≡ ending_of opening (EndWrite ∷ moves) }
-        ensures settled { (opening : Bool) (moves : List Moved) (value : Bool) → self ≡ ending_of opening moves → result ≡ ending_of opening (Settle value ∷ moves) }
+        ensures ended { EndsOn self EndWrite result }
+        ensures settled { (value : Bool) → EndsOn self (Settle value) result }
     {
         match self {
             ReadEnd::Writing => ReadEnd::Free,
@@ -40,7 +36,7 @@ impl ReadEnd {
     /// Once one more read has begun, before which `written` was last written or settled.
     #[inline]
     fn reading(self, written: bool) -> ReadEnd
-        ensures { (opening : Bool) (moves : List Moved) → self ≡ ending_of opening moves → written ≡ last_written opening moves → result ≡ ending_of opening (BeginRead ∷ moves) }
+        ensures { ReadsOn self written result }
     {
         match self {
             ReadEnd::Writing => ReadEnd::Writing,
@@ -51,7 +47,7 @@ impl ReadEnd {
     /// Whether a read may end with this value, if one has begun.
     #[inline]
     fn allows(self, value: bool) -> bool
-        ensures { (opening : Bool) (moves : List Moved) → self ≡ ending_of opening moves → MatchBool result (begins_read moves ≡ true → MayEndWith opening moves value) ((begins_read moves ≡ true → MayEndWith opening moves value) → ⊥) }
+        ensures { LeftBy self (λ opening moves. Tells result (MayGive opening moves value)) }
     {
         match self {
             ReadEnd::Bound(only) => value == only,
@@ -62,7 +58,7 @@ impl ReadEnd {
     /// Whether a write overlapped the read that began last, if one has begun.
     #[inline]
     fn is_overlapped(self) -> bool
-        ensures { (opening : Bool) (moves : List Moved) → self ≡ ending_of opening moves → begins_read moves ≡ true → result ≡ is_overlapped moves }
+        ensures { LeftBy self (λ _ moves. begins_read moves ≡ true → result ≡ is_overlapped moves) }
     {
         match self {
             ReadEnd::Bound(_) => false,
@@ -126,7 +122,7 @@ impl Look {
     /// Whether the next move keeps the safe rule.
     #[inline]
     pub fn allows(self, how: Move) -> bool
-        ensures { (s : Given) (past : Past) (e : Noted) (a : Made) → e.access ≡ Some a → a.how ≡ how → self ≡ look_of (opening_bit s a) (moves_of a past) → MatchBool result (KeepsSafe s past e) (KeepsSafe s past e → ⊥) }
+        ensures { LookTellsSafe self how result }
     {
         match how {
             Move::EndRead(value) => self.ending.allows(value),
@@ -137,7 +133,7 @@ impl Look {
     /// Whether the next move ends a read that a write overlapped, if one has begun.
     #[inline]
     pub fn overlaps(self, how: Move) -> bool
-        ensures { (opening : Bool) (moves : List Moved) → self ≡ look_of opening moves → begins_read moves ≡ true → result ≡ ends_overlapped moves how }
+        ensures { LookLeftBy self (λ _ moves. TellsOverlap result moves how) }
     {
         match how {
             Move::EndRead(_) => self.ending.is_overlapped(),

@@ -1,10 +1,9 @@
 //! Whether an entry keeps the law `Safe`, by a look back over the entries before it.
-ghost use Rattle.std.specs.Prelude.{◌≡◌, ◌++◌, Bool, IfOk, List, Ok, reverse};
+ghost use Rattle.std.specs.Prelude.{◌≡◌, IfOk, Ok, reverse};
 ghost use Rattle.plain_store.specs.Setups.{checked};
 ghost use Rattle.record.specs.Moves.{move_on, moves_of, same_bit as same};
-ghost use Rattle.record.specs.safe_bit.declared.Move.{Move as Moved};
-ghost use Rattle.read_law.specs.Looks.{look_of};
-ghost use Rattle.read_law.specs.Safe.{KeepsSafe, MatchBool};
+ghost use Rattle.read_law.specs.Looks.{LooksOnBy, look_of};
+ghost use Rattle.read_law.specs.Safe.{TellsUnsafe};
 
 use crate::look::Look;
 use crate::opening::opening_bit;
@@ -15,7 +14,7 @@ use std::alloc::AllocError;
 impl Look {
     /// After an entry, as the bit of an access sees it.
     fn after(self, access: &Access, entry: &Entry) -> Look
-        ensures { (opens : Bool) (moves : List Moved) → self ≡ look_of opens moves → result ≡ look_of opens (move_on access.now entry.now ++ moves) }
+        ensures { LooksOnBy self (move_on access.now entry.now) result }
     {
         match &entry.act.access {
             None => self,
@@ -43,7 +42,7 @@ fn same_bit(access: &Access, other: &Access) -> bool
 /// Whether an entry ends a read with a value that the safe rule does not allow. The one fault is want of memory.
 pub fn is_unsafe(setup: &Setup, before: &[Entry], entry: &Entry) -> Result<bool, AllocError>
     requires { checked setup.now ≡ Ok tt }
-    ensures { IfOk result (λ is. MatchBool is (KeepsSafe setup.now (reverse before.now) entry.now → ⊥) (KeepsSafe setup.now (reverse before.now) entry.now)) }
+    ensures { IfOk result (λ told. TellsUnsafe told setup.now (reverse before.now) entry.now) }
 {
     let Some(access) = entry.act.access else {
         return Ok(false);

@@ -1,16 +1,10 @@
-ghost use Rattle.std.specs.Prelude.{◌≡◌, ◌<◌, ◌*◌, ◌%◌, ℕ, IfOk, Ok, Some, [], ◌∷◌, length, slice_index_or, false, true};
+ghost use Rattle.std.specs.Prelude.{◌≡◌, ◌<◌, IfOk, Ok, Some, [], ◌∷◌, length, false, true};
 ghost use Rattle.plain_store.specs.Setups.{checked, opening_store};
 ghost use Rattle.store_image.specs.Image.{image_of};
-ghost use Rattle.record.specs.Entries.{Entry as Noted, Past};
-ghost use Rattle.record.specs.Moves.{begins_read, field_number, moves_of};
-ghost use Rattle.record.specs.Registers.{opening_bit, width};
-ghost use Rattle.record.specs.safe_number.Bytes.{bit_in};
-ghost use Rattle.record.specs.declared.access.Access.{Access as Made};
-ghost use Rattle.record.specs.declared.access.Field.{Field as Register};
+ghost use Rattle.record.specs.Registers.{width};
 ghost use Rattle.laws.specs.Held.{IsThere};
-ghost use Rattle.read_law.specs.Looks.{ends_overlapped, look_of};
-ghost use Rattle.read_law.specs.Safe.{KeepsSafe, MatchBool};
-ghost use Rattle.read_law.specs.Watching.{AllAreOfThere, HasHeard, IsOfThere, copy_of, register_of};
+ghost use Rattle.read_law.specs.Safe.{TellsSafe};
+ghost use Rattle.read_law.specs.Watching.{HasHeard, HearsOn, IfAllThere, IfThere, IsOpened, OfHeard, OpenAs, PassesStray, TellsBehind, TellsEnd, TellsEndThere, TellsThere};
 
 use crate::look::Look;
 use crate::opening::bit_of;
@@ -66,10 +60,10 @@ impl Watch {
     /// entry before it was of such a bit.
     pub fn hear(&mut self, entry: &Entry) -> bool
         ensures setup { self.new.setup ≡ self.old.setup }
-        ensures heard { (past : Past) → HasHeard self.old past → HasHeard self.new (entry.now ∷ past) }
-        ensures there { (past : Past) → HasHeard self.old past → IsOfThere self.old.setup entry.now → MatchBool result (KeepsSafe self.old.setup past entry.now) (KeepsSafe self.old.setup past entry.now → ⊥) }
-        ensures stray { (a : Made) → entry.now.access ≡ Some a → (IsThere self.old.setup a → ⊥) → result ≡ true }
-        ensures first { (past : Past) → HasHeard self.old past → AllAreOfThere self.old.setup past → MatchBool result (KeepsSafe self.old.setup past entry.now) (KeepsSafe self.old.setup past entry.now → ⊥) }
+        ensures heard { HearsOn self.old entry.now self.new }
+        ensures there { TellsThere self.old entry.now result }
+        ensures stray { PassesStray self.old.setup entry.now result }
+        ensures first { TellsBehind self.old entry.now result }
     {
         match &entry.act.access {
             Some(access) => self.hear_access(*access),
@@ -81,10 +75,10 @@ impl Watch {
     #[inline]
     pub fn hear_access(&mut self, access: Access) -> bool
         ensures setup { self.new.setup ≡ self.old.setup }
-        ensures heard { (past : Past) (e : Noted) → e.access ≡ Some access → HasHeard self.old past → HasHeard self.new (e ∷ past) }
-        ensures there { (past : Past) (e : Noted) → e.access ≡ Some access → HasHeard self.old past → IsThere self.old.setup access → MatchBool result (KeepsSafe self.old.setup past e) (KeepsSafe self.old.setup past e → ⊥) }
+        ensures heard { OfHeard self.old (Some access) (λ _ past e. HasHeard self.new (e ∷ past)) }
+        ensures there { OfHeard self.old (Some access) (IfThere access result) }
         ensures stray { (IsThere self.old.setup access → ⊥) → result ≡ true }
-        ensures first { (past : Past) (e : Noted) → e.access ≡ Some access → HasHeard self.old past → AllAreOfThere self.old.setup past → MatchBool result (KeepsSafe self.old.setup past e) (KeepsSafe self.old.setup past e → ⊥) }
+        ensures first { OfHeard self.old (Some access) (IfAllThere result) }
     {
         if !is_there(&self.setup, &access) {
             return true;
@@ -95,7 +89,7 @@ impl Watch {
     /// Whether an access that is made now ends a read that a write overlapped. An access of a bit that is not there
     /// is said to end none.
     pub fn overlaps(&self, access: &Access) -> bool
-        ensures there { (past : Past) → HasHeard self.now past → IsThere self.now.setup access.now → begins_read (moves_of access.now past) ≡ true → result ≡ ends_overlapped (moves_of access.now past) access.now.how }
+        ensures there { TellsEndThere self.now access.now result }
         ensures stray { (IsThere self.now.setup access.now → ⊥) → result ≡ false }
     {
         is_there(&self.setup, access) && self.overlaps_there(access)
@@ -105,7 +99,7 @@ impl Watch {
     #[inline]
     fn overlaps_there(&self, access: &Access) -> bool
         requires { IsThere self.now.setup access.now }
-        ensures { (past : Past) → HasHeard self.now past → begins_read (moves_of access.now past) ≡ true → result ≡ ends_overlapped (moves_of access.now past) access.now.how }
+        ensures { TellsEnd self.now access.now result }
     {
         let place = copy_of(&self.setup, access);
         let look = self.registers[register_of(access)].get(place);
@@ -117,8 +111,8 @@ impl Watch {
     fn hear_there(&mut self, access: Access) -> bool
         requires { IsThere self.old.setup access }
         ensures setup { self.new.setup ≡ self.old.setup }
-        ensures heard { (past : Past) (e : Noted) → e.access ≡ Some access → HasHeard self.old past → HasHeard self.new (e ∷ past) }
-        ensures answer { (past : Past) (e : Noted) → e.access ≡ Some access → HasHeard self.old past → MatchBool result (KeepsSafe self.old.setup past e) (KeepsSafe self.old.setup past e → ⊥) }
+        ensures heard { OfHeard self.old (Some access) (λ _ past e. HasHeard self.new (e ∷ past)) }
+        ensures answer { OfHeard self.old (Some access) (TellsSafe result) }
     {
         let register = register_of(&access);
         let place = copy_of(&self.setup, &access);
@@ -138,8 +132,7 @@ fn opening_looks(
 ) -> Result<Looks, AllocError>
     requires good { checked setup.now ≡ Ok tt }
     requires image { image.now ≡ image_of (opening_store setup.now) }
-    ensures bits { (field : Register) → number % 7 ≡ field_number field → IfOk result (λ looks. length looks ≡ setup.now.processes * width setup.now field) }
-    ensures looks { (a : Made) → register_of a ≡ number → IsThere setup.now a → IfOk result (λ looks. slice_index_or looks (copy_of setup.now a) (look_of false []) ≡ look_of (opening_bit setup.now a) []) }
+    ensures { IfOk result (λ looks. IsOpened setup.now number looks) }
 {
     let field = field_at(number % FIELDS);
     let width = width(setup, field);
@@ -158,7 +151,7 @@ const IMAGE0: usize = 5;
 fn open_copies(looks: &mut Looks, bytes: &[u8], width: usize)
     requires { 0 < width × width < 65536 }
     ensures length { length looks.new ≡ length looks.old }
-    ensures each { (k : ℕ) → k < length looks.old → slice_index_or looks.new k (look_of false []) ≡ look_of (bit_in bytes.now (k % width)) [] }
+    ensures each { OpenAs bytes.now width (length looks.old) looks.new }
 {
     for k in 0..looks.len() {
         looks.set(k, Look::opening(bit_of(bytes, (k % width) as u16)));

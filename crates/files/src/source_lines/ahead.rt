@@ -2,8 +2,8 @@
 ghost use Rattle.std.specs.Prelude.{◌≡◌, ◌+◌, ◌^◌, ◌-◌, ◌<◌, [], true, false, length, IfErr, IfOk, IfSome};
 ghost use Rattle.std.specs.List.{position};
 ghost use Rattle.files.specs.Streams.{IsReadFault, failed_reading};
-ghost use Rattle.files.specs.Lines.{ends_line, MovesAll, MovesEnded};
-ghost use Rattle.files.specs.SourceLines.{ComesToEnd, EndHolds, Stays, coming};
+ghost use Rattle.files.specs.Lines.{ends_line};
+ghost use Rattle.files.specs.SourceLines.{Ends, KeepsEnd, MovesOn, MovesToEnd, Waits};
 
 use crate::faults::Fault;
 use crate::streams::{Failed, Source};
@@ -52,11 +52,12 @@ impl Ahead {
     pub fn fill<R: Source>(&mut self, input: &mut R) -> Result<bool, Fault>
         requires { R.failures input.old < 2 ^ 64 - 1 }
         ensures some { IfOk result (λ some. some ≡ true → 0 < length self.new.bytes) }
-        ensures stays { IfOk result (λ some. some ≡ true → Stays (coming self.old (R.to_come input.old)) (coming self.new (R.to_come input.new))) }
-        ensures end { IfOk result (λ some. some ≡ false → ComesToEnd (coming self.old (R.to_come input.old)) (coming self.new (R.to_come input.new))) }
+        ensures stays { Waits result self.old (R.to_come input.old) self.new (R.to_come input.new) }
+        ensures end { Ends result self.old (R.to_come input.old) self.new (R.to_come input.new) }
         ensures ended { IfOk result (λ some. some ≡ false → self.new.ended ≡ true) }
-        ensures holds { EndHolds self.old (R.to_come input.old) → EndHolds self.new (R.to_come input.new) }
-        ensures left_alone { self.old.ended ≡ true → (self.new.ended ≡ true) × (input.new ≡ input.old) }
+        ensures holds { KeepsEnd self.old (R.to_come input.old) self.new (R.to_come input.new) }
+        ensures stays_ended { self.old.ended ≡ true → self.new.ended ≡ true }
+        ensures left_alone { self.old.ended ≡ true → input.new ≡ input.old }
         ensures fault { IfErr result IsReadFault }
         ensures failures { R.failures input.new ≡ R.failures input.old + failed_reading result }
     {
@@ -88,8 +89,8 @@ impl Ahead {
     /// answers `false`.
     #[tactic(auto, using(crate::proofs::Blocks::moves_ended, crate::proofs::Blocks::moves_all))]
     pub fn move_to(&mut self, line: &mut Vec<u8>) -> Result<bool, AllocError>
-        ensures ended { IfOk result (λ ended. ended ≡ true → MovesEnded self.old.bytes self.new.bytes line.old.items line.new.items) }
-        ensures all { IfOk result (λ ended. ended ≡ false → MovesAll self.old.bytes self.new.bytes line.old.items line.new.items) }
+        ensures ended { MovesToEnd result self.old self.new line.old line.new }
+        ensures all { MovesOn result self.old self.new line.old line.new }
         ensures source { self.new.ended ≡ self.old.ended }
     {
         let waiting = &self.block[self.at..];

@@ -13,12 +13,12 @@ next_at_data-access-requires c = data-within c.args.process.now.kept (omega (ari
 pub read_within-requires-clause-place : goal.read_within-requires-clause-place
 read_within-requires-clause-place c = let s = c.args.words.now.key in let n = c.next_at_data-access.result in
     let low = word_below s n (there_at s c.args.pending c.args.process.now c.args.value.now c.args.seat.now.me.0 n c.requires.tied c.next_at_data-access.ensures.there) in
-    (c.requires.table.0, omega (arith, low, c.word_of-word.ensures.word, c.requires.table.1, ap (λ s. word_of s n) c.requires.table.2, ap words_in c.requires.table.2))
+    (c.requires.table, omega (arith, low, c.word_of-word.ensures.word, c.requires.size, ap (λ s. word_of s n) c.requires.key, ap words_in c.requires.key))
 
 pub unreachable-requires : goal.unreachable-requires
 unreachable-requires c = let s = c.args.words.now.key in let n = c.next_at_data-access.result in
     no_end s c.args.pending c.args.process.now c.args.value.now c.args.flick c.in-EndRead.field-0 c.word_of-word.result n c.args.seat.now.me.0 c.requires.tied
-    (record { next = λ d is. c.next_at_data-access.ensures.access d c.args.flick is; at = c.word_of-word.ensures.word ∙ ap (λ s. word_of s n) (sym c.requires.table.2) }) c.in-EndRead.is
+    (record { next = λ d is. c.next_at_data-access.ensures.access d c.args.flick is; at = c.word_of-word.ensures.word ∙ ap (λ s. word_of s n) (sym c.requires.key) }) c.in-EndRead.is
 
 pub returns-in-BeginRead-clause-tied : goal.returns-in-BeginRead-clause-tied
 returns-in-BeginRead-clause-tied c = c.read_within.ensures.tied c.args.value.now c.requires.tied
@@ -27,13 +27,13 @@ pub write_within-requires : goal.write_within-requires
 write_within-requires c = let s = c.args.words.now.key in let n = c.next_at_data-access.result in
     let low = word_below s n (there_at s c.args.pending c.args.process.now c.args.value.now c.args.seat.now.me.0 n c.requires.tied c.next_at_data-access.ensures.there) in
     record {
-      place = (c.requires.table.0, omega (arith, low, c.word_of-word.ensures.word, c.requires.table.1, ap (λ s. word_of s n) c.requires.table.2, ap words_in c.requires.table.2));
+      place = (c.requires.table, omega (arith, low, c.word_of-word.ensures.word, c.requires.size, ap (λ s. word_of s n) c.requires.key, ap words_in c.requires.key));
       next = (
         c.args.value.now,
         (
           n,
           c.requires.tied,
-          record { next = λ d is. c.next_at_data-access.ensures.access d c.args.flick is; at = c.word_of-word.ensures.word ∙ ap (λ s. word_of s n) (sym c.requires.table.2) },
+          record { next = λ d is. c.next_at_data-access.ensures.access d c.args.flick is; at = c.word_of-word.ensures.word ∙ ap (λ s. word_of s n) (sym c.requires.key) },
           is_written n.how c.in_default.not-BeginRead c.in_default.not-EndRead,
           c.stored-new.ensures.word,
         ),
@@ -46,8 +46,8 @@ returns-in_default c = let s = c.args.words.now.key in let n = c.next_at_data-ac
     record {
       same = c.write_within.ensures.same;
       tied = subst (λ value. IsTied s nothing c.write_within.new.process value c.write_within.new.seat.me.0) (sym c.stored-new.ensures.value)
-          (c.write_within.ensures.tied c.args.value.now n c.requires.tied
-          (record { next = λ d is. c.next_at_data-access.ensures.access d c.args.flick is; at = c.word_of-word.ensures.word ∙ ap (λ s. word_of s n) (sym c.requires.table.2) })
+          (c.write_within.ensures.tied c.args.value.now c.word_of-word.result n c.requires.tied
+          (record { next = λ d is. c.next_at_data-access.ensures.access d c.args.flick is; at = c.word_of-word.ensures.word ∙ ap (λ s. word_of s n) (sym c.requires.key) })
           (is_written n.how c.in_default.not-BeginRead c.in_default.not-EndRead));
       step = c.write_within.ensures.step;
       leads = c.write_within.ensures.leads;

@@ -15,8 +15,8 @@ advance_within-requires-clause-at c = let n = c.requires.next in
     ((with_pending c.args.words.now.key c.args.pending c.args.seat.now.me.0).own.doing, is_at c.args.words.now.key c.args.pending c.args.process.now n.0 c.args.seat.now.me.0 n.1.1)
 
 pub returns-clause-tied : goal.returns-clause-tied
-returns-clause-tied c = λ value access t next writes.
-    tied_stored c.args.words.now.key c.args.pending c.args.process.now c.advance_within.new.self value (value_after access.how value) c.args.flick c.args.word access c.args.seat.now.me.0 c.store.new.seat.me.0 t next writes (λ u e. ap (λ m. value_after m value) e) c.store.ensures.told (c.advance_within.ensures.process c.args.flick)
+returns-clause-tied c = λ value word access t next writes.
+    tied_stored c.args.words.now.key c.args.pending c.args.process.now c.advance_within.new.self value (value_after access.how value) c.args.flick word access c.args.seat.now.me.0 c.store.new.seat.me.0 t next writes (λ u e. ap (λ m. value_after m value) e) c.store.ensures.told (c.advance_within.ensures.process c.args.flick)
 
 pub returns-clause-step : goal.returns-clause-step
 returns-clause-step c = inr c.store.ensures.told

@@ -2,7 +2,7 @@ use Rattle.std.proofs.Common.{◌≡◌, ◌-◌, true, length}
 use Rattle.std.specs.Io.KnownBytes.{Consumes}
 use Rattle.std.specs.List.{list_all}
 use Rattle.files.specs.Lines.{is_inner}
-use Rattle.files.specs.SourceLines.{EndHolds, coming}
+use Rattle.files.specs.SourceLines.{KeepsEnd, coming}
 use Rattle.files.proofs.source_lines.take_line.Given as goal
 
 -- the bytes so far came from the front, there is no 0x0A among them, a source that has told its end is at it and was left
@@ -11,8 +11,9 @@ abbrev pub invariant-parts : goal.invariant-parts
 invariant-parts g l = record {
   front : Consumes (coming l.fn.ahead (g.R.Source.to_come l.fn.input)) (coming l.ahead (g.R.Source.to_come l.input)) l.line.items;
   inner : list_all is_inner l.line.items ≡ true;
-  holds : EndHolds l.fn.ahead (g.R.Source.to_come l.fn.input) → EndHolds l.ahead (g.R.Source.to_come l.input);
-  left_alone : l.fn.ahead.ended ≡ true → (l.ahead.ended ≡ true) × (l.input ≡ l.fn.input);
+  holds : KeepsEnd l.fn.ahead (g.R.Source.to_come l.fn.input) l.ahead (g.R.Source.to_come l.input);
+  stays_ended : l.fn.ahead.ended ≡ true → l.ahead.ended ≡ true;
+  left_alone : l.fn.ahead.ended ≡ true → l.input ≡ l.fn.input;
   whole : g.R.Source.failures l.input ≡ g.R.Source.failures l.fn.input;
 }
 

@@ -1,4 +1,4 @@
-use Rattle.std.proofs.Common.{◌≡◌, ◌∙◌, reverse, take, sym, ap}
+use Rattle.std.proofs.Common.{◌∙◌, reverse, take, sym, ap}
 use Rattle.record.specs.Entries.{Past}
 use Rattle.record.specs.Moves.{moves_of}
 use Rattle.read_law.specs.Looks.{look_of}

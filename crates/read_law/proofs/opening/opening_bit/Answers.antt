@@ -1,6 +1,6 @@
 use Rattle.std.proofs.Common.{ap, ◌∙◌}
 use Rattle.record.specs.safe_number.Bytes.{bit_in}
-use Rattle.read_law.proofs.Openings.{opening_bit_is, opens_low}
+use Rattle.read_law.proofs.Openings.{opening_bit_is}
 use Rattle.read_law.proofs.opening.opening_bit.Goals as goal
 
 pub returns : goal.returns

@@ -1,30 +1,30 @@
-use Rattle.std.proofs.Common.{◌≡◌, ◌*◌, ◌∙◌, List, [], false, arith, ap, length, replicate}
+use Rattle.std.proofs.Common.{◌*◌, ◌∙◌, List, [], false, ap, length, replicate}
 use Rattle.std.proofs.lemmas.List.{length-replicate}
 use Rattle.read_law.specs.Looks.{look_of}
 use Rattle.read_law.specs.declared.look.Look.{Look}
 use Rattle.read_law.proofs.Opened.{opened_bits, opened_image, opened_low}
 use Rattle.read_law.proofs.watch.opening_looks.Goals as goal
 
-pub returns-then-number-ne-IMAGE0-clause-bits : goal.returns-then-number-ne-IMAGE0-clause-bits
-returns-then-number-ne-IMAGE0-clause-bits c = λ g same.
-    opened_bits c.args.setup.now c.args.number c.field_at-field.result g c.in_ok-looks.looks c.width-width.result
-    (ap (λ (l : List Look). length l) (c.in_ok-looks.ensures ∙ ap (λ n. replicate (n * c.width-width.result) (look_of false [])) c.from.ensures) ∙ length-replicate (c.args.setup.now.processes * c.width-width.result) (look_of false []))
-    c.width-width.ensures.width c.field_at-field.ensures same
+pub returns-then-number-ne-IMAGE0 : goal.returns-then-number-ne-IMAGE0
+returns-then-number-ne-IMAGE0 c = record {
+  bits = λ g same.
+      opened_bits c.args.setup.now c.args.number c.field_at-field.result g c.in_ok-looks.looks c.width-width.result
+      (ap (λ (l : List Look). length l) (c.in_ok-looks.ensures ∙ ap (λ n. replicate (n * c.width-width.result) (look_of false [])) c.from.ensures) ∙ length-replicate (c.args.setup.now.processes * c.width-width.result) (look_of false []))
+      c.width-width.ensures.width c.field_at-field.ensures same;
+  looks = λ a register there.
+      opened_low c.args.setup.now c.args.number c.field_at-field.result c.in_ok-looks.looks c.width-width.result a
+      (c.in_ok-looks.ensures ∙ ap (λ n. replicate (n * c.width-width.result) (look_of false [])) c.from.ensures) c.width-width.ensures.width c.field_at-field.ensures c.if-number-ne-IMAGE0.true register there;
+}
 
-pub returns-then-number-ne-IMAGE0-clause-looks : goal.returns-then-number-ne-IMAGE0-clause-looks
-returns-then-number-ne-IMAGE0-clause-looks c = λ a register there.
-    opened_low c.args.setup.now c.args.number c.field_at-field.result c.in_ok-looks.looks c.width-width.result a
-    (c.in_ok-looks.ensures ∙ ap (λ n. replicate (n * c.width-width.result) (look_of false [])) c.from.ensures) c.width-width.ensures.width c.field_at-field.ensures c.if-number-ne-IMAGE0.true register there
-
-pub returns-clause-bits : goal.returns-clause-bits
-returns-clause-bits c = λ g same.
-    opened_bits c.args.setup.now c.args.number c.field_at-field.result g c.open_copies.new.looks c.width-width.result
-    (c.open_copies.ensures.length ∙ ap (λ (l : List Look). length l) (c.in_ok-looks.ensures ∙ ap (λ n. replicate (n * c.width-width.result) (look_of false [])) c.from.ensures) ∙ length-replicate (c.args.setup.now.processes * c.width-width.result) (look_of false []))
-    c.width-width.ensures.width c.field_at-field.ensures same
-
-pub returns-clause-looks : goal.returns-clause-looks
-returns-clause-looks c = λ a register there.
-    opened_image c.args.setup.now c.args.number c.field_at-field.result c.args.image.now c.in_ok-looks.looks c.open_copies.new.looks c.width-width.result a
-    c.requires.image c.open_copies.ensures.each
-    (ap (λ (l : List Look). length l) (c.in_ok-looks.ensures ∙ ap (λ n. replicate (n * c.width-width.result) (look_of false [])) c.from.ensures) ∙ length-replicate (c.args.setup.now.processes * c.width-width.result) (look_of false []))
-    c.width-width.ensures.width c.field_at-field.ensures c.if-number-ne-IMAGE0.false register there
+pub returns : goal.returns
+returns c = record {
+  bits = λ g same.
+      opened_bits c.args.setup.now c.args.number c.field_at-field.result g c.open_copies.new.looks c.width-width.result
+      (c.open_copies.ensures.length ∙ ap (λ (l : List Look). length l) (c.in_ok-looks.ensures ∙ ap (λ n. replicate (n * c.width-width.result) (look_of false [])) c.from.ensures) ∙ length-replicate (c.args.setup.now.processes * c.width-width.result) (look_of false []))
+      c.width-width.ensures.width c.field_at-field.ensures same;
+  looks = λ a register there.
+      opened_image c.args.setup.now c.args.number c.field_at-field.result c.args.image.now c.in_ok-looks.looks c.open_copies.new.looks c.width-width.result a
+      c.requires.image c.open_copies.ensures.each
+      (ap (λ (l : List Look). length l) (c.in_ok-looks.ensures ∙ ap (λ n. replicate (n * c.width-width.result) (look_of false [])) c.from.ensures) ∙ length-replicate (c.args.setup.now.processes * c.width-width.result) (look_of false []))
+      c.width-width.ensures.width c.field_at-field.ensures c.if-number-ne-IMAGE0.false register there;
+}

@@ -58,7 +58,7 @@ returns-clause-reasons c =
       knows = λ past. c.hear-law.ensures.knows past e refl refl refl;
     } in
     let law = c.hear-law.result in
-    let family : JudgeState → Type 0 = λ j. (s : Setup) (past : Past) → BothHeard j s past → AreReasonsIf s past e (first_broken s past e) c.reasons_of-self-inside.result in
+    let family : JudgeState → Type 0 = λ j. (s : Setup) (past : Past) → BothHeard j s past → AreReasonsIf (first_broken s past e) c.reasons_of-self-inside.result s past e in
     subst family c.self.view_is (λ s past both.
-    subst (λ (l : Option AnyLockLaw). AreReasonsIf s past e l c.reasons_of-self-inside.result) (told_law old e c.keeps_safe-is_safe.result c.keeps_safe-is_safe.new.watch c.hear-law.result c.hear-law.new.self told s past both)
+    subst (λ (l : Option AnyLockLaw). AreReasonsIf l c.reasons_of-self-inside.result s past e) (told_law old e c.keeps_safe-is_safe.result c.keeps_safe-is_safe.new.watch c.hear-law.result c.hear-law.new.self told s past both)
     (reasons_given i.kept c.hear-law.new.self s past e c.hear-law.result c.reasons_of-self-inside.result both.kept both.knows c.hear-law.ensures.same c.reasons_of-self-inside.ensures.none (λ knows. c.reasons_of-self-inside.ensures.some past e refl refl refl knows)))

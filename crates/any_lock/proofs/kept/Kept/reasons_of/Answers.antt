@@ -5,5 +5,5 @@ use Rattle.any_lock.proofs.kept.Kept.reasons_of.Goals as goal
 
 pub returns-in-Some-clause-some : goal.returns-in-Some-clause-some
 returns-in-Some-clause-some c = λ past e p a m knows.
-    subst (λ (l : Option AnyLockLaw). AreReasonsIf c.args.self.now.setup past e l (Some c.reasons.result)) (sym c.in-Some.is)
+    subst (λ (l : Option AnyLockLaw). AreReasonsIf l (Some c.reasons.result) c.args.self.now.setup past e) (sym c.in-Some.is)
     (c.reasons.result, refl, c.reasons.ensures past e p a m knows)

@@ -13,22 +13,28 @@ shut-requires-clause-board c =
     let at = item_at c.args.ports.items 0 c.remove.result some c.remove.ensures.value in
     c.into_parts-first.ensures.table ∙ (c.requires.ports.each 0 c.remove.result at).0.0
 
+pub shut-requires-clause-live : goal.shut-requires-clause-live
+shut-requires-clause-live c = c.into_parts-first.ensures.seat.live
+
 pub shut-requires-clause-first : goal.shut-requires-clause-first
 shut-requires-clause-first c =
+    let at = item_at c.args.ports.items 0 c.remove.result c.requires.some c.remove.ensures.value in
+    c.into_parts-first.ensures.seat.process ∙ (c.requires.ports.each 0 c.remove.result at).1
+
+pub shut-requires-clause-still : goal.shut-requires-clause-still
+shut-requires-clause-still c =
     let some = c.requires.some in
     let at = item_at c.args.ports.items 0 c.remove.result some c.remove.ensures.value in
-    let each = c.requires.ports.each 0 c.remove.result at in
-    let seat = c.into_parts-first.ensures.seat in
-    (seat.live, seat.process ∙ each.1, subst (λ s. IsStill s c.into_parts-first.result.0.me.0.own) each.0.1 seat.still)
+    subst (λ s. IsStill s c.into_parts-first.result.0.me.0.own) (c.requires.ports.each 0 c.remove.result at).0.1 c.into_parts-first.ensures.seat.still
 
 pub shut-requires-clause-others : goal.shut-requires-clause-others
 shut-requires-clause-others c =
     let b = c.args.self in
-    let quiet : AreQuiet c.args.ports.items = c.requires.quiet in (
-      (λ k port e. let r = subst (λ (xs : List PortState). (k : ℕ) (port : PortState) → slice_get xs k ≡ Some port → IsOf b port × (port.view.own.process ≡ suc k)) (sym c.remove.ensures.items)
-          (rest_of (λ k port. IsOf b port × (port.view.own.process ≡ k)) c.args.ports.items c.requires.ports.each) k port e in let z : suc k ≡ 1 + k = omega arith in (r.0.0, r.0.1, r.1 ∙ z)),
-      subst AreQuiet (sym c.remove.ensures.items) (rest_of (λ _ (port : PortState). IsStill port.setup port.view.own) c.args.ports.items quiet),
-    )
+    λ k port e. let r = subst (λ (xs : List PortState). (k : ℕ) (port : PortState) → slice_get xs k ≡ Some port → IsOf b port × (port.view.own.process ≡ suc k)) (sym c.remove.ensures.items)
+    (rest_of (λ k port. IsOf b port × (port.view.own.process ≡ k)) c.args.ports.items c.requires.ports.each) k port e in let z : suc k ≡ 1 + k = omega arith in (r.0.0, r.0.1, r.1 ∙ z)
+
+pub shut-requires-clause-quiet : goal.shut-requires-clause-quiet
+shut-requires-clause-quiet c = subst AreQuiet (sym c.remove.ensures.items) (rest_of (λ _ (port : PortState). IsStill port.setup port.view.own) c.args.ports.items c.requires.quiet)
 
 pub shut-requires-clause-calls : goal.shut-requires-clause-calls
 shut-requires-clause-calls c =

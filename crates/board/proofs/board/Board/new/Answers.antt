@@ -17,8 +17,8 @@ returns-clause-ports c = let b = c.in_ok-board.board in let q = c.new-2 in let h
       all = ap length h ∙ (let all : suc (length c.in_ok-ports.ports.items) ≡ b.setup.processes = omega (arith, n) in all);
       each = subst (λ (xs : List PortState). (k : ℕ) (port : PortState) → slice_get xs k ≡ Some port → IsOf b port × (port.view.own.process ≡ k)) (sym h)
           (all_first (λ k port. IsOf b port × (port.view.own.process ≡ k)) c.in_ok-ports.ports.items q.result
-          (λ k port is. let each = c.in_ok-ports.ensures.each k port is in (each.0, ap (λ (o : OwnView). o.process) each.1)) (
-            (ap (λ (p : PortState). p.table_id) q.ensures ∙ c.in_ok-ports.ensures.board, ap (λ (p : PortState). p.setup) q.ensures ∙ ap (λ (r : ProcessState). r.setup) c.in_ok-first.ensures ∙ sym c.in_ok-board.ensures.0),
+          (λ k port is. (c.in_ok-ports.ensures.made_with k port is, ap (λ (o : OwnView). o.process) (c.in_ok-ports.ensures.idle k port is))) (
+            (ap (λ (p : PortState). p.table_id) q.ensures ∙ c.in_ok-ports.ensures.board, ap (λ (p : PortState). p.setup) q.ensures ∙ ap (λ (r : ProcessState). r.setup) c.in_ok-first.ensures ∙ sym c.in_ok-board.ensures.setup),
             ap (λ (p : PortState). p.view.own.process) q.ensures ∙ ap (λ m. m.0.own.process) c.in_ok-ports.ensures.first,
           ));
     }
@@ -26,5 +26,5 @@ returns-clause-ports c = let b = c.in_ok-board.board in let q = c.new-2 in let h
 pub returns-clause-idle : goal.returns-clause-idle
 returns-clause-idle c = let q = c.new-2 in
     subst (λ (xs : List PortState). (k : ℕ) (port : PortState) → slice_get xs k ≡ Some port → port.view.own ≡ new_own k) (sym c.in_ok-insert.ensures.items)
-    (all_first (λ k (port : PortState). port.view.own ≡ new_own k) c.in_ok-ports.ports.items q.result (λ k port is. (c.in_ok-ports.ensures.each k port is).1)
+    (all_first (λ k (port : PortState). port.view.own ≡ new_own k) c.in_ok-ports.ports.items q.result c.in_ok-ports.ensures.idle
     (ap (λ (p : PortState). p.view.own) q.ensures ∙ ap (λ m. m.0.own) c.in_ok-ports.ensures.first))

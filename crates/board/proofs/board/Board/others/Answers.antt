@@ -1,7 +1,7 @@
 use Rattle.std.proofs.Common.{◌≡◌, ◌+◌, ℕ, suc, List, [], length, vec_len, sym, ap, ◌∙◌, subst, arith}
-use Rattle.std.specs.Prelude.{slice_get, Some}
 use Rattle.process.specs.Processes.{ProcessState}
-use Rattle.board.specs.Boards.{BoardState, IsOf}
+use Rattle.board.specs.Boards.{AreOthersIdle, BoardState, IsOf}
+use Rattle.board.specs.Closings.{AreMadeWith}
 use Rattle.board.specs.Ports.{PortState}
 use Rattle.board.specs.Views.{ViewState, new_own, new_view, with_made}
 use Rattle.board.proofs.PortLists.{all_push}
@@ -18,10 +18,11 @@ loop-number-preserved c = let i = c.loop-number.invariant in let h = c.push_rese
       first = c.newcomer-seat.ensures.first.1 ∙ ap (λ m. let made : ViewState × List (ℕ × Unit {0}) = (with_made m.0, []) in made) i.first;
       len = omega arith;
       room = h.capacity ∙ i.room;
-      each = subst (λ (xs : List PortState). (k : ℕ) (port : PortState) → slice_get xs k ≡ Some port → IsOf c.args.self.now port × (port.view.own ≡ new_own (suc k))) (sym h.items)
-          (all_push (λ k port. IsOf c.args.self.now port × (port.view.own ≡ new_own (suc k))) c.loop-number.ports.items q.result i.each (
-            (ap (λ (p : PortState). p.table_id) q.ensures ∙ c.newcomer-seat.ensures.seat.0, ap (λ (p : PortState). p.setup) q.ensures ∙ ap (λ (r : ProcessState). r.setup) c.in_ok-process.ensures ∙ ap (λ (b : BoardState). b.setup) c.self.view_is),
-            ap (λ (p : PortState). p.view.own) q.ensures ∙ ap (λ m. m.0.own) c.newcomer-seat.ensures.seat.1
-                ∙ ap new_own (ap (λ m. m.0.made) i.first ∙ (let all : c.loop-number.number ≡ suc (length c.loop-number.ports.items) = omega (arith, n) in all)),
-          ));
+      made_with = subst (AreMadeWith c.args.self.now) (sym h.items)
+          (all_push (λ _ port. IsOf c.args.self.now port) c.loop-number.ports.items q.result i.made_with
+          (ap (λ (p : PortState). p.table_id) q.ensures ∙ c.newcomer-seat.ensures.seat.0, ap (λ (p : PortState). p.setup) q.ensures ∙ ap (λ (r : ProcessState). r.setup) c.in_ok-process.ensures ∙ ap (λ (b : BoardState). b.setup) c.self.view_is));
+      idle = subst AreOthersIdle (sym h.items)
+          (all_push (λ k (port : PortState). port.view.own ≡ new_own (suc k)) c.loop-number.ports.items q.result i.idle
+          (ap (λ (p : PortState). p.view.own) q.ensures ∙ ap (λ m. m.0.own) c.newcomer-seat.ensures.seat.1
+          ∙ ap new_own (ap (λ m. m.0.made) i.first ∙ (let all : c.loop-number.number ≡ suc (length c.loop-number.ports.items) = omega (arith, n) in all))));
     }

@@ -1,8 +1,7 @@
-use Rattle.std.proofs.Common.{◌≡◌, ℕ, suc, ◌+◌, [], vec_len, vec_capacity}
-use Rattle.std.specs.Prelude.{slice_get, Some}
-use Rattle.board.specs.Boards.{IsOf}
-use Rattle.board.specs.Ports.{PortState}
-use Rattle.board.specs.Views.{new_own, new_view}
+use Rattle.std.proofs.Common.{◌≡◌, ◌+◌, [], vec_len, vec_capacity}
+use Rattle.board.specs.Boards.{AreOthersIdle}
+use Rattle.board.specs.Closings.{AreMadeWith}
+use Rattle.board.specs.Views.{new_view}
 use Rattle.board.proofs.board.Board.others.Given as goal
 
 abbrev pub invariant-loop-number : goal.invariant-loop-number
@@ -11,5 +10,6 @@ invariant-loop-number l = record {
   first : l.first.me ≡ (new_view 0 l.number, []);
   len : vec_len l.ports + 1 ≡ l.number;
   room : vec_capacity l.ports ≡ l.self.setup.processes;
-  each : (k : ℕ) (port : PortState) → slice_get l.ports.items k ≡ Some port → IsOf l.self port × (port.view.own ≡ new_own (suc k));
+  made_with : AreMadeWith l.self l.ports.items;
+  idle : AreOthersIdle l.ports.items;
 }

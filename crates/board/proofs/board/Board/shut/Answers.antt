@@ -17,11 +17,11 @@ returns-clause-leaves c =
     let j = c.join_all.ensures.joined in
     let v = c.join_all.new.first.me.0 in
     let first = c.args.first.me.0 in
-    let still : IsStill s v.own = subst (IsStill s) (sym j.own) (subst (λ s. IsStill s first.own) (sym same) c.requires.first.2) in
+    let still : IsStill s v.own = subst (IsStill s) (sym j.own) (subst (λ s. IsStill s first.own) (sym same) c.requires.still) in
     let many : vec_len c.args.others + 1 ≡ s.processes = c.requires.all ∙ ap (λ (s : Setup). s.processes) (sym same) in
     let left : Leaves s v.own.calls v.seen c.image_shown-image.result =
-    closes s c.join_all.new.first.id v c.close_with-closed.result.words.items z.0 c.image_shown-image.result (subst (λ s. Agree s z.0.words z.0.views) c.self.invariant.keyed z.1.0) z.1.1 z.2 (j.live ∙ c.requires.first.0)
-    (ap (λ (o : OwnView). o.process) j.own ∙ c.requires.first.1) still (λ p low below. j.joined p low (omega (arith, many))) c.image_shown-image.ensures in
+    closes s c.join_all.new.first.id v c.close_with-closed.result.words.items z.0 c.image_shown-image.result (subst (λ s. Agree s z.0.words z.0.views) c.self.invariant.keyed z.1.0) z.1.1 z.2 (j.live ∙ c.requires.live)
+    (ap (λ (o : OwnView). o.process) j.own ∙ c.requires.first) still (λ p low below. j.joined p low (omega (arith, many))) c.image_shown-image.ensures in
     subst (λ s. Leaves s first.own.calls first.seen c.image_shown-image.result) same
     (subst (λ (o : OwnView). Leaves s o.calls first.seen c.image_shown-image.result) j.own (subst (λ seen. Leaves s v.own.calls seen c.image_shown-image.result) j.seen left))
 

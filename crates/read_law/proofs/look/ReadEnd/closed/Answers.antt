@@ -7,4 +7,4 @@ pub returns-in-Writing-clause-ended : goal.returns-in-Writing-clause-ended
 returns-in-Writing-clause-ended c = λ opening moves h. closed_then Writing opening moves (sym c.in-Writing.is ∙ h)
 
 pub returns-in-Writing-clause-settled : goal.returns-in-Writing-clause-settled
-returns-in-Writing-clause-settled c = λ opening moves value h. closed_then Writing opening moves (sym c.in-Writing.is ∙ h)
+returns-in-Writing-clause-settled c = λ value opening moves h. closed_then Writing opening moves (sym c.in-Writing.is ∙ h)

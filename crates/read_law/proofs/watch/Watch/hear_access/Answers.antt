@@ -1,4 +1,4 @@
-use Rattle.std.proofs.Common.{◌≡◌, ◌∙◌, true≢false, sym, subst}
+use Rattle.std.proofs.Common.{◌∙◌, true≢false, sym, subst}
 use Rattle.laws.specs.Held.{IsThere}
 use Rattle.read_law.specs.Watching.{WatchState}
 use Rattle.read_law.proofs.Hears.{heard_stray, stray_keeps}

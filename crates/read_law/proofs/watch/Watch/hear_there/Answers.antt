@@ -1,8 +1,8 @@
-use Rattle.std.proofs.Common.{◌≡◌, ap, sym, subst, refl, ◌∙◌}
+use Rattle.std.proofs.Common.{sym, subst, refl, ◌∙◌}
 use Rattle.laws.specs.Held.{IsThere}
 use Rattle.read_law.specs.Safe.{KeepsSafe, MatchBool}
 use Rattle.read_law.specs.Watching.{HasHeard, WatchState}
-use Rattle.read_law.proofs.Hears.{AtAccess, heard_written, look_is, place_within, register_within, watch_written}
+use Rattle.read_law.proofs.Hears.{AtAccess, heard_written, look_is, place_within, watch_written}
 use Rattle.read_law.proofs.watch.Watch.hear_there.Goals as goal
 
 pub get-look-requires : goal.get-look-requires

@@ -1,4 +1,4 @@
-use Rattle.std.proofs.Common.{◌≡◌, ◌+◌, ◌*◌, ◌∙◌, arith, refl, sym, ap, subst, ◌++◌, ◌∷◌, []}
+use Rattle.std.proofs.Common.{◌+◌, arith, sym, subst}
 use Rattle.read_law.proofs.Opened.{AreOpened, opened_heard, opened_more, opened_none, opened_watch}
 use Rattle.read_law.proofs.watch.Watch.new.Goals as goal
 
@@ -9,7 +9,7 @@ pub loop-number-preserved : goal.loop-number-preserved
 loop-number-preserved c =
     let l = c.loop-number in
     subst (λ items. AreOpened c.args.setup.now items (l.number + 1)) (sym c.in_ok-push.ensures.items)
-    (opened_more c.args.setup.now l.registers.items l.number c.in_ok-looks.looks l.invariant (record { bits = c.in_ok-looks.ensures.bits; looks = c.in_ok-looks.ensures.looks }))
+    (opened_more c.args.setup.now l.registers.items l.number c.in_ok-looks.looks l.invariant c.in_ok-looks.ensures)
 
 pub invariant_of-result : goal.invariant_of-result
 invariant_of-result c =

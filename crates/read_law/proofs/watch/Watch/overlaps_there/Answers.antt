@@ -1,4 +1,4 @@
-use Rattle.std.proofs.Common.{◌≡◌, subst, sym, ◌∙◌}
+use Rattle.std.proofs.Common.{subst, sym, ◌∙◌}
 use Rattle.record.specs.Moves.{moves_of}
 use Rattle.record.specs.Registers.{opening_bit}
 use Rattle.laws.specs.Held.{IsThere}
