@@ -44,7 +44,7 @@ impl Accepted {
 
 /// A Step that is drawn, and not made yet.
 #[derive(Clone, Copy)]
-pub struct Drawn {
+pub(crate) struct Drawn {
     pub process: u8,
     pub flick: bool,
     /// Its line is of this process alone, and ends where the Step is refused.
@@ -73,7 +73,7 @@ pub enum Told {
 
 /// Turns of a line.
 #[derive(Drop)]
-pub struct Turns {
+pub(crate) struct Turns {
     /// How many Steps without a mark came first.
     pub quiet: u32,
     /// What the turn after them tells; nothing once the line has ended.

@@ -26,7 +26,6 @@ use record::{Event, Refusal, Taken};
 use scenario::Line;
 use std::alloc::{AllocError, Global};
 use std::marker::Model;
-pub use steps::Steppers;
 use world::{Effect, Flicks, Image, World};
 
 /// The Steps that a `go` makes at most.
@@ -84,7 +83,7 @@ impl Course {
     }
 
     /// A line begins.
-    pub fn begin(&mut self, line: &Line)
+    fn begin(&mut self, line: &Line)
         ensures course { self.new ≡ record self.old { left = turns_of line.now } }
         ensures few { self.new.left < 2 ^ 32 }
     {
@@ -102,7 +101,7 @@ impl Course {
 
     /// The turns of the line up to the first that tells more than a Step without a mark: how many such Steps came
     /// before it, and what it tells; nothing once the line has ended.
-    pub fn turns(&mut self, line: &Line) -> Result<Turns, AllocError>
+    fn turns(&mut self, line: &Line) -> Result<Turns, AllocError>
         requires { self.old.left ≤ turns_of line.now }
         ensures left { IfOk result (λ turns. turns.quiet + self.new.left ≤ self.old.left) }
         ensures less { IfOk result (λ turns. IfSome turns.told (λ _. turns.quiet + self.new.left < self.old.left)) }

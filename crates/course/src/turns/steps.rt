@@ -19,7 +19,7 @@ use std::alloc::AllocError;
 
 /// Who makes the next Steps of a line, up to one that has a mark.
 #[derive(Drop)]
-pub enum Steppers {
+pub(super) enum Steppers {
     /// It is not told.
     Untold,
     /// This process, while more than so many turns are left.
@@ -31,7 +31,7 @@ pub enum Steppers {
 impl Course {
     /// Who makes the next Steps of a line that has begun. They make them as long as [`Course::step_drawn`] makes
     /// each; after any other turn it is to be asked anew.
-    pub fn steppers(&self, line: &Line) -> Steppers
+    pub(super) fn steppers(&self, line: &Line) -> Steppers
         ensures { (run : Run) → Follows self.now run → AreNext self.now.world.setup line.now run result }
     {
         match line {
@@ -67,7 +67,7 @@ impl Course {
     /// next, by [`Course::step_drawn`], or else by [`Course::turn_drawn`]. None, if the line has ended, or if who
     /// makes it is not told; then nothing is drawn.
     #[inline]
-    pub fn draw(&mut self, steppers: &Steppers) -> Option<Drawn>
+    pub(super) fn draw(&mut self, steppers: &Steppers) -> Option<Drawn>
         ensures left { self.new.left + drawn_turns result ≤ self.old.left }
         ensures drawn { (l : LineSeen) (run : Run) → Follows self.old run → AreNext self.old.world.setup l run steppers.now → IsReady self.old l run result self.new }
     {
@@ -119,7 +119,7 @@ impl Course {
     /// the next Steps. None where it is not within one, or none was drawn; then nothing is made, and the turn is for
     /// [`Course::turn_drawn`].
     #[inline]
-    pub fn step_drawn(&mut self, drawn: Option<Drawn>) -> Option<Stepped>
+    pub(super) fn step_drawn(&mut self, drawn: Option<Drawn>) -> Option<Stepped>
         ensures left { self.new.left ≡ self.old.left }
         ensures some { OnSome result (drawn_turns drawn ≡ 1) }
         ensures made { IfSome result (λ made. (old : CourseState) (l : LineSeen) (run : Run) → Follows old run → IsReady old l run drawn self.old → MakesStep old l run made self.new) }
@@ -137,7 +137,7 @@ impl Course {
     /// Makes the turn that was drawn, or the next one of the line if none was, and tells it; none once the line has ended.
     /// Who makes the Steps after it is to be asked for anew.
     #[inline(never)]
-    pub fn turn_drawn(
+    pub(super) fn turn_drawn(
         &mut self,
         line: &Line,
         drawn: Option<Drawn>,
