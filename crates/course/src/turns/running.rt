@@ -177,7 +177,7 @@ fn pass_by<L: Listener>(
     if listener.hears_steps() {
         return;
     }
-    let made = world.walk(process, flicks, *left - floor - 1);
+    let made = world.run(process, flicks, *left - floor - 1);
     *left -= made;
     listener.pass(made);
 }

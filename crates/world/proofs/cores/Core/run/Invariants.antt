@@ -1,6 +1,6 @@
 use Rattle.std.proofs.Common.{◌-◌, ◌≤◌}
 use Rattle.world.specs.Cores.{CoreWalks}
-use Rattle.world.proofs.cores.Core.walk.Given as goal
+use Rattle.world.proofs.cores.Core.run.Given as goal
 
 -- so far each step was made without a mark
 abbrev pub invariant-parts : goal.invariant-parts

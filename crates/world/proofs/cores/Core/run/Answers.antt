@@ -1,6 +1,6 @@
 use Rattle.std.proofs.Common.{arith}
 use Rattle.world.proofs.CoreKeeps.{core_walks}
-use Rattle.world.proofs.cores.Core.walk.Goals as goal
+use Rattle.world.proofs.cores.Core.run.Goals as goal
 
 pub parts-preserved : goal.parts-preserved
 parts-preserved c = record {
