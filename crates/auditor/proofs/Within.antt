@@ -1,5 +1,5 @@
 -- An entry with an access and without a mark, of a process that is within a number access.
-use Rattle.std.proofs.Common.{◌≡◌, ℕ, ◌<◌, ◌↔◌, Bool, true, false, true≢false, List, [], length, Option, None, Some, refl, sym, subst, ◌∙◌, arith}
+use Rattle.std.proofs.Common.{◌≡◌, ℕ, ◌<◌, ◌↔◌, Bool, false, true≢false, List, [], Option, None, Some, refl, sym, subst}
 use Rattle.std.specs.Prelude.{IfSome}
 use Rattle.record.specs.declared.access.Access.{Access}
 use Rattle.record.specs.declared.events.Event.TheVariants as event

@@ -1,5 +1,5 @@
 -- What is known of how far processes are within their number accesses, from Step to Step.
-use Rattle.std.proofs.Common.{◌≡◌, ℕ, List, replicate, slice_index, ap, ◌∙◌, arith, inl, inr}
+use Rattle.std.proofs.Common.{◌≡◌, ℕ, Bool, true, false, refl, List, replicate, slice_index, ap, ◌∙◌, arith, inl, inr}
 use Rattle.std.proofs.lemmas.Bool.{cases_eq, cases_lt}
 use Rattle.std.proofs.lemmas.List.{get_or-replicate, get_or_past, length-replicate}
 use Rattle.world.specs.Seats.{Seat}
@@ -21,3 +21,8 @@ counted_still within p old new known unknown others q = elim (cases_eq q p) [
       let before = known q in
       omega (arith, bits, before)
 ]
+
+-- where some bits are known, a listener does not hear each Step
+pub unheard_bits : (hears : Bool) (bits : ℕ) → (hears ≡ true → bits ≡ 0) → (bits ≡ 0 → ⊥) → hears ≡ false
+unheard_bits false bits none some = refl
+unheard_bits true bits none some = absurd (some (none refl))

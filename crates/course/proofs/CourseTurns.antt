@@ -21,7 +21,7 @@ use Rattle.world.specs.Events.{Adds, GoesOn, IsTurnedAway, entry_with, stage_in}
 use Rattle.world.specs.flicks.Flicks.{FlickState, after_set}
 use Rattle.world.specs.flicks.declared.Flick.{Flick}
 use Rattle.world.specs.Shows.{Shows, WorldState}
-use Rattle.course.specs.Courses.{CourseState, Follows, Makes, MakesTurns, QuietTurns, course}
+use Rattle.course.specs.Courses.{CourseState, Follows, Makes, course}
 use Rattle.course.specs.Happenings.{Tries, Lacks, Looks, tried}
 use Rattle.course.specs.Runs.{Run, has_step, is_there, past_in}
 use Rattle.course.specs.Telling.{TellsOf}
@@ -30,7 +30,6 @@ use Rattle.course.specs.Turns.{Turn, ends, go_turn, happens, next_turn, on_turn,
 use Rattle.course.specs.declared.told.Accepted.{Accepted}
 use Rattle.course.specs.declared.told.Told.{Told}
 use Rattle.course.specs.declared.told.Told.TheVariants as told
-use Rattle.course.specs.declared.told.Turns.{Turns}
 use Rattle.course.proofs.Refusals.{shows_refused}
 
 -- what was taken before an event is what the world keeps
@@ -38,20 +37,19 @@ pub place_is : (w : WorldState) (events : List Event) (taken : List Taken) (plac
 place_is w events taken place shows are is = ap (λ (w : WorldState). length w.history) shows.shown ∙ ap length (sym are) ∙ sym is
 
 -- an event that is accepted
-pub event_accepted : (w w' : WorldState) (flicks : FlickState) (left : ℕ) (made : Accepted) (taken : List Taken) (turns : Turns) → ((events : List Event) → Shows w events → taken ≡ history w.setup (past_of w.setup events)) → made.place ≡ length taken →
-    Adds w made.event (process_of made.event) (act_of (length w.history) (record { access = made.access; effect = made.effect })) → GoesOn w made.event w' → w'.setup ≡ w.setup → turns ≡ record { quiet = 0; told = Some (told.Accepted made) } →
-    (run : Run) → Follows (course w flicks left) run → Makes (course w flicks left) run (happens (Tries made.event) (left - 1) run) turns.told (course w' flicks (left - 1))
-event_accepted w w' flicks left made taken turns taken_is place_at adds on same are run follows =
+pub event_accepted : (w w' : WorldState) (flicks : FlickState) (left : ℕ) (made : Accepted) (taken : List Taken) → ((events : List Event) → Shows w events → taken ≡ history w.setup (past_of w.setup events)) → made.place ≡ length taken →
+    Adds w made.event (process_of made.event) (act_of (length w.history) (record { access = made.access; effect = made.effect })) → GoesOn w made.event w' → w'.setup ≡ w.setup →
+    (run : Run) → Follows (course w flicks left) run → Makes (course w flicks left) run (happens (Tries made.event) (left - 1) run) (Some (told.Accepted made)) (course w' flicks (left - 1))
+event_accepted w w' flicks left made taken taken_is place_at adds on same run follows =
     let at : length w.history ≡ made.place = place_is w (tried run.happened) taken made.place follows.shows (taken_is (tried run.happened) follows.shows) place_at in
     let family : ℕ → Type 0 = λ n. entry_of w.setup (past_in w.setup run) made.event ≡ Some (entry_with (process_of made.event) (act_of n (record { access = made.access; effect = made.effect }))) in
     let entry : family made.place = subst family at (adds (tried run.happened) follows.shows) in
-    subst (λ (answer : Option Told). Makes (course w flicks left) run (happens (Tries made.event) (left - 1) run) answer (course w' flicks (left - 1))) (sym (ap (λ (turns : Turns). turns.told) are))
-    (record {
+    record {
       tells = (refl, entry);
       follows = record { shows = on (tried run.happened) follows.shows; flicks = follows.flicks };
       left = refl;
       setup = same;
-    })
+    }
 
 -- an event that is refused
 pub event_refused : (w w' : WorldState) (flicks : FlickState) (left p : ℕ) (event : Event) (r : Refusal) → p ≡ process_of event → is_event event ≡ true → IsTurnedAway w event r → (r ≡ Memory → ⊥) → w' ≡ w →
@@ -70,13 +68,13 @@ event_refused w w' flicks left p event r is given (inl away) other same run foll
     }
 
 -- an event that is turned away, where that is told
-pub event_refused_by : (w w' : WorldState) (flicks : FlickState) (left p : ℕ) (event : Event) (r : Refusal) (result : Result Turns AllocError) → p ≡ process_of event → is_event event ≡ true → IsTurnedAway w event r → w' ≡ w →
-    IfOk result (λ turns. (turns ≡ record { quiet = 0; told = Some (told.Refused p r) }) × (r ≡ Memory → ⊥)) →
-    IfOk result (λ turns. (run : Run) → Follows (course w flicks left) run → Makes (course w flicks left) run (happens (Tries event) (left - 1) run) turns.told (course w' flicks (left - 1)))
+pub event_refused_by : (w w' : WorldState) (flicks : FlickState) (left p : ℕ) (event : Event) (r : Refusal) (result : Result (Option Told) AllocError) → p ≡ process_of event → is_event event ≡ true → IsTurnedAway w event r → w' ≡ w →
+    IfOk result (λ answer. (answer ≡ Some (told.Refused p r)) × (r ≡ Memory → ⊥)) →
+    IfOk result (λ answer. (run : Run) → Follows (course w flicks left) run → Makes (course w flicks left) run (happens (Tries event) (left - 1) run) answer (course w' flicks (left - 1)))
 event_refused_by w w' flicks left p event r (Err e) is given away same answered = tt
-event_refused_by w w' flicks left p event r (Ok turns) is given away same answered =
+event_refused_by w w' flicks left p event r (Ok answer) is given away same answered =
     let family : Option Told → Type 0 = λ answer. (run : Run) → Follows (course w flicks left) run → Makes (course w flicks left) run (happens (Tries event) (left - 1) run) answer (course w' flicks (left - 1)) in
-    subst family (sym (ap (λ (turns : Turns). turns.told) answered.0)) (event_refused w w' flicks left p event r is given away answered.1 same)
+    subst family (sym answered.0) (event_refused w w' flicks left p event r is given away answered.1 same)
 
 -- a process that is not there
 pub beyond_told : (w : WorldState) (p : ℕ) (events : List Event) → Shows w events → stage_in w.setup (past_of w.setup events) p ≡ None → nat_lt p w.setup.processes ≡ false
@@ -135,45 +133,22 @@ pub turn_next : (s : Setup) (line : Line) (left : ℕ) (run : Run) → (left ≡
 turn_next s line zero run some_left = absurd (some_left refl)
 turn_next s line (suc left) run some_left = ap (λ n. next_turn s line n run) (omega arith)
 
--- a turn that is made with none before it
-pub one_made : (old new : CourseState) (line : Line) (turns : Turns) → turns.quiet ≡ 0 → ((run : Run) → Follows old run → Makes old run (turn_of old.world.setup line old.left run) turns.told new) →
-    (run : Run) → Follows old run → MakesTurns old line run turns new
-one_made old new line turns none makes run follows = record {
-  left = old.left;
-  now = run;
-  quiet = subst (λ n. QuietTurns old.world.setup line n old.left run old.left run) (sym none) (refl, refl);
-  makes = makes run follows;
-}
-
--- and back
-pub alone_made : (old new : CourseState) (line : Line) (turns : Turns) (run : Run) → turns.quiet ≡ 0 → MakesTurns old line run turns new → Makes old run (turn_of old.world.setup line old.left run) turns.told new
-alone_made old new line turns run none m =
-    let same : (m.left ≡ old.left) × (m.now ≡ run) = subst (λ n. QuietTurns old.world.setup line n old.left run m.left m.now) none m.quiet in
-    subst (λ n. Makes old run (turn_of old.world.setup line n run) turns.told new) same.0 (subst (λ (r : Run). Makes old r (turn_of old.world.setup line m.left r) turns.told new) same.1 m.makes)
-
--- it is the next turn of its line
-pub turn_made : (old new : CourseState) (line l : Line) (turns : Turns) → turns.quiet ≡ 0 → (old.left ≡ 0 → ⊥) → line ≡ l →
-    ((run : Run) → Follows old run → Makes old run (next_turn old.world.setup l (old.left - 1) run) turns.told new) → (run : Run) → Follows old run → MakesTurns old line run turns new
-turn_made old new line l turns none some_left is makes = one_made old new line turns none
-    (λ run follows. subst (λ (turn : Turn). Makes old run turn turns.told new) (sym (ap (λ line. turn_of old.world.setup line old.left run) is ∙ turn_next old.world.setup l old.left run some_left)) (makes run follows))
-
--- the same, where it is known what it tells
-pub one_told : (old new : CourseState) (line l : Line) (turns : Turns) (answer : Option Told) → turns ≡ record { quiet = 0; told = answer } → (old.left ≡ 0 → ⊥) → line ≡ l →
-    ((run : Run) → Follows old run → Makes old run (next_turn old.world.setup l (old.left - 1) run) answer new) → (run : Run) → Follows old run → MakesTurns old line run turns new
-one_told old new line l turns answer are some_left is makes = turn_made old new line l turns (ap (λ (turns : Turns). turns.quiet) are) some_left is
-    (subst (λ (answer : Option Told). (run : Run) → Follows old run → Makes old run (next_turn old.world.setup l (old.left - 1) run) answer new) (sym (ap (λ (turns : Turns). turns.told) are)) makes)
+-- the next turn of a line is the turn of what it says
+pub turn_made : (old new : CourseState) (line l : Line) (answer : Option Told) → (old.left ≡ 0 → ⊥) → line ≡ l →
+    ((run : Run) → Follows old run → Makes old run (next_turn old.world.setup l (old.left - 1) run) answer new) → (run : Run) → Follows old run → Makes old run (turn_of old.world.setup line old.left run) answer new
+turn_made old new line l answer some_left is makes run follows =
+    subst (λ (turn : Turn). Makes old run turn answer new) (sym (ap (λ line. turn_of old.world.setup line old.left run) is ∙ turn_next old.world.setup l old.left run some_left)) (makes run follows)
 
 -- the same, where there was memory
-pub turn_made_by : (old new : CourseState) (line l : Line) (result : Result Turns AllocError) → IfOk result (λ turns. turns.quiet ≡ 0) → (old.left ≡ 0 → ⊥) → line ≡ l →
-    IfOk result (λ turns. (run : Run) → Follows old run → Makes old run (next_turn old.world.setup l (old.left - 1) run) turns.told new) → IfOk result (λ turns. (run : Run) → Follows old run → MakesTurns old line run turns new)
-turn_made_by old new line l (Ok turns) none some_left is makes = turn_made old new line l turns none some_left is makes
-turn_made_by old new line l (Err e) none some_left is makes = tt
+pub turn_made_by : (old new : CourseState) (line l : Line) (result : Result (Option Told) AllocError) → (old.left ≡ 0 → ⊥) → line ≡ l →
+    IfOk result (λ answer. (run : Run) → Follows old run → Makes old run (next_turn old.world.setup l (old.left - 1) run) answer new) → IfOk result (λ answer. (run : Run) → Follows old run → Makes old run (turn_of old.world.setup line old.left run) answer new)
+turn_made_by old new line l (Ok answer) some_left is makes = turn_made old new line l answer some_left is makes
+turn_made_by old new line l (Err e) some_left is makes = tt
 
 -- a line that has ended
-pub turn_ended : (old : CourseState) (line : Line) (turns : Turns) → turns ≡ record { quiet = 0; told = None } → old.left ≡ 0 → (run : Run) → Follows old run → MakesTurns old line run turns old
-turn_ended old line turns are none = one_made old old line turns (ap (λ (turns : Turns). turns.quiet) are)
-    (λ run follows. subst (λ (answer : Option Told). Makes old run (turn_of old.world.setup line old.left run) answer old) (sym (ap (λ (turns : Turns). turns.told) are))
-    (subst (λ n. Makes old run (turn_of old.world.setup line n run) None old) (sym none) (record { tells = tt; follows = record { shows = follows.shows; flicks = follows.flicks }; left = none; setup = refl })))
+pub turn_ended : (old : CourseState) (line : Line) → old.left ≡ 0 → (run : Run) → Follows old run → Makes old run (turn_of old.world.setup line old.left run) None old
+turn_ended old line none run follows =
+    subst (λ n. Makes old run (turn_of old.world.setup line n run) None old) (sym none) (record { tells = tt; follows = record { shows = follows.shows; flicks = follows.flicks }; left = none; setup = refl })
 
 -- a line that sets where flicks come from
 pub flick_made : (w : WorldState) (flicks flicks' : FlickState) (left : ℕ) (flick : Flick) → left ≤ 1 → flicks' ≡ after_set flick flicks →

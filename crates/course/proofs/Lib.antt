@@ -5,14 +5,14 @@ pub use Rattle.record.proofs as «record»
 -- The turns of a line
 pub mod TurnLaw
 pub mod CourseTurns
-pub mod Walks
+pub mod StepsTold
+pub mod Runnings
 pub mod Goes
+pub mod Alone
 pub mod Movers
 pub mod Wanders
 pub mod Counted
-pub mod Nexts
 pub mod Refusals
-pub mod Steppings
 pub mod InTurn
 -- What happens in a run, and its text
 pub mod Grows

@@ -1,52 +1,24 @@
 -- A line that is being played: what was heard of it, and what is left.
-use Rattle.std.proofs.Common.{◌≡◌, ℕ, zero, suc, ◌+◌, ◌<◌, ◌≤◌, List, [], ◌∷◌, ◌++◌, map, Option, None, Some, Result, Ok, Err, IfErr, IfSome, IsErrAnd, refl, ap, sym, subst, ◌∙◌, arith}
+use Rattle.std.proofs.Common.{◌≡◌, ℕ, ◌<◌, ◌≤◌, List, [], ◌∷◌, ◌++◌, map, Option, None, Some, Result, Ok, Err, IfErr, IfOk, IsErrAnd, refl, ap, sym, subst, ◌∙◌, arith}
 use Rattle.plain_store.specs.declared.setups.Setup.{Setup}
 use Rattle.plain_store.specs.Setups.{checked}
 use Rattle.record.specs.declared.events.Event.{Event}
-use Rattle.record.specs.declared.events.Event.TheVariants.{Step}
 use Rattle.record.specs.declared.history.Taken.{Taken}
 use Rattle.record.specs.Given.{AreGiven}
 use Rattle.record.specs.Histories.{history}
-use Rattle.record.specs.Records.{entry_of}
 use Rattle.scenario.specs.declared.lines.Line.{Line}
 use Rattle.scenario.specs.files.declared.faults.Fault.{Fault}
-use Rattle.course.specs.Courses.{CourseState, Follows, IsQuiet, MakesTurns, QuietTurns}
-use Rattle.course.specs.Happenings.{Happening, Tries, Lacks, Tires, Looks, past_after, tried}
-use Rattle.course.specs.Listening.{ComesTo, Happens, PassQuietly, Plays, StepsOn, room_wanted}
+use Rattle.course.specs.Courses.{CourseState, Follows}
+use Rattle.course.specs.Happenings.{Happening, Tries, past_after, tried}
+use Rattle.course.specs.Listening.{ComesTo, Happens, Plays, room_wanted}
 use Rattle.course.specs.Runs.{Run, past_in, run_after, run_at_start, runs}
-use Rattle.course.specs.Steppers.{AreNext, IsReady, MakesStep}
-use Rattle.course.specs.Telling.{Tells, TellsOf, told_unmarked}
+use Rattle.course.specs.Telling.{Tells}
 use Rattle.course.specs.Turns.{Turn, rest_of, turn_of, turns_in}
-use Rattle.course.specs.declared.told.Drawn.{Drawn}
-use Rattle.course.specs.declared.told.Stepped.{Stepped}
 use Rattle.course.specs.declared.told.Told.{Told}
-use Rattle.course.specs.declared.told.Turns.{Turns}
-use Rattle.course.specs.declared.turns.steps.Steppers.{Steppers}
 use Rattle.course.proofs.Grows.{Grows, rest_grows}
-use Rattle.course.proofs.Steppings.{Draws, StepsNext, TellsNext}
-use Rattle.course.proofs.TurnLaw.{rest_none, rest_whole, turn_less, turn_on}
+use Rattle.course.proofs.Runnings.{rest_quiet}
+use Rattle.course.proofs.TurnLaw.{rest_none, rest_whole, turn_on}
 use Rattle.course.proofs.Underways.{Turned, One, Nothing, silent_one, told_none, told_one, turned}
-use Rattle.course.proofs.Walks.{turns_then}
-
--- turns without a mark leave what is to be done
-rest_quiet : (s : Setup) (line : Line) (quiet left : ℕ) (run : Run) (left' : ℕ) (run' : Run) → left ≤ turns_in line → QuietTurns s line quiet left run left' run' → (left' ≤ turns_in line) × (rest_of s line left run ≡ rest_of s line left' run')
-rest_quiet s line zero left run left' run' few (same, at) = (omega (arith, same, few), λ i. rest_of s line (sym same i) (sym at i))
-rest_quiet s line (suc quiet) left run left' run' few (first, more) =
-    let less = turn_less s line left run in
-    let next = rest_quiet s line quiet (turn_of s line left run).left (turn_of s line left run).run left' run' (omega (arith, less, few)) more in
-    (next.0, turn_on s line left run few ∙ next.1)
-
--- they are passed by
-quiet_passes : (s : Setup) (line : Line) (quiet left : ℕ) (run : Run) (left' : ℕ) (run' : Run) → QuietTurns s line quiet left run left' run' → PassQuietly s quiet run.happened run'.happened
-quiet_passes s line zero left run left' run' (same, at) = ap (λ (r : Run). r.happened) at
-quiet_passes s line (suc quiet) left run left' run' (first, more) = by (turned s line left run) (quiet_passes s line quiet (turn_of s line left run).left (turn_of s line left run).run left' run' more)
-  where
-    t : Turn
-    t = turn_of s line left run
-
-    by : Turned t run.happened → PassQuietly s quiet t.run.happened run'.happened → PassQuietly s (suc quiet) run.happened run'.happened
-    by (Nothing none ended same) rest = absurd (subst (λ o. IsQuiet s (past_in s run) o) none first)
-    by (One this some same) rest = (this, subst (λ o. IsQuiet s (past_in s run) o) some first, subst (λ l. PassQuietly s quiet l run'.happened) same rest)
 
 -- what a course shows is of a good setup, and given
 good_of : (s : Setup) (course : CourseState) (run : Run) → course.world.setup ≡ s → Follows course run → (checked s ≡ Ok tt) × AreGiven s (tried run.happened)
@@ -91,47 +63,6 @@ pub record Played {L : Type 0} (Hears : L → Setup → List Happening → List 
   pub setup : course.world.setup ≡ s
   pub hears : Hears was s start.happened now.happened is
   pub rest : rest_of s line course.left now ≡ run_after s line start
-
--- Steps of a line without a mark, which were heard
-pub record Stepping {L : Type 0} (Hears : L → Setup → List Happening → List Happening → L → Type 0) (s : Setup) (line : Line) (had : ℕ) (start : Run) (was : L) (course : CourseState) (steppers : Steppers) (is : L) : Type 0 where
-  pub quiet : ℕ
-  pub now : Run
-  pub turns : QuietTurns s line quiet had start course.left now
-  pub follows : Follows course now
-  pub setup : course.world.setup ≡ s
-  pub hears : Hears was s start.happened now.happened is
-  pub next : AreNext s line now steppers
-
--- the Step that is made, of a turn that tells one without a mark
-record Steps1 (s : Setup) (line : Line) (left : ℕ) (now : Run) (made : Stepped) : Type 0 where
-  same : (turn_of s line left now).run.happened ≡ Tries (Step made.process made.flick) ∷ now.happened
-  quiet : IsQuiet s (past_in s now) (turn_of s line left now).this
-  on : StepsOn s now.happened made
-
-step_of : (s : Setup) (before : List Happening) (this : Happening) (made : Stepped) → TellsOf s (past_after s before) this (told_unmarked made) →
-    (this ≡ Tries (Step made.process made.flick)) × (entry_of s (past_after s before) (Step made.process made.flick) ≡ Some (record { process = made.process; access = Some made.access; marks = [] }))
-step_of s before (Tries event) made (is, adds) = (ap Tries (sym is), subst (λ (e : Event). entry_of s (past_after s before) e ≡ Some (record { process = made.process; access = Some made.access; marks = [] })) (sym is) adds)
-step_of s before (Lacks p) made tells = absurd tells
-step_of s before (Tires p) made tells = absurd tells
-step_of s before Looks made tells = absurd tells
-
-steps_one : (s : Setup) (line : Line) (left : ℕ) (now : Run) (made : Stepped) (course : CourseState) → Tells s (past_in s now) (turn_of s line left now).this (Some (told_unmarked made)) → Follows course (turn_of s line left now).run → course.world.setup ≡ s → Steps1 s line left now made
-steps_one s line left now made course tells follows setup = by (turned s line left now)
-  where
-    t : Turn
-    t = turn_of s line left now
-
-    by : Turned t now.happened → Steps1 s line left now made
-    by (Nothing none ended same) = absurd (told_none s (past_in s now) t.this (told_unmarked made) none tells)
-    by (One this some same) =
-        let both = good_of s course t.run setup follows in
-        let step = step_of s now.happened this made (told_one s (past_in s now) t.this this (told_unmarked made) some tells) in
-        let is = same ∙ ap (λ (this : Happening). this ∷ now.happened) step.0 in
-        record {
-          same = is;
-          quiet = subst (λ o. IsQuiet s (past_in s now) o) (sym (some ∙ ap Some step.0)) (Some made.access, step.1);
-          on = record { good = both.0; given = subst (λ l. AreGiven s (tried l)) is both.1; adds = step.1 };
-        }
 
 module _ {L : Type 0} (Hears : L → Setup → List Happening → List Happening → L → Type 0) where
   pub played_start : (s : Setup) (line : Line) (start : Run) (old course : CourseState) (a : L) → ((a : L) (s : Setup) (x : List Happening) → Hears a s x x a) → old.world.setup ≡ s → course ≡ record old { left = turns_in line } → Follows old start → Played Hears s line start a course a
@@ -215,91 +146,6 @@ module _ {L : Type 0} (Hears : L → Setup → List Happening → List Happening
           (stops_on was is is' s start.happened u.now.happened (rest_of s line course.left u.now).happened fault u.hears
           (subst (λ s. Stops is s u.now.happened (rest_of s line course.left u.now).happened fault is') u.setup (cut u.now u.follows)))
 
-  -- turns without a mark are passed by, before the one that tells
-  pub passed : (old new : CourseState) (line : Line) (run : Run) (turns : Turns) (a b : L) → MakesTurns old line run turns new → ((s : Setup) (before after : List Happening) → PassQuietly s turns.quiet before after → Hears a s before after b) → ComesTo Hears old.world.setup line old.left run a b turns.told new
-  passed old new line run turns a b m pass = record {
-    quiet = turns.quiet;
-    left = m.left;
-    now = m.now;
-    turns = m.quiet;
-    hears = pass old.world.setup run.happened m.now.happened (quiet_passes old.world.setup line turns.quiet old.left run m.left m.now m.quiet);
-    tells = m.makes.tells;
-    follows = m.makes.follows;
-    left_is = m.makes.left;
-    setup = m.makes.setup;
-  }
-
-  pub stepping_start : (line : Line) (start : Run) (course : CourseState) (steppers : Steppers) (a : L) → ((a : L) (s : Setup) (x : List Happening) → Hears a s x x a) → Follows course start → AreNext course.world.setup line start steppers → Stepping Hears course.world.setup line course.left start a course steppers a
-  stepping_start line start course steppers a nothing follows next = record {
-    quiet = 0;
-    now = start;
-    turns = (refl, refl);
-    follows = record { shows = follows.shows; flicks = follows.flicks };
-    setup = refl;
-    hears = nothing a course.world.setup start.happened;
-    next = next;
-  }
-
-  module _ (s : Setup) (line : Line) (had : ℕ) (start : Run) (was is : L) (course ready course' : CourseState) (steppers : Steppers) (drawn : Option Drawn) (draws : Draws course line steppers drawn ready) (u : Stepping Hears s line had start was course steppers is) where
-    is_ready : IsReady course line u.now drawn ready
-    is_ready = draws u.now u.follows (subst (λ (s : Setup). AreNext s line u.now steppers) (sym u.setup) u.next)
-
-    -- the Step that is made next
-    step_next : (made : Stepped) → StepsNext course ready line drawn made course' → MakesStep course line u.now made course'
-    step_next made steps = steps u.now u.follows is_ready
-
-    step_one : (made : Stepped) (m : MakesStep course line u.now made course') → Steps1 s line course.left u.now made
-    step_one made m =
-        let family : Setup → Type 0 = λ s. course'.world.setup ≡ s → Steps1 s line course.left u.now made in
-        subst family u.setup (λ same. steps_one course.world.setup line course.left u.now made course' m.makes.tells m.makes.follows m.makes.setup) (m.makes.setup ∙ u.setup)
-
-    pub stepping_on : (is' : L) (made : Stepped) → ((a b c : L) (s : Setup) (x y z : List Happening) → Hears a s x y b → Hears b s y z c → Hears a s x z c) → StepsNext course ready line drawn made course' →
-        ((s : Setup) (before : List Happening) → StepsOn s before made → Hears is s before (Tries (Step made.process made.flick) ∷ before) is') → Stepping Hears s line had start was course' steppers is'
-    stepping_on is' made hears_on steps heard =
-        let m : MakesStep course line u.now made course' = step_next made steps in
-        let one = step_one made m in
-        let t : Turn = turn_of s line course.left u.now in
-        let follows : Follows course' t.run = subst (λ s. Follows course' (turn_of s line course.left u.now).run) u.setup m.makes.follows in
-        let left : course'.left ≡ t.left = subst (λ s. course'.left ≡ (turn_of s line course.left u.now).left) u.setup m.makes.left in
-        record {
-          quiet = u.quiet + 1;
-          now = t.run;
-          turns = subst (λ n. QuietTurns s line (u.quiet + 1) had start n t.run) (sym left) (turns_then s line u.quiet 1 had start course.left u.now t.left t.run u.turns (one.quiet, (refl, refl)));
-          follows = follows;
-          setup = m.makes.setup ∙ u.setup;
-          hears = hears_on was is is' s start.happened u.now.happened t.run.happened u.hears (subst (λ l. Hears is s u.now.happened l is') (sym one.same) (heard s u.now.happened one.on));
-          next = subst (λ (s : Setup). AreNext s line (turn_of s line course.left u.now).run steppers) u.setup (m.next steppers (subst (λ (s : Setup). AreNext s line u.now steppers) (sym u.setup) u.next));
-        }
-
-    pub stepping_told : (answer : Option Told) → TellsNext course ready line drawn answer course' → ComesTo Hears s line had start was is answer course'
-    stepping_told answer tells =
-        let makes = tells u.now u.follows is_ready in
-        let family : Setup → Type 0 = λ s. (QuietTurns s line u.quiet had start course.left u.now) → Hears was s start.happened u.now.happened is → course.world.setup ≡ s → ComesTo Hears s line had start was is answer course' in
-        subst family u.setup (λ turns hears same. record { quiet = u.quiet; left = course.left; now = u.now; turns = turns; hears = hears; tells = makes.tells; follows = makes.follows; left_is = makes.left; setup = makes.setup }) u.turns u.hears u.setup
-
-    module _ (Stops : L → Setup → List Happening → List Happening → Fault → L → Type 0) (stops_on : (a b c : L) (s : Setup) (x y z : List Happening) (fault : Fault) → Hears a s x y b → Stops b s y z fault c → Stops a s x z fault c)
-        (stops_before : (a b : L) (s : Setup) (x y more : List Happening) (fault : Fault) → Stops a s x y fault b → Stops a s x (more ++ y) fault b) (few : had ≤ turns_in line) where
-      -- a fault as it is heard
-      pub stepping_cut : (is' : L) (made : Stepped) (fault : Fault) → StepsNext course ready line drawn made course' → ((s : Setup) (before : List Happening) → StepsOn s before made → Stops is s before (Tries (Step made.process made.flick) ∷ before) fault is') → Stops was s start.happened (rest_of s line had start).happened fault is'
-      stepping_cut is' made fault steps cut =
-          let one = step_one made (step_next made steps) in
-          let t : Turn = turn_of s line course.left u.now in
-          let q = rest_quiet s line u.quiet had start course.left u.now few u.turns in
-          let more : Grows t.run.happened (rest_of s line t.left t.run).happened = rest_grows s line t.left t.run in
-          let here : List Happening = Tries (Step made.process made.flick) ∷ u.now.happened in
-          let all : (rest_of s line had start).happened ≡ more.more ++ here = ap (λ (r : Run). r.happened) (q.1 ∙ turn_on s line course.left u.now q.0) ∙ more.is ∙ ap (λ l. more.more ++ l) one.same in
-          subst (λ l. Stops was s start.happened l fault is') (sym all)
-          (stops_on was is is' s start.happened u.now.happened (more.more ++ here) fault u.hears (stops_before is is' s u.now.happened here more.more fault (cut s u.now.happened one.on)))
-
-      -- or before the turn that comes next
-      pub stepping_torn : (fault : Fault) → Stops is s u.now.happened u.now.happened fault is → Stops was s start.happened (rest_of s line had start).happened fault is
-      stepping_torn fault cut =
-          let q = rest_quiet s line u.quiet had start course.left u.now few u.turns in
-          let more : Grows u.now.happened (rest_of s line course.left u.now).happened = rest_grows s line course.left u.now in
-          let all : (rest_of s line had start).happened ≡ more.more ++ u.now.happened = ap (λ (r : Run). r.happened) q.1 ∙ more.is in
-          subst (λ l. Stops was s start.happened l fault is) (sym all)
-          (stops_on was is is s start.happened u.now.happened (more.more ++ u.now.happened) fault u.hears (stops_before is is s u.now.happened u.now.happened more.more fault cut))
-
 -- a fault before anything is heard
 pub unheard : {L : Type 0} (Stops : L → Setup → List Happening → List Happening → Fault → L → Type 0) (s : Setup) (line : Line) (left : ℕ) (run : Run) (a : L) (fault : Fault) → ((a b : L) (s : Setup) (x y more : List Happening) (fault : Fault) → Stops a s x y fault b → Stops a s x (more ++ y) fault b) →
     Stops a s run.happened run.happened fault a → Stops a s run.happened (rest_of s line left run).happened fault a
@@ -337,13 +183,13 @@ between_good s lines course P u = subst (λ (r : Run). (checked s ≡ Ok tt) × 
 
 -- Room, and faults that are passed on.
 
-pub wanted_less : (told : Option Told) (n k m : ℕ) → IfSome told (λ _. n < k) → k ≤ m → room_wanted told n ≤ m
-wanted_less None n k m less most = omega arith
-wanted_less (Some told) n k m less most = omega (arith, less, most)
+pub wanted_one : (told : Option Told) (n m : ℕ) → n < m → room_wanted told n ≤ m
+wanted_one None n m less = omega (arith, less)
+wanted_one (Some told) n m less = omega (arith, less)
 
-pub wanted_sum : (told : Option Told) (k n m : ℕ) → k + n ≤ m → IfSome told (λ _. k + n < m) → k + room_wanted told n ≤ m
-wanted_sum None k n m most less = omega (arith, most)
-wanted_sum (Some told) k n m most less = omega (arith, less)
+pub wanted_by : {E : Type 0} (r : Result (Option Told) E) (n m : ℕ) → n < m → IfOk r (λ told. room_wanted told n ≤ m)
+wanted_by (Ok told) n m less = wanted_one told n m less
+wanted_by (Err e) n m less = tt
 
 pub on_fault : {A : Type 0} (r : Result A Fault) (e : Fault) (P : Fault → Type 0) → IsErrAnd r (λ x. x ≡ e) → P e → IfErr r P
 on_fault (Ok a) e P is p = tt

@@ -6,7 +6,6 @@ use Rattle.record.specs.Stages.{stage}
 use Rattle.scenario.specs.declared.lines.Line.{Line}
 use Rattle.scenario.specs.declared.lines.Line.TheVariants as line
 use Rattle.scenario.specs.declared.lines.Target.{Target}
-use Rattle.course.specs.Courses.{CourseState, Follows, Makes, QuietTurns}
 use Rattle.course.specs.Happenings.{Happening, Lacks}
 use Rattle.course.specs.Runs.{Run, is_there, movers, past_in}
 use Rattle.course.specs.Summaries.{counted}
@@ -15,7 +14,6 @@ use Rattle.course.specs.Turns.{Turn, ends, go_turn, happens, on_turn, turn_of, w
 use Rattle.course.specs.declared.summaries.Summary.{Summary}
 use Rattle.course.specs.declared.told.Told.{Told}
 use Rattle.course.specs.declared.told.Told.TheVariants as told
-use Rattle.course.specs.declared.told.Turns.{Turns}
 pub use Rattle.course.proofs.Counting.{with_events}
 
 -- what has happened after a turn: one thing more, or nothing, and then the line has ended
@@ -51,18 +49,6 @@ turned s (line.Flick flick) (suc left) run = Nothing refl refl refl
 turned s (line.Wander n) (suc left) run = wander_turned left run (movers s (past_in s run))
 turned s line.Show (suc left) run = One _ refl refl
 
--- what a turn tells, said of the setup
-pub record Said (s : Setup) (line : Line) (had : ℕ) (now : Run) (answer : Option Told) (course : CourseState) : Type 0 where
-  pub tells : Tells s (past_in s now) (turn_of s line had now).this answer
-  pub follows : Follows course (turn_of s line had now).run
-  pub left : course.left ≡ (turn_of s line had now).left
-  pub setup : course.world.setup ≡ s
-
-pub said : (s : Setup) (line : Line) (now : Run) (answer : Option Told) (course course' : CourseState) → course.world.setup ≡ s → Makes course now (turn_of course.world.setup line course.left now) answer course' → Said s line course.left now answer course'
-said s line now answer course course' setup made =
-    let family : Setup → Type 0 = λ s. Said s line course.left now answer course' in
-    subst family setup (record { tells = made.tells; follows = made.follows; left = made.left; setup = made.setup })
-
 -- where something is told, it is what happens
 pub told_one : (s : Setup) (past : Past) (o : Option Happening) (this : Happening) (answer : Told) → o ≡ Some this → Tells s past o (Some answer) → TellsOf s past this answer
 told_one s past o this answer is tells = subst (λ o. Tells s past o (Some answer)) is tells
@@ -72,13 +58,6 @@ told_none s past o answer is tells = subst (λ o. Tells s past o (Some answer)) 
 
 pub silent_one : (s : Setup) (past : Past) (o : Option Happening) (this : Happening) → o ≡ Some this → Tells s past o None → ⊥
 silent_one s past o this is tells = subst (λ o. Tells s past o None) is tells
-
--- turns of a line, said of the setup
-pub record SaidTurns (s : Setup) (line : Line) (had : ℕ) (now : Run) (turns : Turns) (course : CourseState) : Type 0 where
-  pub left : ℕ
-  pub then : Run
-  pub quiet : QuietTurns s line turns.quiet had now left then
-  pub said : Said s line left then turns.told course
 
 -- what is told counts once at most
 pub events_counted : (answer : Told) (summary : Summary) → (counted answer summary).events ≤ summary.events + 1

@@ -1,32 +1,27 @@
 -- Steps of picked processes without a mark: who may be picked stays the same.
-use Rattle.std.proofs.Common.{◌≡◌, ℕ, zero, suc, arith, ◌+◌, ◌-◌, ◌<◌, ◌==◌, Bool, true, false, cond, List, [], ◌∷◌, filter, fold, length, slice_index, IfOk, IfErr, OnOk, OnErr, Result, Option, None, Some, refl, ap, sym, subst, ◌∙◌}
+use Rattle.std.proofs.Common.{◌≡◌, ℕ, zero, suc, arith, ◌-◌, ◌<◌, ◌≤◌, ◌==◌, Bool, true, false, cond, List, [], ◌∷◌, ◌++◌, filter, fold, length, slice_index, Option, None, Some, refl, ap, sym, subst, ◌∙◌}
 use Rattle.plain_store.specs.declared.setups.Setup.{Setup}
 use Rattle.record.specs.declared.events.Event.{Event}
 use Rattle.record.specs.declared.events.Event.TheVariants as event
-use Rattle.record.specs.declared.history.Taken.{Taken}
-use Rattle.record.specs.declared.refusals.Refusal.{Refusal}
 use Rattle.record.specs.Entries.{Entry, Past}
-use Rattle.record.specs.Histories.{history}
 use Rattle.record.specs.Records.{past_of}
 use Rattle.record.specs.Registers.{processes}
 use Rattle.record.specs.Stages.{stage, stage_after}
 use Rattle.scenario.specs.declared.lines.Line.{Line}
 use Rattle.scenario.specs.declared.lines.Line.TheVariants as line
-use Rattle.world.specs.Events.{Adds, GoesOn, IsRefused}
+use Rattle.scenario.specs.files.declared.faults.Fault.{Fault}
 use Rattle.world.specs.flicks.Flicks.{FlickState, flick_of, after_flick, pick_of, after_pick}
-use Rattle.world.specs.Shows.{Shows, WorldState}
-use Rattle.world.specs.process.Telling.{act_of}
-use Rattle.world.specs.process.declared.told.EventMade.{EventMade}
-use Rattle.course.specs.Courses.{CourseState, Follows, Makes, MakesQuietly, MakesTurns, course}
-use Rattle.course.specs.Happenings.{tried}
-use Rattle.course.specs.Runs.{Run, after_pick_in, has_step, movers, next_step, past_in}
-use Rattle.course.specs.Telling.{AddsMarks, is_quiet, told_step}
-use Rattle.course.specs.Turns.{Turn, ends, made_turn, turn_of, wander_turn}
+use Rattle.world.specs.Shows.{WorldState}
+use Rattle.course.specs.Courses.{Follows, Makes, course}
+use Rattle.course.specs.Happenings.{Happening, tried}
+use Rattle.course.specs.Listening.{ComesOn, ComesTo, HearsStep, TellsStep}
+use Rattle.course.specs.Runs.{Run, after_pick_in, has_step, movers, past_in}
+use Rattle.course.specs.Telling.{AddsMarks}
+use Rattle.course.specs.Turns.{Turn, ends, made_turn, rest_of, turn_of, wander_turn}
 use Rattle.course.specs.declared.told.Told.{Told}
-use Rattle.course.specs.declared.told.Turns.{Turns}
-use Rattle.course.proofs.CourseTurns.{one_made, turn_next}
+use Rattle.course.proofs.CourseTurns.{turn_next}
 use Rattle.course.proofs.Refusals.{entry_by}
-use Rattle.course.proofs.Walks.{QuietStep, StepTold, on_quietly, quiet_made, step_told, then_told}
+use Rattle.course.proofs.Runnings.{IsStep, one_on, one_stops, one_told, quiet_adds}
 
 -- an entry without a mark leaves each process in its stage
 stage_kept : (p : ℕ) (e : Entry) (past : Past) → e.marks ≡ [] → stage p (e ∷ past) ≡ stage p past
@@ -46,17 +41,9 @@ stage_quiet s p events event adds =
 pub movers_quiet : (s : Setup) (events : List Event) (event : Event) → AddsMarks s (past_of s events) event [] → movers s (past_of s (event ∷ events)) ≡ movers s (past_of s events)
 movers_quiet s events event adds = λ i. filter (λ p. has_step (stage_quiet s p events event adds i)) (processes s)
 
--- the course goes on by turns without a mark, and these may be picked
-pub record WandersQuietly (old : CourseState) (line : Line) (run : Run) (quiet : ℕ) (ps : List ℕ) (new : CourseState) : Type 0 where
-  pub made : MakesQuietly old line run quiet new
-  pub movers : ps ≡ movers old.world.setup (past_in old.world.setup made.now)
-
--- before the first
-pub wander_starts : (old : CourseState) (steps : ℕ) (run : Run) (ps : List ℕ) (w : WorldState) (flicks : FlickState) (left : ℕ) → course w flicks left ≡ old → Follows old run → ps ≡ movers old.world.setup (past_in old.world.setup run) →
-    WandersQuietly old (line.Wander steps) run 0 ps (course w flicks left)
-wander_starts old steps run ps w flicks left is follows are =
-    subst (λ (c : CourseState). WandersQuietly old (line.Wander steps) run 0 ps c) (sym is)
-    (record { made = record { now = run; turns = (refl, refl); follows = record { shows = follows.shows; flicks = follows.flicks }; setup = refl }; movers = are })
+-- these may be picked
+abbrev pub ArePicked : List ℕ → Setup → Line → Run → Type 0
+ArePicked ps s l run = ps ≡ movers s (past_in s run)
 
 -- the turn of `wander` with one to pick
 pub pick_turn : (s : Setup) (steps left p : ℕ) (flicks : FlickState) (ps : List ℕ) (run : Run) → (left ≡ 0 → ⊥) → 0 < length ps → flicks ≡ run.flicks → p ≡ slice_index ps (pick_of (length ps) flicks) → ps ≡ movers s (past_in s run) →
@@ -68,49 +55,39 @@ pick_turn s steps left p flicks ps run some_left some same is are =
     by [] some is = absurd (omega (arith, some))
     by (q ∷ qs) some is = ap (λ p. made_turn p (left - 1) (after_pick_in run)) (sym (is ∙ ap (λ flicks. slice_index (q ∷ qs) (pick_of (length (q ∷ qs)) flicks)) same))
 
--- the run once the word of the pick is taken
-pick_follows : (w : WorldState) (flicks : FlickState) (left : ℕ) (run : Run) → Follows (course w flicks left) run → Follows (course w (after_pick flicks) left) (after_pick_in run)
-pick_follows w flicks left run follows = record { shows = follows.shows; flicks = ap after_pick follows.flicks }
+module _ (w w' : WorldState) (steps left p : ℕ) (ps : List ℕ) (flick : Bool) (run : Run) (flicks flicks' : FlickState) (some_left : left ≡ 0 → ⊥) (some : 0 < length ps) (picked : p ≡ slice_index ps (pick_of (length ps) flicks)) (is : flick ≡ flick_of (after_pick flicks)) (after : flicks' ≡ after_flick (after_pick flicks))
+    (follows : Follows (course w flicks left) run) (are : ps ≡ movers w.setup (past_in w.setup run)) where
+  abbrev source : FlickState
+  source = after_pick run.flicks
 
--- a Step without a mark more
-pub wander_on : (old : CourseState) (steps : ℕ) (run : Run) (quiet : ℕ) (ps : List ℕ) (w w' : WorldState) (flicks flicks' flicks'' : FlickState) (left p : ℕ) (flick : Bool) (result : Result EventMade Refusal) → (left ≡ 0 → ⊥) → 0 < length ps →
-    flicks' ≡ after_pick flicks → p ≡ slice_index ps (pick_of (length ps) flicks) → flick ≡ flick_of flicks' → flicks'' ≡ after_flick flicks' →
-    IfOk result (λ made. Adds w (event.Step p flick) p (act_of (length w.history) made)) → OnOk result (GoesOn w (event.Step p flick) w') → OnOk result (w'.setup ≡ w.setup) → is_quiet result ≡ true →
-    WandersQuietly old (line.Wander steps) run quiet ps (course w flicks left) → WandersQuietly old (line.Wander steps) run (quiet + 1) ps (course w' flicks'' (left - 1))
-wander_on old steps run quiet ps w w' flicks flicks' flicks'' left p flick result some_left some picked is flick_is after adds on setup silent here =
-    let s : Setup = old.world.setup in
-    let now : Run = here.made.now in
-    let q : QuietStep w w' (after_pick flicks) (left - 1) p (after_pick_in now) = quiet_made w w' (after_pick flicks) left (left - 1) p flick result (flick_is ∙ ap flick_of picked) adds on setup silent (after_pick_in now) (pick_follows w flicks left now here.made.follows) in
-    let quietly : AddsMarks s (past_of s (tried now.happened)) (next_step p (after_pick_in now)) [] = subst (λ (s : Setup). AddsMarks s (past_of s (tried now.happened)) (next_step p (after_pick_in now)) []) here.made.setup q.adds in
-    let more : MakesQuietly old (line.Wander steps) run (quiet + 1) (course w' (after_flick (after_pick flicks)) (left - 1)) =
-    on_quietly old (line.Wander steps) run quiet w w' flicks (after_flick (after_pick flicks)) left (left - 1) p here.made (after_pick_in now)
-    (pick_turn s steps left p flicks ps now some_left some here.made.follows.flicks is here.movers) refl q.adds q.follows q.setup in
-    subst (λ (f : FlickState). WandersQuietly old (line.Wander steps) run (quiet + 1) ps (course w' f (left - 1))) (sym (after ∙ ap after_flick picked))
-    (record { made = more; movers = here.movers ∙ sym (movers_quiet s (tried now.happened) (next_step p (after_pick_in now)) quietly) })
+  by : flick ≡ flick_of source
+  by = is ∙ ap (λ f. flick_of (after_pick f)) follows.flicks
 
--- the Step that is told
-pub wander_told : (old : CourseState) (steps : ℕ) (run : Run) (quiet : ℕ) (ps : List ℕ) (w w' : WorldState) (flicks flicks' flicks'' : FlickState) (left p place : ℕ) (flick : Bool) (taken : List Taken) (result : Result EventMade Refusal) (answer : Told) → (left ≡ 0 → ⊥) → 0 < length ps →
-    flicks' ≡ after_pick flicks → p ≡ slice_index ps (pick_of (length ps) flicks) → flick ≡ flick_of flicks' → flicks'' ≡ after_flick flicks' → ((events : List Event) → Shows w events → taken ≡ history w.setup (past_of w.setup events)) → place ≡ length taken →
-    IfOk result (λ made. Adds w (event.Step p flick) p (act_of (length w.history) made)) → OnOk result (GoesOn w (event.Step p flick) w') → IfErr result (λ r. IsRefused w (event.Step p flick) (Some r)) → OnErr result (w' ≡ w) → OnOk result (w'.setup ≡ w.setup) →
-    answer ≡ told_step p flick place result → WandersQuietly old (line.Wander steps) run quiet ps (course w flicks left) →
-    MakesTurns old (line.Wander steps) run (record { quiet = quiet; told = Some answer }) (course w' flicks'' (left - 1))
-wander_told old steps run quiet ps w w' flicks flicks' flicks'' left p place flick taken result answer some_left some picked is flick_is after taken_is place_at adds on away same setup told here =
-    let s : Setup = old.world.setup in
-    let now : Run = here.made.now in
-    let t : StepTold w w' (after_pick flicks) p (told_step p flick place result) (after_pick_in now) =
-    step_told w w' (after_pick flicks) left p place flick taken result (flick_is ∙ ap flick_of picked) taken_is place_at adds on away same setup (after_pick_in now) (pick_follows w flicks left now here.made.follows) in
-    let family : Told → FlickState → Type 0 = λ answer f. MakesTurns old (line.Wander steps) run (record { quiet = quiet; told = Some answer }) (course w' f (left - 1)) in
-    subst (λ answer. family answer flicks'') (sym told) (subst (λ f. family (told_step p flick place result) f) (sym (after ∙ ap after_flick picked))
-    (then_told old (line.Wander steps) run quiet w w' flicks (after_pick flicks) left (left - 1) p (told_step p flick place result) here.made (after_pick_in now)
-    (pick_turn s steps left p flicks ps now some_left some here.made.follows.flicks is here.movers) refl t))
+  then : flicks' ≡ after_flick source
+  then = after ∙ ap (λ f. after_flick (after_pick f)) follows.flicks
+
+  -- a Step of one that is picked
+  picked_step : IsStep w (line.Wander steps) left p flick run source (left - 1)
+  picked_step = record { shows = follows.shows; by = by; turn = pick_turn w.setup steps left p flicks ps run some_left some follows.flicks picked are }
+
+  pub picked_on : {L : Type 0} (Hears : L → Setup → List Happening → List Happening → L → Type 0) (was is : L) → HearsStep Hears w p flick w' was is → ComesOn Hears w.setup (line.Wander steps) left run was is (course w' flicks' (left - 1)) (ArePicked ps)
+  picked_on Hears was is h =
+      one_on Hears w w' (line.Wander steps) left p flick run source flicks' (left - 1) was is (ArePicked ps) picked_step h then
+      (are ∙ sym (movers_quiet w.setup (tried run.happened) (event.Step p (flick_of source)) (quiet_adds w w' p flick run source h.step follows.shows by)))
+
+  pub picked_stops : {L : Type 0} (Stops : L → Setup → List Happening → List Happening → Fault → L → Type 0) (was is : L) (fault : Fault) → ((a b : L) (s : Setup) (x y more : List Happening) (fault : Fault) → Stops a s x y fault b → Stops a s x (more ++ y) fault b) →
+      HearsStep (λ was s x y is. Stops was s x y fault is) w p flick w' was is → left ≤ steps → Stops was w.setup run.happened (rest_of w.setup (line.Wander steps) left run).happened fault is
+  picked_stops Stops was is fault stops_before h few = one_stops Stops w w' (line.Wander steps) left p flick run source (left - 1) was is fault stops_before picked_step h few
+
+  pub picked_told : {L : Type 0} (Hears : L → Setup → List Happening → List Happening → L → Type 0) (a : L) (answer : Told) → ((a : L) (s : Setup) (x : List Happening) → Hears a s x x a) → TellsStep w p flick answer w' →
+      ComesTo Hears w.setup (line.Wander steps) left run a a (Some answer) (course w' flicks' (left - 1))
+  picked_told Hears a answer nothing t = one_told Hears w w' (line.Wander steps) left p flick run source flicks' (left - 1) a answer nothing picked_step t then
 
 -- with nobody to pick the line has ended
-pub wander_ends : (w : WorldState) (flicks : FlickState) (left steps : ℕ) (ps : List ℕ) (turns : Turns) → ps ≡ [] → ((run : Run) → Follows (course w flicks left) run → ps ≡ movers w.setup (past_in w.setup run)) → turns ≡ record { quiet = 0; told = None } →
-    (run : Run) → Follows (course w flicks left) run → MakesTurns (course w flicks left) (line.Wander steps) run turns (course w flicks 0)
-wander_ends w flicks left steps ps turns none are is = one_made (course w flicks left) (course w flicks 0) (line.Wander steps) turns (ap (λ (turns : Turns). turns.quiet) is)
-    (λ run follows. subst (λ (answer : Option Told). Makes (course w flicks left) run (turn_of w.setup (line.Wander steps) left run) answer (course w flicks 0)) (sym (ap (λ (turns : Turns). turns.told) is))
-    (subst (λ (turn : Turn). Makes (course w flicks left) run turn None (course w flicks 0)) (sym (by left run (sym (are run follows) ∙ none)))
-    (record { tells = tt; follows = record { shows = follows.shows; flicks = follows.flicks }; left = refl; setup = refl })))
+pub wander_ends : (w : WorldState) (flicks : FlickState) (left steps : ℕ) (ps : List ℕ) → ps ≡ [] → (run : Run) → Follows (course w flicks left) run → ps ≡ movers w.setup (past_in w.setup run) → Makes (course w flicks left) run (turn_of w.setup (line.Wander steps) left run) None (course w flicks 0)
+wander_ends w flicks left steps ps none run follows are =
+    subst (λ (turn : Turn). Makes (course w flicks left) run turn None (course w flicks 0)) (sym (by left run (sym are ∙ none)))
+    (record { tells = tt; follows = record { shows = follows.shows; flicks = follows.flicks }; left = refl; setup = refl })
   where
     by : (left : ℕ) (run : Run) → movers w.setup (past_in w.setup run) ≡ [] → turn_of w.setup (line.Wander steps) left run ≡ ends run
     by zero run none = refl

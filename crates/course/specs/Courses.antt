@@ -10,7 +10,6 @@ use Rattle.course.specs.Runs.{Run, past_in}
 use Rattle.course.specs.Telling.{AddsMarks, Tells}
 use Rattle.course.specs.Turns.{Turn, turn_of}
 use Rattle.course.specs.declared.told.Told.{Told}
-use Rattle.course.specs.declared.told.Turns.{Turns}
 
 -- the world, where flicks and picks come from, and how many turns of the present line are left
 pub record CourseState : Type 0 where
@@ -49,17 +48,3 @@ abbrev pub QuietTurns : Setup → Line → ℕ → ℕ → Run → ℕ → Run �
 QuietTurns s line zero left run left' run' = (left' ≡ left) × (run' ≡ run)
 QuietTurns s line (suc quiet) left run left' run' =
     IsQuiet s (past_in s run) (turn_of s line left run).this × QuietTurns s line quiet (turn_of s line left run).left (turn_of s line left run).run left' run'
-
--- the course goes on by so many of these
-pub record MakesQuietly (old : CourseState) (line : Line) (run : Run) (quiet : ℕ) (new : CourseState) : Type 0 where
-  pub now : Run
-  pub turns : QuietTurns old.world.setup line quiet old.left run new.left now
-  pub follows : Follows new now
-  pub setup : new.world.setup ≡ old.world.setup
-
--- and by these, and then the turn that tells
-pub record MakesTurns (old : CourseState) (line : Line) (run : Run) (turns : Turns) (new : CourseState) : Type 0 where
-  pub left : ℕ
-  pub now : Run
-  pub quiet : QuietTurns old.world.setup line turns.quiet old.left run left now
-  pub makes : Makes old now (turn_of old.world.setup line left now) turns.told new

@@ -1,16 +1,21 @@
 -- Who hears a run: what is told to it, and what it has heard once a line has made its turns.
-use Rattle.std.specs.Prelude.{◌≡◌, ◌+◌, ℕ, zero, suc, List, [], ◌∷◌, Option, None, Some, Ok}
+use Rattle.std.specs.Prelude.{◌≡◌, ◌+◌, ℕ, zero, suc, Bool, List, [], ◌∷◌, Option, None, Some, Ok}
 use Rattle.plain_store.specs.declared.setups.Setup.{Setup}
 use Rattle.plain_store.specs.Setups.{checked}
+use Rattle.record.specs.declared.events.Event.{Event}
 use Rattle.record.specs.declared.events.Event.TheVariants.{Step}
 use Rattle.record.specs.declared.history.Taken.{Taken}
 use Rattle.record.specs.Given.{AreGiven}
 use Rattle.record.specs.Histories.{history}
-use Rattle.record.specs.Records.{entry_of}
+use Rattle.record.specs.Records.{entry_of, past_of}
 use Rattle.scenario.specs.declared.lines.Line.{Line}
+use Rattle.world.specs.Events.{GoesOn}
+use Rattle.world.specs.Shows.{Shows, WorldState}
+use Rattle.world.specs.Walks.{StepsQuietly}
 use Rattle.course.specs.Courses.{CourseState, Follows, IsQuiet, QuietTurns}
-use Rattle.course.specs.Happenings.{Happening, past_after, tried}
+use Rattle.course.specs.Happenings.{Happening, Tries, past_after, tried}
 use Rattle.course.specs.Runs.{Run, past_in, run_after}
+use Rattle.course.specs.Steppers.{IsAlone}
 use Rattle.course.specs.Telling.{Tells, TellsOf}
 use Rattle.course.specs.Turns.{turn_of}
 use Rattle.course.specs.declared.told.Stepped.{Stepped}
@@ -40,6 +45,32 @@ pub record Plays {L : Type 0} (Hears : L → Setup → List Happening → List H
   pub setup : course.world.setup ≡ s
   pub hears : Hears was s run.happened (run_after s line run).happened is
 
+-- a Step without a mark is made, and heard
+pub record HearsStep {L : Type 0} (Hears : L → Setup → List Happening → List Happening → L → Type 0) (old : WorldState) (p : ℕ) (flick : Bool) (new : WorldState) (was is : L) : Type 0 where
+  pub step : StepsQuietly old p flick new
+  pub hears : (s : Setup) (before : List Happening) → StepsOn s before (record { process = p; flick = flick; access = step.access }) → Hears was s before (Tries (Step p flick) ∷ before) is
+
+-- a Step is made or refused, and told
+pub record TellsStep (old : WorldState) (p : ℕ) (flick : Bool) (answer : Told) (new : WorldState) : Type 0 where
+  pub tells : (events : List Event) → Shows old events → TellsOf old.setup (past_of old.setup events) (Tries (Step p flick)) answer
+  pub shows : GoesOn old (Step p flick) new
+  pub setup : new.setup ≡ old.setup
+
+-- the one or the other
+abbrev pub MakesStep : {L : Type 0} (Hears : L → Setup → List Happening → List Happening → L → Type 0) → WorldState → ℕ → Bool → Option Told → WorldState → L → L → Type 0
+MakesStep Hears old p flick None new was is = HearsStep Hears old p flick new was is
+MakesStep Hears old p flick (Some answer) new was is = TellsStep old p flick answer new × (is ≡ was)
+
+-- of a line with so many turns left those up to here were made without a mark, and heard; of the line and the run now this holds
+pub record ComesOn {L : Type 0} (Hears : L → Setup → List Happening → List Happening → L → Type 0) (s : Setup) (line : Line) (had : ℕ) (run : Run) (was is : L) (course : CourseState) (Next : Setup → Line → Run → Type 0) : Type 0 where
+  pub quiet : ℕ
+  pub now : Run
+  pub turns : QuietTurns s line quiet had run course.left now
+  pub hears : Hears was s run.happened now.happened is
+  pub follows : Follows course now
+  pub setup : course.world.setup ≡ s
+  pub next : Next s line now
+
 -- of a line with so many turns left those without a mark were made and heard, and then the turn that tells was made, which is not heard yet
 pub record ComesTo {L : Type 0} (Hears : L → Setup → List Happening → List Happening → L → Type 0) (s : Setup) (line : Line) (had : ℕ) (run : Run) (was is : L) (answer : Option Told) (course : CourseState) : Type 0 where
   pub quiet : ℕ
@@ -52,7 +83,12 @@ pub record ComesTo {L : Type 0} (Hears : L → Setup → List Happening → List
   pub left_is : course.left ≡ (turn_of s line left now).left
   pub setup : course.world.setup ≡ s
 
+-- a process has made Steps up to one that tells, or all that it makes while more than so many turns are left
+abbrev pub RunsTo : {L : Type 0} (Hears : L → Setup → List Happening → List Happening → L → Type 0) → Setup → Line → ℕ → Run → L → L → ℕ → ℕ → Option Told → CourseState → Type 0
+RunsTo Hears s line had run was is p floor (Some answer) course = ComesTo Hears s line had run was is (Some answer) course
+RunsTo Hears s line had run was is p floor None course = ComesOn Hears s line had run was is course (IsAlone p floor)
+
 -- room that a listener wants for what is told and the turns left after it
 abbrev pub room_wanted : Option Told → ℕ → ℕ
-room_wanted None left = 0
+room_wanted None left = left
 room_wanted (Some told) left = left + 1

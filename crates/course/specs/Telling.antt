@@ -1,5 +1,5 @@
 -- What a turn tells of what happens, and its text.
-use Rattle.std.specs.Prelude.{◌≡◌, ℕ, Bool, true, false, List, flat_map, map, Option, None, Some, Result, Ok, Err}
+use Rattle.std.specs.Prelude.{◌≡◌, ℕ, Bool, List, flat_map, map, Option, None, Some, Result, Ok, Err}
 use Rattle.record.specs.declared.access.Access.{Access}
 use Rattle.plain_store.specs.declared.setups.Setup.{Setup}
 use Rattle.record.specs.declared.events.Event.{Event}
@@ -10,7 +10,6 @@ use Rattle.record.specs.declared.refusals.Refusal.TheVariants.{NoProcess}
 use Rattle.record.specs.Entries.{Entry, Past}
 use Rattle.record.specs.Records.{entry_of, placed, process_of, refused}
 use Rattle.world.specs.process.Telling.{marks_of}
-use Rattle.world.specs.process.declared.told.Effect.{Effect}
 use Rattle.world.specs.process.declared.told.Effect.TheVariants.{Steps}
 use Rattle.world.specs.process.declared.told.EventMade.{EventMade}
 use Rattle.world.specs.process.declared.told.StepTold.{StepTold as Leads}
@@ -70,13 +69,3 @@ told_step p flick place (Err refusal) = told.Refused p refusal
 -- what a Step tells that has no mark; since it takes no command, its place does not matter
 abbrev pub told_unmarked : Stepped → Told
 told_unmarked made = told.Accepted (record { event = event.Step made.process made.flick; place = 0; access = Some made.access; effect = Steps step.Nothing })
-
--- a Step leads to nothing
-abbrev pub is_nothing : Effect → Bool
-is_nothing (Steps step.Nothing) = true
-is_nothing _ = false
-
--- a Step was made that has no mark
-abbrev pub is_quiet : Result EventMade Refusal → Bool
-is_quiet (Ok made) = is_nothing made.effect
-is_quiet (Err refusal) = false

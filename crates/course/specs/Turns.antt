@@ -1,5 +1,5 @@
 -- A run turn by turn: what the next turn of a line does, and how many turns are left then. It stands beside the definition of the run.
-use Rattle.std.specs.Prelude.{ℕ, zero, suc, nat_lt, true, false, List, [], ◌∷◌, Option, None, Some}
+use Rattle.std.specs.Prelude.{ℕ, zero, suc, nat_lt, Bool, true, false, List, [], ◌∷◌, Option, None, Some}
 use Rattle.plain_store.specs.declared.setups.Setup.{Setup}
 use Rattle.record.specs.declared.events.Event.TheVariants as event
 use Rattle.record.specs.Stages.{stage}
@@ -21,6 +21,13 @@ turns_in (line.Withdraw p) = 1
 turns_in (line.Restart p) = 1
 turns_in (line.Flick flick) = 1
 turns_in line.Show = 1
+
+-- a line that makes Steps
+abbrev pub makes_steps : Line → Bool
+makes_steps (line.Step p n) = true
+makes_steps (line.Wander n) = true
+makes_steps (line.Go p target) = true
+makes_steps _ = false
 
 -- what happens, if something does, and then the turns that are left and the run
 pub record Turn : Type 0 where

@@ -19,6 +19,6 @@ pub use listening::Listener;
 pub use record::{Access, Entry, Event, Mark, Record, Refusal, Taken, refusal_line};
 pub use store_line::{newest_line, newest_words};
 pub use summaries::Summary;
-pub use told::{Accepted, Drawn, Stepped, Told, Turns};
-pub use turns::{Course, Steppers};
+pub use told::{Accepted, Stepped, Told};
+pub use turns::Course;
 pub use world::World;

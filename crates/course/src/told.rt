@@ -42,15 +42,6 @@ impl Accepted {
     }
 }
 
-/// A Step that is drawn, and not made yet.
-#[derive(Clone, Copy)]
-pub struct Drawn {
-    pub process: u8,
-    pub flick: bool,
-    /// Its line is of this process alone, and ends where the Step is refused.
-    pub alone: bool,
-}
-
 /// A Step that was made and has no mark: whose it is, its flick and its access.
 #[derive(Clone, Copy)]
 pub struct Stepped {
@@ -69,35 +60,4 @@ pub enum Told {
     Tired(u8),
     /// The newest store; none while somebody is inside.
     Shown(Option<Image>),
-}
-
-/// Turns of a line.
-#[derive(Drop)]
-pub struct Turns {
-    /// How many Steps without a mark came first.
-    pub quiet: u32,
-    /// What the turn after them tells; nothing once the line has ended.
-    pub told: Option<Told>,
-}
-
-impl Turns {
-    /// The line has ended.
-    pub(crate) fn ended() -> Turns
-        ensures { result ≡ record { quiet = 0; told = None } }
-    {
-        Turns {
-            quiet: 0,
-            told: None,
-        }
-    }
-
-    /// One turn.
-    pub(crate) fn one(told: Told) -> Turns
-        ensures { result ≡ record { quiet = 0; told = Some told } }
-    {
-        Turns {
-            quiet: 0,
-            told: Some(told),
-        }
-    }
 }

@@ -1,5 +1,5 @@
-//! A run, turn by turn: what the next turns of a line do on the world.
-ghost use Rattle.std.specs.Prelude.{◌≡◌, ◌^◌, ◌+◌, ◌-◌, ◌<◌, ◌≤◌, true, false, Ok, Some, IfOk, IfSome, length, List};
+//! A run, turn by turn: what the next turn of a line does on the world.
+ghost use Rattle.std.specs.Prelude.{◌≡◌, ◌^◌, ◌-◌, ◌<◌, ◌≤◌, true, false, Ok, Some, IfOk, length, List};
 ghost use Rattle.plain_store.specs.Setups.{checked};
 ghost use Rattle.record.specs.declared.Event.{Event as Happening};
 ghost use Rattle.record.specs.declared.Refusal.TheVariants.{Memory};
@@ -8,23 +8,22 @@ ghost use Rattle.record.specs.Histories.{history};
 ghost use Rattle.record.specs.Records.{past_of};
 ghost use Rattle.world.specs.flicks.Flicks.{constant_flicks};
 ghost use Rattle.world.specs.Shows.{Shows};
-ghost use Rattle.course.specs.Courses.{Follows, Makes, MakesTurns, CourseState};
+ghost use Rattle.course.specs.Courses.{Follows, Makes, CourseState};
 ghost use Rattle.course.specs.Happenings.{Tries};
+ghost use Rattle.course.specs.Listening.{room_wanted};
 ghost use Rattle.course.specs.Runs.{Run, is_there as is_target, past_in, run_at_start};
 ghost use Rattle.course.specs.Texts.{newest_store};
-ghost use Rattle.course.specs.Turns.{happens, turn_of, turns_in as turns_of};
+ghost use Rattle.course.specs.Turns.{happens, makes_steps, turn_of, turns_in as turns_of};
 
 mod playing;
-mod steps;
-mod walks;
+mod running;
 
-use crate::told::{Accepted, Told, Turns};
+use crate::told::{Accepted, Told};
 use plain_store::{NestedTypes, Setup};
 use record::{Event, Refusal, Taken};
 use scenario::Line;
 use std::alloc::{AllocError, Global};
 use std::marker::Model;
-pub use steps::Steppers;
 use world::{Effect, Flicks, Image, World};
 
 /// The Steps that a `go` makes at most.
@@ -82,49 +81,26 @@ impl Course {
     }
 
     /// A line begins.
-    pub fn begin(&mut self, line: &Line)
+    fn begin(&mut self, line: &Line)
         ensures course { self.new ≡ record self.old { left = turns_of line.now } }
         ensures few { self.new.left < 2 ^ 32 }
     {
         self.left = turns_in(line);
     }
 
-    /// The next turn of the line; none once the line has ended.
-    fn turn(&mut self, line: &Line) -> Result<Option<Told>, AllocError>
-        requires { self.old.left ≤ turns_of line.now }
-        ensures left { IfOk result (λ told. IfSome told (λ _. self.new.left < self.old.left)) }
+    /// The turn of a line that makes no Steps, if it is not made yet; none, if it tells nothing.
+    fn make(&mut self, line: &Line) -> Result<Option<Told>, AllocError>
+        requires few { self.old.left ≤ turns_of line.now }
+        requires still { makes_steps line.now ≡ false }
+        ensures left { IfOk result (λ told. room_wanted told self.new.left ≤ self.old.left) }
         ensures made { IfOk result (λ told. (run : Run) → Follows self.old run → Makes self.old run (turn_of self.old.world.setup line.now self.old.left run) told self.new) }
-    {
-        Ok(self.make(line, true)?.told)
-    }
-
-    /// The turns of the line up to the first that tells more than a Step without a mark: how many such Steps came
-    /// before it, and what it tells; nothing once the line has ended.
-    pub fn turns(&mut self, line: &Line) -> Result<Turns, AllocError>
-        requires { self.old.left ≤ turns_of line.now }
-        ensures left { IfOk result (λ turns. turns.quiet + self.new.left ≤ self.old.left) }
-        ensures less { IfOk result (λ turns. IfSome turns.told (λ _. turns.quiet + self.new.left < self.old.left)) }
-        ensures made { IfOk result (λ turns. (run : Run) → Follows self.old run → MakesTurns self.old line.now run turns self.new) }
-    {
-        self.make(line, false)
-    }
-
-    /// The same; where `all` is asked, a Step without a mark is told too.
-    fn make(&mut self, line: &Line, all: bool) -> Result<Turns, AllocError>
-        requires { self.old.left ≤ turns_of line.now }
-        ensures left { IfOk result (λ turns. turns.quiet + self.new.left ≤ self.old.left) }
-        ensures less { IfOk result (λ turns. IfSome turns.told (λ _. turns.quiet + self.new.left < self.old.left)) }
-        ensures all { IfOk result (λ turns. all ≡ true → turns.quiet ≡ 0) }
-        ensures made { IfOk result (λ turns. (run : Run) → Follows self.old run → MakesTurns self.old line.now run turns self.new) }
     {
         let _nested: NestedTypes = None;
         if self.left == 0 {
-            return Ok(Turns::ended());
+            return Ok(None);
         }
         match line {
-            Line::Step(process, _) => Ok(self.walk(*process, 0, all)),
-            Line::Go(process, target) => Ok(self.go(*process, *target, all)),
-            Line::Wander(_) => Ok(self.wander(all)),
+            Line::Step(..) | Line::Go(..) | Line::Wander(_) => unreachable!(),
             Line::Call(process, command) => {
                 command.operands_are_sound();
                 self.event(Event::Call(*process, *command))
@@ -135,22 +111,21 @@ impl Course {
             Line::Flick(flick) => {
                 self.left -= 1;
                 self.flicks.set(*flick);
-                Ok(Turns::ended())
+                Ok(None)
             }
             Line::Show => {
                 self.left -= 1;
-                Ok(Turns::one(Told::Shown(self.newest())))
+                Ok(Some(Told::Shown(self.newest())))
             }
         }
     }
 
-    /// Makes an event, unless it is refused.
-    fn event(&mut self, event: Event) -> Result<Turns, AllocError>
+    /// Makes an event, unless it is refused, and tells it.
+    fn event(&mut self, event: Event) -> Result<Option<Told>, AllocError>
         requires some_left { 0 < self.old.left }
         requires given { is_event event ≡ true }
         ensures left { self.new.left ≡ self.old.left - 1 }
-        ensures quiet { IfOk result (λ turns. turns.quiet ≡ 0) }
-        ensures made { IfOk result (λ turns. (run : Run) → Follows self.old run → Makes self.old run (happens (Tries event) (self.old.left - 1) run) turns.told self.new) }
+        ensures made { IfOk result (λ told. (run : Run) → Follows self.old run → Makes self.old run (happens (Tries event) (self.old.left - 1) run) told self.new) }
     {
         self.left -= 1;
         let place = self.world.history().len() as u64;
@@ -163,7 +138,7 @@ impl Course {
                     access,
                     effect,
                 };
-                Ok(Turns::one(Told::Accepted(made)))
+                Ok(Some(Told::Accepted(made)))
             }
             Err(refusal) => refused(event.process(), refusal),
         }
@@ -182,12 +157,12 @@ impl Course {
 }
 
 /// Tells that an event of this process was refused, unless it was so for want of memory.
-fn refused(process: u8, refusal: Refusal) -> Result<Turns, AllocError>
-    ensures { IfOk result (λ turns. (turns ≡ record { quiet = 0; told = Some (Told.Refused process refusal) }) × (refusal ≡ Memory → ⊥)) }
+fn refused(process: u8, refusal: Refusal) -> Result<Option<Told>, AllocError>
+    ensures { IfOk result (λ told. (told ≡ Some (Told.Refused process refusal)) × (refusal ≡ Memory → ⊥)) }
 {
     match refusal {
         Refusal::Memory => Err(AllocError),
-        _ => Ok(Turns::one(Told::Refused { process, refusal })),
+        _ => Ok(Some(Told::Refused { process, refusal })),
     }
 }
 

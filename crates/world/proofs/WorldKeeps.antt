@@ -1,7 +1,5 @@
 -- A world is a core and a history: what it keeps after what its core does.
 use Rattle.std.proofs.Common.{◌≡◌, ℕ, zero, suc, ◌+◌, ◌<◌, ◌≤◌, Bool, true, false, List, [], ◌∷◌, Option, None, Some, length, refl, sym, ap, subst, ◌∙◌, arith}
-use Rattle.std.specs.Prelude.{IfSome, OnSome}
-use Rattle.record.specs.declared.access.Access.{Access}
 use Rattle.plain_store.specs.declared.Reply.{Reply}
 use Rattle.plain_store.specs.declared.Setup.{Setup}
 use Rattle.record.specs.declared.events.Event.{Event}
@@ -21,7 +19,7 @@ use Rattle.world.specs.Events.{Adds, GoesOn, KeepsWorld, entry_with}
 use Rattle.flicks.specs.Flicks.{FlickState}
 use Rattle.world.specs.Seats.{Seat}
 use Rattle.world.specs.Shows.{Shows, WorldState}
-use Rattle.world.specs.Walks.{StepsQuietly, Walks}
+use Rattle.world.specs.Walks.{Walks}
 use Rattle.world.proofs.CoreKeeps.{core_there, taken_length}
 use Rattle.world.proofs.WorldNew.{new-pending}
 use Rattle.world.proofs.WorldPending.{pending-most}
@@ -94,19 +92,6 @@ walk_keeps n c new h f g p capacity keeps walks =
 pub quietly_keeps : (c new : CoreState) (h : List Taken) (p : ℕ) (flick : Bool) (capacity : ℕ) → KeepsWorld (with_history c h) capacity → CoreStepsQuietly c p flick new → KeepsWorld (with_history new h) capacity
 quietly_keeps c new h p flick capacity keeps quietly =
     record { events = Step p flick ∷ keeps.events; shows = (quietly.steps h).shows keeps.events keeps.shows; room = let room = keeps.room in let fewer = quietly.pending in omega (arith, room, fewer) }
-
--- after one that tells its access, if one was made
-pub told_keeps : (told : Option Access) (c new : CoreState) (h : List Taken) (p : ℕ) (flick : Bool) (capacity : ℕ) → KeepsWorld (with_history c h) capacity → OnSome told (CoreStepsQuietly c p flick new) → (told ≡ None → new ≡ c) → KeepsWorld (with_history new h) capacity
-told_keeps (Some a) c new h p flick capacity keeps steps same = quietly_keeps c new h p flick capacity keeps steps
-told_keeps None c new h p flick capacity keeps steps same = subst (λ core. KeepsWorld (with_history core h) capacity) (sym (same refl)) keeps
-
-pub told_steps : (told : Option Access) (c new : CoreState) (h : List Taken) (p : ℕ) (flick : Bool) → OnSome told (CoreStepsQuietly c p flick new) → OnSome told (StepsQuietly (with_history c h) p flick (with_history new h))
-told_steps (Some a) c new h p flick steps = steps.steps h
-told_steps None c new h p flick none = none
-
-pub told_adds : (told : Option Access) (c : CoreState) (h : List Taken) (p : ℕ) (flick : Bool) → IfSome told (λ access. (taken : List Taken) → Adds (with_history c taken) (Step p flick) p (record { access = Some access; marks = [] })) → IfSome told (λ access. Adds (with_history c h) (Step p flick) p (record { access = Some access; marks = [] }))
-told_adds (Some a) c h p flick adds = adds h
-told_adds None c h p flick none = none
 
 -- an event that is not refused adds its entry
 pub added_by : (s : Setup) (past : Past) (what : Event) (e : Entry) → refused s past what ≡ None → added s past what ≡ Some e → entry_of s past what ≡ Some e

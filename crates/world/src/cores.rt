@@ -210,7 +210,8 @@ impl Core {
     {
         if 0 < self.bits_within(process) {
             *told = StepTold::Nothing;
-            return Ok(self.make_step_told(process, flick));
+            // The access tells whether a read begins or ends, so a branch on that is foreseen here.
+            return Ok(self.make_step_told(process, flick, Pace::InARow));
         }
         if let Some(refusal) = self.step_refusal(process) {
             return Err(refusal);
@@ -257,9 +258,9 @@ impl Core {
     /// `step` makes it, by the flick that is next, and without a mark. It answers how many it has made, and stops where
     /// the next access is of a last bit, clears a ticket or is of the memory unit, or where there is no such process.
     #[inline]
-    pub fn walk(&mut self, process: u8, flicks: &mut Flicks, most: u32) -> u32
+    pub fn run(&mut self, process: u8, flicks: &mut Flicks, most: u32) -> u32
         ensures most { result ≤ most }
-        ensures walks { CoreWalks self.old flicks.old process result self.new flicks.new }
+        ensures runs { CoreWalks self.old flicks.old process result self.new flicks.new }
         ensures stops { result < most → bits_within_at self.new.seats process ≡ 0 }
     {
         let mut made = 0;
@@ -289,21 +290,10 @@ impl Core {
         self.seats[at].process().bits_to_walk()
     }
 
-    /// One step, by this flick, of a process that is within a number access as those of `walk` are: it has no mark.
+    /// One step, by this flick, of a process that is within a number access as those of `run` are: it has no mark. It answers
+    /// its access. So few words are looked at that it is quicker than a step which may lead to something.
     #[inline(always)]
-    pub fn make_step_within(&mut self, process: u8, flick: bool)
-        requires { 0 < bits_within_at self.old.seats process }
-        ensures quietly { CoreStepsQuietly self.old process flick self.new }
-        ensures fewer { bits_within_at self.old.seats process ≤ bits_within_at self.new.seats process + 1 }
-        ensures others { KeepOthers self.old.seats process self.new.seats }
-    {
-        let at = usize::from(process);
-        self.seats[at].step_within(&mut self.registers, flick, Pace::Single);
-    }
-
-    /// The same, with its access. So few words are looked at that it is quicker than a step which may lead to something.
-    #[inline]
-    pub fn make_step_told(&mut self, process: u8, flick: bool) -> Access
+    pub fn make_step_told(&mut self, process: u8, flick: bool, pace: Pace) -> Access
         requires { 0 < bits_within_at self.old.seats process }
         ensures quietly { CoreStepsQuietly self.old process flick self.new }
         ensures accepted { (taken : List Seen) → Adds (with_history self.old taken) (Step process flick) process (record { access = Some result; marks = [] }) }
@@ -314,8 +304,7 @@ impl Core {
         let at = usize::from(process);
         let seat = &mut self.seats[at];
         let access = seat.process().answered_within(&self.registers, flick);
-        // The access has told whether a read begins or ends, so a branch on that is foreseen here.
-        seat.step_within(&mut self.registers, flick, Pace::InARow);
+        seat.step_within(&mut self.registers, flick, pace);
         access
     }
 

@@ -1,4 +1,4 @@
-ghost use Rattle.std.specs.Prelude.{◌≡◌, ◌↔◌, Bool, ◌==◌, ◌&&◌, nat_le, ◌<◌, ◌≤◌, ◌∷◌, ◌++◌, ◌+◌, [], true, false, map, option_map, None, Some, IfOk, IfErr, IfSome, OnOk, OnErr, OnSome, IsOk, IsSome, IsTrue, Ok, length, List};
+ghost use Rattle.std.specs.Prelude.{◌≡◌, ◌↔◌, Bool, ◌==◌, ◌&&◌, nat_le, ◌<◌, ◌≤◌, ◌∷◌, ◌++◌, ◌+◌, [], true, false, map, option_map, None, Some, IfOk, IfErr, OnOk, OnErr, IsOk, Ok, length, List};
 ghost use Rattle.std.specs.Vec.{vec_capacity, vec_len};
 ghost use Rattle.plain_store.specs.Setups.{checked};
 ghost use Rattle.record.specs.store_image.Image.{image_of};
@@ -25,7 +25,7 @@ ghost use Rattle.world.specs.Walks.{KeepOthers, StepsQuietly, Walks, bits_within
 use crate::cores::Core;
 use flicks::Flicks;
 use plain_store::{NestedTypes, Reply, Setup};
-use process::{Effect, EventMade, Image, StepTold};
+use process::{Effect, EventMade, Image, Pace, StepTold};
 use record::{Access, Act, Event, Refusal, Stage, Taken};
 use smallvec::SmallVec;
 use std::alloc::{AllocError, Global};
@@ -149,12 +149,12 @@ impl World {
     /// has made, and stops where the next access is of a last bit, clears a ticket or is of the memory unit, or where
     /// there is no such process.
     #[inline(never)]
-    pub fn walk(&mut self, process: u8, flicks: &mut Flicks, most: u32) -> u32
+    pub fn run(&mut self, process: u8, flicks: &mut Flicks, most: u32) -> u32
         ensures most { result ≤ most }
-        ensures walks { Walks self.old flicks.old process result self.new flicks.new }
+        ensures runs { Walks self.old flicks.old process result self.new flicks.new }
         ensures stops { result < most → bits_within_at self.new.seats process ≡ 0 }
     {
-        self.core.walk(process, flicks, most)
+        self.core.run(process, flicks, most)
     }
 
     /// How many bits a process at the door or at the data has before the last one of its number access; 0, if it is
@@ -167,7 +167,7 @@ impl World {
         self.core.bits_within(process)
     }
 
-    /// One step, by this flick, of a process that is within a number access as those of `walk` are: as `step` makes it, and
+    /// One step, by this flick, of a process that is within a number access as those of `run` are: as `step` makes it, and
     /// without a mark; of it the headline holds.
     #[inline(always)]
     pub fn make_step_within(&mut self, process: u8, flick: bool)
@@ -176,41 +176,7 @@ impl World {
         ensures fewer { bits_within_at self.old.seats process ≤ bits_within_at self.new.seats process + 1 }
         ensures others { KeepOthers self.old.seats process self.new.seats }
     {
-        self.core.make_step_within(process, flick);
-    }
-
-    /// Whether the next step of a process is within a number access, as those of `walk` are; not, if there is no such
-    /// process.
-    #[inline]
-    pub fn is_within(&self, process: u8) -> bool
-        ensures { IsTrue result ↔ (0 < bits_within_at self.now.seats process) }
-    {
-        self.core.is_within(process)
-    }
-
-    /// One step of a process by this flick, as `step` makes it, if it is within a number access as those of `walk` are: it
-    /// has no mark, and of it the headline holds. It answers its access, a read's end with the value that it gave; none,
-    /// where the step is not within one, or there is no such process: then nothing is made.
-    #[inline]
-    pub fn step_told(&mut self, process: u8, flick: bool) -> Option<Access>
-        ensures whether { IsSome result ↔ (0 < bits_within_at self.old.seats process) }
-        ensures made { OnSome result (StepsQuietly self.old process flick self.new) }
-        ensures adds { IfSome result (λ access. Adds self.old (Step process flick) process (record { access = Some access; marks = [] })) }
-        ensures unmade { result ≡ None → self.new ≡ self.old }
-    {
-        self.core.step_told(process, flick)
-    }
-
-    /// The step of a process that is within a number access, with its access: a read's end with the value that it gave.
-    #[inline]
-    pub fn make_step_told(&mut self, process: u8, flick: bool) -> Access
-        requires { 0 < bits_within_at self.old.seats process }
-        ensures quietly { StepsQuietly self.old process flick self.new }
-        ensures accepted { Adds self.old (Step process flick) process (record { access = Some result; marks = [] }) }
-        ensures fewer { bits_within_at self.old.seats process ≤ bits_within_at self.new.seats process + 1 }
-        ensures others { KeepOthers self.old.seats process self.new.seats }
-    {
-        self.core.make_step_told(process, flick)
+        let _access = self.core.make_step_told(process, flick, Pace::Single);
     }
 
     /// There are events whose record the world shows. Nothing to do: it hands over what every other clause takes for

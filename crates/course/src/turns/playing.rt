@@ -1,10 +1,9 @@
-//! A line is played: its turns are made, one after the other, and a listener hears them. Who need not hear each Step
-//! without a mark has them passed by, made in a row.
-ghost use Rattle.std.specs.Prelude.{◌≡◌, ◌+◌, ◌^◌, ◌<◌, ◌≤◌, ℕ, IfErr, IfOk, OnOk};
+//! A line is played: its turns are made, one after the other, and a listener hears what they tell.
+ghost use Rattle.std.specs.Prelude.{◌≡◌, ◌+◌, ◌^◌, ◌≤◌, ℕ, IfErr, IfOk, OnOk};
 ghost use Rattle.course.specs.Courses.{Follows};
 ghost use Rattle.course.specs.Listening.{ComesTo, Plays, room_wanted};
 ghost use Rattle.course.specs.Runs.{Run, run_after};
-ghost use Rattle.course.specs.Turns.{rest_of, turns_in as turns_of};
+ghost use Rattle.course.specs.Turns.{makes_steps as has_steps, rest_of, turns_in as turns_of};
 
 use super::Course;
 use crate::listening::Listener;
@@ -49,30 +48,22 @@ impl Course {
         ensures room { IfOk result (λ told. (more : ℕ) → L.HasRoom listener.old (more + self.old.left) → L.HasRoom listener.new (more + room_wanted told self.new.left)) }
         ensures cut { IfErr result (λ fault. (run : Run) → Follows self.old run → L.Stops listener.old self.old.world.setup run.happened (rest_of self.old.world.setup line.now self.old.left run).happened fault listener.new) }
     {
-        if listener.hears_steps() {
-            return self.step_on(line, listener);
+        if !makes_steps(line) {
+            return Ok(self.make(line)?);
         }
-        let made = self.turns(line)?;
-        listener.pass(made.quiet);
-        Ok(made.told)
+        match line {
+            Line::Step(process, _) => self.run_alone(*process, 0, listener),
+            Line::Go(process, target) => self.run_to(*process, *target, listener),
+            Line::Wander(_) => self.run_random(listener),
+            _ => unreachable!(),
+        }
     }
+}
 
-    /// The same where each Step is heard.
-    fn step_on<L: Listener>(&mut self, line: &Line, listener: &mut L) -> Result<Option<Told>, Fault>
-        requires few { self.old.left ≤ turns_of line.now }
-        requires room { L.HasRoom listener.old self.old.left }
-        ensures left { IfOk result (λ told. room_wanted told self.new.left ≤ self.old.left) }
-        ensures ok { IfOk result (λ told. (run : Run) → Follows self.old run → ComesTo L.Hears self.old.world.setup line.now self.old.left run listener.old listener.new told self.new) }
-        ensures room { IfOk result (λ told. (more : ℕ) → L.HasRoom listener.old (more + self.old.left) → L.HasRoom listener.new (more + room_wanted told self.new.left)) }
-        ensures cut { IfErr result (λ fault. (run : Run) → Follows self.old run → L.Stops listener.old self.old.world.setup run.happened (rest_of self.old.world.setup line.now self.old.left run).happened fault listener.new) }
-    {
-        let steppers = self.steppers(line);
-        'steps: loop {
-            let drawn = self.draw(&steppers);
-            let Some(made) = self.step_drawn(drawn) else {
-                return Ok(self.turn_drawn(line, drawn)?);
-            };
-            listener.step(made)?;
-        }
-    }
+/// Whether a line makes Steps.
+#[inline]
+fn makes_steps(line: &Line) -> bool
+    ensures { result ≡ has_steps line.now }
+{
+    matches!(line, Line::Step(..) | Line::Go(..) | Line::Wander(_))
 }

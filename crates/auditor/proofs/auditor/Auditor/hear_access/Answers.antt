@@ -1,6 +1,5 @@
-use Rattle.std.proofs.Common.{◌≡◌, ◌<◌, [], None, Some, refl, sym, ap, subst}
+use Rattle.std.proofs.Common.{◌≡◌, [], Some, refl, sym, subst}
 use Rattle.world.specs.Cores.{CoreState}
-use Rattle.world.specs.Walks.{bits_within_at}
 use Rattle.auditor.specs.Hearing.{AuditorState, HasHeard, IsHeard, flick_in}
 use Rattle.auditor.proofs.Within.{MadeWithin, access_entry, heard_within}
 use Rattle.auditor.proofs.auditor.Auditor.hear_access.Goals as goal

@@ -31,7 +31,7 @@ returns-in_default-clause-ok g c = λ run follows.
 pub returns-in_default-clause-room : goal.returns-in_default-clause-room
 returns-in_default-clause-room g c = λ more has.
     let room = rw c.in_default.is at c.in_ok-told.ensures.room in
-    g.met.L.Listener.room_less c.next.new.listener more (more + 0) (omega arith) (room more (c.turns.invariant.room more has))
+    g.met.L.Listener.room_less c.next.new.listener more (more + c.next.new.self.left) (omega arith) (room more (c.turns.invariant.room more has))
 
 pub hear-requires : goal.hear-requires
 hear-requires g c =

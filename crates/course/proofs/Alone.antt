@@ -1,0 +1,137 @@
+-- One process makes the Steps of a line: `step`, and `go` while the process is not where it is to go.
+use Rattle.std.proofs.Common.{◌≡◌, ℕ, zero, suc, ◌+◌, ◌-◌, ◌<◌, ◌≤◌, arith, Bool, true, false, List, [], ◌∷◌, ◌++◌, IfOk, Option, None, Some, Result, Ok, Err, is_none, refl, ap, sym, subst, ◌∙◌, add-one, inl, inr}
+use Rattle.plain_store.specs.declared.setups.Setup.{Setup}
+use Rattle.record.specs.declared.events.Event.TheVariants.{Step}
+use Rattle.record.specs.declared.marks.Mark.{Mark}
+use Rattle.scenario.specs.declared.lines.Line.{Line}
+use Rattle.scenario.specs.declared.lines.Line.TheVariants as line
+use Rattle.scenario.specs.files.declared.faults.Fault.{Fault}
+use Rattle.world.specs.flicks.Flicks.{FlickState, after_flick, flick_of}
+use Rattle.world.specs.Shows.{Shows, WorldState}
+use Rattle.world.specs.Walks.{StepsQuietly, Walks}
+use Rattle.course.specs.Courses.{CourseState, Follows, IsQuiet, QuietTurns, course}
+use Rattle.course.specs.Happenings.{Happening, Tries, tried}
+use Rattle.course.specs.Listening.{ComesOn, ComesTo, HearsStep, PassQuietly, RunsTo, TellsStep}
+use Rattle.course.specs.Runs.{Run, is_there, may_step, next_step, past_in, stepped}
+use Rattle.course.specs.Steppers.{IsAlone, left_told}
+use Rattle.course.specs.Telling.{AddsMarks, TellsOf, entry_made}
+use Rattle.course.specs.Turns.{Turn, made_turn, rest_of, step_turn, turn_of, turns_in}
+use Rattle.course.specs.declared.told.Told.{Told}
+use Rattle.course.specs.declared.told.Told.TheVariants as told
+use Rattle.course.proofs.CourseTurns.{turn_next}
+use Rattle.course.proofs.Goes.{go_steps}
+use Rattle.course.proofs.Refusals.{entry_by, not_refused}
+use Rattle.course.proofs.Runnings.{IsStep, comes_end, drawn_run, one_on, one_stops, one_told, quiet_adds, quiet_passes, turns_then}
+use Rattle.course.proofs.Wanders.{stage_quiet}
+
+-- its next turn is a Step
+alone_turn : (s : Setup) (l : Line) (left p floor : ℕ) (run : Run) → floor < left → IsAlone p floor s l run → turn_of s l left run ≡ step_turn s p (left - 1) run
+alone_turn s l left p floor run more (inl (steps, is)) = ap (λ l. turn_of s l left run) is ∙ turn_next s (line.Step p steps) left run (λ none. omega (arith, none, more))
+alone_turn s l left p floor run more (inr (target, is, away, last)) =
+    ap (λ l. turn_of s l left run) is ∙ go_steps s p 0 target left run away (omega (arith, last, more)) ∙ turn_next s (line.Step p 0) left run (λ none. omega (arith, none, more))
+
+-- a Step that is made leaves the turns that are left
+step_turn_made : (s : Setup) (p left : ℕ) (run : Run) (marks : List Mark) → AddsMarks s (past_in s run) (next_step p run) marks → step_turn s p left run ≡ made_turn p left run
+step_turn_made s p left run marks adds =
+    let may : may_step s p run ≡ true = ap is_none (not_refused s (past_in s run) (next_step p run) (entry_by (next_step p run) adds.0 marks) adds.1) in
+    ap (λ b. made_turn p (elim b as (λ _. ℕ) [ true ↦ left | false ↦ 0 ]) run) may
+
+-- and one that is refused leaves none
+step_turn_told : (s : Setup) (p left : ℕ) (run : Run) (answer : Told) → TellsOf s (past_in s run) (Tries (next_step p run)) answer → step_turn s p left run ≡ made_turn p (left_told answer left) run
+step_turn_told s p left run (told.Accepted made) tells =
+    ap (λ b. made_turn p (elim b as (λ _. ℕ) [ true ↦ left | false ↦ 0 ]) run) (ap is_none (not_refused s (past_in s run) (next_step p run) (entry_made made) tells.1))
+step_turn_told s p left run (told.Refused q r) tells = ap (λ b. made_turn p (elim b as (λ _. ℕ) [ true ↦ left | false ↦ 0 ]) run) (ap is_none tells.1)
+step_turn_told s p left run (told.Tired q) tells = absurd tells
+step_turn_told s p left run (told.Shown line) tells = absurd tells
+
+-- after a Step without a mark it makes the next one
+alone_still : (s : Setup) (l : Line) (p floor : ℕ) (run : Run) (source : FlickState) → AddsMarks s (past_in s run) (next_step p (drawn_run run source)) [] → IsAlone p floor s l run → IsAlone p floor s l (stepped p (drawn_run run source))
+alone_still s l p floor run source adds (inl (steps, is)) = inl (steps, is)
+alone_still s l p floor run source adds (inr (target, is, away, last)) =
+    inr (target, is, record { there = away.there; away = ap (is_there target) (stage_quiet s p (tried run.happened) (Step p (flick_of source)) adds) ∙ away.away }, last)
+
+module _ (w w' : WorldState) (l : Line) (left p floor : ℕ) (flick : Bool) (run : Run) (flicks flicks' : FlickState) (more : floor < left) (is : flick ≡ flick_of flicks) (after : flicks' ≡ after_flick flicks) (follows : Follows (course w flicks left) run) (next : IsAlone p floor w.setup l run) where
+  by : flick ≡ flick_of run.flicks
+  by = is ∙ ap flick_of follows.flicks
+
+  -- a Step without a mark
+  quiet_step : StepsQuietly w p flick w' → IsStep w l left p flick run run.flicks (left - 1)
+  quiet_step q = record {
+    shows = follows.shows;
+    by = by;
+    turn = alone_turn w.setup l left p floor run more next ∙ step_turn_made w.setup p (left - 1) run [] (quiet_adds w w' p flick run run.flicks q follows.shows by);
+  }
+
+  pub alone_on : {L : Type 0} (Hears : L → Setup → List Happening → List Happening → L → Type 0) (was is : L) → HearsStep Hears w p flick w' was is → ComesOn Hears w.setup l left run was is (course w' flicks' (left - 1)) (IsAlone p floor)
+  alone_on Hears was is h =
+      one_on Hears w w' l left p flick run run.flicks flicks' (left - 1) was is (IsAlone p floor) (quiet_step h.step) h (after ∙ ap after_flick follows.flicks)
+      (alone_still w.setup l p floor run run.flicks (quiet_adds w w' p flick run run.flicks h.step follows.shows by) next)
+
+  pub alone_stops : {L : Type 0} (Stops : L → Setup → List Happening → List Happening → Fault → L → Type 0) (was is : L) (fault : Fault) → ((a b : L) (s : Setup) (x y more : List Happening) (fault : Fault) → Stops a s x y fault b → Stops a s x (more ++ y) fault b) →
+      HearsStep (λ was s x y is. Stops was s x y fault is) w p flick w' was is → left ≤ turns_in l → Stops was w.setup run.happened (rest_of w.setup l left run).happened fault is
+  alone_stops Stops was is fault stops_before h few = one_stops Stops w w' l left p flick run run.flicks (left - 1) was is fault stops_before (quiet_step h.step) h few
+
+  -- one that tells
+  pub alone_told : {L : Type 0} (Hears : L → Setup → List Happening → List Happening → L → Type 0) (a : L) (answer : Told) (left' : ℕ) → ((a : L) (s : Setup) (x : List Happening) → Hears a s x x a) → TellsStep w p flick answer w' → left' ≡ left_told answer (left - 1) →
+      ComesTo Hears w.setup l left run a a (Some answer) (course w' flicks' left')
+  alone_told Hears a answer left' nothing t fewer =
+      let tells : TellsOf w.setup (past_in w.setup run) (Tries (next_step p run)) answer = subst (λ b. TellsOf w.setup (past_in w.setup run) (Tries (Step p b)) answer) by (t.tells (tried run.happened) follows.shows) in
+      one_told Hears w w' l left p flick run run.flicks flicks' left' a answer nothing
+      (record { shows = follows.shows; by = by; turn = alone_turn w.setup l left p floor run more next ∙ step_turn_told w.setup p (left - 1) run answer tells ∙ ap (λ n. made_turn p n run) (sym fewer) }) t (after ∙ ap after_flick follows.flicks)
+
+-- Steps that a world makes in a row without a mark
+record Walked (s : Setup) (l : Line) (left p floor n : ℕ) (run : Run) (w' : WorldState) (flicks' : FlickState) : Type 0 where
+  now : Run
+  turns : QuietTurns s l n left run (left - n) now
+  follows : Follows (course w' flicks' (left - n)) now
+  setup : w'.setup ≡ s
+  next : IsAlone p floor s l now
+
+walked : (n : ℕ) (w w' : WorldState) (flicks flicks' : FlickState) (l : Line) (left p floor : ℕ) (run : Run) → n + floor < left → Walks w flicks p n w' flicks' → Follows (course w flicks left) run → IsAlone p floor w.setup l run → Walked w.setup l left p floor n run w' flicks'
+walked zero w w' flicks flicks' l left p floor run few (same, same_flicks) follows next =
+    let all : left - 0 ≡ left = omega arith in
+    record {
+      now = run;
+      turns = (all, refl);
+      follows = subst (λ c. Follows c run) (sym (λ i. course (same i) (same_flicks i) (all i))) (record { shows = follows.shows; flicks = follows.flicks });
+      setup = ap (λ (w : WorldState). w.setup) same;
+      next = next;
+    }
+walked (suc n) w w' flicks flicks' l left p floor run few (w1, flicks1, walks, q, after) follows next =
+    let s : Setup = w.setup in
+    let b : Walked s l left p floor n run w1 flicks1 = walked n w w1 flicks flicks1 l left p floor run (omega (arith, few)) walks follows next in
+    let is : flick_of flicks1 ≡ flick_of b.now.flicks = ap flick_of b.follows.flicks in
+    let adds : AddsMarks s (past_in s b.now) (next_step p b.now) [] = subst (λ (s : Setup). AddsMarks s (past_in s b.now) (next_step p b.now) []) b.setup (quiet_adds w1 w' p (flick_of flicks1) b.now b.now.flicks q b.follows.shows is) in
+    let now : Run = stepped p b.now in
+    let happened : List Happening = b.now.happened in
+    let fewer : left - n - 1 ≡ left - suc n = omega arith in
+    let turn : turn_of s l (left - n) b.now ≡ made_turn p (left - n - 1) b.now = alone_turn s l (left - n) p floor b.now (omega (arith, few)) b.next ∙ step_turn_made s p (left - n - 1) b.now [] adds in
+    let one : QuietTurns s l 1 (left - n) b.now (left - suc n) now = subst (λ (t : Turn). IsQuiet s (past_in s b.now) t.this × ((left - suc n ≡ t.left) × (now ≡ t.run))) (sym turn) (adds, (sym fewer, refl)) in
+    record {
+      now = now;
+      turns = subst (λ k. QuietTurns s l k left run (left - suc n) now) (add-one n) (turns_then s l n 1 left run (left - n) b.now (left - suc n) now b.turns one);
+      follows = record { shows = subst (λ b. Shows w' (Step p b ∷ tried happened)) is (q.shows (tried b.now.happened) b.follows.shows); flicks = after ∙ ap after_flick b.follows.flicks };
+      setup = q.setup ∙ b.setup;
+      next = alone_still s l p floor b.now b.now.flicks adds b.next;
+    }
+
+-- they are passed by
+pub alone_pass : {L : Type 0} (Hears : L → Setup → List Happening → List Happening → L → Type 0) (n : ℕ) (w w' : WorldState) (flicks flicks' : FlickState) (l : Line) (left left' p floor : ℕ) (run : Run) (was is : L) → left' ≡ left - n → n + floor < left → Walks w flicks p n w' flicks' →
+    ((s : Setup) (before after : List Happening) → PassQuietly s n before after → Hears was s before after is) → Follows (course w flicks left) run → IsAlone p floor w.setup l run → ComesOn Hears w.setup l left run was is (course w' flicks' left') (IsAlone p floor)
+alone_pass Hears n w w' flicks flicks' l left left' p floor run was is fewer few walks pass follows next =
+    let s : Setup = w.setup in
+    let b : Walked s l left p floor n run w' flicks' = walked n w w' flicks flicks' l left p floor run few walks follows next in
+    subst (λ k. ComesOn Hears s l left run was is (course w' flicks' k) (IsAlone p floor)) (sym fewer)
+    (record { quiet = n; now = b.now; turns = b.turns; hears = pass s run.happened b.now.happened (quiet_passes s l n left run (left - n) b.now b.turns); follows = b.follows; setup = b.setup; next = b.next })
+
+-- and leave the setup
+pub walks_setup : (n : ℕ) (w w' : WorldState) (flicks flicks' : FlickState) (p : ℕ) → Walks w flicks p n w' flicks' → w'.setup ≡ w.setup
+walks_setup zero w w' flicks flicks' p (same, same_flicks) = ap (λ (w : WorldState). w.setup) same
+walks_setup (suc n) w w' flicks flicks' p (w1, flicks1, walks, quietly, after) = quietly.setup ∙ walks_setup n w w1 flicks flicks1 p walks
+
+-- a line of Steps that has made them all has ended
+pub alone_whole : {L : Type 0} (Hears : L → Setup → List Happening → List Happening → L → Type 0) (old new : CourseState) (l : Line) (p steps : ℕ) (was is : L) (result : Result (Option Told) Fault) → l ≡ line.Step p steps → IfOk result (λ told. told ≡ None → new.left ≡ 0) →
+    IfOk result (λ told. (l : Line) (run : Run) → Follows old run → IsAlone p 0 old.world.setup l run → RunsTo Hears old.world.setup l old.left run was is p 0 told new) → IfOk result (λ told. (run : Run) → Follows old run → ComesTo Hears old.world.setup l old.left run was is told new)
+alone_whole Hears old new l p steps was is (Err fault) same ended runs = tt
+alone_whole Hears old new l p steps was is (Ok None) same ended runs = λ run follows. comes_end Hears old.world.setup l old.left run was is new (IsAlone p 0) (ended refl) (runs l run follows (inl (steps, same)))
+alone_whole Hears old new l p steps was is (Ok (Some answer)) same ended runs = λ run follows. runs l run follows (inl (steps, same))

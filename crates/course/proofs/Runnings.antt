@@ -1,0 +1,214 @@
+-- Steps of a line, one after another: those without a mark are heard, and each leaves who makes the next.
+use Rattle.std.proofs.Common.{◌≡◌, ℕ, zero, suc, ◌+◌, ◌≤◌, Bool, List, [], ◌∷◌, ◌++◌, Option, None, Some, refl, ap, sym, subst, ◌∙◌, arith}
+use Rattle.plain_store.specs.declared.setups.Setup.{Setup}
+use Rattle.record.specs.declared.events.Event.{Event}
+use Rattle.record.specs.declared.events.Event.TheVariants.{Step}
+use Rattle.record.specs.Given.{AreGiven}
+use Rattle.record.specs.Records.{entry_of, past_of}
+use Rattle.scenario.specs.declared.lines.Line.{Line}
+use Rattle.scenario.specs.files.declared.faults.Fault.{Fault}
+use Rattle.world.specs.flicks.Flicks.{FlickState, after_flick, flick_of}
+use Rattle.world.specs.Shows.{Shows, WorldState}
+use Rattle.world.specs.Walks.{StepsQuietly}
+use Rattle.course.specs.Courses.{CourseState, Follows, IsQuiet, Makes, QuietTurns, course}
+use Rattle.course.specs.Happenings.{Happening, Tries, tried}
+use Rattle.course.specs.Listening.{ComesOn, ComesTo, HearsStep, PassQuietly, StepsOn, TellsStep}
+use Rattle.course.specs.Runs.{Run, next_step, past_in, stepped}
+use Rattle.course.specs.Telling.{AddsMarks, Tells, TellsOf}
+use Rattle.course.specs.Turns.{Turn, made_turn, rest_of, turn_of, turns_in}
+use Rattle.course.specs.declared.told.Told.{Told}
+use Rattle.course.proofs.Grows.{Grows, rest_grows}
+use Rattle.course.proofs.TurnLaw.{turn_less, turn_on}
+use Rattle.course.proofs.Underways.{Turned, One, Nothing, turned}
+
+-- Turns without a mark.
+
+-- after such turns
+pub turns_then : (s : Setup) (line : Line) (quiet more left : ℕ) (run : Run) (mid : ℕ) (run_mid : Run) (left' : ℕ) (run' : Run) → QuietTurns s line quiet left run mid run_mid → QuietTurns s line more mid run_mid left' run' →
+    QuietTurns s line (quiet + more) left run left' run'
+turns_then s line zero more left run mid run_mid left' run' (same, at) rest =
+    let all : more ≡ zero + more = omega arith in
+    subst (λ k. QuietTurns s line k left run left' run') all (subst (λ n. QuietTurns s line more n run left' run') same (subst (λ r. QuietTurns s line more mid r left' run') at rest))
+turns_then s line (suc quiet) more left run mid run_mid left' run' (first, turns) rest =
+    let all : suc (quiet + more) ≡ suc quiet + more = omega arith in
+    subst (λ k. QuietTurns s line k left run left' run') all
+    (first, turns_then s line quiet more (turn_of s line left run).left (turn_of s line left run).run mid run_mid left' run' turns rest)
+
+-- they leave what is to be done
+pub rest_quiet : (s : Setup) (line : Line) (quiet left : ℕ) (run : Run) (left' : ℕ) (run' : Run) → left ≤ turns_in line → QuietTurns s line quiet left run left' run' → (left' ≤ turns_in line) × (rest_of s line left run ≡ rest_of s line left' run')
+rest_quiet s line zero left run left' run' few (same, at) = (omega (arith, same, few), λ i. rest_of s line (sym same i) (sym at i))
+rest_quiet s line (suc quiet) left run left' run' few (first, more) =
+    let less = turn_less s line left run in
+    let next = rest_quiet s line quiet (turn_of s line left run).left (turn_of s line left run).run left' run' (omega (arith, less, few)) more in
+    (next.0, turn_on s line left run few ∙ next.1)
+
+-- they are passed by
+pub quiet_passes : (s : Setup) (line : Line) (quiet left : ℕ) (run : Run) (left' : ℕ) (run' : Run) → QuietTurns s line quiet left run left' run' → PassQuietly s quiet run.happened run'.happened
+quiet_passes s line zero left run left' run' (same, at) = ap (λ (r : Run). r.happened) at
+quiet_passes s line (suc quiet) left run left' run' (first, more) = by (turned s line left run) (quiet_passes s line quiet (turn_of s line left run).left (turn_of s line left run).run left' run' more)
+  where
+    t : Turn
+    t = turn_of s line left run
+
+    by : Turned t run.happened → PassQuietly s quiet t.run.happened run'.happened → PassQuietly s (suc quiet) run.happened run'.happened
+    by (Nothing none ended same) rest = absurd (subst (λ o. IsQuiet s (past_in s run) o) none first)
+    by (One this some same) rest = (this, subst (λ o. IsQuiet s (past_in s run) o) some first, subst (λ l. PassQuietly s quiet l run'.happened) same rest)
+
+-- A Step.
+
+-- the run from which it is made: no more has happened, but its flick comes from here
+abbrev pub drawn_run : Run → FlickState → Run
+drawn_run run source = record { happened = run.happened; flicks = source }
+
+-- the next turn of a line makes a Step of this process, by this flick, and leaves so many turns
+pub record IsStep (w : WorldState) (line : Line) (left p : ℕ) (flick : Bool) (run : Run) (source : FlickState) (left' : ℕ) : Type 0 where
+  pub shows : Shows w (tried run.happened)
+  pub by : flick ≡ flick_of source
+  pub turn : turn_of w.setup line left run ≡ made_turn p left' (drawn_run run source)
+
+-- the entry that a Step without a mark adds
+quiet_entry : (w w' : WorldState) (p : ℕ) (flick : Bool) (events : List Event) → (q : StepsQuietly w p flick w') → Shows w events → entry_of w.setup (past_of w.setup events) (Step p flick) ≡ Some (record { process = p; access = Some q.access; marks = [] })
+quiet_entry w w' p flick events q shows = q.adds events shows
+
+pub quiet_adds : (w w' : WorldState) (p : ℕ) (flick : Bool) (run : Run) (source : FlickState) → StepsQuietly w p flick w' → Shows w (tried run.happened) → flick ≡ flick_of source → AddsMarks w.setup (past_in w.setup run) (next_step p (drawn_run run source)) []
+quiet_adds w w' p flick run source q shows is = subst (λ b. AddsMarks w.setup (past_in w.setup run) (Step p b) []) is (Some q.access, quiet_entry w w' p flick (tried run.happened) q shows)
+
+-- it is made
+steps_on : (w w' : WorldState) (p : ℕ) (flick : Bool) (before : List Happening) → (q : StepsQuietly w p flick w') → Shows w (tried before) → StepsOn w.setup before (record { process = p; flick = flick; access = q.access })
+steps_on w w' p flick before q shows = record {
+  good = shows.good;
+  given = subst (λ (s : Setup). AreGiven s (Step p flick ∷ tried before)) q.setup (q.shows (tried before) shows).given;
+  adds = quiet_entry w w' p flick (tried before) q shows;
+}
+
+module _ {L : Type 0} (Hears : L → Setup → List Happening → List Happening → L → Type 0) where
+  -- Before the first.
+  pub comes_start : (line : Line) (start : Run) (old new : CourseState) (a : L) (Next : Setup → Line → Run → Type 0) → ((a : L) (s : Setup) (x : List Happening) → Hears a s x x a) → new ≡ old → Follows old start → Next old.world.setup line start → ComesOn Hears old.world.setup line old.left start a a new Next
+  comes_start line start old new a Next nothing same follows next =
+      subst (λ (c : CourseState). ComesOn Hears old.world.setup line old.left start a a c Next) (sym same)
+      (record { quiet = 0; now = start; turns = (refl, refl); hears = nothing a old.world.setup start.happened; follows = record { shows = follows.shows; flicks = follows.flicks }; setup = refl; next = next })
+
+  -- a turn that tells, with none before it
+  pub at_once : (line : Line) (start : Run) (old new : CourseState) (a : L) (answer : Option Told) → ((a : L) (s : Setup) (x : List Happening) → Hears a s x x a) → Makes old start (turn_of old.world.setup line old.left start) answer new → ComesTo Hears old.world.setup line old.left start a a answer new
+  at_once line start old new a answer nothing m = record {
+    quiet = 0;
+    left = old.left;
+    now = start;
+    turns = (refl, refl);
+    hears = nothing a old.world.setup start.happened;
+    tells = m.tells;
+    follows = m.follows;
+    left_is = m.left;
+    setup = m.setup;
+  }
+
+  -- the end of a line of which no turn is left
+  pub comes_end : (s : Setup) (line : Line) (had : ℕ) (start : Run) (was is : L) (course : CourseState) (Next : Setup → Line → Run → Type 0) → course.left ≡ 0 → ComesOn Hears s line had start was is course Next → ComesTo Hears s line had start was is None course
+  comes_end s line had start was is course Next none u = record {
+    quiet = u.quiet;
+    left = course.left;
+    now = u.now;
+    turns = u.turns;
+    hears = u.hears;
+    tells = subst (λ n. Tells s (past_in s u.now) (turn_of s line n u.now).this None) (sym none) tt;
+    follows = subst (λ n. Follows course (turn_of s line n u.now).run) (sym none) (record { shows = u.follows.shows; flicks = u.follows.flicks });
+    left_is = subst (λ n. course.left ≡ (turn_of s line n u.now).left) (sym none) none;
+    setup = u.setup;
+  }
+
+  -- a Step without a mark
+  pub one_on : (w w' : WorldState) (line : Line) (left p : ℕ) (flick : Bool) (run : Run) (source flicks : FlickState) (left' : ℕ) (was is : L) (Next : Setup → Line → Run → Type 0) → IsStep w line left p flick run source left' → HearsStep Hears w p flick w' was is → flicks ≡ after_flick source →
+      Next w.setup line (stepped p (drawn_run run source)) → ComesOn Hears w.setup line left run was is (course w' flicks left') Next
+  one_on w w' line left p flick run source flicks left' was is Next step h after next =
+      let s : Setup = w.setup in
+      let q = h.step in
+      let now : Run = stepped p (drawn_run run source) in
+      let adds : AddsMarks s (past_in s run) (next_step p (drawn_run run source)) [] = quiet_adds w w' p flick run source q step.shows step.by in
+      record {
+        quiet = 1;
+        now = now;
+        turns = subst (λ (t : Turn). IsQuiet s (past_in s run) t.this × ((left' ≡ t.left) × (now ≡ t.run))) (sym step.turn) (adds, (refl, refl));
+        hears = subst (λ b. Hears was s run.happened (Tries (Step p b) ∷ run.happened) is) step.by (h.hears s run.happened (steps_on w w' p flick run.happened q step.shows));
+        follows = record { shows = subst (λ b. Shows w' (Step p b ∷ tried run.happened)) step.by (q.shows (tried run.happened) step.shows); flicks = after };
+        setup = q.setup;
+        next = next;
+      }
+
+  -- one that tells
+  pub one_told : (w w' : WorldState) (line : Line) (left p : ℕ) (flick : Bool) (run : Run) (source flicks : FlickState) (left' : ℕ) (a : L) (answer : Told) → ((a : L) (s : Setup) (x : List Happening) → Hears a s x x a) → IsStep w line left p flick run source left' → TellsStep w p flick answer w' →
+      flicks ≡ after_flick source → ComesTo Hears w.setup line left run a a (Some answer) (course w' flicks left')
+  one_told w w' line left p flick run source flicks left' a answer nothing step t after =
+      let s : Setup = w.setup in
+      let tells : TellsOf s (past_in s run) (Tries (next_step p (drawn_run run source))) answer = subst (λ b. TellsOf s (past_in s run) (Tries (Step p b)) answer) step.by (t.tells (tried run.happened) step.shows) in
+      let now : Run = stepped p (drawn_run run source) in
+      let follows : Follows (course w' flicks left') now = record { shows = subst (λ b. Shows w' (Step p b ∷ tried run.happened)) step.by (t.shows (tried run.happened) step.shows); flicks = after } in
+      record {
+        quiet = 0;
+        left = left;
+        now = run;
+        turns = (refl, refl);
+        hears = nothing a s run.happened;
+        tells = subst (λ (t : Turn). Tells s (past_in s run) t.this (Some answer)) (sym step.turn) tells;
+        follows = subst (λ (t : Turn). Follows (course w' flicks left') t.run) (sym step.turn) follows;
+        left_is = subst (λ (t : Turn). left' ≡ t.left) (sym step.turn) refl;
+        setup = t.setup;
+      }
+
+  -- the same, where the world and who hears are known by other names
+  pub comes_same : (s : Setup) (line : Line) (had : ℕ) (start : Run) (was mid mid' : L) (w w' : WorldState) (flicks : FlickState) (left : ℕ) (Next : Setup → Line → Run → Type 0) → w' ≡ w → mid' ≡ mid → ComesOn Hears s line had start was mid (course w flicks left) Next → ComesOn Hears s line had start was mid' (course w' flicks left) Next
+  comes_same s line had start was mid mid' w w' flicks left Next same is u =
+      subst (λ (a : L). ComesOn Hears s line had start was a (course w' flicks left) Next) (sym is) (subst (λ (w : WorldState). ComesOn Hears s line had start was mid (course w flicks left) Next) (sym same) u)
+
+  -- Steps without a mark, and then others
+  module _ (hears_on : (a b c : L) (s : Setup) (x y z : List Happening) → Hears a s x y b → Hears b s y z c → Hears a s x z c) (s : Setup) (line : Line) (had : ℕ) (start : Run) (was mid is : L) (course : CourseState) (Next : Setup → Line → Run → Type 0) (u : ComesOn Hears s line had start was mid course Next) where
+    here : Next course.world.setup line u.now
+    here = subst (λ (s : Setup). Next s line u.now) (sym u.setup) u.next
+
+    pub comes_then : (course' : CourseState) (Then : Setup → Line → Run → Type 0) → ((run : Run) → Follows course run → Next course.world.setup line run → ComesOn Hears course.world.setup line course.left run mid is course' Then) → ComesOn Hears s line had start was is course' Then
+    comes_then course' Then on =
+        let v : ComesOn Hears s line course.left u.now mid is course' Then = subst (λ s. ComesOn Hears s line course.left u.now mid is course' Then) u.setup (on u.now u.follows here) in
+        record {
+          quiet = u.quiet + v.quiet;
+          now = v.now;
+          turns = turns_then s line u.quiet v.quiet had start course.left u.now course'.left v.now u.turns v.turns;
+          hears = hears_on was mid is s start.happened u.now.happened v.now.happened u.hears v.hears;
+          follows = v.follows;
+          setup = v.setup;
+          next = v.next;
+        }
+
+    pub comes_to : (course' : CourseState) (answer : Option Told) → ((run : Run) → Follows course run → Next course.world.setup line run → ComesTo Hears course.world.setup line course.left run mid is answer course') → ComesTo Hears s line had start was is answer course'
+    comes_to course' answer on =
+        let c : ComesTo Hears s line course.left u.now mid is answer course' = subst (λ s. ComesTo Hears s line course.left u.now mid is answer course') u.setup (on u.now u.follows here) in
+        record {
+          quiet = u.quiet + c.quiet;
+          left = c.left;
+          now = c.now;
+          turns = turns_then s line u.quiet c.quiet had start course.left u.now c.left c.now u.turns c.turns;
+          hears = hears_on was mid is s start.happened u.now.happened c.now.happened u.hears c.hears;
+          tells = c.tells;
+          follows = c.follows;
+          left_is = c.left_is;
+          setup = c.setup;
+        }
+
+    pub comes_stop : (Stops : L → Setup → List Happening → List Happening → Fault → L → Type 0) → ((a b c : L) (s : Setup) (x y z : List Happening) (fault : Fault) → Hears a s x y b → Stops b s y z fault c → Stops a s x z fault c) → (fault : Fault) → had ≤ turns_in line →
+        ((run : Run) → Follows course run → Next course.world.setup line run → course.left ≤ turns_in line → Stops mid course.world.setup run.happened (rest_of course.world.setup line course.left run).happened fault is) → Stops was s start.happened (rest_of s line had start).happened fault is
+    comes_stop Stops stops_on fault few cut =
+        let q = rest_quiet s line u.quiet had start course.left u.now few u.turns in
+        subst (λ (r : Run). Stops was s start.happened r.happened fault is) (sym q.1)
+        (stops_on was mid is s start.happened u.now.happened (rest_of s line course.left u.now).happened fault u.hears
+        (subst (λ s. Stops mid s u.now.happened (rest_of s line course.left u.now).happened fault is) u.setup (cut u.now u.follows here q.0)))
+
+-- a fault as a Step without a mark is heard
+pub one_stops : {L : Type 0} (Stops : L → Setup → List Happening → List Happening → Fault → L → Type 0) (w w' : WorldState) (line : Line) (left p : ℕ) (flick : Bool) (run : Run) (source : FlickState) (left' : ℕ) (was is : L) (fault : Fault) →
+    ((a b : L) (s : Setup) (x y more : List Happening) (fault : Fault) → Stops a s x y fault b → Stops a s x (more ++ y) fault b) → IsStep w line left p flick run source left' → HearsStep (λ was s x y is. Stops was s x y fault is) w p flick w' was is → left ≤ turns_in line →
+    Stops was w.setup run.happened (rest_of w.setup line left run).happened fault is
+one_stops Stops w w' line left p flick run source left' was is fault stops_before step h few =
+    let s : Setup = w.setup in
+    let t : Turn = turn_of s line left run in
+    let here : List Happening = Tries (Step p flick) ∷ run.happened in
+    let more : Grows t.run.happened (rest_of s line t.left t.run).happened = rest_grows s line t.left t.run in
+    let same : t.run.happened ≡ here = ap (λ (t : Turn). t.run.happened) step.turn ∙ ap (λ b. Tries (Step p b) ∷ run.happened) (sym step.by) in
+    let all : (rest_of s line left run).happened ≡ more.more ++ here = ap (λ (r : Run). r.happened) (turn_on s line left run few) ∙ more.is ∙ ap (λ l. more.more ++ l) same in
+    subst (λ l. Stops was s run.happened l fault is) (sym all) (stops_before was is s run.happened here more.more fault (h.hears s run.happened (steps_on w w' p flick run.happened h.step step.shows)))

@@ -1,0 +1,103 @@
+use Rattle.std.proofs.Common.{Some, ◌≤◌, ◌+◌, ◌-◌, ◌∙◌, ℕ, ap, arith, subst, sym}
+use Rattle.scenario.specs.declared.lines.Line.{Line}
+use Rattle.course.specs.Courses.{CourseState, Follows, course}
+use Rattle.course.specs.Listening.{ComesTo}
+use Rattle.course.specs.Runs.{Run}
+use Rattle.course.specs.Steppers.{IsAlone}
+use Rattle.course.specs.Turns.{rest_of, turns_in}
+use Rattle.course.proofs.Alone.{alone_on, alone_stops, alone_told}
+use Rattle.course.proofs.Played.{on_fault}
+use Rattle.course.proofs.Runnings.{comes_start, comes_stop, comes_then, comes_to}
+use Rattle.course.proofs.turns.Course.run_alone.Goals as goal
+
+pub steps-init : goal.steps-init
+steps-init g c =
+    let i = c.self.inside in
+    let left = ap (λ (old : CourseState). old.left) c.self.view_is in
+    record {
+      on = λ line run follows next. comes_start g.L.Listener.Hears line run c.args.self.now (course i.world i.flicks i.left) c.args.listener.now (IsAlone c.args.process c.args.floor) g.met.L.Listener.hears_nothing c.self.view_is follows next;
+      kept = record { are = c.self.invariant.are; few = c.self.invariant.few };
+      left = omega (arith, left);
+      floor = omega (arith, left, c.requires.floor);
+      room = λ more room. g.met.L.Listener.room_less c.args.listener.now (more + i.left) (more + c.args.self.now.left) (omega (arith, left)) room;
+    }
+
+pub pass_by-requires-clause-room : goal.pass_by-requires-clause-room
+pass_by-requires-clause-room g c =
+    let laws = g.met.L.Listener in
+    laws.room_less c.steps.listener c.steps.self-inside.left (0 + c.steps.self-inside.left) (omega arith) (c.steps.invariant.room 0 (laws.room_less c.args.listener.now (0 + c.args.self.now.left) c.args.self.now.left (omega arith) c.requires.room))
+
+pub step-requires : goal.step-requires
+step-requires g c =
+    let laws = g.met.L.Listener in
+    let left : ℕ = c.pass_by.new.left in
+    laws.room_less c.pass_by.new.listener 1 (0 + left) (omega (arith, c.pass_by.ensures.above))
+    (c.pass_by.ensures.room 0 (c.steps.invariant.room 0 (laws.room_less c.args.listener.now (0 + c.args.self.now.left) c.args.self.now.left (omega arith) c.requires.room)))
+
+pub steps-preserved : goal.steps-preserved
+steps-preserved g c =
+    let laws = g.met.L.Listener in
+    let Hears = g.L.Listener.Hears in
+    let p = c.args.process in
+    let floor = c.args.floor in
+    let i = c.steps.self-inside in
+    let w = c.pass_by.new.world in
+    let flicks = c.pass_by.new.flicks in
+    let left : ℕ = c.pass_by.new.left in
+    let heard = rw c.in_default.is at c.in_ok-told.ensures.ok in
+    let setup = c.step.ensures.setup ∙ c.pass_by.ensures.setup in
+    record {
+      on = λ line run follows next.
+          let u = c.steps.invariant.on line run follows next in
+          let v = comes_then Hears laws.hears_on c.args.self.now.world.setup line c.args.self.now.left run c.args.listener.now c.steps.listener c.pass_by.new.listener (course i.world i.flicks i.left) (IsAlone p floor) u (course w flicks left) (IsAlone p floor) (c.pass_by.ensures.on line) in
+          comes_then Hears laws.hears_on c.args.self.now.world.setup line c.args.self.now.left run c.args.listener.now c.pass_by.new.listener c.step.new.listener (course w flicks left) (IsAlone p floor) v (course c.step.new.world c.flick-flick.new.self (left - 1)) (IsAlone p floor)
+          (λ run follows next. alone_on w c.step.new.world line left p floor c.flick-flick.result run flicks c.flick-flick.new.self c.pass_by.ensures.above c.flick-flick.ensures.flick c.flick-flick.ensures.after follows next Hears c.pass_by.new.listener c.step.new.listener heard);
+      kept = record { are = c.steps.invariant.kept.are ∙ ap (λ s. s.processes) (sym setup); few = c.steps.invariant.kept.few };
+      left = omega (arith, c.pass_by.ensures.fewer, c.steps.invariant.left);
+      floor = omega (arith, c.pass_by.ensures.above);
+      room = λ more room.
+          let wants = rw c.in_default.is at c.in_ok-told.ensures.room in
+          laws.room_less c.step.new.listener (more + (left - 1)) (more + (left - 1) + 0) (omega arith) (wants (more + (left - 1)) (laws.room_less c.pass_by.new.listener (more + (left - 1) + 1) (more + left) (omega (arith, c.pass_by.ensures.above)) (c.pass_by.ensures.room more (c.steps.invariant.room more room))));
+    }
+
+pub returns-in_err-told-clause-cut : goal.returns-in_err-told-clause-cut
+returns-in_err-told-clause-cut g c =
+    let laws = g.met.L.Listener in
+    let Hears = g.L.Listener.Hears in
+    let Stops = g.L.Listener.Stops in
+    let s = c.args.self.now.world.setup in
+    let had : ℕ = c.args.self.now.left in
+    let p = c.args.process in
+    let floor = c.args.floor in
+    let i = c.steps.self-inside in
+    let w = c.pass_by.new.world in
+    let flicks = c.pass_by.new.flicks in
+    let left : ℕ = c.pass_by.new.left in
+    on_fault c.from_residual.result c.in_err-told.field-0.0 (λ fault. (l : Line) (run : Run) → Follows c.args.self.now run → IsAlone p floor s l run → had ≤ turns_in l → Stops c.args.listener.now s run.happened (rest_of s l had run).happened fault c.step.new.listener) c.from_residual.ensures.1
+    (λ l run follows next few.
+    let u = c.steps.invariant.on l run follows next in
+    let v = comes_then Hears laws.hears_on s l had run c.args.listener.now c.steps.listener c.pass_by.new.listener (course i.world i.flicks i.left) (IsAlone p floor) u (course w flicks left) (IsAlone p floor) (c.pass_by.ensures.on l) in
+    comes_stop Hears laws.hears_on s l had run c.args.listener.now c.pass_by.new.listener c.step.new.listener (course w flicks left) (IsAlone p floor) v Stops laws.stops_on c.in_err-told.field-0.0 few
+    (λ run follows next few. alone_stops w c.step.new.world l left p floor c.flick-flick.result run flicks c.flick-flick.new.self c.pass_by.ensures.above c.flick-flick.ensures.flick c.flick-flick.ensures.after follows next Stops c.pass_by.new.listener c.step.new.listener c.in_err-told.field-0.0 laws.stops_before
+    c.in_err-told.ensures.cut few))
+
+pub returns-in-Some-clause-ok : goal.returns-in-Some-clause-ok
+returns-in-Some-clause-ok g c = λ l run follows next.
+    let laws = g.met.L.Listener in
+    let Hears = g.L.Listener.Hears in
+    let s = c.args.self.now.world.setup in
+    let had : ℕ = c.args.self.now.left in
+    let p = c.args.process in
+    let floor = c.args.floor in
+    let i = c.steps.self-inside in
+    let w = c.pass_by.new.world in
+    let flicks = c.pass_by.new.flicks in
+    let left : ℕ = c.pass_by.new.left in
+    let left' : ℕ = c.left_after-self-inside.result in
+    let both = rw c.in-Some.is at c.in_ok-told.ensures.ok in
+    let u = c.steps.invariant.on l run follows next in
+    let v = comes_then Hears laws.hears_on s l had run c.args.listener.now c.steps.listener c.pass_by.new.listener (course i.world i.flicks i.left) (IsAlone p floor) u (course w flicks left) (IsAlone p floor) (c.pass_by.ensures.on l) in
+    let new : CourseState = course c.step.new.world c.flick-flick.new.self left' in
+    comes_to Hears laws.hears_on s l had run c.args.listener.now c.pass_by.new.listener c.step.new.listener (course w flicks left) (IsAlone p floor) v new (Some c.in-Some.told)
+    (λ run follows next. subst (λ b. ComesTo Hears w.setup l left run c.pass_by.new.listener b (Some c.in-Some.told) new) (sym both.1)
+    (alone_told w c.step.new.world l left p floor c.flick-flick.result run flicks c.flick-flick.new.self c.pass_by.ensures.above c.flick-flick.ensures.flick c.flick-flick.ensures.after follows next Hears c.pass_by.new.listener c.in-Some.told left' laws.hears_nothing both.0 c.left_after-self-inside.ensures))

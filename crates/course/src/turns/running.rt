@@ -1,0 +1,343 @@
+//! The lines that make Steps. A Step without a mark leaves every process where it is, so that only after one with
+//! marks a line has to look again who is where.
+ghost use Rattle.std.specs.Prelude.{◌≡◌, ◌+◌, ◌<◌, ◌≤◌, ℕ, true, false, length, slice_index, IfErr, IfOk, IfSome, None, Ok};
+ghost use Rattle.world.specs.flicks.Flicks.{after_flick, after_pick, flick_of, pick_of};
+ghost use Rattle.record.specs.Stages.{stage};
+ghost use Rattle.scenario.specs.declared.lines.Line.{Line as LineSeen};
+ghost use Rattle.scenario.specs.declared.lines.Line.TheVariants.{Go as GoLine, Wander as WanderLine};
+ghost use Rattle.world.specs.Walks.{KeepOthers, bits_within_at};
+ghost use Rattle.world.specs.process.declared.told.StepTold.TheVariants.{Nothing};
+ghost use Rattle.course.specs.Counts.{IsCounted};
+ghost use Rattle.course.specs.Courses.{Follows, course};
+ghost use Rattle.course.specs.Listening.{ComesOn, ComesTo, HearsStep, MakesStep, RunsTo, room_wanted};
+ghost use Rattle.course.specs.Runs.{Run, has_step, is_there as is_target, movers, past_in};
+ghost use Rattle.course.specs.Steppers.{IsAlone, left_told};
+ghost use Rattle.course.specs.Telling.{told_step, with_told};
+ghost use Rattle.course.specs.Turns.{rest_of, turns_in};
+
+use super::Course;
+use crate::listening::Listener;
+use crate::told::{Accepted, Stepped, Told};
+use plain_store::NestedTypes;
+use record::{Access, Event, Refusal, Stage};
+use scenario::{Fault, Target};
+use smallvec::SmallVec;
+use world::{Effect, Flicks, StepTold, World};
+
+impl Course {
+    /// Steps of this process, while more than so many turns are left, up to the first that is told; one that is
+    /// refused ends the line.
+    pub(super) fn run_alone<L: Listener>(
+        &mut self,
+        process: u8,
+        floor: u32,
+        listener: &mut L,
+    ) -> Result<Option<Told>, Fault>
+        requires floor { floor ≤ self.old.left }
+        requires room { L.HasRoom listener.old self.old.left }
+        ensures left { IfOk result (λ told. room_wanted told self.new.left ≤ self.old.left) }
+        ensures ended { IfOk result (λ told. told ≡ None → self.new.left ≡ floor) }
+        ensures ok { IfOk result (λ told. (l : LineSeen) (run : Run) → Follows self.old run → IsAlone process floor self.old.world.setup l run → RunsTo L.Hears self.old.world.setup l self.old.left run listener.old listener.new process floor told self.new) }
+        ensures room { IfOk result (λ told. (more : ℕ) → L.HasRoom listener.old (more + self.old.left) → L.HasRoom listener.new (more + room_wanted told self.new.left)) }
+        ensures cut { IfErr result (λ fault. (l : LineSeen) (run : Run) → Follows self.old run → IsAlone process floor self.old.world.setup l run → self.old.left ≤ turns_in l → L.Stops listener.old self.old.world.setup run.happened (rest_of self.old.world.setup l self.old.left run).happened fault listener.new) }
+    {
+        'steps: while floor < self.left {
+            pass_by(
+                &mut self.world,
+                &mut self.flicks,
+                &mut self.left,
+                process,
+                floor,
+                listener,
+            );
+            self.left -= 1;
+            let flick = self.flicks.flick();
+            if let Some(told) = step(&mut self.world, process, flick, listener)? {
+                self.left = left_after(&told, self.left);
+                return Ok(Some(told));
+            }
+        }
+        Ok(None)
+    }
+
+    /// Turns of `go`: Steps, unless the process is there, or has made all its Steps.
+    pub(super) fn run_to<L: Listener>(
+        &mut self,
+        process: u8,
+        target: Target,
+        listener: &mut L,
+    ) -> Result<Option<Told>, Fault>
+        requires few { self.old.left ≤ turns_in (GoLine process target) }
+        requires room { L.HasRoom listener.old self.old.left }
+        ensures left { IfOk result (λ told. room_wanted told self.new.left ≤ self.old.left) }
+        ensures ok { IfOk result (λ told. (run : Run) → Follows self.old run → ComesTo L.Hears self.old.world.setup (GoLine process target) self.old.left run listener.old listener.new told self.new) }
+        ensures room { IfOk result (λ told. (more : ℕ) → L.HasRoom listener.old (more + self.old.left) → L.HasRoom listener.new (more + room_wanted told self.new.left)) }
+        ensures cut { IfErr result (λ fault. (run : Run) → Follows self.old run → L.Stops listener.old self.old.world.setup run.happened (rest_of self.old.world.setup (GoLine process target) self.old.left run).happened fault listener.new) }
+    {
+        if self.left == 0 {
+            return Ok(None);
+        }
+        let Some(stage) = self.world.stage(process) else {
+            self.left = 0;
+            let refusal = Refusal::NoProcess;
+            return Ok(Some(Told::Refused { process, refusal }));
+        };
+        if is_there(target, stage) {
+            self.left = 0;
+            return Ok(None);
+        }
+        if let Some(told) = self.run_alone(process, 1, listener)? {
+            return Ok(Some(told));
+        }
+        self.left = 0;
+        Ok(Some(Told::Tired(process)))
+    }
+
+    /// Turns of `wander`: Steps of picked ones, if there is one to pick. Whose Step comes next is drawn before this one is
+    /// made: nobody can foretell where in its access a picked process is, and so a processor that has foretold it wrongly
+    /// begins with what comes after anew, but not with that draw. For the same reason a process is asked once how many bits
+    /// it has before the last one of its number access, and these are counted down: most Steps ask nothing.
+    pub(super) fn run_random<L: Listener>(
+        &mut self,
+        listener: &mut L,
+    ) -> Result<Option<Told>, Fault>
+        requires { L.HasRoom listener.old self.old.left }
+        ensures left { IfOk result (λ told. room_wanted told self.new.left ≤ self.old.left) }
+        ensures ok { IfOk result (λ told. (steps : ℕ) (run : Run) → Follows self.old run → ComesTo L.Hears self.old.world.setup (WanderLine steps) self.old.left run listener.old listener.new told self.new) }
+        ensures room { IfOk result (λ told. (more : ℕ) → L.HasRoom listener.old (more + self.old.left) → L.HasRoom listener.new (more + room_wanted told self.new.left)) }
+        ensures cut { IfErr result (λ fault. (steps : ℕ) (run : Run) → Follows self.old run → self.old.left ≤ steps → L.Stops listener.old self.old.world.setup run.happened (rest_of self.old.world.setup (WanderLine steps) self.old.left run).happened fault listener.new) }
+    {
+        let movers = self.movers();
+        if movers.is_empty() {
+            self.left = 0;
+            return Ok(None);
+        }
+        let movers = movers.as_slice();
+        let mut within = [0_u16; 256];
+        let mut ahead = self.flicks.twin();
+        let mut next = drawn(&mut ahead, movers);
+        'steps: while 0 < self.left {
+            self.left -= 1;
+            let (process, flick) = next;
+            self.flicks.copy_from(&ahead);
+            next = drawn(&mut ahead, movers);
+            if passed(&mut self.world, &mut within, process, flick, listener) {
+                continue 'steps;
+            }
+            if let Some(told) = step(&mut self.world, process, flick, listener)? {
+                return Ok(Some(told));
+            }
+        }
+        Ok(None)
+    }
+
+    /// The processes with a Step to make, ascending. They take no memory.
+    fn movers(&self) -> SmallVec<u8, 16>
+        ensures { (run : Run) → Follows self.now run → result.items ≡ movers self.now.world.setup (past_in self.now.world.setup run) }
+    {
+        let mut movers = SmallVec::new(self.alloc);
+        for process in 0..self.processes {
+            if self.has_step(process) {
+                movers.push_reserved(process);
+            }
+        }
+        movers
+    }
+
+    /// Whether a process runs, or its memory unit settles.
+    fn has_step(&self, process: u8) -> bool
+        ensures { (run : Run) → Follows self.now run → process < self.now.world.setup.processes → result ≡ has_step (stage process (past_in self.now.world.setup run)) }
+    {
+        match self.world.stage(process) {
+            Some(stage) => has_step_in(stage),
+            None => false,
+        }
+    }
+}
+
+/// Steps of a process within a number access, of which none has a mark, while more than one turn is left above so
+/// many: they pass by the listener, unless it hears each Step.
+#[inline]
+fn pass_by<L: Listener>(
+    world: &mut World,
+    flicks: &mut Flicks,
+    left: &mut u32,
+    process: u8,
+    floor: u32,
+    listener: &mut L,
+)
+    requires floor { floor < left.old }
+    requires room { L.HasRoom listener.old left.old }
+    ensures fewer { left.new ≤ left.old }
+    ensures above { floor < left.new }
+    ensures setup { world.new.setup ≡ world.old.setup }
+    ensures on { (l : LineSeen) (run : Run) → Follows (course world.old flicks.old left.old) run → IsAlone process floor world.old.setup l run → ComesOn L.Hears world.old.setup l left.old run listener.old listener.new (course world.new flicks.new left.new) (IsAlone process floor) }
+    ensures room { (more : ℕ) → L.HasRoom listener.old (more + left.old) → L.HasRoom listener.new (more + left.new) }
+{
+    if listener.hears_steps() {
+        return;
+    }
+    let made = world.run(process, flicks, *left - floor - 1);
+    *left -= made;
+    listener.pass(made);
+}
+
+/// Who is picked among these, and the flick of its Step.
+#[inline]
+fn drawn(flicks: &mut Flicks, movers: &[u8]) -> (u8, bool)
+    requires { 0 < length movers.now }
+    ensures process { result.0 ≡ slice_index movers.now (pick_of (length movers.now) flicks.old) }
+    ensures flick { result.1 ≡ flick_of (after_pick flicks.old) }
+    ensures after { flicks.new ≡ after_flick (after_pick flicks.old) }
+{
+    let process = movers[flicks.pick(movers.len())];
+    (process, flicks.flick())
+}
+
+/// A Step of a process within a number access, which has no mark and passes by the listener. It is not made, if the
+/// process is not within one, or the listener hears each Step. `within`: so many bits at least each process has before
+/// its last one, of which the Step takes one; 0 if it is not made.
+#[inline(always)]
+fn passed<L: Listener>(
+    world: &mut World,
+    within: &mut [u16; 256],
+    process: u8,
+    flick: bool,
+    listener: &mut L,
+) -> bool
+    requires counted { IsCounted within.old world.old.seats }
+    requires room { L.HasRoom listener.old 1 }
+    ensures heard { result ≡ true → HearsStep L.Hears world.old process flick world.new listener.old listener.new }
+    ensures unmade { result ≡ false → (world.new ≡ world.old) × (listener.new ≡ listener.old) }
+    ensures unknown { result ≡ false → slice_index within.new process ≡ 0 }
+    ensures counted { IsCounted within.new world.new.seats }
+    ensures room { result ≡ true → (more : ℕ) → L.HasRoom listener.old (more + 1) → L.HasRoom listener.new more }
+{
+    let at = usize::from(process);
+    let bits = bits_to_pass(world, within, process, listener.hears_steps());
+    if bits == 0 {
+        within[at] = 0;
+        return false;
+    }
+    world.make_step_within(process, flick);
+    within[at] = bits - 1;
+    listener.pass(1);
+    true
+}
+
+/// So many bits at least a process has before the last one of its number access: the world is asked, if none is known. None,
+/// if each Step is heard.
+#[inline(always)]
+fn bits_to_pass(world: &World, within: &[u16; 256], process: u8, hears: bool) -> u16
+    requires counted { IsCounted within.now world.now.seats }
+    ensures within { result ≤ bits_within_at world.now.seats process }
+    ensures hears { hears ≡ true → result ≡ 0 }
+{
+    if hears {
+        return 0;
+    }
+    let known = within[usize::from(process)];
+    if known == 0 {
+        return world.bits_within(process);
+    }
+    known
+}
+
+/// A Step by this flick: it is heard, if it has no mark, and else it is told.
+#[inline]
+fn step<L: Listener>(
+    world: &mut World,
+    process: u8,
+    flick: bool,
+    listener: &mut L,
+) -> Result<Option<Told>, Fault>
+    requires { L.HasRoom listener.old 1 }
+    ensures ok { IfOk result (λ told. MakesStep L.Hears world.old process flick told world.new listener.old listener.new) }
+    ensures room { IfOk result (λ told. (more : ℕ) → L.HasRoom listener.old (more + 1) → L.HasRoom listener.new (more + room_wanted told 0)) }
+    ensures cut { IfErr result (λ fault. HearsStep (λ was s x y is. L.Stops was s x y fault is) world.old process flick world.new listener.old listener.new) }
+    ensures setup { world.new.setup ≡ world.old.setup }
+    ensures others { KeepOthers world.old.seats process world.new.seats }
+{
+    let mut leads = StepTold::Nothing;
+    let place = world.history().len() as u64;
+    let stepped = world.step(process, flick, &mut leads);
+    let Some(access) = unmarked(&stepped, &leads) else {
+        return Ok(Some(told_of(process, flick, place, &stepped, &leads)));
+    };
+    listener.step(Stepped {
+        process,
+        flick,
+        access,
+    })?;
+    Ok(None)
+}
+
+/// Whether a process in this stage runs, or its memory unit settles.
+fn has_step_in(stage: Stage) -> bool
+    ensures { result ≡ has_step stage }
+{
+    !matches!(stage, Stage::Idle | Stage::Down)
+}
+
+/// Whether a process in this stage is where it is to go.
+fn is_there(target: Target, stage: Stage) -> bool
+    ensures { result ≡ is_target target stage }
+{
+    match target {
+        Target::Wait => !matches!(stage, Stage::Doorway | Stage::Settling),
+        Target::Inside => !matches!(stage, Stage::Doorway | Stage::Waiting | Stage::Settling),
+        Target::Idle => matches!(stage, Stage::Idle | Stage::Down),
+        Target::Down => matches!(stage, Stage::Down),
+    }
+}
+
+/// How many turns a Step that tells leaves of so many: one that is refused ends a line of one process.
+fn left_after(told: &Told, left: u32) -> u32
+    ensures { result ≡ left_told told.now left }
+{
+    match told {
+        Told::Refused { .. } => 0,
+        _ => left,
+    }
+}
+
+/// The access of a Step that was made, if it has no mark.
+#[inline]
+fn unmarked(stepped: &Result<Access, Refusal>, leads: &StepTold) -> Option<Access>
+    ensures { IfSome result (λ access. (stepped.now ≡ Ok access) × (leads.now ≡ Nothing)) }
+{
+    let _nested: NestedTypes = None;
+    match leads {
+        StepTold::Nothing => match stepped {
+            Ok(access) => Some(*access),
+            Err(_) => None,
+        },
+        _ => None,
+    }
+}
+
+/// What a Step tells, made or refused.
+#[inline(never)]
+fn told_of(
+    process: u8,
+    flick: bool,
+    place: u64,
+    stepped: &Result<Access, Refusal>,
+    leads: &StepTold,
+) -> Told
+    ensures { result ≡ told_step process flick place (with_told leads.now stepped.now) }
+{
+    let _nested: NestedTypes = None;
+    match stepped {
+        Ok(access) => Told::Accepted(Accepted {
+            event: Event::Step(process, flick),
+            place,
+            access: Some(*access),
+            effect: Effect::Steps(*leads),
+        }),
+        Err(refusal) => Told::Refused {
+            process,
+            refusal: *refusal,
+        },
+    }
+}
