@@ -114,11 +114,5 @@ tells_verdict s entries numbers told status n v is count answer line = record {
   line = line ∙ ap (λ k. verdict_line k v) count ∙ ap (verdict_line (length entries)) is;
 }
 
--- whether reasons are there or not
-pub explains_none : (j : JudgeState) (n : ℕ) (e : Entry) (lines : List ℕ) → ((s : Setup) (entries : List Entry) → HasJudged j s entries → AreReasonsOf s entries (verdict_of s entries) None) → Explains j n e lines lines
-explains_none j n e lines none s entries judged k l is =
-    let at : AreReasonsAt s entries k l None = subst (λ (v : AnyLockVerdict). AreReasonsOf s entries v None) is (none s entries judged) in
-    let no : None ≡ Some at.told = at.is in absurd (cc)
-
 pub explains_some : (j : JudgeState) (n : ℕ) (e : Entry) (lines lines' : List ℕ) (r : Reasons) → ((s : Setup) (entries : List Entry) → HasJudged j s entries → AreReasonsOf s entries (verdict_of s entries) (Some r)) → lines' ≡ lines ++ reason_lines n e r → Explains j n e lines lines'
 explains_some j n e lines lines' r reasons written s entries judged k l is = (r, subst (λ (v : AnyLockVerdict). AreReasonsOf s entries v (Some r)) is (reasons s entries judged), written)

@@ -121,10 +121,6 @@ told_by s past e false breaks = go (breaks_safe s past e) refl
     go true h = h
     go false h = absurd (breaks (kept_by s past e h))
 
--- an entry without an access keeps it
-pub none_breaks : (s : Setup) (past : Past) (e : Entry) → e.access ≡ None → breaks_safe s past e ≡ false
-none_breaks s past e h = ap (λ o. elim o as (λ _. Bool) [ None ↦ false | Some a ↦ ends_wrongly (opening_bit s a) (moves_of a past) a.how ]) h
-
 -- The first law that an entry breaks.
 
 pub at_access : (s : Setup) (past : Past) (e : Entry) (r : AccessRefusal) → refusal_of_access s past e ≡ Some r → broken_later s past e ≡ Some law.Access

@@ -86,10 +86,6 @@ is_waits : (x : Stage) → is_waiting_stage x ≡ true → x ≡ stage.Waiting
 is_waits stage.Waiting h = refl
 is_waits _ h = absurd (true≢false (sym h))
 
-is_settles : (x : Stage) → is_settling x ≡ true → x ≡ stage.Settling
-is_settles stage.Settling h = refl
-is_settles _ h = absurd (true≢false (sym h))
-
 is_downs : (x : Stage) → is_down x ≡ true → x ≡ stage.Down
 is_downs stage.Down h = refl
 is_downs _ h = absurd (true≢false (sym h))

@@ -42,9 +42,6 @@ at_first s p = standing_by (standing s p []) at_rest refl refl refl (no_calls (s
 
 -- Another process's entry.
 
-own_in : Bool → Entry → Past → Past
-own_in b e mine = cond b (e ∷ mine) mine
-
 pub standing-other : (s : Setup) (q : ℕ) (e : Entry) (past : Past) → (e.process == q) ≡ false → standing s q (e ∷ past) ≡ standing s q past
 standing-other s q e past h =
     let mine : own q (e ∷ past) ≡ own q past = ap (λ b. cond b (e ∷ own q past) (own q past)) h in

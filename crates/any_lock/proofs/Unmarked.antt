@@ -17,19 +17,6 @@ use Rattle.any_lock.proofs.Breaks.{at_inside, at_marks, inside_is}
 use Rattle.any_lock.proofs.Going.{kept_with, knows_on}
 use Rattle.any_lock.proofs.Steps.{bare, standing-access}
 
--- it breaks no law, where its access is not refused
-pub unmarked_keeps : (s : Setup) (past : Past) (e : Entry) (a : Access) → e.access ≡ Some a → e.marks ≡ [] → refusal_of_access s past e ≡ None → broken_later s past e ≡ None
-unmarked_keeps s past e a acc none allowed =
-    let is : e ≡ bare e.process (Some a) = λ i. record { process = e.process; access = acc i; marks = none i } in
-    at_inside s past e allowed (ap (refusal_of_marks s past) is)
-    ∙ inside_is s past e false false false (ap (λ (x : Entry). breaks_together s past x) is) (ap (λ (x : Entry). breaks_overtaken s past x) is) (ap (λ (x : Entry). breaks_history s past x) is)
-
--- one without an access has nothing
-pub nothing_marks : (s : Setup) (past : Past) (e : Entry) → e.access ≡ None → e.marks ≡ [] → refusal_of_access s past e ≡ None → broken_later s past e ≡ Some law.Marks
-nothing_marks s past e acc none allowed =
-    let is : e ≡ bare e.process None = λ i. record { process = e.process; access = acc i; marks = none i } in
-    at_marks s past e refusal.Nothing allowed (ap (refusal_of_marks s past) is)
-
 -- with an access the standing of its process alone goes on, by that access
 pub unmarked_on : (k : KeptState) (past : Past) (e : Entry) (a : Access) (before : Standing) → e.process < k.setup.processes → e.access ≡ Some a → e.marks ≡ [] → slice_get k.standings e.process ≡ Some before → Knows k past →
     Knows (kept_with k e.process before (accessed k.entries before a) false) (e ∷ past)

@@ -250,11 +250,6 @@ own_downs s past e before none is h =
     subst (Stands s e.process) (sym (own_finishes s past e before mark.Down none is refl refl refl))
     (standing_down s e.process k.stage _ k.number k.command k.taken k.list k.calls.done k.calls.now h)
 
--- what stands last among marks is among them
-last_among : (before : List Mark) (m : Mark) → Contains (before ++ m ∷ []) m
-last_among [] m = (0, omega arith, refl)
-last_among (x ∷ before) m = let h = last_among before m in let l = h.1 in (suc h.0, omega (arith, l), h.2)
-
 taking_among : (e : Entry) (before : List Mark) (j : ℕ) (r : Reply) → list_any tells before ≡ false → e.marks ≡ before ++ mark.Taken j r ∷ [] → Contains (takings e.marks) (j, r)
 taking_among e before j r none is = subst (λ (l : List (ℕ × Reply)). Contains l (j, r)) (sym (ap takings is ∙ plain-takings before (mark.Taken j r ∷ []) none)) (0, omega arith, refl)
 

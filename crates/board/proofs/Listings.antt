@@ -80,12 +80,6 @@ lists_loaded s pending process middle value flick word found n v w told stamp t 
 pub place_called : (s : Setup) (b : ViewState) (p : ℕ) (command : Command) (stamp : Option ℕ) → KnowsPlace stamp (at_events s b (event.Call p command ∷ []))
 place_called s b p command stamp = record { read = λ newest h. cc; inside = λ h. cc; kept = λ h. cc }
 
-pub place_withdrawn : (s : Setup) (b : ViewState) (p : ℕ) (stamp : Option ℕ) → KnowsPlace stamp (at_events s b (event.Withdraw p ∷ []))
-place_withdrawn s b p stamp = record { read = λ newest h. cc; inside = λ h. cc; kept = λ h. cc }
-
-pub place_restarted : (s : Setup) (b : ViewState) (p : ℕ) (stamp : Option ℕ) → KnowsPlace stamp (at_events s b (event.Restart p ∷ []))
-place_restarted s b p stamp = record { read = λ newest h. cc; inside = λ h. cc; kept = λ h. cc }
-
 -- after a failure the stamp is kept of the change that was being written
 pub place_failed : (s : Setup) (b : ViewState) (p : ℕ) (before stamp : Option ℕ) → KnowsPlace before b → stamp ≡ changes_pending s b.own.process b.own.doing → KnowsPlace stamp (at_events s b (event.Fail p ∷ []))
 place_failed s b p before stamp known is =

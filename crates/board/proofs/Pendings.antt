@@ -156,16 +156,6 @@ joined : (s : Setup) (pending pending' : Pending) (process new : ProcessState) (
 joined s pending pending' process new value v event t is may same at =
     (subst (λ s. IsTied s pending' new value v) (sym (ap (λ (q : ProcessState). q.setup) same)) (tied_event s pending pending' process new value v event t is may same at), ap (at_events s v) is)
 
--- what its callers see of it
-pub port_then : (table_id : TableId) (id : ℕ) (s : Setup) (pending pending' : Pending) (new : ProcessState) (v : ViewState) (event : ℕ → Event) (port : PortState) → (let shown : PortState = record { table_id = table_id; id = id; setup = s; view = with_pending s pending v } in shown) ≡ port →
-    new.setup ≡ s → with_pending s pending' v ≡ at_events s (with_pending s pending v) (event (with_pending s pending v).own.process ∷ []) → refusal_in port.setup port.view.own (event port.view.own.process) ≡ None →
-    (let then_shown : PortState = record { table_id = table_id; id = id; setup = new.setup; view = with_pending new.setup pending' v } in then_shown) ≡ port_after port (event port.view.own.process)
-port_then table_id id s pending pending' new v event port shown setup joins accepted =
-    ap (λ s. let p : PortState = record { table_id = table_id; id = id; setup = s; view = with_pending s pending' v } in p) setup
-    ∙ ap (λ view. let p : PortState = record { table_id = table_id; id = id; setup = s; view = view } in p) joins
-    ∙ ap (λ (p : PortState). record p { view = at_events p.setup p.view (event p.view.own.process ∷ []) }) shown
-    ∙ sym (answers_yes port (event port.view.own.process) accepted).1
-
 -- The stages of what is pending.
 
 stage-cut : (c d : Call) (torn : Option TornBit) (begun : Bool) (pending : Option Change) (inside : Bool) → stage_kept (kept_closing c (cut d torn begun pending inside)) ≡ stage.Settling
@@ -246,43 +236,7 @@ joins_failure s restarted false withdrew called process new value v t may is =
 
 -- A withdrawal.
 
-pub joins_withdrawal : (s : Setup) (restarted failed withdrew : Bool) (called : Option Command) (process new : ProcessState) (value : Bool) (v : ViewState)
-    → let pending : Pending = record { restarted = restarted; called = called; withdrew = withdrew; failed = failed } in
-    let pending' : Pending = record { restarted = restarted; called = called; withdrew = true; failed = failed } in
-    let o : OwnView = (with_pending s pending v).own in
-    IsTied s pending process value v → refusal_in s o (event.Withdraw o.process) ≡ None → new ≡ record process { kept = kept_withdrawing process.setup process.process } →
-    Joins s pending' new value v pending (event.Withdraw o.process)
-joins_withdrawal s restarted true withdrew called process new value v t may is = let o = (with_pending s (record { restarted = restarted; called = called; withdrew = withdrew; failed = true }) v).own in let f : stage.Settling ≡ stage.Waiting = sym (settling s v restarted withdrew called) ∙ waits s o o.process may in cc
-joins_withdrawal s restarted false true called process new value v t may is = let o = (with_pending s (record { restarted = restarted; called = called; withdrew = true; failed = false }) v).own in let f : stage.Leaving ≡ stage.Waiting = waits s o o.process may in cc
-joins_withdrawal s restarted false false called process new value v t may is =
-    let pending : Pending = record { restarted = restarted; called = called; withdrew = false; failed = false } in
-    let pending' : Pending = record { restarted = restarted; called = called; withdrew = true; failed = false } in
-    let o = (with_pending s pending v).own in
-    joined s pending pending' process new value v (event.Withdraw o.process) t (ap (λ p. event.Withdraw p ∷ events_of v.own.process pending) (sym (same_process_all s v.own (events_of v.own.process pending))))
-    (record { marked = refl; process = refl; accepted = may; given = refl })
-    (is ∙ ap (λ (q : ProcessState). record q { kept = kept_withdrawing q.setup q.process }) t.same)
-    (record { kept = refl; call = tt; reached = tt; live = tt })
-
 -- A restart.
-
-pub joins_restart : (s : Setup) (restarted failed withdrew : Bool) (called : Option Command) (process new : ProcessState) (value : Bool) (v : ViewState)
-    → let pending : Pending = record { restarted = restarted; called = called; withdrew = withdrew; failed = failed } in
-    let pending' : Pending = record { restarted = true; called = called; withdrew = withdrew; failed = failed } in
-    let o : OwnView = (with_pending s pending v).own in
-    IsTied s pending process value v → refusal_in s o (event.Restart o.process) ≡ None → new ≡ record process { kept = kept.Rests } →
-    Joins s pending' new value v pending (event.Restart o.process)
-joins_restart s restarted true withdrew called process new value v t may is = let o = (with_pending s (record { restarted = restarted; called = called; withdrew = withdrew; failed = true }) v).own in let f : stage.Settling ≡ stage.Down = sym (settling s v restarted withdrew called) ∙ down s o o.process may in cc
-joins_restart s restarted false true called process new value v t may is = let o = (with_pending s (record { restarted = restarted; called = called; withdrew = true; failed = false }) v).own in let f : stage.Leaving ≡ stage.Down = down s o o.process may in cc
-joins_restart s restarted false false (Some c) process new value v t may is = let o = (with_pending s (record { restarted = restarted; called = Some c; withdrew = false; failed = false }) v).own in let f : stage.Doorway ≡ stage.Down = down s o o.process may in cc
-joins_restart s true false false None process new value v t may is = let o = (with_pending s (record { restarted = true; called = None; withdrew = false; failed = false }) v).own in let f : stage.Idle ≡ stage.Down = down s o o.process may in cc
-joins_restart s false false false None process new value v t may is =
-    let pending : Pending = record { restarted = false; called = None; withdrew = false; failed = false } in
-    let pending' : Pending = record { restarted = true; called = None; withdrew = false; failed = false } in
-    let o = (with_pending s pending v).own in
-    joined s pending pending' process new value v (event.Restart o.process) t refl
-    (record { marked = refl; process = refl; accepted = may; given = refl })
-    (is ∙ ap (λ (q : ProcessState). record q { kept = kept.Rests }) t.same)
-    (record { kept = refl; call = tt; reached = tt; live = tt })
 
 -- A port of a process that has done nothing.
 

@@ -19,19 +19,12 @@ at_last : {A : Type 0} (xs : List A) (x : A) → slice_get (xs ++ x ∷ []) (len
 at_last [] x = refl
 at_last (y ∷ xs) x = at_last xs x
 
-pub of_last : {A : Type 0} (P : A → Type 0) (xs : List A) (o : Option A) → ((k : ℕ) (y : A) → slice_get (xs ++ option_to_list o) k ≡ Some y → P y) → IfSome o P
-of_last P xs None h = tt
-of_last P xs (Some x) h = h (length xs) x (at_last xs x)
-
 -- what stands in a front stands there, so what holds of each holds of each in a front
 pub at_front : {A : Type 0} (xs ys : List A) (k : ℕ) (y : A) → slice_get xs k ≡ Some y → slice_get (xs ++ ys) k ≡ Some y
 at_front [] ys zero y e = absurd (cc)
 at_front [] ys (suc k) y e = absurd (cc)
 at_front (x ∷ xs) ys zero y e = e
 at_front (x ∷ xs) ys (suc k) y e = at_front xs ys k y e
-
-pub of_front : {A : Type 0} (P : A → Type 0) (xs ys : List A) → ((k : ℕ) (y : A) → slice_get (xs ++ ys) k ≡ Some y → P y) → (k : ℕ) (y : A) → slice_get xs k ≡ Some y → P y
-of_front P xs ys h k y e = h k y (at_front xs ys k y e)
 
 -- what holds of each in its place holds of the last one, and of each before it
 pub last_of : {A : Type 0} (P : ℕ → A → Type 0) (all xs : List A) (x : A) → all ≡ xs ++ x ∷ [] → ((k : ℕ) (y : A) → slice_get all k ≡ Some y → P k y) → P (length xs) x

@@ -19,11 +19,6 @@ use Rattle.board.specs.WordSteps.{WordStep}
 use Rattle.board.proofs.Along.{prefix-trans}
 use Rattle.board.proofs.Stands.{finished_stand, stands_in_longer, stands_push}
 
--- after a word step
-pub stands_then : (s : Setup) (flick : Bool) (v w : ViewState) → WordStep s flick v w → StandsInSeen s w
-stands_then s flick v w (inl load) = load.1.goes.stands
-stands_then s flick v w (inr store) = store.goes.stands
-
 -- after a call: nothing is taken yet
 pub stands_called : (s : Setup) (b : ViewState) (p : ℕ) (command : Command) → StandsInSeen s b → StandsInSeen s (at_events s b (event.Call p command ∷ []))
 stands_called s b p command h = record {

@@ -123,20 +123,6 @@ chain_with calls n heads heads2 links links2 x link k chains more port index pla
 
 -- no calls
 
-pub nothing_more : (heads : List ℕ) → AreNothing heads → AreNothing (heads ++ 0 ∷ [])
-nothing_more heads are k m there =
-    let within : k < length (heads ++ 0 ∷ []) = slice_get_within (heads ++ 0 ∷ []) k m there in
-    let size : length (heads ++ 0 ∷ []) ≡ length heads + 1 = length-append heads (0 ∷ []) in
-    ⊎_elim
-    (λ (old : k < length heads). are k m (sym (get_push_old heads 0 k old) ∙ there))
-    (λ (past : length heads ≤ k).
-    let here : length heads ≡ k = omega (arith, past, within, size) in
-    sym (from_some 0 m (sym (get_push_new heads 0) ∙ subst (λ i. slice_get (heads ++ 0 ∷ []) i ≡ Some m) (sym here) there)))
-    (cases_lt k (length heads))
-
-pub nothing_none : AreNothing []
-nothing_none k m there = absurd (none_some m there)
-
 pub chains_none : (n : ℕ) (heads : List ℕ) → length heads ≡ n → AreNothing heads → AreChains [] n heads []
 chains_none n heads places are = record {
   places = places;

@@ -5,42 +5,9 @@ use Rattle.columns.specs.States.{before_in, group_of, line_of_first, lined_up, p
 use Rattle.columns.specs.declared.state.Group.{Group}
 use Rattle.columns.specs.declared.state.State.{State}
 
--- one that stands before the process
-pub line_goes_on : (state : State) (p : ℕ) (line : List ℕ) (k d : ℕ) → k < length line → nat_le (ticket_in state (get_or line k d)) (ticket_in state p) ≡ true →
-    take k line ++ lined_up state p (drop k line) ≡ take (k + 1) line ++ lined_up state p (drop (k + 1) line)
-line_goes_on state p line k d within first =
-    ap (λ l. take k line ++ lined_up state p l) (drop_more line k d within)
-    ∙ ap (λ b. take k line ++ cond b (get_or line k d ∷ lined_up state p (drop (k + 1) line)) (p ∷ get_or line k d ∷ drop (k + 1) line)) first
-    ∙ sym (append_assoc (take k line) (get_or line k d ∷ []) (lined_up state p (drop (k + 1) line)))
-    ∙ ap (λ l. l ++ lined_up state p (drop (k + 1) line)) (sym (take_more line k d within))
-
--- one that stands behind it
-pub line_stops : (state : State) (p : ℕ) (line : List ℕ) (k d : ℕ) → k < length line → nat_le (ticket_in state (get_or line k d)) (ticket_in state p) ≡ false →
-    take k line ++ lined_up state p (drop k line) ≡ insert line k p
-line_stops state p line k d within last =
-    ap (λ l. take k line ++ lined_up state p l) (drop_more line k d within)
-    ∙ ap (λ b. take k line ++ cond b (get_or line k d ∷ lined_up state p (drop (k + 1) line)) (p ∷ get_or line k d ∷ drop (k + 1) line)) last
-    ∙ ap (λ l. take k line ++ p ∷ l) (sym (drop_more line k d within))
-
 -- the line of one process more
 pub line_more : (state : State) (p : ℕ) → line_of_first state (p + 1) ≡ cond (ticket_in state p == 0) (line_of_first state p) (lined_up state p (line_of_first state p))
 line_more state p = ap (line_of_first state) (let e : p + 1 ≡ suc p = omega arith in e)
-
--- one more before the process
-pub before_goes_on : (p : ℕ) (line : List ℕ) (k d : ℕ) → k < length line → (get_or line k d == p) ≡ false →
-    take k line ++ before_in p (drop k line) ≡ take (k + 1) line ++ before_in p (drop (k + 1) line)
-before_goes_on p line k d within other =
-    ap (λ l. take k line ++ before_in p l) (drop_more line k d within)
-    ∙ ap (λ b. take k line ++ cond b [] (get_or line k d ∷ before_in p (drop (k + 1) line))) other
-    ∙ sym (append_assoc (take k line) (get_or line k d ∷ []) (before_in p (drop (k + 1) line)))
-    ∙ ap (λ l. l ++ before_in p (drop (k + 1) line)) (sym (take_more line k d within))
-
--- the process itself
-pub before_stops : (p : ℕ) (line : List ℕ) (k d : ℕ) → k < length line → (get_or line k d == p) ≡ true → take k line ++ before_in p (drop k line) ≡ take k line
-before_stops p line k d within same =
-    ap (λ l. take k line ++ before_in p l) (drop_more line k d within)
-    ∙ ap (λ b. take k line ++ cond b [] (get_or line k d ∷ before_in p (drop (k + 1) line))) same
-    ∙ append-nil (take k line)
 
 -- one process more of a group: it is among the first three, or is counted alone
 group_first : (some : List ℕ) (p : ℕ) → set (take 3 (some ++ 0 ∷ 0 ∷ 0 ∷ [])) (min (length some) 255) p ≡ take 3 ((some ++ p ∷ []) ++ 0 ∷ 0 ∷ 0 ∷ [])

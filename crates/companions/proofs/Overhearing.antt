@@ -49,32 +49,12 @@ hears_none s past reads e o none h = record {
 
 -- The reads that have begun.
 
--- one more
-pub begun_set : (xs : List (Option BegunRead)) (p r : ℕ) (b : Option BegunRead) → p < length xs → get_or (set xs r b) p None ≡ cond (r == p) b (get_or xs p None)
-begun_set xs p r b below = by (r == p) refl
-  where
-    by : (same : Bool) → (r == p) ≡ same → get_or (set xs r b) p None ≡ cond same b (get_or xs p None)
-    by true is =
-        let same : r ≡ p = grind (arith, nat_tests, is) in
-        ap (λ n. get_or (set xs n b) p None) same ∙ get_or-set_same xs p b None below
-    by false is =
-        let apart : p ≢ r = λ same. let no : (r == p) ≡ true = grind (arith, nat_tests, same) in true≢false (sym no ∙ is) in
-        get_or-set_other xs r p b None apart
-
 -- an access that begins no read
 pub begun_still : (p n : ℕ) (a : Access) (before : Option BegunRead) → is_begin a.how ≡ false → begun_with p n (Some a) before ≡ before
 begun_still p n a before none = by (a.reader == p)
   where
     by : (b : Bool) → cond (b && is_begin a.how) (Some (record { entry = n; access = a })) before ≡ before
     by true = ap (λ i. cond i (Some (record { entry = n; access = a })) before) none
-    by false = refl
-
--- and one that does
-pub begun_read : (p n : ℕ) (a : Access) (before : Option BegunRead) → is_begin a.how ≡ true → begun_with p n (Some a) before ≡ cond (a.reader == p) (Some (record { entry = n; access = a })) before
-begun_read p n a before begins = by (a.reader == p)
-  where
-    by : (b : Bool) → cond (b && is_begin a.how) (Some (record { entry = n; access = a })) before ≡ cond b (Some (record { entry = n; access = a })) before
-    by true = ap (λ i. cond i (Some (record { entry = n; access = a })) before) begins
     by false = refl
 
 -- a move behind others

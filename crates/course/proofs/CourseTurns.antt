@@ -160,12 +160,6 @@ flick_made w flicks flicks' left flick few is run follows = record {
   setup = refl;
 }
 
--- the line of the newest store, where there was memory for it
-pub shown_by : {X : Type 0} (bytes : X → List ℕ) (w : WorldState) (store : Option Contents) (result : Result X AllocError) → ((events : List Event) → Shows w events → store ≡ newest_store w.setup (past_of w.setup events)) → IfOk result (λ line. bytes line ≡ store_text store) →
-    IfOk result (λ line. (events : List Event) → Shows w events → bytes line ≡ store_text (newest_store w.setup (past_of w.setup events)))
-shown_by bytes w store (Ok line) is wrote = λ events shows. wrote ∙ ap store_text (is events shows)
-shown_by bytes w store (Err e) is wrote = tt
-
 -- a line that shows it
 pub show_made : (w : WorldState) (flicks : FlickState) (left : ℕ) (answer : Told) → ((events : List Event) → Shows w events → TellsOf w.setup (past_of w.setup events) Looks answer) →
     (run : Run) → Follows (course w flicks left) run → Makes (course w flicks left) run (next_turn w.setup line.Show (left - 1) run) (Some answer) (course w flicks (left - 1))

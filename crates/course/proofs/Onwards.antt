@@ -68,13 +68,6 @@ whole_text s lines rest now text ending is whole =
       ap (λ (r : Run). text_of s r.happened ++ ending) (sym whole) ∙ ap (λ l. l ++ ending) (grows.is ∙ ap (λ l. l ++ grows.text) is) ∙ append_assoc text grows.text ending,
     )
 
--- a replay that is cut short between two lines
-pub onward_cut : (s : Setup) (lines rest : List Line) (course : CourseState) (summary : Summary) (old new : Option (List ℕ)) (ending : List ℕ) →
-    Onward s lines rest course summary old new → WritesFront old new (text_of s (runs s lines run_at_start).happened ++ ending)
-onward_cut s lines rest course summary old new ending u =
-    let (more, all) = whole_text s lines rest u.now u.text ending u.is u.whole in
-    subst (λ l. WritesFront old new l) (sym all) (front_whole old new u.text more u.taken)
-
 -- a replay that is cut short in a line
 pub onward_torn : (s : Setup) (lines rest : List Line) (line : Line) (course : CourseState) (summary : Summary) (old mid new : Option (List ℕ)) (ending : List ℕ) →
     Onward s lines (line ∷ rest) course summary old mid → CutsLine line course summary mid new → WritesFront old new (text_of s (runs s lines run_at_start).happened ++ ending)

@@ -58,16 +58,3 @@ told_none s past o answer is tells = subst (λ o. Tells s past o (Some answer)) 
 
 pub silent_one : (s : Setup) (past : Past) (o : Option Happening) (this : Happening) → o ≡ Some this → Tells s past o None → ⊥
 silent_one s past o this is tells = subst (λ o. Tells s past o None) is tells
-
--- what is told counts once at most
-pub events_counted : (answer : Told) (summary : Summary) → (counted answer summary).events ≤ summary.events + 1
-events_counted (told.Accepted made) summary = omega arith
-events_counted (told.Refused p r) summary = omega arith
-events_counted (told.Tired p) summary = omega arith
-events_counted (told.Shown store) summary = omega arith
-
-pub refused_counted : (answer : Told) (summary : Summary) → (counted answer summary).refused ≤ summary.refused + 1
-refused_counted (told.Accepted made) summary = omega arith
-refused_counted (told.Refused p r) summary = omega arith
-refused_counted (told.Tired p) summary = omega arith
-refused_counted (told.Shown store) summary = omega arith

@@ -140,10 +140,6 @@ draws_on_read read had has band a b is goes draws = record {
   fills = fills_one (Reads read) had.page has.page band [] [] (GivesRead read ∷ []) refl refl refl goes;
 }
 
--- the text is another one that is the same
-pub draws_on_same : (had has : Kept) (a b : Option (List ℕ)) (text other : List ℕ) (marks : List (ℕ × Mark)) (gives : List Gives) → text ≡ other → DrawsOn had has a b text marks gives → DrawsOn had has a b other marks gives
-draws_on_same had has a b text other marks gives same on = subst (λ l. DrawsOn had has a b l marks gives) same on
-
 -- the last line, and then the bands that are left
 pub draws_on_rest : (had has : Kept) (new : SeenPage) (full : Option (List ℕ)) (last : List ℕ) (a b c d : Option (List ℕ)) (text : List ℕ) (last_given : List Gives) → DrawsOn had has a b text [] last_given → lines_of_band full ++ lines_in last ≡ has.lines → GivesRest has.page full last new →
     Draws b c (band_text full) (ended_lines (lines_of_band full)) → Draws c d last (ended_lines (lines_in last)) → DrawsRest had a d text last_given new.height

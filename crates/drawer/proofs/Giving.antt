@@ -70,10 +70,6 @@ waiting_none (m ∷ marks) k reads within =
     let same : suc k ≡ k + 1 = omega arith in
     ap (λ n. waiting (take n (m ∷ marks)) reads) same
 
--- the text of a line that says a mark
-pub marked_line : (n p : ℕ) (mark : Mark) (change : Option TakenChange) → saying_text n (Marked p mark change) ++ codes "\n" ≡ mark_line n p mark
-marked_line n p mark change = refl
-
 -- marks that take no command, or one, the last of the history
 pub as_many : (marks : List Mark) → all_take marks ≡ length (takings marks)
 as_many [] = refl

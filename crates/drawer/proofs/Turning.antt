@@ -83,16 +83,6 @@ gives_one mode s n before this line speaks =
     ap (λ (l : List OverlappedRead). lines_given mode n at l (line ∷ [])) (sym (append-nil (reads_since s before)))
     ∙ sym (λ i. lines_given mode n at (reads_since s before ++ speaks.reads i) (speaks.says i))
 
--- and no read waits then
-pub recalls_one : (mode : Mode) (s : Setup) (before : List Happening) (this : Happening) (line : Says) (store : Contents) (overlaps overlapping : Option OverlapsHeard) → Speaks s before this line → Recalls mode s before store overlaps → Overhears mode s (past_after s before) [] overlapping →
-    Recalls mode s (this ∷ before) store overlapping
-recalls_one mode s before this line store overlaps overlapping speaks recalls waits =
-    let none : reads_since s (this ∷ before) ≡ [] = ap (λ (l : List Says). waiting l (reads_since s before ++ read_at s before this)) speaks.says in
-    record {
-      store_is = recalls.store_is ∙ ap (λ (past : Past). store_after s (history s past)) (sym speaks.past);
-      waits = subst (λ (l : List OverlappedRead). Overhears mode s (past_after s (this ∷ before)) l overlapping) (sym none) (subst (λ (past : Past). Overhears mode s past [] overlapping) (sym speaks.past) waits);
-    }
-
 -- an event that is made: the entry that it adds, and the lines that its marks give
 pub record Makes (s : Setup) (before : List Happening) (this : Happening) (made : Accepted) : Type 0 where
   pub event : Event

@@ -14,13 +14,6 @@ use Rattle.engines.specs.Listings.{RecordsEvent}
 use Rattle.engines.proofs.Listed.{reverse-front}
 use Rattle.course.proofs.Refusals.{past_kept, shows_refused}
 
--- an event that is accepted
-pub records_made : (old new : WorldState) (event : Event) (act : Act) (had has : List Entry) → Adds old event (process_of event) act → GoesOn old event new → new.setup ≡ old.setup → has ≡ had ++ entry_with (process_of event) act ∷ [] → RecordsEvent event old new had has
-records_made old new event act had has adds on same pushed events shows are = record {
-  shows = on events shows;
-  setup = same;
-  entries_are = pushed ∙ ap (λ l. l ++ entry_with (process_of event) act ∷ []) are ∙ sym (reverse-front (entry_with (process_of event) act) (past_of old.setup events))
-      ∙ ap reverse (sym (ap (λ (o : Option Entry). elim o as (λ _. Past) [ None ↦ past_of old.setup events | Some e ↦ e ∷ past_of old.setup events ]) (adds events shows)));
 }
 
 -- an event that is refused

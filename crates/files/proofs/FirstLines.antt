@@ -106,27 +106,6 @@ too_long (b ∷ bs) rest all many =
 
 -- The first line of what comes of a source: some bytes of it were taken, without a 0x0A.
 
--- all that waited were moved
-pub all_moved : (a b : Option (List ℕ)) (ahead rest : Given) (to_come : Option (List ℕ)) (xs line : List ℕ) → Consumes a b xs → Stays b (coming ahead to_come) → MovesAll ahead.bytes rest.bytes xs line → rest.ended ≡ ahead.ended → Consumes a (coming rest to_come) line
-all_moved a b ahead rest to_come xs line front stays all same =
-    subst (λ (l : List ℕ). Consumes a (coming rest to_come) l) (sym all.moved)
-    (subst (λ (l : List ℕ). Consumes a (prepend_known l (unless_ended rest.ended to_come)) (xs ++ ahead.bytes)) (sym all.none)
-    (subst (λ (t : Bool). Consumes a (prepend_known [] (unless_ended t to_come)) (xs ++ ahead.bytes)) (sym same) (by a b (unless_ended ahead.ended to_come) front stays)))
-  where
-    by : (a b left : Option (List ℕ)) → Consumes a b xs → Stays b (prepend_known ahead.bytes left) → Consumes a (prepend_known [] left) (xs ++ ahead.bytes)
-    by None b left front stays = tt
-    by (Some text) None left front stays = absurd front
-    by (Some text) (Some mid) None front stays = absurd stays
-    by (Some text) (Some mid) (Some more) front stays = front ∙ ap (λ l. xs ++ l) (sym stays) ∙ sym (append_assoc xs ahead.bytes more)
-
--- no 0x0A was among them
-pub inner_moved : (ahead rest xs line : List ℕ) → list_all is_inner xs ≡ true → MovesAll ahead rest xs line → list_all is_inner line ≡ true
-inner_moved ahead rest xs line all moves = ap (list_all is_inner) moves.moved ∙ list_all-append is_inner xs ahead ∙ and_from (list_all is_inner xs) (list_all is_inner ahead) all moves.inner
-
--- there are more of them
-pub more_moved : (ahead rest xs line : List ℕ) → 0 < length ahead → MovesAll ahead rest xs line → length xs < length line
-more_moved ahead rest xs line some moves = let moved : length line ≡ length (xs ++ ahead) = ap length moves.moved in omega (arith, some, moved, length-append xs ahead)
-
 -- a 0x0A came behind them
 pub fed : (a b : Option (List ℕ)) (ahead rest : Given) (to_come : Option (List ℕ)) (xs line : List ℕ) → list_all is_inner xs ≡ true → Consumes a b xs → Stays b (coming ahead to_come) → MovesEnded ahead.bytes rest.bytes xs line → rest.ended ≡ ahead.ended →
     Told a (coming rest to_come) (λ text left. TakesLine text (without_return line) left)
@@ -172,16 +151,6 @@ ended a b c (x ∷ xs) n same some all front end = by a c (at_end a b c (x ∷ x
     by (Some text) None told = absurd told
     by (Some text) (Some rest) told = ap lines told.0 ∙ line_last x xs all ∙ ap (λ l. (x ∷ xs) ∷ lines l) (sym told.1)
 
--- before them was none
-pub ended_none : (a b c : Option (List ℕ)) (xs : List ℕ) (n : ℕ) → n ≡ length xs → not (n == 0) ≡ false → Consumes a b xs → ComesToEnd b c → IsAtEnd a × IsAtEnd c
-ended_none a b c (x ∷ xs) n same none front end = absurd (grind (arith, nat_tests))
-ended_none a b c [] n same none front end = (by a b front end.0, subst IsAtEnd (sym end.1) refl)
-  where
-    by : (a b : Option (List ℕ)) → Consumes a b [] → IsAtEnd b → IsAtEnd a
-    by None b front end = tt
-    by (Some text) None front end = absurd front
-    by (Some text) (Some mid) front end = front ∙ end
-
 -- 130 bytes came, and no 0x0A among them
 pub cut_long : (a b : Option (List ℕ)) (xs : List ℕ) → list_all is_inner xs ≡ true → Consumes a b xs → 130 ≤ length xs → IfSome a IsTooLong
 cut_long None b xs all front many = tt
@@ -194,7 +163,3 @@ none_taken None = tt
 none_taken (Some text) = refl
 
 -- A source that has told its end.
-
--- was left alone by two calls
-pub alone_twice : {R : Type 0} (a b c : Bool) (i j k : R) → (a ≡ true → (b ≡ true) × (j ≡ i)) → (b ≡ true → (c ≡ true) × (k ≡ j)) → a ≡ true → (c ≡ true) × (k ≡ i)
-alone_twice a b c i j k first next told = let one = first told in let two = next one.0 in (two.0, two.1 ∙ one.1)

@@ -76,11 +76,6 @@ to_e_knows s past past' p command number m t done [] vs all read =
 to_e_knows s past past' p command number m t done (k ∷ ks) vs all read =
     (record { done = done; all = all; read = read }, clean_new ((versions s past).commit k ∷ []) (t k Commit))
 
--- E begins where a process enters
-pub enters_knows : (s : Setup) (past past' : Past) (p : ℕ) (command : Command) (number : ℕ) (m : Wires) (t : ℕ → Touches) →
-    KnowsPlace s past past' p command number m t (enter (call s p command number) (to_e (processes s) []))
-enters_knows s past past' p command number m t = to_e_knows s past past' p command number m t [] (processes s) [] refl refl
-
 -- G: a change begins, if there is one and its stamp fits
 to_g_knows : (s : Setup) (past past' : Past) (p : ℕ) (busy : ℕ → Bool) (command : Command) (number : ℕ) (m : Wires) (t : ℕ → Touches) (vs : List Version) (st : Contents) → Quiet s past p busy →
     before_image_read p past' ≡ past → vs ≡ versions_of (versions s past) (processes s) → st ≡ store_of s past →

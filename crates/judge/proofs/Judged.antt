@@ -92,10 +92,6 @@ stays_bad s entries e (Bad k l) bad is = record {
 
 -- What a judge keeps.
 
--- before the first entry
-pub judged_none : (j : JudgeState) (s : Setup) → checked s ≡ Ok tt → j.entries ≡ 0 → j.verdict ≡ Good → BothHeard j s [] → HasJudged j s []
-judged_none j s good none is both = record { good = good; count = none; verdict = subst (IsVerdict s []) (sym is) tt; goes_on = λ _. both }
-
 -- an entry behind a good record
 pub judged_more : (j j' : JudgeState) (s : Setup) (entries : List Entry) (e : Entry) → HasJudged j s entries → IsVerdict s (entries ++ e ∷ []) j'.verdict → (j'.verdict ≡ Good → BothHeard j' s (reverse (entries ++ e ∷ []))) → j'.entries ≡ j.entries + 1 → HasJudged j' s (entries ++ e ∷ [])
 judged_more j j' s entries e judged is both one = record {

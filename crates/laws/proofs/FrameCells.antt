@@ -24,10 +24,6 @@ use Rattle.record.proofs.Width.{IsGood}
 abbrev pub cells : Setup → Past → ℕ → Field → ℕ → ℕ → Cell
 cells s past o f k r = cell_after s past (copy o f r k)
 
--- the cell of the bit of an access is that of its copy
-pub cells-at : (s : Setup) (past : Past) (x : Access) → cell_after s past x ≡ cells s past x.owner x.field x.bit x.reader
-cells-at s past x = refl
-
 -- an entry with an access changes the cell of its bit, and no other
 pub cells-entry : (s : Setup) (past : Past) (e : Entry) (x : Access) (o : ℕ) (f : Field) (k r : ℕ) → e.access ≡ Some x →
     cells s (e ∷ past) o f k r ≡ cond (same_bit (copy o f r k) x) (bit.cell_after (cells s past o f k r) x.how) (cells s past o f k r)

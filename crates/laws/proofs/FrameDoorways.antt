@@ -84,9 +84,6 @@ looks-back s p mine st d (settling b i k) = record {
   settles = λ c h. k;
 }
 
-pub doing-place : (s : Setup) → IsGood s → (events : List Event) (p : ℕ) → LooksBack s p (own p (past_of s events)) (stage p (past_of s events)) (doing s p (past_of s events))
-doing-place s g events p = looks-back s p (own p (past_of s events)) (stage p (past_of s events)) (doing s p (past_of s events)) (does_all s g events p)
-
 -- The begin of a doorway.
 
 -- the access of what is done begins a doorway; so does a unit that settles a choosing bit at 1 anew, after its call has begun it

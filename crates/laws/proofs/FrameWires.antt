@@ -101,14 +101,6 @@ wires-read s past e x o h w = λ i f k r. one f k r i
         go true = read-keeps (wires s past o f k r) x.how w
         go false = refl
 
--- What holds of the new wire on the copy of the access, and of the old ones on all other copies, holds of all wires of its owner after the entry.
-pub wires-put : (s : Setup) (past : Past) (e : Entry) (x : Access) (p : ℕ) (P : Field → ℕ → ℕ → Wire → Type 0) → e.access ≡ Some x → x.owner ≡ p →
-    P x.field x.bit x.reader (wire_after (wires s past p x.field x.bit x.reader) x.how) →
-    ((f : Field) (k r : ℕ) → same_bit (copy p f r k) x ≡ false → P f k r (wires s past p f k r)) →
-    (f : Field) (k r : ℕ) → P f k r (wires s (e ∷ past) p f k r)
-wires-put s past e x p P h o here there = cells-put s past e x p (λ f k r c. P f k r (wire c)) h
-    (λ q. subst (P x.field x.bit x.reader) (sym (wire-moved (cells s past p x.field x.bit x.reader) x.how)) here) there
-
 -- the wire of the access itself
 pub wires-here : (s : Setup) (past : Past) (e : Entry) (x : Access) → e.access ≡ Some x →
     wires s (e ∷ past) x.owner x.field x.bit x.reader ≡ wire_after (wires s past x.owner x.field x.bit x.reader) x.how
@@ -131,12 +123,6 @@ touches-there s past e x o r f k h n = touches-entry s past e x o r f k h ∙ ap
 pub touches-fields : (s : Setup) (past : Past) (e : Entry) (x : Access) (o r : ℕ) (f : Field) → e.access ≡ Some x → f ≢ x.field → touches s (e ∷ past) o r f ≡ touches s past o r f
 touches-fields s past e x o r f h n = λ i k. touches-there s past e x o r f k h (off-field x o f k r n) i
 
-pub touches-bits : (s : Setup) (past : Past) (e : Entry) (x : Access) (o r : ℕ) (f : Field) (k : ℕ) → e.access ≡ Some x → k ≢ x.bit → touches s (e ∷ past) o r f k ≡ touches s past o r f k
-touches-bits s past e x o r f k h n = touches-there s past e x o r f k h (off-bit x o f k r n)
-
-pub touches-owners : (s : Setup) (past : Past) (e : Entry) (x : Access) (o r : ℕ) → e.access ≡ Some x → o ≢ x.owner → touches s (e ∷ past) o r ≡ touches s past o r
-touches-owners s past e x o r h n = λ i f k. touches-there s past e x o r f k h (off-owner x o f k r n) i
-
 pub touches-readers : (s : Setup) (past : Past) (e : Entry) (x : Access) (o r : ℕ) → e.access ≡ Some x → r ≢ x.reader → touches s (e ∷ past) o r ≡ touches s past o r
 touches-readers s past e x o r h n = λ i f k. touches-there s past e x o r f k h (off-reader x o f k r n) i
 
@@ -147,25 +133,7 @@ touches-begun s past e x h b = touches-entry s past e x x.owner x.reader x.field
     ∙ ap (λ b. cond b (touched_after (wires s past x.owner x.field x.bit x.reader) (touches s past x.owner x.reader x.field x.bit) x.how) (touches s past x.owner x.reader x.field x.bit)) (itself x)
     ∙ ap (touched_after (wires s past x.owner x.field x.bit x.reader) (touches s past x.owner x.reader x.field x.bit)) b
 
--- the end of a read, and that of a write, change no mark of overlap
-touched_kept : (w : Wire) (was : Bool) (m : Move) (v : Bool) → m ≡ EndRead v → touched_after w was m ≡ was
-touched_kept w was m v h = ap (touched_after w was) h
-
-pub touches-ended : (s : Setup) (past : Past) (e : Entry) (x : Access) (v : Bool) (o r : ℕ) → e.access ≡ Some x → x.how ≡ EndRead v → touches s (e ∷ past) o r ≡ touches s past o r
-touches-ended s past e x v o r h b = λ i f k. one f k i
-  where
-    one : (f : Field) (k : ℕ) → touches s (e ∷ past) o r f k ≡ touches s past o r f k
-    one f k = touches-entry s past e x o r f k h ∙ go (same_bit (copy o f r k) x)
-      where
-        go : (b : Bool) → cond b (touched_after (wires s past o f k r) (touches s past o r f k) x.how) (touches s past o r f k) ≡ touches s past o r f k
-        go true = touched_kept (wires s past o f k r) (touches s past o r f k) x.how v b
-        go false = refl
-
 -- The end of a read that no write touched gives the copy's value, and that of any other the flick.
 pub answer-untouched : (s : Setup) → IsGood s → (events : List Event) (x : Access) (u flick : Bool) → x.how ≡ EndRead u → touches s (past_of s events) x.owner x.reader x.field x.bit ≡ false →
     value_of (valued s (past_of s events) flick x).how ≡ (wires s (past_of s events) x.owner x.field x.bit x.reader).value
 answer-untouched s g events x u flick h t = answer-read s g events x u flick h ∙ ap (λ b. cond b flick (wires s (past_of s events) x.owner x.field x.bit x.reader).value) t
-
-pub answer-touched : (s : Setup) → IsGood s → (events : List Event) (x : Access) (u flick : Bool) → x.how ≡ EndRead u → touches s (past_of s events) x.owner x.reader x.field x.bit ≡ true →
-    value_of (valued s (past_of s events) flick x).how ≡ flick
-answer-touched s g events x u flick h t = answer-read s g events x u flick h ∙ ap (λ b. cond b flick (wires s (past_of s events) x.owner x.field x.bit x.reader).value) t

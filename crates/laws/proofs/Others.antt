@@ -38,10 +38,6 @@ pub all_at : (P : ℕ → Type 0) (xs : List ℕ) (y : ℕ) (ys : List ℕ) → 
 all_at P [] y ys h = h.0
 all_at P (x ∷ xs) y ys h = all_at P xs y ys h.1
 
--- each one of the others is a process, and not p
-pub one_other : (s : Setup) (p : ℕ) (done : List ℕ) (j : ℕ) (js : List ℕ) → others s p ≡ done ++ j ∷ js → (j < s.processes) × (j ≢ p)
-one_other s p done j js all = all_at (λ j. (j < s.processes) × (j ≢ p)) done j js (subst (AllByRecursion (λ j. (j < s.processes) × (j ≢ p))) all (all_others s p (λ j. (j < s.processes) × (j ≢ p)) (λ j below ne. (below, ne))))
-
 -- each is below all that follow
 abbrev Rises : List ℕ → Type 0
 Rises [] = Unit {0}

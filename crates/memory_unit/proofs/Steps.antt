@@ -47,41 +47,6 @@ after-at c (closing.Lowers w) flick g = refl
 after-at c closing.Quit flick g = cc
 after-at c closing.Ended flick g = cc
 
--- and its marks follow from what remains before it and after it
-pub marks-at : (c : Call) (at : Closing) (flick : Bool) → goes (work_at at) ≡ true → next_marks c at flick ≡ Some (marks_told at flick (remains (work_at at)) (remains (work_at (closing_after c at flick))))
-marks-at c (closing.Withdraws w) flick g = cc
-marks-at c (closing.Settles field bit begun taken is t) flick g = go (is_last_settled c t (settled_at t flick))
-  where
-    at : Closing
-    at = closing.Settles field bit begun taken is t
-
-    go : (b : Bool) → Some (cond b (settled_marks begun taken (settled_at t flick)) []) ≡ Some (marks_told at flick (remains (work_at at)) (remains (work_at (cond b (freeing c is) (closing.Settles field bit begun taken is (settle_after t (settled_at t flick)))))))
-    go true = refl
-    go false = refl
-marks-at c (closing.Frees is w) flick g = go (is_last_written c (no_ticket c) w)
-  where
-    at : Closing
-    at = closing.Frees is w
-
-    go : (b : Bool) → Some (cond {A = List Mark} (is && is_unwritten w) (mark.Left ∷ []) []) ≡ Some (marks_told at flick (remains (work_at at)) (remains (work_at (cond b (closing.Lowers (new_write 1)) (closing.Frees is (write_moved c.setup.processes (no_ticket c) w))))))
-    go true = refl
-    go false = refl
-marks-at c (closing.Lowers w) flick g = go (is_last_written c (false ∷ []) w)
-  where
-    at : Closing
-    at = closing.Lowers w
-
-    go : (b : Bool) → Some (cond {A = List Mark} b (mark.Down ∷ []) []) ≡ Some (marks_told at flick (remains (work_at at)) (remains (work_at (cond b closing.Ended (closing.Lowers (write_moved c.setup.processes (false ∷ []) w))))))
-    go true = refl
-    go false = refl
-marks-at c closing.Quit flick g = cc
-marks-at c closing.Ended flick g = cc
-
--- the whole work is that of the closing that a failure starts
-pub from-cut : (c : Call) (torn : Option TornBit) (begun : Bool) (pending : Option Change) (inside : Bool) → whole_work c.setup torn ≡ work_at (cut c torn begun pending inside)
-from-cut c None begun pending inside = refl
-from-cut c (Some t) begun pending inside = refl
-
 -- the accesses name what there is
 pub named : (s : Setup) (p : ℕ) (work : Work) (flick : Bool) (a : Access) → KeepsUnit s p work → next_of_work s p work flick ≡ Some a → IsNamed s a
 named s p work flick a k h = go work k.kept h

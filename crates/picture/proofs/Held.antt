@@ -5,10 +5,6 @@ use Rattle.picture.specs.Pages.{lines_of}
 use Rattle.columns.specs.Told.{told_in}
 use Rattle.columns.specs.declared.columns.Column.{Column}
 
--- no column is to be placed
-pub none_pending : (columns : List Column) (pending : Option Column) → pending ≡ None → lines_of columns pending ≡ flat_map told_in columns
-none_pending columns pending none = ap (lines_of columns) none ∙ append-nil (flat_map told_in columns)
-
 -- one is
 pub one_pending : (columns : List Column) (pending : Option Column) (column : Column) → pending ≡ Some column → lines_of columns pending ≡ flat_map told_in columns ++ told_in column
 one_pending columns pending column one = ap (lines_of columns) one ∙ ap (λ l. flat_map told_in columns ++ l) (append-nil (told_in column))
@@ -22,15 +18,3 @@ put_last columns new column put is same =
 pub joins_pending : (columns : List Column) (old new : Option Column) (had has : Column) (line : List ℕ) → old ≡ Some had → new ≡ Some has → told_in has ≡ told_in had ++ line ∷ [] → lines_of columns new ≡ lines_of columns old ++ line ∷ []
 joins_pending columns old new had has line was is more =
     one_pending columns new has is ∙ ap (λ l. flat_map told_in columns ++ l) more ∙ sym (append_assoc (flat_map told_in columns) (told_in had) (line ∷ [])) ∙ ap (λ l. l ++ line ∷ []) (sym (one_pending columns old had was))
-
--- or in one of its own
-pub begins_pending : (band : List (List ℕ)) (placed : List Column) (pending : Option Column) (column : Column) (before : List (List ℕ)) (line : List ℕ) → pending ≡ Some column → told_in column ≡ line ∷ [] → band ++ flat_map told_in placed ≡ before →
-    band ++ lines_of placed pending ≡ before ++ line ∷ []
-begins_pending band placed pending column before line one only are =
-    ap (λ l. band ++ l) (one_pending placed pending column one ∙ ap (λ l. flat_map told_in placed ++ l) only) ∙ sym (append_assoc band (flat_map told_in placed) (line ∷ [])) ∙ ap (λ l. l ++ line ∷ []) are
-
--- nothing more is told, where a column is to be placed that tells no line
-pub begins_untold : (band : List (List ℕ)) (placed : List Column) (pending : Option Column) (column : Column) (before : List (List ℕ)) → pending ≡ Some column → told_in column ≡ [] → band ++ flat_map told_in placed ≡ before →
-    band ++ lines_of placed pending ≡ before
-begins_untold band placed pending column before one none are =
-    ap (λ l. band ++ l) (one_pending placed pending column one ∙ ap (λ l. flat_map told_in placed ++ l) none ∙ append-nil (flat_map told_in placed)) ∙ are

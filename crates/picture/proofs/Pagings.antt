@@ -100,13 +100,6 @@ draws_parts is_last old opens shown behind placing columns apart layout bands he
 abbrev pub has_room_in : Seen → SeenPage → Bool
 has_room_in column page = has_room_at page.placing (place_of page.placing column)
 
-pub stays_in : (column : Seen) (old new : SeenPage) → has_room_in column old ≡ true → new ≡ old → MakesRoom column old None new
-stays_in column old new room is plan state pending last_at bands same holds =
-    let has : has_room_in column (page_holding plan state pending last_at bands) ≡ true = ap (has_room_in column) (sym holds) ∙ room in (
-      is ∙ holds ∙ ap (λ (b : Bool). page_holding plan state pending last_at (room_by b bands)) (sym has),
-      ap (λ (b : Bool). full_bytes plan (room_by b bands).full) has ∙ sym (append-nil (full_bytes plan bands.full)),
-    )
-
 pub begins_next : (column : Seen) (old : SeenPage) (band : List ℕ) (new : SeenPage) → has_room_in column old ≡ false → DrawsBand false old band new → MakesRoom column old (Some band) new
 begins_next column old band new room draws plan state pending last_at bands same holds =
     let has : has_room_in column (page_holding plan state pending last_at bands) ≡ false = ap (has_room_in column) (sym holds) ∙ room in
@@ -118,10 +111,6 @@ begins_next column old band new room draws plan state pending last_at bands same
 -- no column is to be placed
 none_newest : (column : Seen) (pending : Option Seen) → pending ≡ None → pending ≡ Some column → ⊥
 none_newest column pending none some = absurd (cc)
-
-pub places_none : (old new : SeenPage) → old.pending ≡ None → new ≡ old → Places old None new
-places_none old new none is plan state last_at [] same holds = (is ∙ holds, refl)
-places_none old new none is plan state last_at (column ∷ before) same holds = absurd (none_newest column old.pending none (ap (λ (p : SeenPage). p.pending) holds))
 
 -- one is
 abbrev pub without_pending : SeenPage → SeenPage
@@ -244,15 +233,3 @@ gives_rest old placed new full last places draws plan items holds =
       (λ i. put.1 i ++ sym drawn.1 i),
       ap (λ (p : SeenPage). p.height) drawn.0,
     )
-
--- the last of columns, as lists
-get_seen : (columns : List Column) (k : ℕ) → option_map seen (slice_get columns k) ≡ slice_get (map seen columns) k
-get_seen [] k = refl
-get_seen (column ∷ columns) zero = refl
-get_seen (column ∷ columns) (suc k) = get_seen columns k
-
-pub last_seen : (columns : List Column) (o : Option Column) → o ≡ slice_get columns (length columns - 1) → option_map seen o ≡ last_in (map seen columns)
-last_seen columns o is = ap (option_map seen) is ∙ get_seen columns (length columns - 1) ∙ ap (λ n. slice_get (map seen columns) (n - 1)) (sym (length-map columns seen))
-
-pub stands_behind : (columns : List Seen) (before result : State × ℕ) (o : Option Seen) → o ≡ last_in columns → result ≡ elim o as (λ _. State × ℕ) [ None ↦ before | Some column ↦ (column.after, column.at) ] → result ≡ behind_columns columns before
-stands_behind columns before result o is behind = behind ∙ ap (λ (o : Option Seen). elim o as (λ _. State × ℕ) [ None ↦ before | Some column ↦ (column.after, column.at) ]) is

@@ -6,12 +6,6 @@ use Rattle.markup.specs.declared.names.Tag.TheVariants as tag
 use Rattle.std.specs.Fmt.{decimal}
 use Rattle.picture.specs.Sheets.{item_of, plural_of, says}
 
--- a line of the list more
-pub line_listed : (now told new : List ℕ) (line : List ℕ) (rest : List (List ℕ)) → told ≡ now ++ telling_by tag.Item [] line → new ≡ told ++ codes "\n" → new ++ flat_map item_of rest ≡ now ++ flat_map item_of (line ∷ rest)
-line_listed now told new line rest tells ends =
-    ap (λ l. l ++ flat_map item_of rest) (ends ∙ ap (λ l. l ++ codes "\n") tells ∙ append_assoc now (telling_by tag.Item [] line) (codes "\n"))
-    ∙ append_assoc now (item_of line) (flat_map item_of rest)
-
 -- one piece more
 pub adds : (old now new more : List ℕ) → new ≡ now ++ more → now ≡ old → new ≡ old ++ more
 adds old now new more is was = is ∙ ap (λ l. l ++ more) was

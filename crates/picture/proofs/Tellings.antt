@@ -51,10 +51,6 @@ column_more old now new columns k column within here before is =
     (ap (flat_map told_in) (take_more columns k column within) ∙ flat_map-append told_in (take k columns) (get_or columns k column ∷ []) ∙ ap (λ l. flat_map told_in (take k columns) ++ l) (append-nil (told_in (get_or columns k column)))
     ∙ ap (λ (last : Column). flat_map told_in (take k columns) ++ told_in last) (sym here))
 
--- a line that is pushed
-pub joined_line : (lines new : List RunLine) (line : RunLine) → new ≡ lines ++ line ∷ [] → texts new ≡ texts lines ++ text_of line ∷ []
-joined_line lines new line is = ap texts is ∙ map-append text_of lines (line ∷ [])
-
 -- a band in its frame
 module _ (name : List ℕ) (new drawn begun : Reading) (old : List ℕ) (lines : List (List ℕ)) (ended : new ≡ with_ended name drawn) (are : drawn ≡ with_lines lines begun) (is : begun ≡ with_begun name (reading old)) (none : old ≡ []) where
   framed : new ≡ with_ended name (with_lines lines (with_begun name (reading [])))

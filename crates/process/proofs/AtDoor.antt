@@ -25,16 +25,6 @@ door-kept s p (work.Withdraws leaving) door section h goes = cc
 door-kept s p (work.Settles inside taken value unit) door section h goes = cc
 door-kept s p (work.Frees inside unit) door section h goes = cc
 
-pub door-works : (current : ActiveCursor) (door : DoorState) (section : Section) → is_at_door (kept_shown current door section) ≡ true → is_door current ≡ true
-door-works work.Rests door section h = cc
-door-works work.Lies door section h = cc
-door-works (work.AtDoor waits) door section h = refl
-door-works work.AtData door section h = cc
-door-works (work.Leaves answer fresh leaving) door section h = cc
-door-works (work.Withdraws leaving) door section h = cc
-door-works (work.Settles inside taken value unit) door section h = cc
-door-works (work.Frees inside unit) door section h = cc
-
 -- what its process is doing
 pub door-does : (s : Setup) (p : ℕ) (command : Command) (number : ℕ) (current : ActiveCursor) (door : DoorState) (section : Section) (d : Doing) → is_at_door (kept_shown current door section) ≡ true → Goes s p current door section →
     kept_shown current door section ≡ kept_at s p d → IsCallOf command number d → IsReached s p d → IsAtDoor s p command number door d

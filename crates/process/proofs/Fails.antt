@@ -90,16 +90,6 @@ cut-place s p command number at torn taken inside is takes within =
     ∙ kept-cut s p command number (torn_at c at) (begun_at c at) (pending_at c at.part) inside taken takes
     ∙ ap (λ b. kept_closing (call s p Ask 0) (cut_at c at b)) (sym within ∙ inside-kept s p (Runs command number at))
 
--- a register of the lock is no commit bit
-lock-field : (f : Field) → is_data f ≡ false → is_commit f ≡ false
-lock-field Choosing h = refl
-lock-field Ticket h = refl
-lock-field Commit h = cc
-lock-field Stamp0 h = cc
-lock-field Stamp1 h = cc
-lock-field Image0 h = cc
-lock-field Image1 h = cc
-
 -- the settling of a bit that is no commit bit takes nothing
 takes-none : (f : Field) (w : NumberWrite) (begun : Bool) (pending : Option Change) → is_commit f ≡ false → (torn : Option TornBit) → IfSome torn (IsOfWrite f w) → IfSome torn (Takes begun pending None)
 takes-none f w begun pending h None facts = tt
@@ -107,21 +97,6 @@ takes-none f w begun pending h (Some t) facts = record {
   taken_is = ap (λ b. option_map (λ reply. (begun, reply)) (cond b (option_map (λ (change : Change). change.0) pending) None)) (ap is_commit facts.field ∙ h);
   unsettled = facts.unsettled;
 }
-
-lock-takes : (c : Call) (x : Part) (run : Run) (begun : Bool) (pending : Option Change) → is_data (written_at c x).0 ≡ false → IfSome (torn_run c x run) (Takes begun pending None)
-lock-takes c x (Writing w) begun pending h = takes-none (written_at c x).0 w begun pending (lock-field (written_at c x).0 h) (torn_in (written_at c x).0 w) (torn-of-write (written_at c x).0 w)
-lock-takes c x (Reading bits begun_it) begun pending h = tt
-
--- at the door
-pub door-cut : (s : Setup) (p : ℕ) (command : Command) (number : ℕ) (door : DoorState) (d : Doing) (at : IsAtDoor s p command number door d) → kept_at s p d ≡ kept.AtDoor door → is_going door ≡ true → (torn : Option TornBit) → torn ≡ torn_at (call s p command number) (place_of (call s p command number) at.accesses) →
-    kept_cut s p torn None false ≡ kept_failing s p d
-door-cut s p command number door d at here going torn is =
-    let c : Call = call s p command number in
-    let place : Place = place_of c at.accesses in
-    let on = goes-at s p command number door d at going in
-    let lock : is_data (written_at c place.part).0 ≡ false = door-written c place.part (not-over (is_over (part_of (standing_at c place.part))) on) in
-    cut-place s p command number place torn None false is (lock-takes c place.part place.run (begun_at c place) (pending_at c place.part) lock) (ap inside_kept (ap (kept_at s p) (sym at.is) ∙ here))
-    ∙ ap (kept_failing s p) (sym at.is)
 
 -- a stamp and an image are no commit bits
 stamp-takes : (b : Bool) → is_commit (stamp_field b) ≡ false
@@ -188,15 +163,6 @@ data-cut s p command number section d at torn pending here is written known =
     cut-place s p command number place torn (taken_in torn pending) true is
     (subst (λ taken. IfSome (torn_at c place) (Takes (begun_at c place) (pending_at c place.part) taken)) (λ i. taken_in (sym is i) (sym written i)) takes)
     (ap inside_kept (ap (kept_at s p) (sym at.is) ∙ here))
-    ∙ ap (kept_failing s p) (sym at.is)
-
--- while the ticket is cleared before the answer
-pub clear-cut : (s : Setup) (p : ℕ) (command : Command) (number : ℕ) (a : Answer) (fresh : Bool) (leaving : LeavingState) (d : Doing) (at : IsClearing s p command number a fresh leaving d) (torn : Option TornBit) → torn ≡ torn_at (call s p command number) (clears_at a at.run) →
-    kept_cut s p torn None fresh ≡ kept_failing s p d
-clear-cut s p command number a fresh leaving d at torn is =
-    let c : Call = call s p command number in
-    let place : Place = clears_at a at.run in
-    cut-place s p command number place torn None fresh is (lock-takes c (Clears a) (Writing at.run) (begun_at c place) (pending_at c (Clears a)) refl) at.fresh_is
     ∙ ap (kept_failing s p) (sym at.is)
 
 -- in a withdrawal

@@ -46,23 +46,6 @@ data-reads s p command number section d at =
     let c : Call = call s p command number in
     reads-at c (place_of c at.accesses).part (place_of c at.accesses).run (on-the-way c at.accesses).kind ∙ ap (reads_of s p) (sym at.is)
 
--- elsewhere nothing is read
-reads-none : (c : Call) (at : Place) (x : Part) → is_at_door (kept_in c at x) || is_at_data (kept_in c at x) ≡ false → None ≡ cond (is_read x) (Some (read_at c x)) None
-reads-none c at (Clears a) h = refl
-reads-none c at Over h = refl
-reads-none c at Raises h = cc
-reads-none c at (Asks j js ts) h = cc
-reads-none c at (TakesTicket t) h = cc
-reads-none c at (Lowers t) h = cc
-reads-none c at (Refuses f) h = cc
-reads-none c at (Waits t w ws) h = cc
-reads-none c at (AsksCommit k ks vs) h = cc
-reads-none c at (AsksStamp k ks vs b) h = cc
-reads-none c at (AsksImage vs) h = cc
-reads-none c at (WritesImage vs st) h = cc
-reads-none c at (WritesStamp vs st) h = cc
-reads-none c at (WritesCommit vs st) h = cc
-
 elsewhere : (current : ActiveCursor) (door : DoorState) (section : Section) → ((waits : Bool) → current ≡ work.AtDoor waits → ⊥) → (current ≡ work.AtData → ⊥) →
     is_at_door (kept_shown current door section) || is_at_data (kept_shown current door section) ≡ false
 elsewhere (work.AtDoor waits) door section no_door no_data = absurd (no_door waits refl)
@@ -73,16 +56,6 @@ elsewhere (work.Leaves answer fresh leaving) door section no_door no_data = refl
 elsewhere (work.Withdraws leaving) door section no_door no_data = refl
 elsewhere (work.Settles inside taken value unit) door section no_door no_data = refl
 elsewhere (work.Frees inside unit) door section no_door no_data = refl
-
-pub no-reads : (s : Setup) (p : ℕ) (current : ActiveCursor) (door : DoorState) (section : Section) (d : Doing) → ((waits : Bool) → current ≡ work.AtDoor waits → ⊥) → (current ≡ work.AtData → ⊥) →
-    kept_shown current door section ≡ kept_at s p d → None ≡ reads_of s p d
-no-reads s p current door section d no_door no_data is = by d (ap (λ k. is_at_door k || is_at_data k) (sym is) ∙ elsewhere current door section no_door no_data)
-  where
-    by : (d : Doing) → is_at_door (kept_at s p d) || is_at_data (kept_at s p d) ≡ false → None ≡ reads_of s p d
-    by (Runs x n at) h = reads-none (call s p x n) at at.part h
-    by doing.Rests h = refl
-    by doing.Lies h = refl
-    by (doing.Closes x n at) h = refl
 
 -- whose registers are read at a place that a call comes to
 owners-at : (c : Call) → IsGood c.setup → (accesses : List Access) → OwnersThere c.setup.processes (place_of c accesses).part

@@ -310,9 +310,6 @@ comes_to_answer board old now new turns flicks then end h d never =
 pub is_inside : (board : BoardState) (old now : PortState) → IsOnItsWay board old now → ComesTo old.setup (Some reached.Section) old.view now.view
 is_inside board old now h = (h.calling, h.on)
 
-pub is_at_the_door : (board : BoardState) (old now : PortState) → IsOnItsWay board old now → ComesTo old.setup None old.view now.view
-is_at_the_door board old now h = (h.calling, h.on)
-
 pub still_on_its_way : (board : BoardState) (old now new : PortState) → IsOnItsWay board old now → SamePort now new → ComesTo now.setup None now.view new.view → IsOnItsWay board old new
 still_on_its_way board old now new h same c =
     record {

@@ -40,7 +40,3 @@ answers_more vecs i v within at =
     ap (λ (l : List (Vec Placed)). answers_from 0 (lists_of l)) (take_more vecs i v within ∙ ap (λ (x : Vec Placed). take i vecs ++ x ∷ []) (sym at))
     ∙ ap (answers_from 0) (map-append (λ (w : Vec Placed). w.items) (take i vecs) (v ∷ []))
     ∙ answers_snoc 0 i (lists_of (take i vecs)) v.items (omega (arith, size, lists))
-
--- all of them
-pub answers_all : (vecs : List (Vec Placed)) (i : ℕ) → length vecs ≤ i → answers_from 0 (lists_of (take i vecs)) ≡ answers_from 0 (lists_of vecs)
-answers_all vecs i past = ap (λ (l : List (Vec Placed)). answers_from 0 (lists_of l)) (take_all i vecs past)

@@ -41,39 +41,7 @@ closed_then e opening moves h = by e (is_write_open moves) (begins_read moves &&
     by (Bound v) false true x calm h = h
     by (Bound v) false false x calm h = cc
 
--- a read that begins is bound, but while a write is open
-pub reading_then : (e : ReadEnd) (written opening : Bool) (moves : List Move) → e ≡ ending_of opening moves → written ≡ last_written opening moves → elim e as (λ _. ReadEnd) [ Free ↦ Bound written | Writing ↦ Writing | Bound v ↦ Bound written ] ≡ ending_of opening (BeginRead ∷ moves)
-reading_then e written opening moves h same = by e (is_write_open moves) (begins_read moves && not (is_overlapped moves)) (last_written opening (before_read moves)) h
-  where
-    by : (e : ReadEnd) (w b x : Bool) → e ≡ cond w Writing (cond b (Bound x) Free) → elim e as (λ _. ReadEnd) [ Free ↦ Bound written | Writing ↦ Writing | Bound v ↦ Bound written ] ≡ cond w Writing (cond (true && not w) (Bound (last_written opening moves)) Free)
-    by Free true b x h = cc
-    by Free false b x h = ap Bound same
-    by Writing true b x h = refl
-    by Writing false true x h = cc
-    by Writing false false x h = cc
-    by (Bound v) true b x h = cc
-    by (Bound v) false b x h = ap Bound same
-
 -- The end of a read.
-
--- a read that is bound may end with one value
-pub bound_allows : (only v opening : Bool) (moves : List Move) → Bound only ≡ ending_of opening moves → v ≡ only → begins_read moves ≡ true → MayEndWith opening moves v
-bound_allows only v opening moves h same begins calm = by (is_write_open moves) (begins_read moves && not (is_overlapped moves)) (last_written opening (before_read moves)) h
-  where
-    by : (w b x : Bool) → Bound only ≡ cond w Writing (cond b (Bound x) Free) → v ≡ x
-    by true b x h = cc
-    by false true x h = cc
-    by false false x h = cc
-
--- and with no other one
-pub bound_forbids : (only v opening : Bool) (moves : List Move) → Bound only ≡ ending_of opening moves → (v ≡ only → ⊥) → (begins_read moves ≡ true → MayEndWith opening moves v) → ⊥
-bound_forbids only v opening moves h other may = by (is_write_open moves) (begins_read moves) (is_overlapped moves) (last_written opening (before_read moves)) h may
-  where
-    by : (w b o x : Bool) → Bound only ≡ cond w Writing (cond (b && not o) (Bound x) Free) → (b ≡ true → o ≡ false → v ≡ x) → ⊥
-    by true b o x h may = cc
-    by false true true x h may = cc
-    by false true false x h may = let is : v ≡ x = may refl refl in other cc
-    by false false o x h may = cc
 
 -- one that is not bound may end with each
 pub free_allows : (e : ReadEnd) (v opening : Bool) (moves : List Move) → e ≡ ending_of opening moves → ((only : Bool) → e ≡ Bound only → ⊥) → begins_read moves ≡ true → MayEndWith opening moves v
@@ -120,10 +88,6 @@ pub ends_by : (s : Setup) (past : Past) (e : Entry) (a : Access) (v : Bool) (r :
     MatchBool r (KeepsSafe s past e) (KeepsSafe s past e → ⊥)
 ends_by s past e a v true access how may = keeps_by s past e a access (λ u is. let same : v ≡ u = cc in subst (λ u. begins_read (moves_of a past) ≡ true → MayEndWith (opening_bit s a) (moves_of a past) u) same may)
 ends_by s past e a v false access how may = λ keeps. may (keeps a v access how)
-
--- any other move keeps it
-pub other_keeps : (s : Setup) (past : Past) (e : Entry) (a : Access) → e.access ≡ Some a → ((v : Bool) → a.how ≡ EndRead v → ⊥) → KeepsSafe s past e
-other_keeps s past e a access other = keeps_by s past e a access (λ v is. absurd (other v is))
 
 -- an answer turned about
 pub turned : (r : Bool) (P Q : Type 0) → MatchBool r P Q → MatchBool (not r) Q P

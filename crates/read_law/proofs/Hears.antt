@@ -117,9 +117,6 @@ pub record AtAccess (w : WatchState) (a : Access) (register place : ℕ) : Type 
   pub register_is : register ≡ register_of a
   pub place_is : place ≡ copy_of w.setup a
 
-pub register_within : (w : WatchState) (a : Access) (register place : ℕ) → AtAccess w a register place → register < length w.registers
-register_within w a register place at = subst (λ n. n < length w.registers) (sym at.register_is) (register_in w a at.good at.there)
-
 -- the register that was taken
 taken_is : (w : WatchState) (a : Access) (register place : ℕ) (taken : List Look) → AtAccess w a register place → taken ≡ get_or w.registers register taken → taken ≡ slice_index_or w.registers (register_of a) []
 taken_is w a register place taken at is = is ∙ ap (λ n. get_or w.registers n taken) at.register_is ∙ get_or_default w.registers (register_of a) taken [] (register_in w a at.good at.there)
@@ -157,9 +154,6 @@ heard_written w past e a register place taken made then at is makes access on he
     (heard_access w past e a then access at.there (register_in w a at.good at.there) (copy_in w a at.good at.there) on heard)
 
 -- What is answered.
-
-pub none_keeps : (s : Setup) (past : Past) (e : Entry) → e.access ≡ None → KeepsSafe s past e
-none_keeps s past e access a v is = cc
 
 -- no move was made on a bit that is not there
 stray_moves : (s : Setup) (a : Access) (past : Past) → AllAreOfThere s past → (IsThere s a → ⊥) → moves_of a past ≡ []

@@ -41,9 +41,6 @@ opened-entry a x e past h =
     go true BeginRead = refl
     go true (EndRead v) = refl
 
-pub opened-none : (a : Access) (e : Entry) (past : Past) → e.access ≡ None → opened (e ∷ past) a ≡ opened past a
-opened-none a e past h = ap (λ o. is_write_open (elim o as (λ _. List Move) [ None ↦ [] | Some b ↦ cond (same_bit a b) (b.how ∷ []) [] ] ++ moves_of a past)) h
-
 -- the copy that the last write has left open
 abbrev pub open_torn : ℕ → Option Access → Access → Bool
 open_torn p None a = false

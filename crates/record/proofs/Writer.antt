@@ -118,31 +118,6 @@ before-own p (e ∷ past) h = go (has is_failed e) (before-own p past h.1)
     go true k = h.1
     go false k = k
 
-pub last_write-own : (p : ℕ) (past : Past) (a : Access) → PastOwn p past → last_write past ≡ Some a → a.owner ≡ p
-last_write-own p [] a h e = cc
-last_write-own p (d ∷ past) a h e = go d.access refl (last_write-own p past a h.1) e
-  where
-    go : (x : Option Access) → d.access ≡ x → (last_write past ≡ Some a → a.owner ≡ p) →
-        elim x as (λ _. Option Access) [
-          | None ↦ last_write past
-          | Some b ↦ elim b.how as (λ _. Option Access) [
-            | BeginWrite v ↦ Some b
-            | EndWrite ↦ Some b
-            | Settle v ↦ Some b
-            | BeginRead ↦ last_write past
-            | EndRead v ↦ last_write past
-          ]
-        ] ≡ Some a → a.owner ≡ p
-    go None i ih e = ih e
-    go (Some b) i ih e = at b.how refl e
-      where
-        at : (m : Move) → b.how ≡ m → elim m as (λ _. Option Access) [ BeginWrite v ↦ Some b | EndWrite ↦ Some b | Settle v ↦ Some b | BeginRead ↦ last_write past | EndRead v ↦ last_write past ] ≡ Some a → a.owner ≡ p
-        at (BeginWrite v) j e = let f : b ≡ a = cc in ap (λ (a : Access). a.owner) (sym f) ∙ h.0 b i (rw j refl)
-        at EndWrite j e = let f : b ≡ a = cc in ap (λ (a : Access). a.owner) (sym f) ∙ h.0 b i (rw j refl)
-        at (Settle v) j e = let f : b ≡ a = cc in ap (λ (a : Access). a.owner) (sym f) ∙ h.0 b i (rw j refl)
-        at BeginRead j e = ih e
-        at (EndRead v) j e = ih e
-
 pub settles-own : (p : ℕ) (f : Field) (k m r n : ℕ) (v : Bool) → AllOwn p (map (access_of p f) (map (at_bit k) (settles_from m r n v)))
 settles-own p f k m r zero v = tt
 settles-own p f k m r (suc n) v = go (is_open_at m r) (settles-own p f k m (r + 1) n v)

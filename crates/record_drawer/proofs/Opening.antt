@@ -5,11 +5,6 @@ use Rattle.std.specs.Io.KnownBytes.{Consumes, Keeps, ReadConsumes, prepend_known
 use Rattle.files.specs.declared.streams.Failed.{Failed}
 use Rattle.files.specs.Streams.{GivesByte}
 
--- bytes stay, and go on staying
-pub keeps_same : (o : Option (List ℕ)) → Keeps o o
-keeps_same None = tt
-keeps_same (Some xs) = refl
-
 pub keeps_none : (o : Option (List ℕ)) → Keeps o (prepend_known [] o)
 keeps_none None = tt
 keeps_none (Some xs) = refl

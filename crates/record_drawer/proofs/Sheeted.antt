@@ -78,15 +78,6 @@ module _ (reads : Mode) (form : Form) (s : Setup) where
 pub heads_page : (reads : Mode) (s : Setup) (old new : Option (List ℕ)) (head : List ℕ) → head ≡ page_front s (listed s) reads → lines_in head ≡ [] → opens_in head (Some []) ≡ Some page_names → Writes old new head → Heads reads form.Page s old new
 heads_page reads s old new head is lines opens writes = record { head = head; is = is; lines = lines; opens = opens; writes = writes }
 
--- one picture has none yet
-pub heads_picture : (reads : Mode) (f : Form) (s : Setup) (old : Option (List ℕ)) → (f ≡ form.Page → ⊥) → Heads reads f s old old
-heads_picture reads form.Page s old other = absurd (other refl)
-heads_picture reads (form.Picture top) s old other = refl
-
--- the lines that a page lists
-pub front_listed : (s : Setup) (reads : Mode) (text printed markup : List ℕ) → text ≡ flat_map printed_line (head_words s) → printed ≡ text ++ codes "(entries)\n" → markup ≡ page_front s printed reads → markup ≡ page_front s (listed s) reads
-front_listed s reads text printed markup prints more is = is ∙ ap (λ l. page_front s l reads) (more ∙ ap (λ l. l ++ codes "(entries)\n") prints)
-
 -- what is drawn, by the setup that was read
 pub draws_of : (reads : Mode) (f : Form) (d : Option RecordDrawing) (p : Progress) (past : Past) (old new : Option (List ℕ)) → DrawsAt reads f d (Some p) past old new → Draws reads f d p.head.setup past old new
 draws_of reads f None p past old new drawn = drawn

@@ -100,19 +100,6 @@ store_quiet s p call mark.Down store quiet = refl
 store_quiet s p call mark.Withdrew store quiet = refl
 store_quiet s p call mark.Restarted store quiet = refl
 
-pub change_quiet : (s : Setup) (before : List (ℕ × Mark)) (p : ℕ) (m : Mark) → is_quiet m ≡ true → None ≡ change_of s before p m
-change_quiet s before p (mark.Taken k r) quiet = absurd (true≢false (sym quiet))
-change_quiet s before p (mark.Called c) quiet = refl
-change_quiet s before p (mark.Waiting t) quiet = refl
-change_quiet s before p mark.Entered quiet = refl
-change_quiet s before p mark.Left quiet = refl
-change_quiet s before p (mark.Answered a) quiet = refl
-change_quiet s before p mark.Failed quiet = refl
-change_quiet s before p (mark.Settled v) quiet = refl
-change_quiet s before p mark.Down quiet = refl
-change_quiet s before p mark.Withdrew quiet = refl
-change_quiet s before p mark.Restarted quiet = refl
-
 module _ (s : Setup) (before : List (ℕ × Mark)) (c : RecordedChanges) (p : ℕ) (knows : Knows s before c) where
   -- a process that is not there
   module _ (none : slice_get c.calls.items p ≡ None) where

@@ -77,11 +77,6 @@ pub if_some : (o : Option (List ℕ)) (P Q : List ℕ → Type 0) → ((x : List
 if_some None P Q then is = tt
 if_some (Some x) P Q then is = then x is
 
--- nothing is left where nothing was written
-pub leaves_none : (f : Form) (old new : Option (List ℕ)) → new ≡ old → LeavesNone f old new
-leaves_none form.Page old new same = tt
-leaves_none (form.Picture top) old new same = subst (λ n. Keeps old n) (sym same) (kept old)
-
 -- RecordDrawing ends with a fault.
 module _ (reads : Mode) (f : Form) (r : Result (Unit {0}) Fault) (e : Fault) (old new : Streams) (is : IsErrAnd r (λ told. told ≡ e)) where
   by_fault : Drew reads f (Err e) old new → Drew reads f r old new

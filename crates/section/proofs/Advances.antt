@@ -103,15 +103,6 @@ write-done c at w bits v run same done =
     ∙ ap (λ b. cond b (enter c (part_after c at.part [])) (record { part = at.part; run = Writing (write_moved c.setup.processes (written_at c at.part).1 w) }))
     (ap (λ bits. (write_moved c.setup.processes bits w).bit == w.width) same ∙ ap (λ n. (write_moved c.setup.processes bits w).bit == n) (sym (width-moved c.setup.processes bits w)) ∙ done)
 
--- any other access of a write
-pub write-going : (c : Call) (at : Place) (w : NumberWrite) (bits : List Bool) (v : Bool) → at.run ≡ Writing w → (written_at c at.part).1 ≡ bits →
-    ((write_moved c.setup.processes bits w).bit == (write_moved c.setup.processes bits w).width) ≡ false → place_after c at v ≡ (let p : Place = record { part = at.part; run = Writing (write_moved c.setup.processes bits w) } in p)
-write-going c at w bits v run same going =
-    ap (λ run. place_after c (record { part = at.part; run = run }) v) run
-    ∙ ap (λ b. cond b (enter c (part_after c at.part [])) (record { part = at.part; run = Writing (write_moved c.setup.processes (written_at c at.part).1 w) }))
-    (ap (λ bits. (write_moved c.setup.processes bits w).bit == w.width) same ∙ ap (λ n. (write_moved c.setup.processes bits w).bit == n) (sym (width-moved c.setup.processes bits w)) ∙ going)
-    ∙ ap (λ bits. let p : Place = record { part = at.part; run = Writing (write_moved c.setup.processes bits w) } in p) same
-
 -- the number access with which a standing begins is that of its part
 pub fresh-shown : (c : Call) (at : Part) (n : ℕ) (st : kept.SectionPart) → shown n st ≡ standing_at c at → fresh_run c.setup st ≡ cond (goes (standing_at c at)) (new_run c at) (Reading [] false)
 fresh-shown c at n (keeps.Reads (asked.Commit k) versions) same = let t = at-commit c at k _ k versions (sym same) in ap (λ p. cond (goes (standing_at c p)) (new_run c p) (Reading [] false)) (sym t.1)

@@ -55,14 +55,6 @@ pub byte-is : (b : Bool) → bool_byte b ≡ (if b then 1 else 0)
 byte-is true = refl
 byte-is false = refl
 
--- a register is readable as far as a longer one
-pub readable-less : (register : List (List Cell)) (m n : ℕ) → n ≤ m → IsReadable register m → IsReadable register n
-readable-less register m n less is = record { reader = is.reader; wide = omega (arith, less, is.wide); closed = is.closed }
-
--- all the bits of a register
-pub all-values : (register : List (List Cell)) (n : ℕ) → length (values_of register) ≡ n → take n (drop 0 (values_of register)) ≡ values_of register
-all-values register n many = ap (λ m. take m (values_of register)) (sym many) ∙ take-length (values_of register)
-
 pub byte-below : (b : Bool) → bool_byte b ≤ 1
 byte-below true = omega arith
 byte-below false = omega arith

@@ -66,57 +66,12 @@ closed-row opens w a (suc n) bit (suc reader) = closed-row opens w (a + 1) n bit
 pub zero-closed : (s : Setup) (owner : ℕ) (field : Field) (bit reader : ℕ) → IsClosed (cell_at (register_from zero_cell s owner field) bit reader)
 zero-closed s owner field bit reader = closed-row (λ r k. false) (width s field) 0 s.processes bit reader
 
--- nor one to a register as it opens
-open-closed : (s : Setup) (owner : ℕ) (field : Field) (bit reader : ℕ) → IsClosed (cell_at (register_of (data_from (opening_cell s) s owner) field) bit reader)
-open-closed s owner Choosing bit reader = (refl, refl)
-open-closed s owner Ticket bit reader = (refl, refl)
-open-closed s owner Commit bit reader = closed-row (λ r k. opening_bit s (copy owner Commit r k)) 1 0 s.processes bit reader
-open-closed s owner Stamp0 bit reader = closed-row (λ r k. opening_bit s (copy owner Stamp0 r k)) s.stamp_bits 0 s.processes bit reader
-open-closed s owner Stamp1 bit reader = closed-row (λ r k. opening_bit s (copy owner Stamp1 r k)) s.stamp_bits 0 s.processes bit reader
-open-closed s owner Image0 bit reader = closed-row (λ r k. opening_bit s (copy owner Image0 r k)) (width s Image0) 0 s.processes bit reader
-open-closed s owner Image1 bit reader = closed-row (λ r k. opening_bit s (copy owner Image1 r k)) (width s Image1) 0 s.processes bit reader
-
-no-register : (field : Field) → register_of no_data field ≡ []
-no-register Choosing = refl
-no-register Ticket = refl
-no-register Commit = refl
-no-register Stamp0 = refl
-no-register Stamp1 = refl
-no-register Image0 = refl
-no-register Image1 = refl
-
--- so no write is open as the registers open
-pub opens-quiet : (s : Setup) → IsQuiet (row_from (opening_cell s) s)
-opens-quiet s = record { closed = λ p field bit there. go p field bit (cases_lt p s.processes) }
-  where
-    parts : List Data
-    parts = map (data_from (opening_cell s) s) (range_with_len 0 s.processes)
-
-    go : (p : ℕ) (field : Field) (bit : ℕ) → (p < s.processes) ⊎ (s.processes ≤ p) → (cell_at (register_of (get_or parts p no_data) field) bit 0).writing ≡ false
-    go p field bit (inl inside) = ap (λ (d : Data). (cell_at (register_of d field) bit 0).writing) (get_or-map-range_with_len (data_from (opening_cell s) s) 0 s.processes p p no_data inside (omega arith)) ∙ (open-closed s p field bit 0).0
-    go p field bit (inr past) =
-        ap (λ (d : Data). (cell_at (register_of d field) bit 0).writing) (get_or_past parts p no_data (omega (arith, past, length-map-range_with_len (data_from (opening_cell s) s) 0 s.processes)))
-        ∙ ap (λ register. (cell_at register bit 0).writing) (no-register field)
-
 -- how many bits the copies of its first reader have
 pub zero-wide : (s : Setup) (owner : ℕ) (field : Field) → 0 < s.processes → length (get_or (register_from zero_cell s owner field) 0 []) ≡ width s field
 zero-wide s owner field some =
     let copies : ℕ → List Cell = λ r. map (λ (k : ℕ). new_cell false) (range_with_len 0 (width s field)) in
     let none : List Cell = [] in
     ap length (get_or-map-range_with_len copies 0 s.processes 0 0 none some refl) ∙ length-map-range_with_len (λ (k : ℕ). new_cell false) 0 (width s field)
-
--- a register that has these cells is one of its width, with a copy for each process
-row-wide : (cells : Access → Cell) (s : Setup) (owner : ℕ) (field : Field) → 0 < s.processes → IsRow (register_from cells s owner field) (width s field)
-row-wide cells s owner field some = record { readers = omega (arith, some, all); widths = λ reader inside. wide reader (omega (arith, inside, all)) }
-  where
-    copies : ℕ → List Cell
-    copies = λ reader. map (λ k. cells (copy owner field reader k)) (range_with_len 0 (width s field))
-
-    all : length (register_from cells s owner field) ≡ s.processes
-    all = length-map-range_with_len copies 0 s.processes
-
-    wide : (reader : ℕ) → reader < s.processes → length (get_or (register_from cells s owner field) reader []) ≡ width s field
-    wide reader inside = ap length (get_or-map-range_with_len copies 0 s.processes reader reader [] inside (omega arith)) ∙ length-map-range_with_len (λ k. cells (copy owner field reader k)) 0 (width s field)
 
 data-register : (cells : Access → Cell) (s : Setup) (owner : ℕ) (field : Field) → is_data field ≡ true → register_from cells s owner field ≡ register_of (data_from cells s owner) field
 data-register cells s owner Choosing is = cc
@@ -127,12 +82,6 @@ data-register cells s owner Stamp1 is = refl
 data-register cells s owner Image0 is = refl
 data-register cells s owner Image1 is = refl
 
--- registers with these cells are those of their setup
-pub opens-fitting : (cells : Access → Cell) (s : Setup) → 0 < s.processes → FitsSetup s (row_from cells s)
-opens-fitting cells s some = record {
-  parts = length-map-range_with_len (data_from cells s) 0 s.processes;
-  widths = λ p field inside is. subst (λ register. IsRow register (width s field)) (found p field inside is) (row-wide cells s p field some);
-  readers = λ p field inside is. ap length (sym (found p field inside is)) ∙ length-map-range_with_len (λ reader. map (λ k. cells (copy p field reader k)) (range_with_len 0 (width s field))) 0 s.processes;
 }
   where
     found : (p : ℕ) (field : Field) → p < s.processes → is_data field ≡ true → register_from cells s p field ≡ register_at (row_from cells s) p field

@@ -40,9 +40,3 @@ width-stamp s false = refl
 pub width-image : (s : Setup) (b : Bool) → width s (image_field b) ≡ 8 * image_bytes s
 width-image s true = refl
 width-image s false = refl
-
--- a register of the width of its field takes a part of a change
-pub fits-change : (s : Setup) (part : Written) (change : PendingChange) (w : ℕ) → checked s ≡ Ok tt → IsChange s change → w ≡ width s (change_field part change) → FitsWidth part change w
-fits-change s Image change w good is wide = omega (arith, wide, width-image s change.commit, is.slots, is.numbers)
-fits-change s Stamp change w good is wide = omega (arith, wide, width-stamp s change.commit, (ranges s good).few_bits)
-fits-change s Commit change w good is wide = omega (arith, wide)

@@ -30,10 +30,6 @@ both-left : (a b : Bool) → (a && b) ≡ true → a ≡ true
 both-left true b h = refl
 both-left false b h = absurd (cc)
 
-both-right : (a b : Bool) → (a && b) ≡ true → b ≡ true
-both-right true b h = h
-both-right false b h = absurd (cc)
-
 -- a section within a number access goes on
 pub within-goes : (section : Section) → is_within section ≡ true → is_going section ≡ true
 within-goes section h = both-left (is_going section) _ h
@@ -122,18 +118,6 @@ bits-within section some = by (is_going section) section.run some
     by true (Writing w) some = let less : w.bit + 1 < w.width = omega (arith, some) in grind (arith, nat_tests, less)
     by true (Reading bits begun) some = let less : length bits + 1 < wide = omega (arith, some) in grind (arith, nat_tests, less)
     by false run some = absurd (omega (arith, some))
-
--- and the other way round
-pub within-bits : (section : Section) → is_within section ≡ true → 0 < bits_within section
-within-bits section h = by (is_going section) section.run h
-  where
-    wide : ℕ
-    wide = width section.call.setup (field_read section.standing)
-
-    by : (b : Bool) (run : Run) → (b && is_before_last wide run) ≡ true → 0 < cond b (bits_before_last wide run) 0
-    by true (Writing w) h = let less : w.bit + 1 < w.width = grind (arith, nat_tests, h) in omega (arith, less)
-    by true (Reading bits begun) h = let less : length bits + 1 < wide = grind (arith, nat_tests, h) in omega (arith, less)
-    by false run h = absurd (cc)
 
 -- an access comes at most to the next bit
 pub read-fewer : (r : NumberRead) (v : Bool) (wide : ℕ) → wide - (length r.bits + 1) ≤ wide - (length (number_read_after r v).bits + 1) + 1

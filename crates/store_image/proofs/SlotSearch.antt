@@ -23,10 +23,6 @@ rest_more slots bytes k below =
     ap (λ n. rows 23 n (drop (23 * k) bytes)) (one_less slots k below)
     ∙ ap (λ b. slot_in bytes k ∷ rows 23 (slots - (k + 1)) b) (next_slot bytes k)
 
--- a name in the slots to come is one in all
-pub rest_all : (slots : ℕ) (bytes : List ℕ) → rest_in slots bytes 0 ≡ rows 23 slots bytes
-rest_all slots bytes = let all : slots - 0 ≡ slots = omega arith in ap (λ n. rows 23 n bytes) all
-
 pub name_found : (slots : ℕ) (bytes name : List ℕ) (k : ℕ) → k < slots → have_name (rest_in slots bytes k) name ≡ have_name (rows 23 slots bytes) name → bytes_eq name (name_in (slot_in bytes k)) ≡ true → have_name (rows 23 slots bytes) name ≡ true
 name_found slots bytes name k below rest here =
     sym rest
@@ -38,11 +34,6 @@ name_passed slots bytes name k below rest here =
     sym (ap (λ b. b || have_name (rest_in slots bytes (k + 1)) name) here)
     ∙ sym (ap (λ slots_left. have_name slots_left name) (rest_more slots bytes k below))
     ∙ rest
-
-pub name_missed : (slots : ℕ) (bytes name : List ℕ) (k : ℕ) → slots ≤ k → have_name (rest_in slots bytes k) name ≡ have_name (rows 23 slots bytes) name → have_name (rows 23 slots bytes) name ≡ false
-name_missed slots bytes name k end rest =
-    let none : slots - k ≡ 0 = omega arith in
-    sym rest ∙ ap (λ n. have_name (rows 23 n (drop (23 * k) bytes)) name) none
 
 -- used slots passed, and those to come
 abbrev pub used_from : ℕ → List ℕ → ℕ → ℕ
@@ -63,12 +54,6 @@ used_passed slots bytes k below passed here =
     let one : used_from slots bytes k ≡ suc (used_from slots bytes (k + 1)) = used_more slots bytes k below ∙ ap (λ b. if b then 0 else suc (used_from slots bytes (k + 1))) here in
     omega arith
 
-pub used_ended : (slots : ℕ) (bytes : List ℕ) (k : ℕ) → k ≡ slots → k + used_from slots bytes k ≡ used_in slots bytes → slots ≡ used_in slots bytes
-used_ended slots bytes k end passed =
-    let none : slots - k ≡ 0 = omega arith in
-    let gone : used_from slots bytes k ≡ 0 = ap (λ n. used_in n (drop (23 * k) bytes)) none in
-    omega arith
-
 -- where no slot is unused all are used
 pub used_full : (k : ℕ) (bytes : List ℕ) → list_any is_unused (rows 23 k bytes) ≡ false → used_in k bytes ≡ k
 used_full zero bytes none = refl
@@ -86,11 +71,3 @@ used_less (suc k) bytes some = by (λ rest. used_less k (drop 23 bytes) rest) (i
     by : (list_any is_unused (rows 23 k (drop 23 bytes)) ≡ true → used_in k (drop 23 bytes) < k) → (b : Bool) → (b || list_any is_unused (rows 23 k (drop 23 bytes))) ≡ true → (if b then 0 else suc (used_in k (drop 23 bytes))) < suc k
     by more true same = omega arith
     by more false same = omega (arith, more same)
-
--- so a count tells whether one is unused
-pub used_test : (k used : ℕ) (bytes : List ℕ) → used ≡ used_in k bytes → (used == k) ≡ not (list_any is_unused (rows 23 k bytes))
-used_test k used bytes same = by (list_any is_unused (rows 23 k bytes)) refl
-  where
-    by : (b : Bool) → list_any is_unused (rows 23 k bytes) ≡ b → (used == k) ≡ not b
-    by false none = let full : used ≡ k = omega (arith, same, used_full k bytes none) in grind (arith, nat_tests)
-    by true some = let less : used < k = omega (arith, same, used_less k bytes some) in grind (arith, nat_tests)

@@ -79,16 +79,6 @@ run_counts calls walker copy new v p number met found same kept makes event befo
     is : IsRun new met (on_from walker.core.setup calls v (cut_off walker.core.setup (process_of event) v (event ∷ before)))
     is = subst (λ p. IsRun new met (on_from walker.core.setup calls v (cut_off walker.core.setup p v (event ∷ before)))) own (made (event ∷ before) follows)
 
--- each count is one more at most
-at_most_one : (b : Bool) → cond b 1 0 ≤ 1
-at_most_one true = omega arith
-at_most_one false = omega arith
-
-pub few_counted : (found : Swept) (number : ℕ) (value met : Bool) (n : ℕ) → AreFew n found → AreFew (n + 1) (counted found number value met None)
-few_counted found number value met n few = record {
-  runs = let a = few.runs in omega (arith, a);
-  good = let a = few.good in omega (arith, a);
-  stuck = let a = few.stuck in let b = at_most_one met in omega (arith, a, b);
 }
 
 -- One event.

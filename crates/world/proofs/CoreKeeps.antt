@@ -92,11 +92,6 @@ there_set seats new f i p then is l =
     let set = length-set seats i then in
     omega (arith, all, mapped, set, l)
 
--- no steps yet, and steps after steps
-pub core_stays : (c d : CoreState) (f : FlickState) (p : ℕ) → c ≡ d → CoreWalks d f p 0 c f
-core_stays c d f p is = record {
-  walks = λ taken. ((λ k. with_history (is k) taken), refl);
-  pending = let same = ap (λ (x : CoreState). pending_in x.seats) is in omega (arith, same);
 }
 
 pub core_walks : (n : ℕ) (old mid new : CoreState) (f g h : FlickState) (p made : ℕ) → CoreWalks old f p made mid g → CoreWalks mid g p n new h → CoreWalks old f p (made + n) new h

@@ -125,14 +125,6 @@ step-goes w events p flick shows ok seat d is a t then steps = record {
 
 -- The room of the history.
 
-pub room-taken : (w : WorldState) (capacity p : ℕ) (seat d then : Seat) → length w.history + pending_in w.seats ≤ capacity → p < length w.seats → seat ≡ slice_index_or w.seats p d →
-    (is_pending seat.process.kept ≡ true) × (is_pending then.process.kept ≡ false) → length w.history < capacity
-room-taken w capacity p seat d then room inside is h =
-    let set = pending-set w.seats p then d inside in
-    let was : pending (slice_index_or w.seats p d) ≡ 1 = ap pending (sym is) ∙ ap (λ b. cond b 1 0) h.0 in
-    let now : pending then ≡ 0 = ap (λ b. cond b 1 0) h.1 in
-    omega (arith, room, set, was, now)
-
 pub step-room : (w : WorldState) (capacity p : ℕ) (seat d then : Seat) (waited waits : Bool) (o : Option Reply) → length w.history + pending_in w.seats ≤ capacity → p < length w.seats → seat ≡ slice_index_or w.seats p d →
     ((r : Reply) → o ≡ Some r → (is_pending seat.process.kept ≡ true) × (is_pending then.process.kept ≡ false)) → (is_pending seat.process.kept ≡ false → is_pending then.process.kept ≡ false) →
     length (with_taken w.history p then.process.command then.process.number o) + pending_in (map (told p waited waits) (slice_set w.seats p then)) ≤ capacity

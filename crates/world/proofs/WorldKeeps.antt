@@ -46,11 +46,6 @@ made_keeps c new h then what effect capacity more keeps makes room is = subst (�
       omega (arith, room, long);
 })
 
-pub made_fits : (new : CoreState) (h : List Taken) (effect : Effect) (r : Reply) (more : ℕ) → length h + (pending_in new.seats + taking effect) ≤ more → reply_taken (marks_of effect) ≡ Some r → length h < more
-made_fits new h effect r more room is =
-    let one : taking effect ≡ 1 = ap (λ o. elim o as (λ _. ℕ) [ None ↦ 0 | Some r ↦ 1 ]) is in
-    omega (arith, one, room)
-
 -- the room, of a call and of each other event
 pub made_room : (c new : CoreState) (h : List Taken) (what : Event) (effect : Effect) (capacity more : ℕ) → KeepsWorld (with_history c h) capacity → capacity ≤ more → (is_call what ≡ true → length h + length c.seats ≤ more) →
     pending_in new.seats + taking effect ≤ length c.seats → (is_call what ≡ false → pending_in new.seats + taking effect ≤ pending_in c.seats) → length h + (pending_in new.seats + taking effect) ≤ more
@@ -67,10 +62,6 @@ wider_keeps c h then capacity more keeps grown same = subst (λ h. KeepsWorld (w
   shows = keeps.shows;
   room = let room = keeps.room in omega (arith, room, grown);
 })
-
--- after a step
-pub step_fits : (c new : CoreState) (h : List Taken) (told : StepTold) (r : Reply) (capacity : ℕ) → KeepsWorld (with_history c h) capacity → pending_in new.seats + taking (Steps told) ≤ pending_in c.seats → reply_taken (marks_told told) ≡ Some r → length h < capacity
-step_fits c new h told r capacity keeps fewer is = let room = keeps.room in made_fits new h (Steps told) r capacity (omega (arith, room, fewer)) is
 
 pub step_keeps : (c new : CoreState) (h then : List Taken) (p : ℕ) (flick : Bool) (told : StepTold) (capacity more : ℕ) → KeepsWorld (with_history c h) capacity → CoreSteps c p flick told new → pending_in new.seats + taking (Steps told) ≤ pending_in c.seats →
     then ≡ with_taken h p (call_in new.seats p).0 (call_in new.seats p).1 (reply_taken (marks_told told)) → capacity ≤ more → KeepsWorld (with_history new then) more

@@ -139,9 +139,6 @@ closes-pending s p command number (Lowers w) = refl
 closes-pending s p command number Quit = refl
 closes-pending s p command number Ended = refl
 
-abbrev marks-in : Option Next → List Mark
-marks-in o = elim o [ None ↦ [] | Some n ↦ n.marks ]
-
 takes-settles : (c : Call) (f : Field) (bit : ℕ) (begun : Bool) (taken : Option Reply) (is : Bool) (t : copies.Settling) (v : Bool) (r : Reply) → reply_taken (cond (is_last_settled c t v) (settled_marks begun taken v) []) ≡ Some r →
     (is_some taken ≡ true) × (is_last_settled c t v ≡ true)
 takes-settles c f bit begun None is t v r h = let k = taken-none (Settled v ∷ []) (is_last_settled c t v) r h in let f : None ≡ Some r = k.1 in cc

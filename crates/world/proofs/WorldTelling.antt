@@ -21,13 +21,6 @@ told-more f xs ys i x y d l is item then =
     (λ k. slice_set (is k) i ((then ∙ ap f item ∙ ap (λ ys. f (slice_index_or ys i d)) is) k))
     ∙ next-told f xs i d l ∙ ap (λ n. map f (take n xs) ++ drop n xs) (sym one)
 
--- all are changed
-pub told-whole : {A : Type 0} (f : A → A) (xs : List A) (n : ℕ) → length xs ≤ n → map f (take n xs) ++ drop n xs ≡ map f xs
-told-whole f [] zero l = refl
-told-whole f [] (suc n) l = refl
-told-whole f (x ∷ xs) zero l = absurd (omega (arith, l))
-told-whole f (x ∷ xs) (suc n) l = λ k. f x ∷ told-whole f xs n (omega (arith, l)) k
-
 take-front : {A : Type 0} (n : ℕ) (xs ys : List A) → length xs ≡ n → take n (xs ++ ys) ≡ xs
 take-front zero [] ys h = refl
 take-front (suc n) [] ys h = absurd (omega (arith, h))

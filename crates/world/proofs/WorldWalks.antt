@@ -137,12 +137,6 @@ bits-at seats i p seat index l is = subst (λ p. bits_within_at seats p ≡ bits
     there (x ∷ seats) zero l is = ap (λ (x : Seat). bits_to_walk x.process.kept) (sym is)
     there (x ∷ seats) (suc i) l is = there seats i (omega (arith, l)) is
 
--- where there is none, 0
-pub bits-none : (seats : List Seat) (p : ℕ) → length seats ≤ p → bits_within_at seats p ≡ 0
-bits-none [] p l = refl
-bits-none (x ∷ seats) zero l = absurd (omega (arith, l))
-bits-none (x ∷ seats) (suc p) l = bits-none seats p (omega (arith, l))
-
 -- so where there are any, there is a seat
 pub bits-there : (seats : List Seat) (i p : ℕ) → i ≡ p → 0 < bits_within_at seats p → i < length seats
 bits-there seats i p index some = subst (λ p. p < length seats) (sym index) (there seats p some)

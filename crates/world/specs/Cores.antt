@@ -31,10 +31,6 @@ pub record CoreState : Type 0 where
 abbrev pub with_history : CoreState → List Taken → WorldState
 with_history c taken = record { setup = c.setup; registers = c.registers; seats = c.seats; history = taken }
 
--- a world without its history
-abbrev pub core_of : WorldState → CoreState
-core_of w = record { setup = w.setup; registers = w.registers; seats = w.seats }
-
 -- what a core keeps: with some history it shows some events
 pub record KeepsCore (c : CoreState) : Type 0 where
   pub taken : List Taken
