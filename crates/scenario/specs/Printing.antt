@@ -94,6 +94,14 @@ spaced (word ∷ next ∷ more) = word ++ (codes " " ++ spaced (next ∷ more))
 abbrev pub printed_line : List (List ℕ) → List ℕ
 printed_line words = spaced words ++ codes "\n"
 
+-- the lines of opening pairs
+abbrev pub opening_text : List Pair → List ℕ
+opening_text pairs = flat_map printed_line (map open_words pairs)
+
+-- the other lines
+abbrev pub lines_text : List Line → List ℕ
+lines_text lines = flat_map printed_line (map line_words lines)
+
 -- the text of a scenario
 abbrev pub scenario_text : Script → List ℕ
 scenario_text s = flat_map printed_line (script_words s)

@@ -44,6 +44,10 @@ first_read first words = do
   named ← fault_if (not (bytes_eq first (codes "bakery")) || not (length words == 1)) NotFirst
   at_version (word 0 words)
 
+-- a heading has this number
+abbrev pub heading_set : Heading → ℕ → Progress → Progress
+heading_set heading n p = record p { given = and_given heading p.given; setup = with_heading heading n p.setup }
+
 -- a heading and its number: at most once, and before all lines of other kinds
 unfoldable pub heading_read : Heading → List (List ℕ) → Progress → Result Progress FaultKind
 heading_read heading words p = do
@@ -51,7 +55,7 @@ heading_read heading words p = do
   counts ← counted 1 words
   n ← number_at 255 (word 0 words)
   fits ← fault_if (not (is_in_range 1 (most_of heading p.setup.version) n)) BadSetup
-  Ok (record p { given = and_given heading p.given; setup = with_heading heading n p.setup })
+  Ok (heading_set heading n p)
 
 -- one more opening pair
 abbrev pub pair_read : List ℕ → Value → Progress → Result Progress FaultKind

@@ -1,12 +1,15 @@
 -- How a file is spelled: its lines have the words that are printed for what it says.
-use Rattle.std.specs.Prelude.{◌≡◌, ◌≤◌, ℕ, Bool, true, false, not, ◌&&◌, List, [], ◌∷◌, ◌++◌, length, codes, map}
+use Rattle.std.specs.Prelude.{◌≡◌, ◌↔◌, ◌≤◌, Ok, ℕ, Bool, true, false, not, ◌&&◌, List, [], ◌∷◌, ◌++◌, length, codes, map}
 use Rattle.std.specs.List.{list_all}
 use Rattle.std.specs.Str.{bytes_eq}
 use Rattle.plain_store.specs.declared.setups.Setup.{Setup}
+use Rattle.scenario.specs.BitFiles.{bits_of}
 use Rattle.scenario.specs.Printing.{version_words, heading_word, heading_words, line_words, open_words}
 use Rattle.scenario.specs.Reading.{Script}
-use Rattle.scenario.specs.Scripts.{IsScenario}
+use Rattle.scenario.specs.Scripts.{IsScenario, is_line}
 use Rattle.scenario.specs.Setting.{default_setup, with_heading}
+use Rattle.scenario.specs.Statements.{is_line_of, line_of}
+use Rattle.scenario.specs.declared.lines.Line.{Line}
 use Rattle.files.specs.Limits.{said_words, IsWithinLimits}
 use Rattle.scenario.specs.declared.bit_files.BitLine.{BitLine}
 use Rattle.scenario.specs.declared.bit_files.BitLine.TheVariants as bit
@@ -69,3 +72,15 @@ pub record SaysBits (text : List ℕ) (said : List BitLine) : Type 0 where
   pub limits : IsWithinLimits text
   pub words : said_words text ≡ (codes "bits" ∷ codes "1" ∷ []) ∷ map bit_line_words said
   pub few : length said ≤ 4000
+
+-- the words of a line, of which the first is this name, say this line of a file of that version
+abbrev pub SaysLine : ℕ → LineWord → List (List ℕ) → Line → Type 0
+SaysLine version name words line = (line_word name ∷ words ≡ line_words line) × (is_line line ≡ true) × (is_line_of version line ≡ true)
+
+-- Words are read as a line exactly if they say it.
+abbrev pub LinesAreSpelledInOneWay : Type 0
+LinesAreSpelledInOneWay = (version : ℕ) (name : LineWord) (words : List (List ℕ)) (line : Line) → (line_of version name words ≡ Ok line) ↔ SaysLine version name words line
+
+-- A text is read as lines of a bits file exactly if it says them.
+abbrev pub BitFilesAreSpelledInOneWay : Type 0
+BitFilesAreSpelledInOneWay = (text : List ℕ) (lines : List BitLine) → (bits_of text ≡ Ok lines) ↔ SaysBits text lines

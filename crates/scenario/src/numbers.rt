@@ -1,9 +1,9 @@
 //! Numbers as words.
-ghost use Rattle.std.specs.Prelude.{◌≡◌, ◌+◌, ◌-◌, ◌*◌, ◌^◌, ◌≤◌, MatchOption, true};
+ghost use Rattle.std.specs.Prelude.{◌≡◌, ◌+◌, ◌-◌, ◌*◌, true};
 ghost use Rattle.std.specs.Char.{is_ascii_digit};
 ghost use Rattle.std.specs.Str.Parse.{digits_value};
 ghost use Rattle.std.specs.Str.{IsAscii};
-ghost use Rattle.scenario.specs.Numbers.{are_digits as all_digits, is_numeral as numeral, is_signed_numeral as signed_numeral, number_up_to, integer_of};
+ghost use Rattle.scenario.specs.Numbers.{IsNumber, are_digits as all_digits, is_numeral as numeral, is_signed_numeral as signed_numeral, number_up_to, integer_of};
 
 /// The number that the word writes, where it is at most `most`.
 #[tactic(auto, using(crate::proofs::Numerals::numeral_is, crate::proofs::Numerals::number_is, crate::proofs::Numerals::number_is_none))]
@@ -21,7 +21,7 @@ pub fn number(word: &[u8], most: u64) -> Option<u64>
 #[tactic(auto, using(crate::proofs::Numerals::digit_in, crate::proofs::Numerals::value_more, crate::proofs::Numerals::value_beyond))]
 fn value_of(digits: &[u8]) -> Option<u64>
     requires { all_digits digits.now ≡ true }
-    ensures { MatchOption result (2 ^ 64 ≤ digits_value 10 digits.now) (λ value. value ≡ digits_value 10 digits.now) }
+    ensures { IsNumber result (digits_value 10 digits.now) }
 {
     let mut value = 0;
     for digit in digits {
@@ -34,7 +34,7 @@ fn value_of(digits: &[u8]) -> Option<u64>
 #[inline]
 fn with_digit(value: u64, digit: u8) -> Option<u64>
     requires { is_ascii_digit digit ≡ true }
-    ensures { MatchOption result (2 ^ 64 ≤ value * 10 + (digit - 48)) (λ more. more ≡ value * 10 + (digit - 48)) }
+    ensures { IsNumber result (value * 10 + (digit - 48)) }
 {
     value.checked_mul(10)?.checked_add(u64::from(digit - b'0'))
 }

@@ -1,7 +1,7 @@
 //! How scenarios are printed.
-ghost use Rattle.std.specs.Prelude.{◌≡◌, ◌++◌, ◌∷◌, codes, flat_map, map, true, IfOk, OnOk, Ok};
-ghost use Rattle.std.specs.String.{string_bytes};
-ghost use Rattle.scenario.specs.Printing.{command_words, target_word, line_words, kind_words, open_words, spaced, printed_line, scenario_text};
+ghost use Rattle.std.specs.Prelude.{◌≡◌, ◌++◌, ◌∷◌, codes, flat_map, true, IfOk, OnOk, Ok};
+ghost use Rattle.files.specs.Texts.{AddsText, GivesText};
+ghost use Rattle.scenario.specs.Printing.{command_words, target_word, line_words, lines_text, kind_words, open_words, opening_text, spaced, printed_line, scenario_text};
 ghost use Rattle.scenario.specs.Reading.{scenario_of};
 ghost use Rattle.scenario.specs.Reads.{script};
 ghost use Rattle.scenario.specs.Scripts.{is_line};
@@ -31,7 +31,7 @@ pub fn print_scenario(alloc: Global, scenario: &Scenario) -> Result<Vec<u8>, All
 /// The first line of a file of this kind, and the four headings.
 #[tactic(auto, using(crate::proofs::Printed::setup_lines_are))]
 pub fn setup_lines(alloc: Global, kind: &str, setup: &Setup) -> Result<String, AllocError>
-    ensures { IfOk result (λ text. string_bytes text ≡ flat_map printed_line (kind_words kind.now setup.now)) }
+    ensures { GivesText result (flat_map printed_line (kind_words kind.now setup.now)) }
 {
     let Setup {
         version,
@@ -49,7 +49,7 @@ pub fn setup_lines(alloc: Global, kind: &str, setup: &Setup) -> Result<String, A
 /// Writes a line for each opening pair.
 #[tactic(auto, using(crate::proofs::Printed::opening_more))]
 pub fn print_opening(alloc: Global, opening: &Opening, text: &mut String) -> Result<(), AllocError>
-    ensures { OnOk result (string_bytes text.new ≡ string_bytes text.old ++ flat_map printed_line (map open_words opening.now)) }
+    ensures { OnOk result (AddsText text.old text.new (opening_text opening.now)) }
 {
     for place in 0..opening.len() {
         let (name, value) = opening.entry(place).unwrap();
@@ -61,7 +61,7 @@ pub fn print_opening(alloc: Global, opening: &Opening, text: &mut String) -> Res
 
 #[tactic(auto, using(crate::proofs::Printed::open_line_is))]
 fn open_line(alloc: Global, name: &Name, value: &Value) -> Result<String, AllocError>
-    ensures { IfOk result (λ line. string_bytes line ≡ printed_line (open_words (name.now, value.now))) }
+    ensures { GivesText result (printed_line (open_words (name.now, value.now))) }
 {
     format!(in alloc; "open {name} {value}\n")
 }
@@ -70,7 +70,7 @@ fn open_line(alloc: Global, name: &Name, value: &Value) -> Result<String, AllocE
 #[tactic(auto, using(crate::proofs::Printed::lines_more, crate::proofs::Places::next_in, crate::proofs::Places::all_at_end))]
 fn print_lines(alloc: Global, lines: &[Line], text: &mut String) -> Result<(), AllocError>
     ensures sound { OnOk result (list_all is_line lines.now ≡ true) }
-    ensures text { OnOk result (string_bytes text.new ≡ string_bytes text.old ++ flat_map printed_line (map line_words lines.now)) }
+    ensures text { OnOk result (AddsText text.old text.new (lines_text lines.now)) }
 {
     for line in lines {
         sound_line(line);
@@ -81,7 +81,7 @@ fn print_lines(alloc: Global, lines: &[Line], text: &mut String) -> Result<(), A
 }
 
 fn line_text(alloc: Global, line: &Line) -> Result<String, AllocError>
-    ensures { IfOk result (λ text. string_bytes text ≡ printed_line (line_words line.now)) }
+    ensures { GivesText result (printed_line (line_words line.now)) }
 {
     format!(in alloc; "{line}\n")
 }

@@ -5,8 +5,8 @@ ghost use Rattle.files.specs.Files.{one_more};
 ghost use Rattle.plain_store.specs.Setups.{checked};
 ghost use Rattle.files.specs.Reads.{Makes, Takes};
 ghost use Rattle.scenario.specs.Reads.{Gives, script};
-ghost use Rattle.scenario.specs.Reading.{first_read, at_version, heading_read, pair_read, open_read, kept_read, other_read, opened_read, script_of, scenario_of};
-ghost use Rattle.scenario.specs.Setting.{most_of, may_open, and_given, with_heading, with_pair};
+ghost use Rattle.scenario.specs.Reading.{first_read, at_version, heading_read, heading_set, pair_read, open_read, kept_read, other_read, opened_read, script_of, scenario_of};
+ghost use Rattle.scenario.specs.Setting.{most_of, may_open, with_pair};
 ghost use Rattle.scenario.specs.Statements.{is_line_of};
 ghost use Rattle.files.specs.Words.{texts};
 
@@ -151,7 +151,7 @@ impl Reader {
         requires fits { is_in_range 1 (most_of heading self.old.setup.version) n ≡ true }
         requires none_open { self.old.setup.opening ≡ [] }
         requires no_lines { self.old.lines ≡ [] }
-        ensures { self.new ≡ record self.old { given = and_given heading self.old.given; setup = with_heading heading n self.old.setup } }
+        ensures { self.new ≡ heading_set heading n self.old }
     {
         self.given.add(heading);
         heading.set(&mut self.setup, n);

@@ -20,6 +20,7 @@ use Rattle.world.specs.Shows.{Shows, WorldState}
 use Rattle.world.proofs.CoreKeeps.{taken_length}
 use Rattle.world.proofs.WorldShows.{past-after}
 use Rattle.auditor.specs.declared.verdicts.Law.{Law}
+use Rattle.auditor.specs.read_law.Entries.{entry_by}
 use Rattle.auditor.specs.Hearing.{AuditorState, HasHeard, IsHeard}
 use Rattle.auditor.specs.Verdicts.{KeepsAll}
 use Rattle.auditor.proofs.Obeys.{obeys}
@@ -46,10 +47,6 @@ pub record IsMade (old : RunnerState) (event : Event) (access : Option Access) (
   pub adds : (taken : List Taken) → Adds (with_history old.core taken) event (process_of event) (act_of (length taken) (record { access = access; effect = effect }))
   pub makes : CoreMakes old.core event effect core
   pub setup : core.setup ≡ old.core.setup
-
--- the entry that is told to the auditor
-abbrev pub entry_told : ℕ → Option Access → List Mark → Entry
-entry_told p access marks = record { process = p; access = access; marks = marks }
 
 -- an auditor has answered this to an entry
 pub record IsAnswered (old : AuditorState) (e : Entry) (law : Option Law) (new : AuditorState) : Type 0 where
@@ -83,8 +80,8 @@ module _ (old : RunnerState) (event : Event) (access : Option Access) (effect : 
   made_accepted = adds_accepted s events event e adds_it
 
   -- the entry that is told is the one that the event adds
-  told_is : (p : ℕ) (marks : List Mark) → p ≡ process_of event → marks ≡ map (placed old.taken) (marks_of effect) → entry_told p access marks ≡ e
-  told_is p marks process are = λ i. entry_told (process i) access ((are ∙ ap (λ n. map (placed n) (marks_of effect)) follows.taken) i)
+  told_is : (p : ℕ) (marks : List Mark) → p ≡ process_of event → marks ≡ map (placed old.taken) (marks_of effect) → entry_by p access marks ≡ e
+  told_is p marks process are = λ i. entry_by (process i) access ((are ∙ ap (λ n. map (placed n) (marks_of effect)) follows.taken) i)
 
   -- so the auditor's answer is none
   answer_none : (told : Entry) (law : Option Law) (auditor : AuditorState) → told ≡ e → IsAnswered old.auditor told law auditor → law ≡ None
@@ -97,21 +94,21 @@ module _ (old : RunnerState) (event : Event) (access : Option Access) (effect : 
   heard_next told None auditor is none a = subst (λ (x : Entry). HasHeard auditor (x ∷ past)) is (a.heard past follows.heard).1
   heard_next told (Some l) auditor is none a = absurd (cc)
 
-  pub none_broken : (p : ℕ) (marks : List Mark) (law : Option Law) (auditor : AuditorState) → p ≡ process_of event → marks ≡ map (placed old.taken) (marks_of effect) → IsAnswered old.auditor (entry_told p access marks) law auditor → law ≡ None
-  none_broken p marks law auditor process are a = answer_none (entry_told p access marks) law auditor (told_is p marks process are) a
+  pub none_broken : (p : ℕ) (marks : List Mark) (law : Option Law) (auditor : AuditorState) → p ≡ process_of event → marks ≡ map (placed old.taken) (marks_of effect) → IsAnswered old.auditor (entry_by p access marks) law auditor → law ≡ None
+  none_broken p marks law auditor process are a = answer_none (entry_by p access marks) law auditor (told_is p marks process are) a
 
   -- the runner shows the event too
   pub follows_made : (p : ℕ) (marks : List Mark) (law : Option Law) (auditor : AuditorState) (taken : ℕ) → p ≡ process_of event → marks ≡ map (placed old.taken) (marks_of effect) → taken ≡ old.taken + taking effect →
-      IsAnswered old.auditor (entry_told p access marks) law auditor → Follows (record { core = core; auditor = auditor; taken = taken }) (event ∷ events)
+      IsAnswered old.auditor (entry_by p access marks) law auditor → Follows (record { core = core; auditor = auditor; taken = taken }) (event ∷ events)
   follows_made p marks law auditor taken process are counted a =
-      let told : entry_told p access marks ≡ e = told_is p marks process are in
+      let told : entry_by p access marks ≡ e = told_is p marks process are in
       let none : law ≡ None = none_broken p marks law auditor process are a in
       let after : past_of core.setup (event ∷ events) ≡ e ∷ past = ap (λ (s : Setup). past_of s (event ∷ events)) made.setup ∙ past-after s events event e adds_it in
       let h : List Taken = with_taken (history s past) (process_of event) (call_in core.seats (process_of event)).0 (call_in core.seats (process_of event)).1 (reply_taken (marks_of effect)) in
       let its : h ≡ history core.setup (past_of core.setup (event ∷ events)) = history_of core h (event ∷ events) on in
       record {
         shows = subst (λ (taken : List Taken). Shows (with_history core taken) (event ∷ events)) its on;
-        heard = subst (HasHeard auditor) (sym after) (heard_next (entry_told p access marks) law auditor told none a);
+        heard = subst (HasHeard auditor) (sym after) (heard_next (entry_by p access marks) law auditor told none a);
         alike = a.setup none ∙ follows.alike ∙ sym made.setup;
         taken = counted ∙ ap (λ n. n + taking effect) follows.taken
             ∙ sym (taken_length (history s past) (process_of event) (call_in core.seats (process_of event)).0 (call_in core.seats (process_of event)).1 (reply_taken (marks_of effect)))

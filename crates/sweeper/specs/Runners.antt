@@ -1,5 +1,7 @@
 -- A run that is audited while it is made.
-use Rattle.std.specs.Prelude.{◌≡◌, ℕ, ◌+◌, Bool, List, length, Option, None}
+use Rattle.std.specs.Prelude.{◌≡◌, ℕ, ◌+◌, ◌||◌, Bool, List, length, Option, None}
+use Rattle.plain_store.specs.declared.Command.{Command}
+use Rattle.plain_store.specs.declared.Setup.{Setup}
 use Rattle.record.specs.declared.events.Event.{Event}
 use Rattle.record.specs.Histories.{history}
 use Rattle.record.specs.Records.{past_of}
@@ -8,7 +10,7 @@ use Rattle.world.specs.Cores.{CoreState, with_history}
 use Rattle.world.specs.Shows.{Shows}
 use Rattle.auditor.specs.Hearing.{AuditorState, HasHeard}
 use Rattle.sweeper.specs.declared.runner.BadEntry.{BadEntry}
-use Rattle.sweeper.specs.Sweeps.{Run}
+use Rattle.sweeper.specs.Sweeps.{Run, cut_off, is_accepted, on_from, with_call, with_calls}
 
 -- a core, the auditor beside it, and how many commands were taken
 pub record RunnerState : Type 0 where
@@ -38,7 +40,31 @@ due r = r.taken + pending_in r.core.seats
 abbrev pub RunsOn : RunnerState → RunnerState → (List Event → List Event) → Type 0
 RunsOn old new on = (events : List Event) → Follows old events → Follows new (on events)
 
+-- the same, by its setup
+abbrev pub RunsBy : RunnerState → RunnerState → (Setup → List Event → List Event) → Type 0
+RunsBy old new on = RunsOn old new (on old.core.setup)
+
+-- this holds of each run that the runner shows
+abbrev pub OfRun : RunnerState → (Setup → List Event → Type 0) → Type 0
+OfRun r P = (events : List Event) → Follows r events → P r.core.setup events
+
+-- the answer tells whether the event is accepted
+abbrev pub Accepts : RunnerState → Event → Bool → Type 0
+Accepts r event told = OfRun r (λ s events. told ≡ is_accepted s events event)
+
 -- the runner shows this run, which has met a limit or not
 pub record IsRun (r : RunnerState) (met : Bool) (run : Run) : Type 0 where
   pub follows : Follows r run.events
   pub stuck : met ≡ run.stuck
+
+-- from each run that the runner showed it has made a call, and this tells whether that met a limit
+abbrev pub MakesCall : RunnerState → ℕ → Command → Bool → Bool → RunnerState → Type 0
+MakesCall r p command v met then = (run : Run) → Follows r run.events → IsRun then (run.stuck || met) (with_call r.core.setup v run (p, command))
+
+-- several; this tells whether the run met a limit before, or does now
+abbrev pub MakesCalls : RunnerState → (before : Bool) → List (ℕ × Command) → Bool → Bool → RunnerState → Type 0
+MakesCalls r before calls v met then = (run : Run) → IsRun r before run → IsRun then met (with_calls r.core.setup calls v run)
+
+-- it has cut off a process, and let everybody go on and the calls follow
+abbrev pub MakesRun : RunnerState → List (ℕ × Command) → ℕ → Bool → Bool → RunnerState → Type 0
+MakesRun r calls p v met then = OfRun r (λ s events. IsRun then met (on_from s calls v (cut_off s p v events)))

@@ -1,16 +1,17 @@
 -- What has been counted so far, and what a sweep keeps between two events.
-use Rattle.std.specs.Prelude.{◌≡◌, ℕ, ◌+◌, ◌≤◌, Bool, List, length, filter, Option, None, Some, cond, is_none, option_map}
+use Rattle.std.specs.Prelude.{◌≡◌, ℕ, ◌+◌, ◌≤◌, Bool, List, [], ◌∷◌, ◌++◌, length, filter, Option, None, Some, cond, is_none, option_map}
 use Rattle.std.specs.List.{All}
 use Rattle.plain_store.specs.declared.Command.{Command}
 use Rattle.plain_store.specs.declared.Setup.{Setup}
 use Rattle.record.specs.declared.events.Event.{Event}
-use Rattle.record.specs.Records.{past_of}
+use Rattle.record.specs.Records.{past_of, process_of}
 use Rattle.auditor.specs.Verdicts.{AllKeep}
 use Rattle.sweeper.specs.declared.runner.BadEntry.{BadEntry}
 use Rattle.sweeper.specs.declared.swept.BadRun.{BadRun}
 use Rattle.sweeper.specs.declared.swept.Swept.{Swept}
+use Rattle.sweeper.specs.declared.sweeping.Sweeper.{Sweeper}
 use Rattle.sweeper.specs.Runners.{Follows, RunnerState}
-use Rattle.sweeper.specs.Sweeps.{Cut, KeepHeadline, cuts}
+use Rattle.sweeper.specs.Sweeps.{Cut, KeepHeadline, cut, cuts}
 
 -- in these runs each entry keeps all laws and the headline, and so they are counted
 pub record Counts (s : Setup) (cs : List Cut) (found : Swept) : Type 0 where
@@ -46,3 +47,21 @@ pub record HasSwept (s : Setup) (calls : List (ℕ × Command)) (before : List E
   pub walker_setup : walker.core.setup ≡ s
   pub runner_setup : runner.core.setup ≡ s
   pub counts : Counts s (cuts s calls before) found
+
+-- the same, as a sweeper keeps it
+abbrev pub SweptBy : Setup → List (ℕ × Command) → List Event → Sweeper → Type 0
+SweptBy s calls before sweeper = HasSwept s calls before sweeper.walker sweeper.runner sweeper.found
+
+-- before the first event, whatever calls are to follow
+abbrev pub SweepsNone : Setup → Sweeper → Type 0
+SweepsNone s sweeper = (calls : List (ℕ × Command)) → SweptBy s calls [] sweeper
+
+-- it goes on by an event
+abbrev pub SweepsOn : List (ℕ × Command) → Event → Sweeper → Sweeper → Type 0
+SweepsOn calls event sweeper then = (s : Setup) (before : List Event) → SweptBy s calls before sweeper → SweptBy s calls (event ∷ before) then
+
+-- and counts the run in which the process of the last event fails, and that goes on by this flick
+abbrev pub CountsRun : ℕ → Bool → List (ℕ × Command) → Sweeper → Sweeper → Type 0
+CountsRun p v calls sweeper then =
+    let s = sweeper.walker.core.setup in
+    (event : Event) (before : List Event) (cs : List Cut) → p ≡ process_of event → Follows sweeper.walker (event ∷ before) → Counts s cs sweeper.found → Counts s (cs ++ cut s calls event before v ∷ []) then.found

@@ -1,16 +1,12 @@
 //! A run that is audited while it is made.
-ghost use Rattle.std.specs.Prelude.{◌≡◌, ◌+◌, ◌*◌, ◌^◌, ◌<◌, ◌≤◌, ◌∷◌, [], true, false, cond, List, IfOk, None, Some, Ok, length, map};
+ghost use Rattle.std.specs.Prelude.{◌≡◌, ◌+◌, ◌*◌, ◌^◌, ◌<◌, ◌≤◌, ◌∷◌, [], true, false, cond, IfOk, None, Ok};
 ghost use Rattle.plain_store.specs.Setups.{checked};
-ghost use Rattle.record.specs.declared.Event.{Event as Happening};
 ghost use Rattle.record.specs.declared.Event.TheVariants.{Fail, Step};
 ghost use Rattle.record.specs.Given.{is_event};
-ghost use Rattle.record.specs.Entries.{Past};
-ghost use Rattle.record.specs.Records.{is_call, placed};
-ghost use Rattle.world.specs.process.Telling.{marks_told};
+ghost use Rattle.record.specs.Records.{is_call};
 ghost use Rattle.world.specs.Cores.{taking};
-ghost use Rattle.auditor.specs.Hearing.{HasHeard, IsHeard};
-ghost use Rattle.sweeper.specs.Runners.{Follows, RunsOn, due};
-ghost use Rattle.sweeper.specs.Sweeps.{is_accepted};
+ghost use Rattle.auditor.specs.Hearing.{Hears, step_told};
+ghost use Rattle.sweeper.specs.Runners.{Accepts, Follows, RunsOn, due};
 
 use auditor::{Auditor, Law};
 use plain_store::{NestedTypes, Setup};
@@ -99,7 +95,7 @@ impl Runner {
 
     /// Whether an event would be made.
     pub fn accepts(&self, event: &Event) -> bool
-        ensures { (events : List Happening) → Follows self.now events → result ≡ is_accepted self.now.core.setup events event.now }
+        ensures { Accepts self.now event.now result }
     {
         self.core.refusal(event).is_none()
     }
@@ -108,7 +104,7 @@ impl Runner {
     pub fn make(&mut self, event: &Event) -> bool
         requires room { due self.old + 16 < 2 ^ 64 }
         ensures follows { RunsOn self.old self.new (λ events. event.now ∷ events) }
-        ensures accepted { (events : List Happening) → Follows self.old events → result ≡ is_accepted self.old.core.setup events event.now }
+        ensures accepted { Accepts self.old event.now result }
         ensures unchanged { result ≡ false → self.new ≡ self.old }
         ensures few { due self.new ≤ due self.old + cond (is_call event.now) 16 0 }
         ensures setup { self.new.core.setup ≡ self.old.core.setup }
@@ -131,7 +127,7 @@ impl Runner {
     pub fn step(&mut self, process: u8, value: bool) -> bool
         requires room { due self.old < 2 ^ 64 }
         ensures follows { RunsOn self.old self.new (λ events. Step process value ∷ events) }
-        ensures accepted { (events : List Happening) → Follows self.old events → result ≡ is_accepted self.old.core.setup events (Step process value) }
+        ensures accepted { Accepts self.old (Step process value) result }
         ensures unchanged { result ≡ false → self.new ≡ self.old }
         ensures few { due self.new ≤ due self.old }
         ensures setup { self.new.core.setup ≡ self.old.core.setup }
@@ -167,7 +163,7 @@ fn hear_step(
     place: u64,
 ) -> Option<Law>
     ensures setup { result ≡ None → auditor.new.core.setup ≡ auditor.old.core.setup }
-    ensures heard { (past : Past) → HasHeard auditor.old past → IsHeard auditor.old.core.setup past (record { process = process; access = Some access; marks = map (placed place) (marks_told told.now) }) auditor.new result }
+    ensures heard { Hears auditor.old (step_told place process access told.now) auditor.new result }
 {
     if matches!(told, StepTold::Nothing) {
         return auditor.hear_access(process, access);

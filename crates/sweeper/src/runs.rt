@@ -1,8 +1,7 @@
 //! How a run goes on after the event at which it is cut.
-ghost use Rattle.std.specs.Prelude.{◌≡◌, ◌+◌, ◌*◌, ◌^◌, ◌<◌, ◌≤◌, ◌||◌, ◌∷◌, ℕ, List, length};
-ghost use Rattle.record.specs.declared.Event.{Event as Happening};
-ghost use Rattle.sweeper.specs.Runners.{Follows, IsRun, RunsOn, due};
-ghost use Rattle.sweeper.specs.Sweeps.{Run, cut_off, goes, most as most_of, on_from, round, rounds, steps_of, with_call, with_calls};
+ghost use Rattle.std.specs.Prelude.{◌≡◌, ◌+◌, ◌*◌, ◌^◌, ◌<◌, ◌≤◌, length};
+ghost use Rattle.sweeper.specs.Runners.{MakesCall, MakesCalls, MakesRun, OfRun, RunsBy, due};
+ghost use Rattle.sweeper.specs.Sweeps.{cut_off, goes, most as most_of, round, rounds, steps_of};
 
 use crate::runner::Runner;
 use plain_store::Command;
@@ -19,7 +18,7 @@ impl Runner {
     /// Steps of a process as long as it has one to make, at most so many.
     fn walk(&mut self, process: u8, value: bool, most: u32)
         requires room { due self.old + 16 < 2 ^ 64 }
-        ensures follows { RunsOn self.old self.new (λ events. steps_of self.old.core.setup process value most events) }
+        ensures follows { RunsBy self.old self.new (λ s. steps_of s process value most) }
         ensures few { due self.new ≤ due self.old }
         ensures setup { self.new.core.setup ≡ self.old.core.setup }
     {
@@ -35,7 +34,7 @@ impl Runner {
     /// A process fails, its memory unit makes its steps, and it is restarted.
     fn cut_off(&mut self, process: u8, value: bool)
         requires room { due self.old + 16 < 2 ^ 64 }
-        ensures follows { RunsOn self.old self.new (λ events. cut_off self.old.core.setup process value events) }
+        ensures follows { RunsBy self.old self.new (λ s. cut_off s process value) }
         ensures few { due self.new ≤ due self.old }
         ensures setup { self.new.core.setup ≡ self.old.core.setup }
     {
@@ -46,7 +45,7 @@ impl Runner {
 
     /// Whether somebody has a step to make.
     fn goes(&self, value: bool) -> bool
-        ensures { (events : List Happening) → Follows self.now events → result ≡ goes self.now.core.setup value events }
+        ensures { OfRun self.now (λ s events. result ≡ goes s value events) }
     {
         for process in 0..self.processes() {
             if self.accepts(&Event::Step(process, value)) {
@@ -59,7 +58,7 @@ impl Runner {
     /// A step of each process that has one to make, ascending.
     fn round(&mut self, value: bool)
         requires room { due self.old + 16 < 2 ^ 64 }
-        ensures follows { RunsOn self.old self.new (λ events. round self.old.core.setup value events) }
+        ensures follows { RunsBy self.old self.new (λ s. round s value) }
         ensures few { due self.new ≤ due self.old }
         ensures setup { self.new.core.setup ≡ self.old.core.setup }
     {
@@ -71,7 +70,7 @@ impl Runner {
     /// Rounds as long as somebody has a step to make, at most so many.
     fn rounds(&mut self, value: bool, most: u32)
         requires room { due self.old + 16 < 2 ^ 64 }
-        ensures follows { RunsOn self.old self.new (λ events. rounds self.old.core.setup value most events) }
+        ensures follows { RunsBy self.old self.new (λ s. rounds s value most) }
         ensures few { due self.new ≤ due self.old }
         ensures setup { self.new.core.setup ≡ self.old.core.setup }
     {
@@ -88,7 +87,7 @@ impl Runner {
     /// A call, and if it is accepted the steps of its process; whether that has one more to make after them.
     fn call(&mut self, process: u8, command: &Command, value: bool) -> bool
         requires room { due self.old + 32 < 2 ^ 64 }
-        ensures run { (run : Run) → Follows self.old run.events → IsRun self.new (run.stuck || result) (with_call self.old.core.setup value run (process, command.now)) }
+        ensures run { MakesCall self.old process command.now value result self.new }
         ensures few { due self.new ≤ due self.old + 16 }
         ensures setup { self.new.core.setup ≡ self.old.core.setup }
     {
@@ -102,7 +101,7 @@ impl Runner {
     /// The calls in their order; whether the run, which is stuck or not before them, is stuck.
     fn calls(&mut self, calls: &[(u8, Command)], value: bool, stuck: bool) -> bool
         requires room { due self.old + 16 * length calls.now + 16 < 2 ^ 64 }
-        ensures run { (run : Run) → IsRun self.old stuck run → IsRun self.new result (with_calls self.old.core.setup calls.now value run) }
+        ensures run { MakesCalls self.old stuck calls.now value result self.new }
         ensures setup { self.new.core.setup ≡ self.old.core.setup }
     {
         let mut stuck = stuck;
@@ -115,7 +114,7 @@ impl Runner {
     /// A process fails here, everybody goes on, and the calls follow; whether the run is stuck.
     pub fn run(&mut self, process: u8, value: bool, calls: &[(u8, Command)]) -> bool
         requires room { due self.old + 16 * length calls.now + 16 < 2 ^ 64 }
-        ensures run { (events : List Happening) → Follows self.old events → IsRun self.new result (on_from self.old.core.setup calls.now value (cut_off self.old.core.setup process value events)) }
+        ensures run { MakesRun self.old calls.now process value result self.new }
         ensures setup { self.new.core.setup ≡ self.old.core.setup }
     {
         self.cut_off(process, value);

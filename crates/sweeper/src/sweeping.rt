@@ -1,12 +1,9 @@
 //! A sweep: a runner goes along the events, and after each that is accepted another one goes on from there twice.
-ghost use Rattle.std.specs.Prelude.{◌≡◌, ◌+◌, ◌*◌, ◌^◌, ◌<◌, ◌≤◌, ◌++◌, ◌∷◌, [], ℕ, List, length, reverse, IfOk, Ok};
-ghost use Rattle.plain_store.specs.declared.Setup.{Setup as Made};
+ghost use Rattle.std.specs.Prelude.{◌≡◌, ◌+◌, ◌*◌, ◌^◌, ◌<◌, ◌≤◌, ℕ, length, reverse, IfOk, Ok};
 ghost use Rattle.plain_store.specs.Setups.{checked};
-ghost use Rattle.record.specs.declared.Event.{Event as Happening};
-ghost use Rattle.record.specs.Records.{process_of};
-ghost use Rattle.sweeper.specs.Runners.{Follows, due};
-ghost use Rattle.sweeper.specs.Sweeps.{AreAllGood, AreDownInTime, Cut, IsSwept, SweptKeepHeadline, cut as cut_of};
-ghost use Rattle.sweeper.specs.Tallies.{AreFew, Counts, HasSwept};
+ghost use Rattle.sweeper.specs.Runners.{due};
+ghost use Rattle.sweeper.specs.Sweeps.{AreAllGood, AreDownInTime, IsSwept, SweptKeepHeadline};
+ghost use Rattle.sweeper.specs.Tallies.{AreFew, CountsRun, SweepsNone, SweepsOn};
 
 use crate::runner::Runner;
 use crate::swept::Swept;
@@ -80,7 +77,7 @@ impl Sweeper {
     /// Before the first event.
     fn new(alloc: Global, setup: &Setup) -> Result<Sweeper, AllocError>
         requires { checked setup.now ≡ Ok tt }
-        ensures swept { IfOk result (λ sweeper. (calls : List (ℕ × Command)) → HasSwept setup.now calls [] sweeper.walker sweeper.runner sweeper.found) }
+        ensures swept { IfOk result (SweepsNone setup.now) }
         ensures due { IfOk result (λ sweeper. due sweeper.walker ≤ 16) }
         ensures number { IfOk result (λ sweeper. sweeper.number ≡ 0) }
         ensures few { IfOk result (λ sweeper. AreFew 0 sweeper.found) }
@@ -99,7 +96,7 @@ impl Sweeper {
         requires number { self.old.number < 2 ^ 63 }
         requires few { AreFew (2 ^ 62) self.old.found }
         requires setup { self.old.runner.core.setup ≡ self.old.walker.core.setup }
-        ensures swept { (s : Made) (before : List Happening) → HasSwept s calls.now before self.old.walker self.old.runner self.old.found → HasSwept s calls.now (event.now ∷ before) self.new.walker self.new.runner self.new.found }
+        ensures swept { SweepsOn calls.now event.now self.old self.new }
         ensures due { due self.new.walker ≤ due self.old.walker + 16 }
         ensures number { self.new.number ≤ self.old.number + 1 }
         ensures few { (n : ℕ) → AreFew n self.old.found → AreFew (n + 2) self.new.found }
@@ -122,7 +119,7 @@ impl Sweeper {
         requires due { due self.old.walker + 16 * length calls.now + 16 < 2 ^ 64 }
         requires few { AreFew (2 ^ 63) self.old.found }
         requires setup { self.old.runner.core.setup ≡ self.old.walker.core.setup }
-        ensures counts { (event : Happening) (before : List Happening) (cs : List Cut) → process ≡ process_of event → Follows self.old.walker (event ∷ before) → Counts self.old.walker.core.setup cs self.old.found → Counts self.old.walker.core.setup (cs ++ cut_of self.old.walker.core.setup calls.now event before value ∷ []) self.new.found }
+        ensures counts { CountsRun process value calls.now self.old self.new }
         ensures few { (n : ℕ) → AreFew n self.old.found → AreFew (n + 1) self.new.found }
         ensures setup { self.new.runner.core.setup ≡ self.old.walker.core.setup }
         ensures walker { self.new.walker ≡ self.old.walker }

@@ -6,7 +6,8 @@ use Rattle.world.specs.Cores.{CoreState}
 use Rattle.sweeper.specs.Runners.{Follows, RunnerState, RunsOn, due}
 use Rattle.sweeper.specs.Sweeps.{is_accepted}
 use Rattle.sweeper.proofs.Dues.{few_made, few_seats}
-use Rattle.sweeper.proofs.Making.{IsAnswered, IsMade, entry_told, follows_made, follows_refused, made_accepted, none_broken, refused_left}
+use Rattle.auditor.specs.read_law.Entries.{entry_by}
+use Rattle.sweeper.proofs.Making.{IsAnswered, IsMade, follows_made, follows_refused, made_accepted, none_broken, refused_left}
 use Rattle.sweeper.proofs.runner.Runner.make.Goals as goal
 
 pub returns-in_default-clause-follows : goal.returns-in_default-clause-follows
@@ -31,7 +32,7 @@ invariant_of-self-2 c =
     let kept = c.self.invariant in
     let old : RunnerState = record { core = i.core; auditor = i.auditor; taken = i.taken } in
     let made : IsMade old c.args.event.now c.in-Ok.access c.event.new.effect c.event.new.self = record { adds = c.in-Ok.ensures.accepted; makes = c.in-Ok.ensures.shows; setup = c.in-Ok.ensures.setup } in
-    let answered : IsAnswered i.auditor (entry_told c.process.result c.in-Ok.access c.deref.result.now) c.hear_parts-law.result c.hear_parts-law.new.self = record { heard = c.hear_parts-law.ensures.heard; setup = c.hear_parts-law.ensures.setup } in
+    let answered : IsAnswered i.auditor (entry_by c.process.result c.in-Ok.access c.deref.result.now) c.hear_parts-law.result c.hear_parts-law.new.self = record { heard = c.hear_parts-law.ensures.heard; setup = c.hear_parts-law.ensures.setup } in
     let none : c.hear_parts-law.result ≡ None = none_broken old c.args.event.now c.in-Ok.access c.event.new.effect c.event.new.self made kept.events kept.follows c.process.result c.deref.result.now c.hear_parts-law.result c.hear_parts-law.new.self
     c.process.ensures (c.deref.ensures ∙ c.marks-marks.ensures) answered in
     record {
@@ -48,7 +49,7 @@ returns-clause-follows c =
     let old : RunnerState = record { core = i.core; auditor = i.auditor; taken = i.taken } in
     let then : RunnerState = record { core = c.event.new.self; auditor = c.hear_parts-law.new.self; taken = c.more-self-inside.result } in
     let made : IsMade old c.args.event.now c.in-Ok.access c.event.new.effect c.event.new.self = record { adds = c.in-Ok.ensures.accepted; makes = c.in-Ok.ensures.shows; setup = c.in-Ok.ensures.setup } in
-    let answered : IsAnswered i.auditor (entry_told c.process.result c.in-Ok.access c.deref.result.now) c.hear_parts-law.result c.hear_parts-law.new.self = record { heard = c.hear_parts-law.ensures.heard; setup = c.hear_parts-law.ensures.setup } in
+    let answered : IsAnswered i.auditor (entry_by c.process.result c.in-Ok.access c.deref.result.now) c.hear_parts-law.result c.hear_parts-law.new.self = record { heard = c.hear_parts-law.ensures.heard; setup = c.hear_parts-law.ensures.setup } in
     let family : RunnerState → Type 0 = λ r. RunsOn r then (λ events. c.args.event.now ∷ events) in
     subst family c.self.view_is (λ events follows.
     follows_made old c.args.event.now c.in-Ok.access c.event.new.effect c.event.new.self made events follows c.process.result c.deref.result.now c.hear_parts-law.result c.hear_parts-law.new.self c.more-self-inside.result

@@ -9,7 +9,8 @@ use Rattle.world.specs.process.Telling.{marks_told}
 use Rattle.world.specs.Cores.{CoreState}
 use Rattle.sweeper.specs.Runners.{Follows, RunnerState, RunsOn}
 use Rattle.sweeper.specs.Sweeps.{is_accepted}
-use Rattle.sweeper.proofs.Making.{IsAnswered, IsMade, entry_told, follows_made, follows_refused, made_accepted, none_broken, refused_left}
+use Rattle.auditor.specs.read_law.Entries.{entry_by}
+use Rattle.sweeper.proofs.Making.{IsAnswered, IsMade, follows_made, follows_refused, made_accepted, none_broken, refused_left}
 use Rattle.sweeper.proofs.runner.Runner.step.Goals as goal
 
 pub returns-in_default-clause-follows : goal.returns-in_default-clause-follows
@@ -38,7 +39,7 @@ invariant_of-self-2 c =
     let marks : List Mark = map (placed i.taken) (marks_told c.step.new.told) in
     let old : RunnerState = record { core = i.core; auditor = i.auditor; taken = i.taken } in
     let made : IsMade old step (Some c.in-Ok.access) (Steps c.step.new.told) c.step.new.self = record { adds = c.in-Ok.ensures.accepted; makes = c.in-Ok.ensures.shows; setup = c.in-Ok.ensures.setup } in
-    let answered : IsAnswered i.auditor (entry_told c.args.process (Some c.in-Ok.access) marks) c.hear_step-law.result c.hear_step-law.new.auditor = record { heard = c.hear_step-law.ensures.heard; setup = c.hear_step-law.ensures.setup } in
+    let answered : IsAnswered i.auditor (entry_by c.args.process (Some c.in-Ok.access) marks) c.hear_step-law.result c.hear_step-law.new.auditor = record { heard = c.hear_step-law.ensures.heard; setup = c.hear_step-law.ensures.setup } in
     let none : c.hear_step-law.result ≡ None = none_broken old step (Some c.in-Ok.access) (Steps c.step.new.told) c.step.new.self made kept.events kept.follows c.args.process marks c.hear_step-law.result c.hear_step-law.new.auditor refl refl answered in
     record {
       events = step ∷ kept.events;
@@ -56,7 +57,7 @@ returns-clause-follows c =
     let old : RunnerState = record { core = i.core; auditor = i.auditor; taken = i.taken } in
     let then : RunnerState = record { core = c.step.new.self; auditor = c.hear_step-law.new.auditor; taken = c.more-self-inside.result } in
     let made : IsMade old step (Some c.in-Ok.access) (Steps c.step.new.told) c.step.new.self = record { adds = c.in-Ok.ensures.accepted; makes = c.in-Ok.ensures.shows; setup = c.in-Ok.ensures.setup } in
-    let answered : IsAnswered i.auditor (entry_told c.args.process (Some c.in-Ok.access) marks) c.hear_step-law.result c.hear_step-law.new.auditor = record { heard = c.hear_step-law.ensures.heard; setup = c.hear_step-law.ensures.setup } in
+    let answered : IsAnswered i.auditor (entry_by c.args.process (Some c.in-Ok.access) marks) c.hear_step-law.result c.hear_step-law.new.auditor = record { heard = c.hear_step-law.ensures.heard; setup = c.hear_step-law.ensures.setup } in
     let family : RunnerState → Type 0 = λ r. RunsOn r then (λ events. step ∷ events) in
     subst family c.self.view_is (λ events follows.
     follows_made old step (Some c.in-Ok.access) (Steps c.step.new.told) c.step.new.self made events follows c.args.process marks c.hear_step-law.result c.hear_step-law.new.auditor c.more-self-inside.result
