@@ -7,9 +7,7 @@ ghost use Rattle.plain_store.specs.Store.{after, changes, value_at};
 ghost use Rattle.companions.specs.StoreChanges.{change_by, changed, pair_words, store_words as words_of_store, words_by};
 
 use picture::TakenChange;
-use plain_store::{
-    Caller, Command, Name, NestedTypes, PlainStore, Setup, Store, Value, opened,
-};
+use plain_store::{Caller, Command, Name, NestedTypes, PlainStore, Setup, Store, Value, opened};
 use std::alloc::{AllocError, Global};
 
 /// The opening store of a setup.

@@ -14,8 +14,6 @@ use Rattle.engines.specs.Listings.{RecordsEvent}
 use Rattle.engines.proofs.Listed.{reverse-front}
 use Rattle.course.proofs.Refusals.{past_kept, shows_refused}
 
-}
-
 -- an event that is refused
 pub records_refused : (old new : WorldState) (event : Event) (r : Refusal) (had has : List Entry) → is_event event ≡ true → IsTurnedAway old event r → (r ≡ Memory → ⊥) → new ≡ old → has ≡ had → RecordsEvent event old new had has
 records_refused old new event r had has given (inr away) other same kept events shows are = absurd (other away.1)

@@ -47,43 +47,6 @@ pub record LooksBack (s : Setup) (p : ℕ) (mine : Past) (st : Stage) (d : Doing
   pub leaves : last_start mine ≡ Some Withdrew → st ≡ stages.Leaving → d ≡ Closes (last_command mine) (call_number s mine) (leaving_at s p mine)
   pub settles : last_start mine ≡ Some Failed → st ≡ stages.Settling → d ≡ Closes (last_command mine) (call_number s mine) (failing_at s p mine)
 
-looks-back : (s : Setup) (p : ℕ) (mine : Past) (st : Stage) (d : Doing) → Does s p mine st d → LooksBack s p mine st d
-looks-back s p mine st d (at_rest i k) = record {
-  resting = λ h. k;
-  down = λ h. let f : stages.Idle ≡ stages.Down = sym i ∙ h in cc;
-  runs_call = λ command b r. let f : false ≡ true = sym (ap is_running i) ∙ r in cc;
-  leaves = λ b h. let f : stages.Idle ≡ stages.Leaving = sym i ∙ h in cc;
-  settles = λ b h. let f : stages.Idle ≡ stages.Settling = sym i ∙ h in cc;
-}
-looks-back s p mine st d (lying i k) = record {
-  resting = λ h. let f : stages.Down ≡ stages.Idle = sym i ∙ h in cc;
-  down = λ h. k;
-  runs_call = λ command b r. let f : false ≡ true = sym (ap is_running i) ∙ r in cc;
-  leaves = λ b h. let f : stages.Down ≡ stages.Leaving = sym i ∙ h in cc;
-  settles = λ b h. let f : stages.Down ≡ stages.Settling = sym i ∙ h in cc;
-}
-looks-back s p mine st d (running command b r k) = record {
-  resting = λ h. let f : false ≡ true = sym (ap is_running h) ∙ r in cc;
-  down = λ h. let f : false ≡ true = sym (ap is_running h) ∙ r in cc;
-  runs_call = λ command b r. k;
-  leaves = λ c h. let f : Some (Called command) ≡ Some Withdrew = sym b ∙ c in cc;
-  settles = λ c h. let f : false ≡ true = sym (ap is_running h) ∙ r in cc;
-}
-looks-back s p mine st d (leaving b i k) = record {
-  resting = λ h. let f : stages.Leaving ≡ stages.Idle = sym i ∙ h in cc;
-  down = λ h. let f : stages.Leaving ≡ stages.Down = sym i ∙ h in cc;
-  runs_call = λ command c r. let f : Some Withdrew ≡ Some (Called command) = sym b ∙ c in cc;
-  leaves = λ c h. k;
-  settles = λ c h. let f : stages.Leaving ≡ stages.Settling = sym i ∙ h in cc;
-}
-looks-back s p mine st d (settling b i k) = record {
-  resting = λ h. let f : stages.Settling ≡ stages.Idle = sym i ∙ h in cc;
-  down = λ h. let f : stages.Settling ≡ stages.Down = sym i ∙ h in cc;
-  runs_call = λ command c r. let f : false ≡ true = sym (ap is_running i) ∙ r in cc;
-  leaves = λ c h. let f : stages.Settling ≡ stages.Leaving = sym i ∙ h in cc;
-  settles = λ c h. k;
-}
-
 -- The begin of a doorway.
 
 -- the access of what is done begins a doorway; so does a unit that settles a choosing bit at 1 anew, after its call has begun it

@@ -81,8 +81,3 @@ data-register cells s owner Stamp0 is = refl
 data-register cells s owner Stamp1 is = refl
 data-register cells s owner Image0 is = refl
 data-register cells s owner Image1 is = refl
-
-}
-  where
-    found : (p : ℕ) (field : Field) → p < s.processes → is_data field ≡ true → register_from cells s p field ≡ register_at (row_from cells s) p field
-    found p field inside is = data-register cells s p field is ∙ sym (ap (λ (d : Data). register_of d field) (get_or-map-range_with_len (data_from cells s) 0 s.processes p p no_data inside (omega arith)))

@@ -79,8 +79,6 @@ run_counts calls walker copy new v p number met found same kept makes event befo
     is : IsRun new met (on_from walker.core.setup calls v (cut_off walker.core.setup (process_of event) v (event ∷ before)))
     is = subst (λ p. IsRun new met (on_from walker.core.setup calls v (cut_off walker.core.setup p v (event ∷ before)))) own (made (event ∷ before) follows)
 
-}
-
 -- One event.
 
 -- where no run is cut

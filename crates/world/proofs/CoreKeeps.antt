@@ -92,8 +92,7 @@ there_set seats new f i p then is l =
     let set = length-set seats i then in
     omega (arith, all, mapped, set, l)
 
-}
-
+-- steps after steps
 pub core_walks : (n : ℕ) (old mid new : CoreState) (f g h : FlickState) (p made : ℕ) → CoreWalks old f p made mid g → CoreWalks mid g p n new h → CoreWalks old f p (made + n) new h
 core_walks n old mid new f g h p made first more = record {
   walks = λ taken. walks-then n (with_history old taken) (with_history mid taken) (with_history new taken) f g h p made (first.walks taken) (more.walks taken);
