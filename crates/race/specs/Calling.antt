@@ -6,6 +6,7 @@ use Rattle.plain_store.specs.declared.Setup.{Setup}
 use Rattle.record.specs.declared.stages.Stage.TheVariants.{Idle}
 use Rattle.board.specs.laws.Doings.{Doing, Rests, Runs}
 use Rattle.board.specs.Calls.{Calls, and_then}
+use Rattle.board.specs.Ports.{PortState}
 use Rattle.board.specs.Views.{OwnView, ViewState, stage_in}
 use Rattle.board.specs.WordSteps.{goes}
 use Rattle.race.specs.declared.workers.CallReached.{CallReached}
@@ -44,3 +45,7 @@ pub record HasCalled (s : Setup) (command : Command) (v w : ViewState) : Type 0 
   pub answered : (answer : Answer) × (call.answer ≡ Some answer)
   pub calls : w.own.calls ≡ record { done = v.own.calls.done ++ call ∷ []; now = None }
   pub rests : stage_in s w.own ≡ Idle
+
+-- the same, of a port
+abbrev pub PortHasCalled : PortState → Command → PortState → Type 0
+PortHasCalled port command then = HasCalled port.setup command port.view then.view

@@ -1,5 +1,6 @@
 -- What `race` answers and writes. Which race it was the threads decide: the text is that of one that keeps what every race keeps.
 use Rattle.std.specs.Prelude.{◌≡◌, ℕ, ◌<◌, List, [], Option, IfSome, Result, Ok, Err}
+use Rattle.std.specs.String.{string_bytes}
 use Rattle.std.specs.Io.KnownBytes.{Appends, IsAtEnd, Keeps}
 use Rattle.plain_store.specs.Store.{Contents}
 use Rattle.scenario.specs.files.Engines.{Ran, Streams, text_by}
@@ -11,6 +12,7 @@ use Rattle.race.specs.Races.{IsRaced}
 use Rattle.call_check.specs.Weighing.{IsWeighed}
 use Rattle.record.specs.declared.calls.Placed.{Placed}
 use Rattle.call_check.specs.declared.verdicts.Weighed.{Weighed}
+use Rattle.race.specs.declared.running.Report.{Report}
 use Rattle.race.specs.Statuses.{status_of_race}
 use Rattle.race.specs.Texts.{plans_in, race_text}
 use Rattle.race.specs.declared.faults.RunFault.{RunFault}
@@ -33,6 +35,10 @@ pub record TellsRace (said : Script) (verdict : Weighed) (text : List ℕ) : Typ
   pub race : Raced said
   pub is_verdict : verdict ≡ race.verdict
   pub is_text : text ≡ text_of said race
+
+-- the same, as it is reported
+abbrev pub TellsReport : Script → Report → Type 0
+TellsReport said report = TellsRace said report.verdict (string_bytes report.text)
 
 -- the text of a race was written, and the status is that of its verdict
 abbrev pub WritesRace : Script → ℕ → Option (List ℕ) → Option (List ℕ) → Type 0

@@ -1,5 +1,5 @@
 -- What a race leaves: the calls of each plan, answered, and the image of the store after one list of changes.
-use Rattle.std.specs.Prelude.{◌≡◌, ℕ, List, length, map, slice_get, Some}
+use Rattle.std.specs.Prelude.{◌≡◌, ◌≤◌, ℕ, [], vec_capacity, List, length, map, slice_get, Some}
 use Rattle.std.specs.Global.{Vec}
 use Rattle.plain_store.specs.declared.Answer.{Answer}
 use Rattle.plain_store.specs.declared.Command.{Command}
@@ -14,7 +14,9 @@ use Rattle.record.specs.Histories.{store_after}
 use Rattle.record.specs.Records.{past_of}
 use Rattle.board.specs.Boards.{BoardState, IsOf}
 use Rattle.board.specs.Calls.{changes_of}
-use Rattle.board.specs.Closings.{EachStandsInRecord}
+use Rattle.board.specs.Closings.{EachStandsInRecord, lists_in}
+use Rattle.board.specs.declared.closing.Closing.{Closing}
+use Rattle.race.specs.declared.racing.Making.{Making}
 use Rattle.board.specs.Lists.{StandsIn}
 use Rattle.board.specs.Ports.{PortState}
 use Rattle.board.specs.Views.{new_own, stage_in}
@@ -43,6 +45,10 @@ pub record IsRaced (s : Setup) (plans : List (List Command)) (answers : List (Li
   pub stands : EachStandsInRecord s answers
   pub end : (calls : List Placed) → slice_get answers 0 ≡ Some calls → (list : List Taken) × AreChanges s list × StandsIn s 0 calls list × (image ≡ store_after s list)
 
+-- the same, of a board that is closed
+abbrev pub IsRacedBy : Setup → List (Vec Command) → Closing → Type 0
+IsRacedBy s plans closing = IsRaced s (plans_of plans) (lists_in closing) closing.image
+
 -- the port of process p has made the calls of its plan, and rests
 pub record HasMade (board : BoardState) (p : ℕ) (plan : List Command) (port : PortState) : Type 0 where
   pub of_board : IsOf board port
@@ -54,6 +60,10 @@ pub record HasMade (board : BoardState) (p : ℕ) (plan : List Command) (port : 
 abbrev pub AllHaveMade : BoardState → List (List Command) → List PortState → Type 0
 AllHaveMade board plans ports = (length ports ≡ length plans) × ((p : ℕ) (port : PortState) → slice_get ports p ≡ Some port → (plan : List Command) × (slice_get plans p ≡ Some plan) × HasMade board p plan port)
 
+-- the same, of plans as they are given
+abbrev pub AllMadeFor : BoardState → List (Vec Command) → List PortState → Type 0
+AllMadeFor board plans ports = AllHaveMade board (plans_of plans) ports
+
 -- these are ports of the board, of the processes in order, which have done nothing
 abbrev pub AreNew : BoardState → List PortState → Type 0
 AreNew board ports = (p : ℕ) (port : PortState) → slice_get ports p ≡ Some port → IsOf board port × (port.view.own ≡ new_own p)
@@ -63,3 +73,27 @@ pub record IsFor (board : BoardState) (plans : List (List Command)) (p : ℕ) (i
   pub on_board : its_board ≡ board
   pub for_process : its_number ≡ p
   pub makes_plan : slice_get plans p ≡ Some its_plan
+
+-- the thread that makes this is
+abbrev pub MakesFor : BoardState → List (Vec Command) → ℕ → Making → Type 0
+MakesFor board plans p making = IsFor board (plans_of plans) p making.board.value making.number making.plan.value.items
+
+-- its port has made the calls of its plan
+abbrev pub HasKept : Making → PortState → Type 0
+HasKept making port = HasMade making.board.value making.number making.plan.value.items port
+
+-- this holds of each member of a list, and its place
+abbrev pub EachAt : {A : Type 0} → List A → (ℕ → A → Type 0) → Type 0
+EachAt {A} xs P = (k : ℕ) (x : A) → slice_get xs k ≡ Some x → P k x
+
+-- of the members of two lists that stand at one place
+abbrev pub EachPair : {A B : Type 0} → List A → List B → (A → B → Type 0) → Type 0
+EachPair {A} {B} xs ys P = (k : ℕ) (x : A) (y : B) → slice_get xs k ≡ Some x → slice_get ys k ≡ Some y → P x y
+
+-- of one member
+abbrev pub SomeAt : {A : Type 0} → List A → (A → Type 0) → Type 0
+SomeAt {A} xs P = (k : ℕ) × (x : A) × (slice_get xs k ≡ Some x) × P x
+
+-- a list has no members, and room for so many
+abbrev pub HasRoom : {A : Type 0} → Vec A → ℕ → Type 0
+HasRoom v n = (v.items ≡ []) × (n ≤ vec_capacity v)

@@ -14,6 +14,8 @@ use Rattle.scenario.specs.declared.lines.Line.TheVariants as line
 use Rattle.record.specs.Shown.{refusal_line}
 use Rattle.record.specs.declared.refusals.Refusal.TheVariants.{NoProcess}
 use Rattle.call_check.specs.Shown.{verdict_text}
+use Rattle.std.specs.Global.{Vec}
+use Rattle.record.specs.CallLists.{lists_of}
 use Rattle.record.specs.declared.calls.Placed.{Placed}
 use Rattle.call_check.specs.declared.verdicts.Weighed.{Weighed}
 
@@ -73,3 +75,7 @@ verdict_line verdict = verdict_text verdict ++ codes "\n"
 -- The text of a race: the calls that are refused, the answers of all lists, the store at the end, and the verdict on both.
 abbrev pub race_text : Script → List (List Placed) → Contents → Weighed → List ℕ
 race_text said lists image verdict = refused_lines said.setup said.lines ++ answers_from 0 lists ++ show_text image.pairs ++ verdict_line verdict
+
+-- the same, of the lists of a board that is closed
+abbrev pub raced_text : Script → List (Vec Placed) → Contents → Weighed → List ℕ
+raced_text said vecs image verdict = race_text said (lists_of vecs) image verdict

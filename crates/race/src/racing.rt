@@ -1,13 +1,11 @@
 //! Races: a thread for each port.
-ghost use Rattle.std.specs.Prelude.{◌≡◌, ◌≤◌, ◌+◌, [], ℕ, All, IfErr, IfOk, IfSome, List, Ok, Some, length, slice_get, vec_capacity, vec_len};
+ghost use Rattle.std.specs.Prelude.{◌≡◌, ◌≤◌, IfErr, IfOk, IfSome, Ok, length, vec_len};
 ghost use Rattle.board.specs.Boards.{IsOf};
-ghost use Rattle.board.specs.Ports.{PortState};
 ghost use Rattle.board.specs.Views.{new_own};
 ghost use Rattle.plain_store.specs.Setups.{checked};
-ghost use Rattle.plain_store.specs.declared.Command.{Command as Asked};
+ghost use Rattle.call_check.specs.Weighing.{AreShort};
 ghost use Rattle.race.specs.Faults.{IsFaultAmong, IsFaultOf};
-ghost use Rattle.race.specs.Races.{AllHaveMade, AreNew, HasMade, IsFor, IsRaced, plans_of};
-ghost use Rattle.record.specs.CallLists.{lists_of};
+ghost use Rattle.race.specs.Races.{AllMadeFor, AreNew, EachAt, EachPair, HasKept, HasMade, HasRoom, IsRacedBy, MakesFor, SomeAt, plans_of};
 
 use crate::faults::RaceFault;
 use crate::gates::Gate;
@@ -47,8 +45,8 @@ pub fn race<R: Threads + Wait + Sync, G: Gate + Sync>(
 ) -> Result<Closing, RaceFault>
     requires good { checked setup.now ≡ Ok tt }
     requires all { length plans.now ≡ setup.now.processes }
-    requires few_calls { setup.now.version ≡ 2 → All (λ (plan : List Asked). length plan ≤ 65535) (plans_of plans.now) }
-    ensures raced { IfOk result (λ closing. IsRaced setup.now (plans_of plans.now) (lists_of closing.answers.items) closing.image) }
+    requires few_calls { setup.now.version ≡ 2 → AreShort (plans_of plans.now) }
+    ensures raced { IfOk result (IsRacedBy setup.now plans.now) }
     ensures fault { IfErr result (IsFaultAmong (length plans.now)) }
 {
     let (board, ports) = Board::new(alloc, setup)?;
@@ -71,7 +69,7 @@ fn run_all<R: Threads + Wait + Sync, G: Gate + Sync>(
 ) -> Result<Vec<Port>, RaceFault>
     requires all { (length ports.items ≡ length plans.now) × (length ports.items ≤ 16) }
     requires new { AreNew board.now ports.items }
-    ensures made { IfOk result (λ made. AllHaveMade board.now (plans_of plans.now) made.items) }
+    ensures made { IfOk result (λ made. AllMadeFor board.now plans.now made.items) }
     ensures fault { IfErr result (IsFaultAmong (length plans.now)) }
 {
     let threads: Vec<Thread> = Vec::with_capacity(alloc, ports.len())?;
@@ -80,8 +78,12 @@ fn run_all<R: Threads + Wait + Sync, G: Gate + Sync>(
         thread::scope_env(),
         rt,
         move |scope| -> Result<Vec<Port>, RaceFault>
-            requires { (length ports.items ≡ length plans.now) × (length ports.items ≤ 16) × AreNew board.now ports.items × (threads.items ≡ []) × (vec_len ports ≤ vec_capacity threads) × (made.items ≡ []) × (vec_len ports ≤ vec_capacity made) }
-            ensures { IfOk result (λ made. AllHaveMade board.entry.now (plans_of plans.entry.now) made.items) × IfErr result (IsFaultAmong (length plans.entry.now)) }
+            requires all { (length ports.items ≡ length plans.now) × (length ports.items ≤ 16) }
+            requires new { AreNew board.now ports.items }
+            requires threads { HasRoom threads (vec_len ports) }
+            requires made { HasRoom made (vec_len ports) }
+            ensures made { IfOk result (λ v. AllMadeFor board.entry.now plans.entry.now v.items) }
+            ensures fault { IfErr result (IsFaultAmong (length plans.entry.now)) }
         { run_in(rt, scope, board, gate, ports, plans, threads, made) },
     )
 }
@@ -99,9 +101,9 @@ fn run_in<'s, E, R: Threads + Wait + Sync, G: Gate + Sync>(
 ) -> Result<Vec<Port>, RaceFault>
     requires all { (length ports.items ≡ length plans.now) × (length ports.items ≤ 16) }
     requires new { AreNew board.now ports.items }
-    requires threads { (threads.items ≡ []) × (vec_len ports ≤ vec_capacity threads) }
-    requires made { (made.items ≡ []) × (vec_len ports ≤ vec_capacity made) }
-    ensures made { IfOk result (λ v. AllHaveMade board.now (plans_of plans.now) v.items) }
+    requires threads { HasRoom threads (vec_len ports) }
+    requires made { HasRoom made (vec_len ports) }
+    ensures made { IfOk result (λ v. AllMadeFor board.now plans.now v.items) }
     ensures fault { IfErr result (IsFaultAmong (length plans.now)) }
 {
     let threads = start_all(rt, scope, board, gate, ports, plans, threads);
@@ -122,9 +124,9 @@ fn start_all<'s, E, R: Threads + Wait + Sync, G: Gate + Sync>(
 ) -> Vec<Thread>
     requires all { (length ports.items ≡ length plans.now) × (length ports.items ≤ 16) }
     requires new { AreNew board.now ports.items }
-    requires room { (threads.items ≡ []) × (vec_len ports ≤ vec_capacity threads) }
+    requires room { HasRoom threads (vec_len ports) }
     ensures few { vec_len result ≤ length plans.now }
-    ensures each { (k : ℕ) (thread : _) → slice_get result.items k ≡ Some thread → IsFor board.now (plans_of plans.now) k thread.promise.board.value thread.promise.number thread.promise.plan.value.items }
+    ensures each { EachAt result.items (λ k thread. MakesFor board.now plans.now k thread.promise) }
 {
     for (number, port) in ports.into_iter().enumerate() {
         match start(rt, scope, board, gate, number as u8, port, &plans[number]) {
@@ -161,7 +163,8 @@ fn start<'s, E, R: Threads + Wait + Sync, G: Gate + Sync>(
             making,
             move || -> Result<Port, RaceFault>
                 requires { IsOf board.now port × (port.view.own ≡ new_own number) }
-                ensures { IfOk result (HasMade board.entry.now number plan.entry.now.items) × IfErr result (IsFaultOf number) }
+                ensures made { IfOk result (HasMade board.entry.now number plan.entry.now.items) }
+                ensures fault { IfErr result (IsFaultOf number) }
             { work(rt, board, gate, number, port, plan.as_slice()) },
         )
         .ok()
@@ -197,10 +200,10 @@ fn join_all<R: Threads>(
     threads: Vec<Thread>,
     mut ports: Vec<Port>,
 ) -> Result<Vec<Port>, RaceFault>
-    requires room { (ports.items ≡ []) × (vec_len threads ≤ vec_capacity ports) }
+    requires room { HasRoom ports (vec_len threads) }
     ensures all { IfOk result (λ v. vec_len v ≡ vec_len threads) }
-    ensures each { IfOk result (λ v. (k : ℕ) (thread : _) (port : PortState) → slice_get threads.items k ≡ Some thread → slice_get v.items k ≡ Some port → HasMade thread.promise.board.value thread.promise.number thread.promise.plan.value.items port) }
-    ensures fault { IfErr result (λ fault. (k : ℕ) × (thread : _) × (slice_get threads.items k ≡ Some thread) × IsFaultOf thread.promise.number fault) }
+    ensures each { IfOk result (λ v. EachPair threads.items v.items (λ t. HasKept t.promise)) }
+    ensures fault { IfErr result (λ e. SomeAt threads.items (λ t. IsFaultOf t.promise.number e)) }
 {
     let mut fault = None;
     for thread in threads {

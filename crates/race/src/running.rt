@@ -1,10 +1,9 @@
 //! The engine itself.
 ghost use Rattle.std.specs.Prelude.{◌≡◌, ◌-◌, ◌^◌, ◌<◌, IfErr, IfOk};
-ghost use Rattle.std.specs.String.{string_bytes};
 ghost use Rattle.scenario.specs.files.Engines.{streams};
 ghost use Rattle.scenario.specs.files.Streams.{ReadsFront};
 ghost use Rattle.scenario.specs.Reads.{script};
-ghost use Rattle.race.specs.Ends.{IsFaultOfRacing, RanRace, TellsRace};
+ghost use Rattle.race.specs.Ends.{IsFaultOfRacing, RanRace, TellsReport};
 
 use crate::faults::{RunFault, race_status};
 use crate::gates::AlwaysOn;
@@ -54,7 +53,7 @@ fn race_scenario<T: Threads + Wait + Sync>(
     alloc: Global,
     scenario: &Scenario,
 ) -> Result<Report, RunFault>
-    ensures raced { IfOk result (λ report. TellsRace (script scenario.now) report.verdict (string_bytes report.text)) }
+    ensures raced { IfOk result (TellsReport (script scenario.now)) }
     ensures fault { IfErr result IsFaultOfRacing }
 {
     let plans = plans_of(alloc, scenario)?;

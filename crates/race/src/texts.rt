@@ -1,9 +1,9 @@
 //! The text of a race.
-ghost use Rattle.std.specs.Prelude.{◌≡◌, IfOk, None, Some};
-ghost use Rattle.std.specs.String.{string_bytes};
+ghost use Rattle.std.specs.Prelude.{None, Some};
+ghost use Rattle.scenario.specs.files.Texts.{GivesText};
 ghost use Rattle.scenario.specs.Reads.{script};
 ghost use Rattle.record.specs.CallLists.{lists_of};
-ghost use Rattle.race.specs.Texts.{answer_line as line_of_answer, answers_from, call_text, list_text, race_text as text_of_race, refused_lines as lines_of_refused, refused_text, verdict_line as line_of_verdict};
+ghost use Rattle.race.specs.Texts.{answer_line as line_of_answer, answers_from, call_text, list_text, raced_text, refused_lines as lines_of_refused, refused_text, verdict_line as line_of_verdict};
 
 use board::Image;
 use call_check::Weighed;
@@ -20,7 +20,7 @@ pub(crate) fn race_text(
     image: &Image,
     verdict: &Weighed,
 ) -> Result<String, AllocError>
-    ensures { IfOk result (λ text. string_bytes text ≡ text_of_race (script scenario.now) (lists_of lists.now) image.now verdict.now) }
+    ensures { GivesText result (raced_text (script scenario.now) lists.now image.now verdict.now) }
 {
     let mut text = refused_lines(alloc, &scenario.setup, scenario.lines.as_slice())?;
     text.push_str(answer_lines(alloc, lists)?.as_str())?;
@@ -32,7 +32,7 @@ pub(crate) fn race_text(
 /// The calls of processes that are not there.
 #[tactic(auto, using(crate::proofs::Parts::items_more, crate::proofs::Parts::items_all))]
 fn refused_lines(alloc: Global, setup: &Setup, lines: &[Line]) -> Result<String, AllocError>
-    ensures { IfOk result (λ text. string_bytes text ≡ lines_of_refused setup.now lines.now) }
+    ensures { GivesText result (lines_of_refused setup.now lines.now) }
 {
     let mut text = String::new(alloc);
     for line in lines {
@@ -43,7 +43,7 @@ fn refused_lines(alloc: Global, setup: &Setup, lines: &[Line]) -> Result<String,
 
 /// What is printed for a line.
 fn refused_line(alloc: Global, setup: &Setup, line: &Line) -> Result<String, AllocError>
-    ensures { IfOk result (λ text. string_bytes text ≡ refused_text setup.now line.now) }
+    ensures { GivesText result (refused_text setup.now line.now) }
 {
     match line {
         Line::Call(process, _) if *process >= setup.processes => {
@@ -55,7 +55,7 @@ fn refused_line(alloc: Global, setup: &Setup, line: &Line) -> Result<String, All
 
 /// The answers of all lists.
 fn answer_lines(alloc: Global, lists: &[Vec<Placed>]) -> Result<String, AllocError>
-    ensures { IfOk result (λ text. string_bytes text ≡ answers_from 0 (lists_of lists.now)) }
+    ensures { GivesText result (answers_from 0 (lists_of lists.now)) }
 {
     let mut text = String::new(alloc);
     for (process, calls) in lists.iter().enumerate() {
@@ -67,7 +67,7 @@ fn answer_lines(alloc: Global, lists: &[Vec<Placed>]) -> Result<String, AllocErr
 /// The answers to one process.
 #[tactic(auto, using(crate::proofs::Parts::items_more, crate::proofs::Parts::items_all))]
 fn list_lines(alloc: Global, process: usize, calls: &[Placed]) -> Result<String, AllocError>
-    ensures { IfOk result (λ text. string_bytes text ≡ list_text process calls.now) }
+    ensures { GivesText result (list_text process calls.now) }
 {
     let mut text = String::new(alloc);
     for call in calls {
@@ -78,7 +78,7 @@ fn list_lines(alloc: Global, process: usize, calls: &[Placed]) -> Result<String,
 
 /// What is printed for a call: nothing, if it was not answered.
 fn call_line(alloc: Global, process: usize, call: &Placed) -> Result<String, AllocError>
-    ensures { IfOk result (λ text. string_bytes text ≡ call_text process call.now) }
+    ensures { GivesText result (call_text process call.now) }
 {
     let _nested: NestedTypes = None;
     match &call.answer {
@@ -94,7 +94,7 @@ fn answer_line(
     place: Option<u32>,
     answer: &Answer,
 ) -> Result<String, AllocError>
-    ensures { IfOk result (λ line. string_bytes line ≡ line_of_answer process place answer.now) }
+    ensures { GivesText result (line_of_answer process place answer.now) }
 {
     match place {
         Some(place) => placed_line(alloc, process, place, answer),
@@ -110,7 +110,7 @@ fn placed_line(
     place: u32,
     answer: &Answer,
 ) -> Result<String, AllocError>
-    ensures { IfOk result (λ line. string_bytes line ≡ line_of_answer process (Some place) answer.now) }
+    ensures { GivesText result (line_of_answer process (Some place) answer.now) }
 {
     format!(in alloc; "{process} {place} {answer}\n")
 }
@@ -118,14 +118,14 @@ fn placed_line(
 /// That of a call that was not.
 #[tactic(auto, using(crate::proofs::Parts::unplaced_line_is))]
 fn unplaced_line(alloc: Global, process: usize, answer: &Answer) -> Result<String, AllocError>
-    ensures { IfOk result (λ line. string_bytes line ≡ line_of_answer process None answer.now) }
+    ensures { GivesText result (line_of_answer process None answer.now) }
 {
     format!(in alloc; "{process} - {answer}\n")
 }
 
 /// The line of the verdict.
 fn verdict_line(alloc: Global, verdict: &Weighed) -> Result<String, AllocError>
-    ensures { IfOk result (λ line. string_bytes line ≡ line_of_verdict verdict.now) }
+    ensures { GivesText result (line_of_verdict verdict.now) }
 {
     format!(in alloc; "{verdict}\n")
 }

@@ -3,7 +3,7 @@ ghost use Rattle.std.specs.Prelude.{◌≡◌, IfErr, IfOk, OnOk, Some};
 ghost use Rattle.board.specs.Boards.{IsOf};
 ghost use Rattle.board.specs.Ports.{SamePort};
 ghost use Rattle.board.specs.Views.{new_own, stage_in};
-ghost use Rattle.race.specs.Calling.{ComesTo, HasCalled, IsCalling};
+ghost use Rattle.race.specs.Calling.{ComesTo, IsCalling, PortHasCalled};
 ghost use Rattle.race.specs.Faults.{EndsPort, IsFaultOf};
 ghost use Rattle.race.specs.Races.{HasMade};
 ghost use Rattle.race.specs.declared.workers.CallReached.TheVariants.{Answer};
@@ -65,7 +65,7 @@ impl<'a, G: Gate> Worker<'a, G> {
     ) -> Result<(), RaceFault>
         requires board { IsOf self.now.board.now port.old }
         ensures same { SamePort port.old port.new }
-        ensures called { OnOk result (HasCalled port.old.setup command port.old.view port.new.view) }
+        ensures called { OnOk result (PortHasCalled port.old command port.new) }
         ensures fault { IfErr result (EndsPort self.now.number port.new.setup port.new.view.own) }
     {
         if port.begin(self.board, command).is_err() {
