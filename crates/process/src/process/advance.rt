@@ -26,10 +26,14 @@ impl Process {
         ensures access { (d : Doing) → IsAt self.now d → next_of self.now.setup self.now.process d flick ≡ Some result }
         ensures there { IsThere self.now.setup result }
     {
-        if self.is_at_data() {
-            self.next_at_data()
-        } else {
-            self.next_elsewhere(flick)
+        match &self.work {
+            ActiveCursor::AtDoor { .. } => self.next_at_door(),
+            ActiveCursor::AtData => self.next_at_data(),
+            ActiveCursor::Leaves { leaving, .. } => leaving.next(),
+            ActiveCursor::Withdraws(leaving) => leaving.next(),
+            ActiveCursor::Settles { unit, .. } => unit.next(flick),
+            ActiveCursor::Frees { unit, .. } => unit.next(flick),
+            ActiveCursor::Rests | ActiveCursor::Lies => unreachable!(),
         }
     }
 
@@ -54,24 +58,6 @@ impl Process {
         self.door.next(false)
     }
 
-    /// The next access elsewhere than at the data.
-    #[inline]
-    pub(crate) fn next_elsewhere(&self, flick: bool) -> Access
-        requires goes { may_step self.now.kept ≡ true }
-        requires elsewhere { is_at_data self.now.kept ≡ false }
-        ensures access { (d : Doing) → IsAt self.now d → next_of self.now.setup self.now.process d flick ≡ Some result }
-        ensures there { IsThere self.now.setup result }
-    {
-        match &self.work {
-            ActiveCursor::AtDoor { .. } => self.next_at_door(),
-            ActiveCursor::Leaves { leaving, .. } => leaving.next(),
-            ActiveCursor::Withdraws(leaving) => leaving.next(),
-            ActiveCursor::Settles { unit, .. } => unit.next(flick),
-            ActiveCursor::Frees { unit, .. } => unit.next(flick),
-            ActiveCursor::AtData | ActiveCursor::Rests | ActiveCursor::Lies => unreachable!(),
-        }
-    }
-
     /// Goes on by that access, and tells what it leads to. The end of a read gives `value`.
     #[inline]
     pub fn advance(&mut self, flick: bool, value: bool) -> StepTold
@@ -81,30 +67,14 @@ impl Process {
         ensures marks { (d : Doing) → IsAt self.old d → marks_told result ≡ marks_with self.old.setup self.old.process d flick value }
         ensures changes { (d : Doing) → IsAt self.old d → IfSome (changes_told result) (λ changes. changes ≡ changes_read d) }
     {
-        if self.is_at_data() {
-            self.advance_at_data(value)
-        } else {
-            self.advance_elsewhere(flick, value)
-        }
-    }
-
-    /// The same elsewhere than at the data.
-    #[inline]
-    pub(crate) fn advance_elsewhere(&mut self, flick: bool, value: bool) -> StepTold
-        requires goes { may_step self.old.kept ≡ true }
-        requires elsewhere { is_at_data self.old.kept ≡ false }
-        requires at { (d : Doing) × IsAt self.old d }
-        ensures process { (d : Doing) → IsAt self.old d → self.new ≡ record self.old { kept = kept_at self.old.setup self.old.process (does_then self.old.setup self.old.process d flick value) } }
-        ensures marks { (d : Doing) → IsAt self.old d → marks_told result ≡ marks_with self.old.setup self.old.process d flick value }
-        ensures changes { changes_told result ≡ None }
-    {
         match &self.work {
             ActiveCursor::AtDoor { .. } => self.advance_door(value),
+            ActiveCursor::AtData => self.advance_at_data(value),
             ActiveCursor::Leaves { .. } => self.advance_leaves(),
             ActiveCursor::Withdraws(_) => self.advance_withdraws(),
             ActiveCursor::Settles { .. } => self.advance_settles(flick),
             ActiveCursor::Frees { .. } => self.advance_frees(flick),
-            ActiveCursor::AtData | ActiveCursor::Rests | ActiveCursor::Lies => unreachable!(),
+            ActiveCursor::Rests | ActiveCursor::Lies => unreachable!(),
         }
     }
 

@@ -11,7 +11,7 @@ ghost use Rattle.process.specs.Steps.{IsAt, bits_to_walk, bits_within, is_at_doo
 ghost use Rattle.process.specs.Telling.{marks_told};
 
 use super::{ActiveCursor, Process};
-use crate::registers::{Registers, ended, given};
+use crate::registers::{Registers, ended};
 use crate::told::StepTold;
 use bakery::Pace;
 use record::Access;
@@ -20,8 +20,7 @@ use section::Flicks;
 impl Process {
     /// Makes the next access, of the process or of its memory unit, and goes on by it. It answers the access, a read's
     /// end with what it gave; in `told` is what it leads to, which is written where it is wanted, since few steps lead to
-    /// anything. At the data it goes to the versions with no look at what else there is. Within a number access
-    /// `step_within` is quicker.
+    /// anything. Within a number access `step_within` is quicker.
     #[inline]
     pub fn step(&mut self, registers: &mut Registers, flick: bool, told: &mut StepTold) -> Access
         requires goes { may_step self.old.kept ≡ true }
@@ -31,15 +30,9 @@ impl Process {
         ensures marks { (d : Doing) → IsAt self.old d → marks_told told.new ≡ marks_with self.old.setup self.old.process d flick (value_of result.how) }
         ensures registers { registers.new ≡ made registers.old result }
     {
-        if self.is_at_data() {
-            let access = registers.versions.answered(self.next_at_data(), flick);
-            registers.versions.apply(access);
-            *told = self.advance_at_data(given(access.how));
-            return access;
-        }
-        let asked = self.next_elsewhere(flick);
+        let asked = self.next(flick);
         let value = registers.make(asked, flick);
-        *told = self.advance_elsewhere(flick, value);
+        *told = self.advance(flick, value);
         ended(asked, value)
     }
 
@@ -92,9 +85,10 @@ impl Process {
         ensures { StepsWithin registers.old flick self.old registers.new self.new }
     {
         if self.is_at_door() {
-            self.step_at_door(registers, flick, pace);
+            self.door.step_within(&mut registers.locks, flick, pace);
         } else {
-            self.step_at_data(registers, flick, pace);
+            self.section
+                .step_within(&mut registers.versions, flick, pace);
         }
     }
 
@@ -107,63 +101,17 @@ impl Process {
         requires may { MayWalk self.old registers.old flicks.old steps }
         ensures { WalksWithin registers.old flicks.old self.old steps registers.new flicks.new self.new }
     {
-        if self.is_at_door() {
-            self.walk_at_door(registers, flicks, steps);
-        } else {
-            self.walk_at_data(registers, flicks, steps);
+        if !self.is_at_door() {
+            let row = &mut registers.versions;
+            self.section.walk_within(row, flicks, steps);
+            return;
         }
-    }
-
-    /// The same at the door.
-    #[inline(always)]
-    fn walk_at_door(&mut self, registers: &mut Registers, flicks: &mut Flicks, steps: u32)
-        requires at_door { is_at_door self.old.kept ≡ true }
-        requires within { steps ≤ bits_to_walk self.old.kept }
-        requires may { MayWalk self.old registers.old flicks.old steps }
-        ensures { WalksWithin registers.old flicks.old self.old steps registers.new flicks.new self.new }
-    {
         let mut made = 0;
         'steps: while made < steps {
             let flick = flicks.flick();
-            self.step_at_door(registers, flick, Pace::InARow);
+            self.step_within(registers, flick, Pace::InARow);
             made += 1;
         }
-    }
-
-    /// The same at the data.
-    #[inline(always)]
-    fn walk_at_data(&mut self, registers: &mut Registers, flicks: &mut Flicks, steps: u32)
-        requires elsewhere { is_at_door self.old.kept ≡ false }
-        requires some { 0 < steps }
-        requires within { steps ≤ bits_to_walk self.old.kept }
-        requires may { MayWalk self.old registers.old flicks.old steps }
-        ensures { WalksWithin registers.old flicks.old self.old steps registers.new flicks.new self.new }
-    {
-        let row = &mut registers.versions;
-        self.section.walk_within(row, flicks, steps);
-    }
-
-    /// The same of one step, at the door.
-    #[inline(always)]
-    fn step_at_door(&mut self, registers: &mut Registers, flick: bool, pace: Pace)
-        requires at_door { is_at_door self.old.kept ≡ true }
-        requires within { 0 < bits_to_walk self.old.kept }
-        requires may { MayStep self.old registers.old flick }
-        ensures { StepsWithin registers.old flick self.old registers.new self.new }
-    {
-        self.door.step_within(&mut registers.locks, flick, pace);
-    }
-
-    /// The same at the data.
-    #[inline(always)]
-    fn step_at_data(&mut self, registers: &mut Registers, flick: bool, pace: Pace)
-        requires elsewhere { is_at_door self.old.kept ≡ false }
-        requires within { 0 < bits_to_walk self.old.kept }
-        requires may { MayStep self.old registers.old flick }
-        ensures { StepsWithin registers.old flick self.old registers.new self.new }
-    {
-        self.section
-            .step_within(&mut registers.versions, flick, pace);
     }
 
     /// The process gives up waiting: its open read is dropped, and it begins to clear its ticket.

@@ -6,14 +6,14 @@ use Rattle.laws.specs.Doings.{call}
 use Rattle.laws.specs.Held.{IsThere}
 use Rattle.process.specs.Processes.{ProcessState}
 use Rattle.laws.specs.Steps.{next_of}
-use Rattle.process.specs.Keeping.{Goes}
+use Rattle.process.specs.Keeping.{Goes, is_at_data}
 use Rattle.process.specs.Steps.{is_at_door}
 use Rattle.process.proofs.Turns.{kept-is}
 use Rattle.process.proofs.Clears as clears
 use Rattle.process.proofs.Withdraws as leaves
 use Rattle.process.proofs.Units as units
 use Rattle.process.proofs.Named.{leaving_there, leaving_next}
-use Rattle.process.proofs.process.Process.next_elsewhere.Goals as goal
+use Rattle.process.proofs.process.Process.next.Goals as goal
 
 pub next_at_door-requires : goal.next_at_door-requires
 next_at_door-requires c =
@@ -22,6 +22,14 @@ next_at_door-requires c =
 
 pub returns-in-AtDoor : goal.returns-in-AtDoor
 returns-in-AtDoor c = record { access = λ d. c.next_at_door.ensures.access d c.args.flick; there = c.next_at_door.ensures.there }
+
+pub next_at_data-requires : goal.next_at_data-requires
+next_at_data-requires c =
+    let f = c.self.inside in
+    sym (ap is_at_data (kept-is f.setup f.process f.command f.number f.work f.door f.section c.args.self.now c.self.view_is _ c.in-AtData.is))
+
+pub returns-in-AtData : goal.returns-in-AtData
+returns-in-AtData c = record { access = λ d. c.next_at_data.ensures.access d c.args.flick; there = c.next_at_data.ensures.there }
 
 pub returns-in-Leaves : goal.returns-in-Leaves
 returns-in-Leaves c =

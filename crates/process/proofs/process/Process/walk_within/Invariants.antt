@@ -3,7 +3,7 @@ use Rattle.section.specs.flicks.Flicks.{FlickState}
 use Rattle.process.specs.Processes.{ProcessState}
 use Rattle.process.specs.Registers.{MayWalk, RegistersState, WalksWithin}
 use Rattle.process.specs.Steps.{bits_to_walk, is_at_door}
-use Rattle.process.proofs.process.Process.walk_at_door.Given as goal
+use Rattle.process.proofs.process.Process.walk_within.Given as goal
 
 -- the rest may be made, and whatever it leaves the whole leaves
 abbrev pub invariant-steps : goal.invariant-steps
