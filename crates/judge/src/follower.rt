@@ -17,7 +17,7 @@ use std::marker::Model;
 use world::{Core, StepTold};
 
 /// An auditor who has heard the entries of a good record, and room for one step that is tried. Behind an entry that broke
-/// a law it is lost, and tells nothing.
+/// a law it is lost, and nothing is known of it.
 #[derive(Drop)]
 pub(crate) struct Follower {
     auditor: Auditor,
