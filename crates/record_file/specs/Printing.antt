@@ -15,7 +15,7 @@ use Rattle.plain_store.specs.declared.setups.Setup.{Setup}
 use Rattle.record.specs.Entries.{Entry}
 use Rattle.record.specs.declared.marks.Mark.{Mark}
 use Rattle.record.specs.declared.marks.Mark.TheVariants as mark
-use Rattle.scenario.specs.Printing.{command_words, kind_words, open_words, printed_line}
+use Rattle.scenario.specs.Printing.{command_words, kind_words, open_words, printed_line, spaced}
 use Rattle.scenario.specs.Spelling.{bit_word, bit_line_words}
 use Rattle.scenario.specs.declared.bit_files.BitLine.{BitLine}
 use Rattle.scenario.specs.declared.bit_files.BitLine.TheVariants as line
@@ -100,6 +100,22 @@ entry_words e = decimal e.process ∷ (access_words e.access ++ flat_map signed_
 -- words, each behind a space
 abbrev pub behind_spaces : List (List ℕ) → List ℕ
 behind_spaces = flat_map (λ w. codes " " ++ w)
+
+-- the text of an access
+abbrev pub access_text : Access → List ℕ
+access_text a = copy_word a ++ (codes " " ++ spaced (move_words a.how))
+
+-- the text of a process and its access
+abbrev pub front_text : ℕ → Option Access → List ℕ
+front_text p access = decimal p ++ behind_spaces (access_words access)
+
+-- the text of marks behind it
+abbrev pub marks_text : List Mark → List ℕ
+marks_text marks = behind_spaces (flat_map signed_words marks)
+
+-- the text of a move behind that of its bit
+abbrev pub move_text : Move → List ℕ
+move_text how = behind_spaces (move_words how)
 
 -- the line of an entry, with its end
 abbrev pub entry_line : Entry → List ℕ

@@ -1,5 +1,6 @@
 -- Which records a file may say as they are printed, and that they are read again.
-use Rattle.std.specs.Prelude.{◌≡◌, ℕ, ◌<◌, ◌≤◌, ◌^◌, true, List, [], ◌++◌, length, flat_map, Ok}
+use Rattle.std.specs.Prelude.{◌≡◌, ◌↔◌, ◌∷◌, ℕ, ◌<◌, ◌≤◌, ◌^◌, true, List, [], ◌++◌, length, flat_map, Ok, IfOk, Result}
+use Rattle.std.specs.Global.{Vec}
 use Rattle.std.specs.List.{AllByRecursion, list_all}
 use Rattle.plain_store.specs.Setups.{checked}
 use Rattle.plain_store.specs.declared.setups.Setup.{Setup}
@@ -11,6 +12,7 @@ use Rattle.scenario.specs.Printing.{spaced}
 use Rattle.scenario.specs.Scripts.{IsScenario}
 use Rattle.record_file.specs.Given.{IsEntry}
 use Rattle.record_file.specs.Printing.{entry_line, entry_words, record_text}
+use Rattle.record_file.specs.Reading.{entry_of}
 use Rattle.record_file.specs.RecordFiles as reader
 
 -- a setup as a scenario may have it: it is good, and its opening pairs are pairs with different names
@@ -30,6 +32,10 @@ FitLines = AllByRecursion FitsLine
 abbrev pub BeginsRecord : Setup → List ℕ → Type 0
 BeginsRecord s text = (entries : List Entry) → FitLines entries → reader.record_of (text ++ flat_map entry_line entries) ≡ Ok (record { setup = s; entries = entries })
 
+-- a call gives such a text, if the setup is good, unless memory is wanting
+abbrev pub GivesBeginning : {E : Type 0} → Result (Vec ℕ) E → Setup → Type 0
+GivesBeginning result s = checked s ≡ Ok tt → IfOk result (λ (text : Vec ℕ). BeginsRecord s text.items)
+
 -- What is printed for a setup and entries whose lines fit is read as that setup and those entries.
 abbrev pub PrintedRecordsAreReadAgain : Type 0
 PrintedRecordsAreReadAgain = (s : Setup) (entries : List Entry) → IsSetupOfFile s → FitLines entries → reader.record_of (record_text s entries) ≡ Ok (record { setup = s; entries = entries })
@@ -42,3 +48,11 @@ RecordsFitLines = (s : Setup) → checked s ≡ Ok tt → (events : List Event) 
 abbrev pub RecordsAreReadAgain : Type 0
 RecordsAreReadAgain = (s : Setup) → IsSetupOfFile s → (events : List Event) → list_all is_event events ≡ true → length events < 2 ^ 64 →
     reader.record_of (record_text s (record_of s events)) ≡ Ok (record { setup = s; entries = record_of s events })
+
+-- What is printed for an entry is read as that entry.
+abbrev pub PrintedEntriesAreReadAgain : Type 0
+PrintedEntriesAreReadAgain = (first : List ℕ) (words : List (List ℕ)) (e : Entry) → IsEntry e → first ∷ words ≡ entry_words e → entry_of first words ≡ Ok e
+
+-- Words are read as an entry exactly if they are those that are printed for it.
+abbrev pub EntriesAreSpelledInOneWay : Type 0
+EntriesAreSpelledInOneWay = (first : List ℕ) (words : List (List ℕ)) (e : Entry) → (entry_of first words ≡ Ok e) ↔ ((first ∷ words ≡ entry_words e) × IsEntry e)

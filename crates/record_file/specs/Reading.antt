@@ -1,5 +1,5 @@
 -- What the words of a line say as an entry, or its first fault in the order of faults.
-use Rattle.std.specs.Prelude.{ℕ, ◌+◌, ◌-◌, ◌^◌, ◌==◌, nat_lt, Bool, not, List, [], ◌∷◌, ◌++◌, length, codes, Option, Some, None, Result, Ok, Err}
+use Rattle.std.specs.Prelude.{ℕ, ◌+◌, ◌-◌, ◌^◌, ◌==◌, nat_lt, Bool, not, List, [], ◌∷◌, ◌++◌, length, codes, Option, Some, None, Result, Ok, Err, ◌≡◌, MatchOption, true}
 use Rattle.std.specs.Borrow.{Bor}
 use Rattle.std.specs.List.{slice_split}
 use Rattle.std.specs.Str.{bytes_eq}
@@ -38,6 +38,10 @@ use Rattle.record_file.specs.declared.keywords.ReplyWord.TheVariants as reply_wo
 -- the parts of a word between its dots
 abbrev pub dotted : List ℕ → List (List ℕ)
 dotted = slice_split (λ b. b == 46)
+
+-- a word has these four parts, or another number of them
+abbrev pub AreFourParts : Option (Bor (List ℕ) × Bor (List ℕ) × Bor (List ℕ) × Bor (List ℕ)) → List ℕ → Type 0
+AreFourParts told word = MatchOption told (not (length (dotted word) == 4) ≡ true) (λ parts. dotted word ≡ parts.0.now ∷ parts.1.now ∷ parts.2.now ∷ parts.3.now ∷ [])
 
 -- the register that the word of a copy names: it has four parts, of which the second is a register's word
 abbrev pub field_at : List (List ℕ) → Result Field FaultKind
@@ -196,6 +200,10 @@ with_mark n before m = both (both before m) (fault_if (not (nat_lt n 3)) Words) 
 abbrev pub marks_read : ℕ → List (List (List ℕ)) → Result (List Mark) FaultKind → Result (List Mark) FaultKind
 marks_read n [] before = before
 marks_read n (part ∷ parts) before = marks_read (n + 1) parts (with_mark n before (mark_of part))
+
+-- the marks of the parts behind an access
+abbrev pub marks_behind : Option (Bor (List (Bor (List ℕ)))) → Result (List Mark) FaultKind
+marks_behind words = marks_read 0 (parts_behind words) (Ok [])
 
 -- an entry of a process, an access and marks
 abbrev pub entry_with : Result ℕ FaultKind → Result (Option Access) FaultKind → Result (List Mark) FaultKind → Result Entry FaultKind

@@ -1,9 +1,9 @@
 //! Reading an access: a copy of a bit, and a move on it.
-ghost use Rattle.std.specs.Prelude.{◌≡◌, ◌∷◌, [], ◌==◌, length, not, true, ◌<◌, IfSome, MatchOption};
+ghost use Rattle.std.specs.Prelude.{◌≡◌, ◌∷◌, [], ◌==◌, length, ◌<◌, IfSome};
 ghost use Rattle.std.specs.Option.{option_map_or};
 ghost use Rattle.std.specs.List.{position};
 ghost use Rattle.files.specs.Words.{texts};
-ghost use Rattle.record_file.specs.Reading.{access_of, dotted, lone_move_of, move_of};
+ghost use Rattle.record_file.specs.Reading.{AreFourParts, access_of, dotted, lone_move_of, move_of};
 
 use crate::keywords::field as field_named;
 use files::FaultKind;
@@ -44,7 +44,7 @@ pub fn access(words: &[&[u8]]) -> Result<Option<Access>, FaultKind>
 
 /// The parts of a word between its dots, if there are four.
 fn dotted_parts(word: &[u8]) -> Option<(&[u8], &[u8], &[u8], &[u8])>
-    ensures { MatchOption result (not (length (dotted word.now) == 4) ≡ true) (λ parts. dotted word.now ≡ parts.0.now ∷ parts.1.now ∷ parts.2.now ∷ parts.3.now ∷ []) }
+    ensures { AreFourParts result word.now }
 {
     let (first, behind) = up_to_dot(word);
     let (second, behind) = up_to_dot(behind?);
@@ -59,7 +59,7 @@ fn dotted_parts(word: &[u8]) -> Option<(&[u8], &[u8], &[u8], &[u8])>
 /// The bytes before the first dot, and those behind it, if there is one.
 #[tactic(auto, using(crate::proofs::Cuts::bytes_cut, crate::proofs::Cuts::bytes_uncut, crate::proofs::Dots::some_part))]
 fn up_to_dot(word: &[u8]) -> (&[u8], Option<&[u8]>)
-    ensures split { dotted word.now ≡ result.0.now ∷ option_map_or (λ rest. dotted rest.now) result.1 [] }
+    ensures split { dotted word.now ≡ result.0.now ∷ option_map_or (λ r. dotted r.now) result.1 [] }
     ensures more { IfSome result.1 (λ rest. 0 < length (dotted rest.now)) }
 {
     match place_of_dot(word) {

@@ -2,7 +2,7 @@
 ghost use Rattle.std.specs.Prelude.{◌≡◌, ◌∷◌, [], ◌+◌, ◌<◌, ◌≤◌, Ok, IfOk, IfSome, length};
 ghost use Rattle.std.specs.List.{position};
 ghost use Rattle.files.specs.Words.{texts};
-ghost use Rattle.record_file.specs.Reading.{entry_of, entry_with, is_sign as sign, marks_read, parts_behind, parts_of, with_mark as one_more};
+ghost use Rattle.record_file.specs.Reading.{entry_of, entry_with, is_sign as sign, marks_behind, parts_behind, parts_of, with_mark as one_more};
 
 use crate::accesses::access;
 use crate::faults::both;
@@ -64,7 +64,7 @@ fn marked_entry(
     access: Result<Option<Access>, FaultKind>,
     signed: Option<&[&[u8]]>,
 ) -> Result<Entry, FaultKind>
-    ensures { result ≡ entry_with process access (marks_read 0 (parts_behind signed.entry) (Ok [])) }
+    ensures { result ≡ entry_with process access (marks_behind signed.entry) }
 {
     let _nested: NestedTypes = None;
     let ((process, access), marks) = both(both(process, access), marks(alloc, signed))?;
@@ -79,7 +79,7 @@ fn marked_entry(
 
 /// The marks behind the first sign, if there is one.
 fn marks(alloc: Global, signed: Option<&[&[u8]]>) -> Result<MarkList, FaultKind>
-    ensures { result ≡ marks_read 0 (parts_behind signed.entry) (Ok []) }
+    ensures { result ≡ marks_behind signed.entry }
 {
     let mut marks = Ok(MarkList {
         read: SmallVec::new(alloc),

@@ -1,12 +1,10 @@
 //! How a record is printed: its head, and then each entry as a line.
-ghost use Rattle.std.specs.Prelude.{◌≡◌, ◌++◌, flat_map, IfOk, Ok, OnOk, true};
-ghost use Rattle.std.specs.Fmt.{decimal};
+ghost use Rattle.std.specs.Prelude.{◌≡◌, ◌++◌, flat_map, IfOk, OnOk, true};
 ghost use Rattle.std.specs.String.{string_bytes};
 ghost use Rattle.scenario.specs.Printing.{printed_line};
-ghost use Rattle.record_file.specs.Printing.{access_words, behind_spaces, entry_line, head_words, signed_words};
-ghost use Rattle.plain_store.specs.Setups.{checked};
+ghost use Rattle.record_file.specs.Printing.{behind_spaces, entry_line, front_text, head_words, marks_text, signed_words};
 ghost use Rattle.record_file.specs.Given.{is_entry};
-ghost use Rattle.record_file.specs.ReadAgain.{BeginsRecord, PrintedRecordsAreReadAgain};
+ghost use Rattle.record_file.specs.ReadAgain.{GivesBeginning, PrintedRecordsAreReadAgain};
 
 use crate::sound::sound_entry;
 use crate::steps::StepLine;
@@ -21,8 +19,8 @@ use std::alloc::{AllocError, Global};
 /// printed for whatever setup and entries that fit is read as these.
 #[tactic(auto, using(crate::proofs::RecordsAgain::record_again))]
 pub fn print_setup(alloc: Global, setup: &Setup) -> Result<Vec<u8>, AllocError>
-    ensures lines { IfOk result (λ bytes. bytes.items ≡ flat_map printed_line (head_words setup.now)) }
-    ensures read_again { checked setup.now ≡ Ok tt → IfOk result (λ bytes. BeginsRecord setup.now bytes.items) }
+    ensures lines { IfOk result (λ b. b.items ≡ flat_map printed_line (head_words setup.now)) }
+    ensures read_again { GivesBeginning result setup.now }
     ensures law { PrintedRecordsAreReadAgain }
 {
     setup.opening.pairs_are_sound();
@@ -47,7 +45,7 @@ pub fn print_entry(alloc: Global, entry: &Entry, text: &mut Vec<u8>) -> Result<(
 /// Writes the words of a process and of its access, if there is one.
 #[tactic(auto, using(crate::proofs::Printed::no_access_is))]
 fn push_words(process: u8, access: &Option<Access>, text: &mut Vec<u8>) -> Result<(), AllocError>
-    ensures { OnOk result (text.new.items ≡ text.old.items ++ (decimal process ++ behind_spaces (access_words access.now))) }
+    ensures { OnOk result (text.new.items ≡ text.old.items ++ front_text process access.now) }
 {
     let Some(access) = access else {
         return text.extend_from_slice(Buffer::new().format(process).as_bytes());
@@ -60,7 +58,7 @@ fn push_words(process: u8, access: &Option<Access>, text: &mut Vec<u8>) -> Resul
 /// Writes the marks, each behind its sign.
 #[tactic(auto, using(crate::proofs::Printed::marks_more))]
 fn push_marks(alloc: Global, marks: &[Mark], line: &mut Vec<u8>) -> Result<(), AllocError>
-    ensures { OnOk result (line.new.items ≡ line.old.items ++ behind_spaces (flat_map signed_words marks.now)) }
+    ensures { OnOk result (line.new.items ≡ line.old.items ++ marks_text marks.now) }
 {
     let _nested: NestedTypes = None;
     for mark in marks {

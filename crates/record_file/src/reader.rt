@@ -62,7 +62,7 @@ impl RecordReader {
 
     /// The entry of the last line, if it is one.
     pub fn last_entry(&self) -> Option<&Entry>
-        ensures { MatchOption result (self.now.entry ≡ None) (λ entry. self.now.entry ≡ Some entry.now) }
+        ensures { MatchOption result (self.now.entry ≡ None) (λ e. self.now.entry ≡ Some e.now) }
     {
         self.entry.as_ref()
     }

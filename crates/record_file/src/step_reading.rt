@@ -3,7 +3,7 @@ ghost use Rattle.std.specs.Prelude.{◌≡◌, ◌+◌, ◌<◌, ◌∷◌, ◌+
 ghost use Rattle.std.specs.Fmt.{decimal};
 ghost use Rattle.scenario.specs.Printing.{spaced};
 ghost use Rattle.record_file.specs.Given.{is_entry};
-ghost use Rattle.record_file.specs.Printing.{copy_word, entry_words, field_word, move_words, step_entry};
+ghost use Rattle.record_file.specs.Printing.{access_text, entry_words, field_word, move_words, step_entry};
 
 use crate::sound::sound_step;
 use record::{Access, Field};
@@ -13,7 +13,7 @@ use safe_bit::Move;
 /// takes no room for words. `None` tells nothing of the line.
 #[tactic(auto, using(crate::proofs::StepWords::line_is))]
 pub fn read_step(line: &[u8]) -> Option<(u8, Access)>
-    ensures line { IfSome result (λ read. line.now ≡ spaced (entry_words (step_entry read.0 read.1))) }
+    ensures line { IfSome result (λ r. line.now ≡ spaced (entry_words (step_entry r.0 r.1))) }
     ensures sound { IfSome result (λ read. is_entry (step_entry read.0 read.1) ≡ true) }
 {
     let (process, behind) = process_before(line, b' ')?;
@@ -25,7 +25,7 @@ pub fn read_step(line: &[u8]) -> Option<(u8, Access)>
 /// The access whose words these bytes are.
 #[tactic(auto, using(crate::proofs::StepWords::access_is))]
 fn access_in(bytes: &[u8]) -> Option<Access>
-    ensures { IfSome result (λ access. bytes.now ≡ copy_word access ++ (codes " " ++ spaced (move_words access.how))) }
+    ensures { IfSome result (λ access. bytes.now ≡ access_text access) }
 {
     let (owner, behind) = process_before(bytes, b'.')?;
     let (field, behind) = field_before_dot(behind)?;

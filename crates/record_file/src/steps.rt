@@ -2,7 +2,7 @@
 //! its own. Its line is written from its end to its front, so that each number and each word ends where a place is known.
 ghost use Rattle.std.specs.Prelude.{◌≡◌, ◌+◌, ◌-◌, ◌≤◌, ◌++◌, ◌∷◌, [], drop, length, Some};
 ghost use Rattle.std.specs.Fmt.{decimal};
-ghost use Rattle.record_file.specs.Printing.{access_words, behind_spaces, dotted_field, entry_line, move_words, step_entry};
+ghost use Rattle.record_file.specs.Printing.{dotted_field, entry_line, front_text, move_text, step_entry};
 
 use itoa::write_digits;
 use record::{Access, Field};
@@ -60,7 +60,7 @@ impl StepLine {
 
     /// Prints its words alone, without the end of the line.
     pub(crate) fn print_words(&mut self, process: u8, access: Access)
-        ensures { self.new ≡ decimal process ++ behind_spaces (access_words (Some access)) }
+        ensures { self.new ≡ front_text process (Some access) }
     {
         self.at = put_words(process, access, &mut self.bytes, ROOM);
     }
@@ -71,7 +71,7 @@ impl StepLine {
 fn put_words(process: u8, access: Access, line: &mut [u8; ROOM], end: usize) -> usize
     requires { (63 ≤ end) × (end ≤ 64) }
     ensures place { result ≤ 64 }
-    ensures line { drop result line.new ≡ (decimal process ++ behind_spaces (access_words (Some access))) ++ drop end line.old }
+    ensures line { drop result line.new ≡ front_text process (Some access) ++ drop end line.old }
 {
     let at = put_move(access.how, line, end);
     let at = put_number(u16::from(access.reader), line, at);
@@ -167,7 +167,7 @@ fn field_count(field: Field) -> usize
 fn put_move(how: Move, line: &mut [u8; ROOM], end: usize) -> usize
     requires { (16 ≤ end) × (end ≤ 64) }
     ensures place { (result ≤ end) × (end ≤ result + 10) }
-    ensures line { drop result line.new ≡ behind_spaces (move_words how) ++ drop end line.old }
+    ensures line { drop result line.new ≡ move_text how ++ drop end line.old }
 {
     put_word(move_word(how), move_count(how), line, end)
 }
@@ -175,7 +175,7 @@ fn put_move(how: Move, line: &mut [u8; ROOM], end: usize) -> usize
 /// The words of a move, each behind a space, as the last of these bytes.
 #[inline(always)]
 fn move_word(how: Move) -> &'static [u8; WIDTH]
-    ensures { drop (16 - length (behind_spaces (move_words how))) result.now ≡ behind_spaces (move_words how) }
+    ensures { drop (16 - length (move_text how)) result.now ≡ move_text how }
 {
     match how {
         Move::BeginWrite(false) => b"         write 0",
@@ -192,7 +192,7 @@ fn move_word(how: Move) -> &'static [u8; WIDTH]
 /// How many bytes they have.
 #[inline(always)]
 fn move_count(how: Move) -> usize
-    ensures count { result ≡ length (behind_spaces (move_words how)) }
+    ensures count { result ≡ length (move_text how) }
     ensures few { result ≤ 10 }
 {
     match how {
