@@ -53,20 +53,6 @@ turns-preserved g c =
           (laws.room_less c.next.new.listener (more + c.next.new.self.left + 1) (more + (c.next.new.self.left + 1)) (omega arith) (room more (c.turns.invariant.room more has)));
     }
 
-pub turns-preserved-in_ok-hear : goal.turns-preserved-in_ok-hear
-turns-preserved-in_ok-hear g c =
-    let laws = g.met.L.Listener in
-    let comes = subst (λ (o : Option Told). (run : Run) → Follows c.turns.self run → ComesTo g.L.Listener.Hears c.turns.self.world.setup c.args.line.now c.turns.self.left run c.turns.listener c.next.new.listener o c.next.new.self) c.in-Some.is c.in_ok-told.ensures.ok in
-    let less = rw c.in-Some.is at c.in_ok-told.ensures.left in
-    let room = rw c.in-Some.is at c.in_ok-told.ensures.room in
-    record {
-      played = λ run follows. played_on g.L.Listener.Hears c.args.self.now.world.setup c.args.line.now run c.args.listener.now c.turns.listener c.next.new.listener c.turns.self c.next.new.self c.turns.invariant.left laws.hears_on
-          c.hear.new.self c.in-Some.told c.history.result.now (c.turns.invariant.played run follows) comes c.history.ensures c.in_ok-hear.ensures.ok;
-      left = omega (arith, less, c.turns.invariant.left);
-      room = λ more has. c.in_ok-hear.ensures.room (more + c.next.new.self.left)
-          (laws.room_less c.next.new.listener (more + c.next.new.self.left + 1) (more + (c.next.new.self.left + 1)) (omega arith) (room more (c.turns.invariant.room more has)));
-    }
-
 pub returns-in_err-hear-clause-cut : goal.returns-in_err-hear-clause-cut
 returns-in_err-hear-clause-cut g c =
     let s = c.args.self.now.world.setup in
