@@ -1,5 +1,7 @@
 use Rattle.std.proofs.Common.{◌≡◌, ℕ, ◌+◌, ◌++◌, List, [], ◌∷◌, ◌∙◌, codes, flat_map, map, ap, refl, subst, sym}
 use Rattle.std.specs.Result.{OnOk}
+use Rattle.std.specs.declared.vec.Vec.{Vec}
+use Rattle.std.specs.declared.alloc.Global.{Global}
 use Rattle.plain_store.specs.declared.setups.Setup.{Setup}
 use Rattle.record.specs.Records.{process_of}
 use Rattle.record.specs.declared.history.Taken.{Taken}
@@ -55,7 +57,7 @@ returns-in_ok-words-in-Shown-clause-ok g c =
     let self = c.args.self.now in
     let store = c.in-Shown.store in
     let words : List ℕ = newest_words store in
-    let is = c.into_bytes.ensures ∙ c.in_ok-words-in-Shown.ensures in
+    let is : c.into_bytes.result.items ≡ words = ap (λ (bytes : Vec ℕ Global). bytes.items) c.into_bytes.ensures.value ∙ c.in_ok-words-in-Shown.ensures in
     subst (λ (t : Told). OnOk c.draw-in-Shown.result ((mode : Mode) (s : Setup) (before : List Happening) (this : Happening) → IsToDraw mode s c.args.taken.now self.summary.events self.changes.store self.overlaps before this t →
     DrawsOn (kept self.page) (kept c.draw-in-Shown.new.self.page) (g.W.Sink.taken c.args.output.now) (g.W.Sink.taken c.draw-in-Shown.new.output) (told_text self.summary.events t) (marks_told t) (given_at mode s self.source before this))) (sym c.in-Shown.is)
     (ok_then c.draw-in-Shown.result
