@@ -35,6 +35,10 @@ checks s =
     ∷ (is_good_opening s.version s.slots s.opening, Opening)
     ∷ []
 
+-- a setup of version 1, which opens without pairs
+abbrev pub version_one : (processes ticket_bits stamp_bits slots : ℕ) → Setup
+version_one processes ticket_bits stamp_bits slots = record { version = 1; processes = processes; ticket_bits = ticket_bits; stamp_bits = stamp_bits; slots = slots; opening = [] }
+
 -- the first field that is out of its range
 abbrev pub checked : Setup → Result (Unit {0}) BadSetup
 checked s = first_fault (checks s)

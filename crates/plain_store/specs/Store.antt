@@ -80,3 +80,15 @@ after s command caller =
 -- A command changes the store exactly if other pairs stand after it, whoever gives it.
 abbrev pub ChangesArePairs : Type 0
 ChangesArePairs = (s : Contents) (command : Command) (caller : Caller) → IsTrue (changes s command) ↔ ((after s command caller).pairs ≢ s.pairs)
+
+-- other pairs stand after a command, whoever gives it
+abbrev pub ChangesPairs : Contents → Command → Type 0
+ChangesPairs s command = pairs_after s command ≢ s.pairs
+
+-- the state with this written
+abbrev pub store_written : Contents → Option (List ℕ) → Option Value → Contents
+store_written s name x = record s { pairs = with_written s.pairs name x }
+
+-- with this as the number of a process
+abbrev pub with_number : ℕ → ℕ → Contents → Contents
+with_number process number s = record s { numbers = slice_set s.numbers process number }

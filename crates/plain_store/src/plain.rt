@@ -1,6 +1,6 @@
-ghost use Rattle.std.specs.Prelude.{◌≡◌, ◌≤◌, nat_lt, length, slice_set, OnOk, OnErr};
+ghost use Rattle.std.specs.Prelude.{◌≡◌, ◌≤◌, nat_lt, length, OnOk, OnErr};
 ghost use Rattle.plain_store.specs.Commands.{name_of};
-ghost use Rattle.plain_store.specs.Store.{empty_store, value_for, with_written};
+ghost use Rattle.plain_store.specs.Store.{empty_store, store_written, value_for, with_number};
 
 use crate::commands::{Caller, Command, Reply, Value};
 use crate::names::Name;
@@ -54,7 +54,7 @@ impl PlainStore {
     }
 
     fn write(&mut self, name: Option<Name>, written: Option<Value>) -> Result<(), AllocError>
-        ensures ok { OnOk result (self.new ≡ record self.old { pairs = with_written self.old.pairs name written }) }
+        ensures ok { OnOk result (self.new ≡ store_written self.old name written) }
         ensures err { OnErr result (self.new ≡ self.old) }
     {
         let Some(value) = written else {
@@ -68,7 +68,7 @@ impl PlainStore {
 
     #[tactic(auto, using(crate::proofs::Numbers::numbers))]
     fn note(&mut self, caller: Caller)
-        ensures { self.new ≡ record self.old { numbers = slice_set self.old.numbers caller.process caller.number } }
+        ensures { self.new ≡ with_number caller.process caller.number self.old }
     {
         if caller.process < self.callers {
             self.last[usize::from(caller.process)] = caller.number;

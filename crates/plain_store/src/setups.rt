@@ -1,5 +1,5 @@
 //! How a world is set up. Versions and ranges are this project's own profile.
-ghost use Rattle.std.specs.Prelude.{◌≡◌, []};
+ghost use Rattle.std.specs.Prelude.{◌≡◌};
 ghost use Rattle.std.specs.Int.{is_in_range};
 
 use crate::openings::Opening;
@@ -40,11 +40,11 @@ pub enum BadSetup {
 }
 
 impl Setup {
-    ghost use Rattle.plain_store.specs.Setups.{checked, callers_of, opening_store};
+    ghost use Rattle.plain_store.specs.Setups.{checked, callers_of, opening_store, version_one};
 
     /// A setup of version 1, whose store opens empty. It may be out of range: `check` tells.
     pub fn one(processes: u8, ticket_bits: u8, stamp_bits: u8, slots: u8) -> Setup
-        ensures { result ≡ record { version = 1; processes = processes; ticket_bits = ticket_bits; stamp_bits = stamp_bits; slots = slots; opening = [] } }
+        ensures { result ≡ version_one processes ticket_bits stamp_bits slots }
     {
         Setup {
             version: 1,

@@ -1,6 +1,6 @@
-ghost use Rattle.std.specs.Prelude.{◌≡◌, ◌≢◌, ◌↔◌, length, IsTrue, IfOk, OnOk, OnErr, Ok, slice_get};
+ghost use Rattle.std.specs.Prelude.{◌≡◌, ◌↔◌, length, IsTrue, IfOk, OnOk, OnErr, Ok, slice_get};
 ghost use Rattle.plain_store.specs.Setups.{checked, callers_of, opening_store};
-ghost use Rattle.plain_store.specs.Store.{Contents, empty_store, reply_to, after, pairs_after, number_of};
+ghost use Rattle.plain_store.specs.Store.{ChangesPairs, Contents, empty_store, reply_to, after, number_of};
 
 use crate::commands::{Caller, Command, Reply, Value};
 use crate::names::Name;
@@ -16,13 +16,13 @@ pub trait Store {
     /// a process that the store has no number for is passed over. Where memory runs out, the store stays as
     /// it was.
     fn apply(&mut self, command: &Command, caller: Caller) -> Result<Reply, AllocError>
-        ensures reply { IfOk result (λ reply. reply ≡ reply_to (contents self.old) command.now caller) }
+        ensures reply { IfOk result (λ r. r ≡ reply_to (contents self.old) command.now caller) }
         ensures ok { OnOk result (contents self.new ≡ after (contents self.old) command.now caller) }
         ensures err { OnErr result (contents self.new ≡ contents self.old) };
 
     /// Whether the command would change the pairs.
     fn would_change(&self, command: &Command) -> bool
-        ensures { IsTrue result ↔ (pairs_after (contents self.now) command.now ≢ (contents self.now).pairs) };
+        ensures { IsTrue result ↔ ChangesPairs (contents self.now) command.now };
 
     /// How many pairs there are.
     fn len(&self) -> usize

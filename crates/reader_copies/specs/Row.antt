@@ -1,6 +1,6 @@
 -- A row of bits, each kept as one copy for each reader: for each reader the list of its copies, bit by bit.
 use Rattle.std.specs.Prelude.{◌≡◌, ℕ, ◌<◌, List, [], ◌∷◌, Bool, false, length, map, replicate, slice_index_or, slice_set}
-use Rattle.safe_bit.specs.Cell.{Cell, new_cell, cell_after, without_read, MayMove}
+use Rattle.safe_bit.specs.Cell.{Cell, new_cell, cell_after, read_answer, without_read, MayMove}
 use Rattle.reader_copies.specs.declared.runs.Made.{Made}
 
 -- the copy of bit k among one reader's copies
@@ -24,6 +24,14 @@ with_cell row bit reader c = slice_set row reader (slice_set (slice_index_or row
 abbrev pub row_after : List (List Cell) → ℕ → Made → List (List Cell)
 row_after row bit made = with_cell row bit made.reader (cell_after (cell_at row bit made.reader) made.how)
 
+-- the row with a reader's open read of a bit dropped
+abbrev pub without_read_at : List (List Cell) → ℕ → ℕ → List (List Cell)
+without_read_at row bit reader = with_cell row bit reader (without_read (cell_at row bit reader))
+
+-- what a read of a copy ends with
+abbrev pub answer_at : List (List Cell) → ℕ → ℕ → Bool → Bool
+answer_at row bit reader flick = read_answer (cell_at row bit reader) flick
+
 -- the access may be made
 pub record CanMake (row : List (List Cell)) (bit : ℕ) (made : Made) : Type 0 where
   pub there : HasCell row bit made.reader
@@ -40,6 +48,10 @@ preset_row row bit v = map (λ copies. slice_set copies bit (new_cell v)) row
 -- no access to any copy of the bit is open
 abbrev pub IsClosed : Cell → Type 0
 IsClosed c = (c.writing ≡ false) × (c.reading ≡ false)
+
+-- no access to a bit is open
+abbrev pub IsClosedBit : List (List Cell) → ℕ → Type 0
+IsClosedBit row bit = (reader : ℕ) → reader < length row → IsClosed (cell_at row bit reader)
 
 -- one bit that opens at v
 abbrev pub new_bit : ℕ → Bool → List (List Cell)

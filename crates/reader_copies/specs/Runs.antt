@@ -1,10 +1,11 @@
 -- The cursors of one bit: how far an access to all its copies has come, and which access comes next.
 use Rattle.std.specs.Prelude.{ℕ, suc, zero, ◌+◌, ◌*◌, ◌/◌, ◌%◌, ◌==◌, ◌-◌, ◌||◌, ◌&&◌, drop, Bool, true, false, if◌then◌else◌, Option, Some, None, unwrap_or, List, [], ◌∷◌}
-use Rattle.safe_bit.specs.Cell.{Cell, read_answer}
+use Rattle.safe_bit.specs.Cell.{Cell, cell_after, read_answer}
 use Rattle.safe_bit.specs.declared.moves.Move.{Move}
 use Rattle.safe_bit.specs.declared.moves.Move.TheVariants.{BeginWrite, EndWrite, BeginRead, EndRead, Settle}
 use Rattle.reader_copies.specs.declared.runs.Made.{Made}
 use Rattle.reader_copies.specs.declared.runs.Progress.{Progress}
+use Rattle.reader_copies.specs.Row.{cell_at}
 use Rattle.reader_copies.specs.declared.runs.Progress.TheVariants.{Going, Done}
 
 -- a write of one bit
@@ -57,6 +58,14 @@ next_read reader r v = record { reader = reader; how = if r.begun then EndRead v
 -- the next access of a copy's reader, as the copy itself tells it: the end of the read that is open, else the begin of one
 abbrev pub read_move : Cell → Bool → Move
 read_move c flick = if c.reading then EndRead (read_answer c flick) else BeginRead
+
+-- the copy after it
+abbrev pub read_on : Cell → Bool → Cell
+read_on c flick = cell_after c (read_move c flick)
+
+-- that access of a reader's copy of a bit
+abbrev pub read_at : List (List Cell) → ℕ → ℕ → Bool → Made
+read_at row bit reader flick = record { reader = reader; how = read_move (cell_at row bit reader) flick }
 
 -- what that access gives: the end what was read, a begin 0
 abbrev pub read_gives : Cell → Bool → Bool

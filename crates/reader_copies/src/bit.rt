@@ -1,6 +1,5 @@
 ghost use Rattle.std.specs.Prelude.{◌≡◌, ℕ, ◌<◌, ◌≤◌, ◌*◌, ◌==◌, true, false, length, None, IfOk};
-ghost use Rattle.safe_bit.specs.Cell.{without_read, read_answer};
-ghost use Rattle.reader_copies.specs.Row.{cell_at, with_cell, row_after, new_bit, HasCell, CanMake};
+ghost use Rattle.reader_copies.specs.Row.{answer_at, cell_at, row_after, without_read_at, new_bit, HasCell, CanMake};
 ghost use Rattle.reader_copies.specs.Runs.{next_write, write_after, next_read, read_after, next_settle, settle_after, settled_at, progress_of};
 
 use crate::row::CopiedRow;
@@ -53,9 +52,9 @@ impl CopiedBit {
         requires going { run.old.value ≡ None }
         requires there { HasCell self.old 0 reader }
         requires turn { (cell_at self.old 0 reader).reading ≡ run.old.begun }
-        ensures made { result.0 ≡ next_read reader run.old (read_answer (cell_at self.old 0 reader) flick) }
+        ensures made { result.0 ≡ next_read reader run.old (answer_at self.old 0 reader flick) }
         ensures row { self.new ≡ row_after self.old 0 result.0 }
-        ensures run { run.new ≡ read_after run.old (read_answer (cell_at self.old 0 reader) flick) }
+        ensures run { run.new ≡ read_after run.old (answer_at self.old 0 reader flick) }
         ensures progress { result.1 ≡ progress_of run.old.begun }
     {
         self.row.read_step(0, reader, run, flick)
@@ -78,7 +77,7 @@ impl CopiedBit {
     pub fn drop_read(&mut self, reader: u8)
         requires there { HasCell self.old 0 reader }
         requires open { (cell_at self.old 0 reader).reading ≡ true }
-        ensures { self.new ≡ with_cell self.old 0 reader (without_read (cell_at self.old 0 reader)) }
+        ensures { self.new ≡ without_read_at self.old 0 reader }
     {
         self.row.drop_read(0, reader);
     }

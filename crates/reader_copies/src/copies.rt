@@ -1,7 +1,7 @@
 ghost use Rattle.std.specs.Prelude.{◌≡◌, ◌<◌, false, length, map, replicate, slice_set, IfOk};
 ghost use Rattle.safe_bit.specs.Cell.{new_cell, cell_after, without_read, read_answer};
 ghost use Rattle.reader_copies.specs.Row.{cell_in};
-ghost use Rattle.reader_copies.specs.Runs.{read_gives, read_move};
+ghost use Rattle.reader_copies.specs.Runs.{read_gives, read_on};
 
 use crate::flag_words::Flags;
 use safe_bit::Move;
@@ -51,7 +51,7 @@ impl Copies {
     #[inline(always)]
     pub fn read_on(&mut self, k: usize, flick: bool) -> bool
         requires { k < length self.old }
-        ensures copies { self.new ≡ slice_set self.old k (cell_after (cell_in self.old k) (read_move (cell_in self.old k) flick)) }
+        ensures copies { self.new ≡ slice_set self.old k (read_on (cell_in self.old k) flick) }
         ensures gives { result ≡ read_gives (cell_in self.old k) flick }
     {
         self.flags[k / 64].read_on(k % 64, flick)

@@ -1,8 +1,8 @@
 //! The flags of sixty-four copies, side by side.
-ghost use Rattle.std.specs.Prelude.{◌≡◌, ◌≢◌, ℕ, ◌<◌, false, not, if◌then◌else◌};
+ghost use Rattle.std.specs.Prelude.{◌≡◌, ◌≢◌, ℕ, ◌<◌, false, not};
 ghost use Rattle.safe_bit.specs.Cell.{cell_after, new_cell, read_answer, without_read};
-ghost use Rattle.reader_copies.specs.Flags.{ChangesAt, SetsFlag, cell_in_flags, flag_in, no_flags};
-ghost use Rattle.reader_copies.specs.Runs.{read_gives, read_move};
+ghost use Rattle.reader_copies.specs.Flags.{ChangesAt, Chooses, SetsFlag, touched_after, cell_in_flags, flag_in, no_flags};
+ghost use Rattle.reader_copies.specs.Runs.{read_gives, read_on};
 
 use safe_bit::Move;
 
@@ -61,7 +61,7 @@ impl Flags {
     #[inline(always)]
     pub fn read_on(&mut self, k: usize, flick: bool) -> bool
         requires { k < 64 }
-        ensures copy { ChangesAt self.old k (cell_after (cell_in_flags self.old k) (read_move (cell_in_flags self.old k) flick)) self.new }
+        ensures copy { ChangesAt self.old k (read_on (cell_in_flags self.old k) flick) self.new }
         ensures gives { result ≡ read_gives (cell_in_flags self.old k) flick }
     {
         let answers = choose(self.touched, all_flags(flick), self.value);
@@ -76,7 +76,7 @@ impl Flags {
     #[inline(always)]
     fn touched_after_read(&self, k: usize) -> u64
         requires { k < 64 }
-        ensures { SetsFlag self.now.touched k (if flag_in self.now.reading k then flag_in self.now.touched k else flag_in self.now.writing k) result }
+        ensures { SetsFlag self.now.touched k (touched_after self.now k) result }
     {
         let begins = clear_at(self.reading, k);
         choose(begins, self.writing, self.touched)
@@ -175,7 +175,7 @@ fn clear_at(word: u64, k: usize) -> u64
 /// The bits of `ones` where `among` has a 1, and those of `zeros` where it has a 0.
 #[inline(always)]
 fn choose(among: u64, ones: u64, zeros: u64) -> u64
-    ensures { (i : ℕ) → flag_in result i ≡ (if flag_in among i then flag_in ones i else flag_in zeros i) }
+    ensures { Chooses among ones zeros result }
 {
     zeros ^ ((zeros ^ ones) & among)
 }

@@ -1,7 +1,6 @@
 ghost use Rattle.std.specs.Prelude.{◌≡◌, ℕ, ◌<◌, ◌≤◌, ◌*◌, ◌==◌, true, false, length, None, IfOk};
-ghost use Rattle.safe_bit.specs.Cell.{without_read, read_answer};
-ghost use Rattle.reader_copies.specs.Row.{cell_at, with_cell, row_after, new_row, preset_row, without_reads, HasCell, CanMake, HaveOneShape, IsClosed};
-ghost use Rattle.reader_copies.specs.Runs.{next_write, write_after, next_read, read_after, read_gives, read_move, next_settle, settle_after, settled_at, progress_of};
+ghost use Rattle.reader_copies.specs.Row.{answer_at, cell_at, row_after, without_read_at, new_row, preset_row, without_reads, HasCell, CanMake, HaveOneShape, IsClosedBit};
+ghost use Rattle.reader_copies.specs.Runs.{next_write, write_after, next_read, read_after, read_at, read_gives, next_settle, settle_after, settled_at, progress_of};
 
 use crate::copies::Copies;
 use crate::runs::{CopyRead, CopyWrite, Made, Progress, Torn};
@@ -63,7 +62,7 @@ impl CopiedRow {
     #[inline]
     pub fn answer(&self, bit: u16, reader: u8, flick: bool) -> bool
         requires { HasCell self.now bit reader }
-        ensures { result ≡ read_answer (cell_at self.now bit reader) flick }
+        ensures { result ≡ answer_at self.now bit reader flick }
     {
         self.copies[reader as usize].answer(bit as usize, flick)
     }
@@ -73,7 +72,7 @@ impl CopiedRow {
     #[inline(always)]
     pub fn read_on(&mut self, bit: u16, reader: u8, flick: bool) -> bool
         requires there { HasCell self.old bit reader }
-        ensures row { self.new ≡ row_after self.old bit (record { reader = reader; how = read_move (cell_at self.old bit reader) flick }) }
+        ensures row { self.new ≡ row_after self.old bit (read_at self.old bit reader flick) }
         ensures gives { result ≡ read_gives (cell_at self.old bit reader) flick }
     {
         self.copies[reader as usize].read_on(bit as usize, flick)
@@ -107,9 +106,9 @@ impl CopiedRow {
         requires going { run.old.value ≡ None }
         requires there { HasCell self.old bit reader }
         requires turn { (cell_at self.old bit reader).reading ≡ run.old.begun }
-        ensures made { result.0 ≡ next_read reader run.old (read_answer (cell_at self.old bit reader) flick) }
+        ensures made { result.0 ≡ next_read reader run.old (answer_at self.old bit reader flick) }
         ensures row { self.new ≡ row_after self.old bit result.0 }
-        ensures run { run.new ≡ read_after run.old (read_answer (cell_at self.old bit reader) flick) }
+        ensures run { run.new ≡ read_after run.old (answer_at self.old bit reader flick) }
         ensures progress { result.1 ≡ progress_of run.old.begun }
     {
         let value = self.answer(bit, reader, flick);
@@ -148,7 +147,7 @@ impl CopiedRow {
     pub fn drop_read(&mut self, bit: u16, reader: u8)
         requires there { HasCell self.old bit reader }
         requires open { (cell_at self.old bit reader).reading ≡ true }
-        ensures { self.new ≡ with_cell self.old bit reader (without_read (cell_at self.old bit reader)) }
+        ensures { self.new ≡ without_read_at self.old bit reader }
     {
         self.copies[reader as usize].drop_read(bit as usize);
     }
@@ -173,7 +172,7 @@ impl CopiedRow {
     /// Sets all copies of a bit to `value`, while no access to it is open.
     pub fn preset(&mut self, bit: u16, value: bool)
         requires there { (reader : ℕ) → reader < length self.old → HasCell self.old bit reader }
-        requires closed { (reader : ℕ) → reader < length self.old → IsClosed (cell_at self.old bit reader) }
+        requires closed { IsClosedBit self.old bit }
         ensures { self.new ≡ preset_row self.old bit value }
     {
         for reader in 0..self.copies.len() {

@@ -3,9 +3,9 @@ use Rattle.std.specs.Prelude.{◌≢◌, ℕ, ◌<◌, Bool, List, [], ◌∷◌
 use Rattle.reader_copies.specs.safe_bit.Cell.{Cell}
 use Rattle.reader_copies.specs.Histories.{RowCall, MakesAt, DropsAt, row_after_call, IsReadCall}
 use Rattle.reader_copies.specs.Row.{row_after}
-use Rattle.reader_copies.specs.Runs.{Settling, next_write, next_read, next_settle, settle_after, settled_at}
-use Rattle.safe_number.specs.Runs.{NumberWrite, NumberRead, bit_write, number_write_after, bit_read, number_read_after}
-use Rattle.safe_number.specs.Written.{loaded}
+use Rattle.reader_copies.specs.Runs.{Settling, next_settle, settle_after, settled_at}
+use Rattle.safe_number.specs.Runs.{NumberWrite, NumberRead, number_write_after, number_read_after, register_written}
+use Rattle.safe_number.specs.Written.{loaded, register_read}
 
 -- a moment of an interval: the access's own next step, with the bit that is handed in, or a call of somebody else
 pub data Moment : Type 0 where
@@ -19,7 +19,7 @@ pub record WriteState : Type 0 where
 
 -- after one moment of a write
 abbrev pub write_moment : List ℕ → WriteState → Moment → WriteState
-write_moment value s (Own x) = record { row = row_after s.row s.run.bit (next_write (bit_write value s.run)); run = number_write_after (length s.row) value s.run }
+write_moment value s (Own x) = record { row = register_written s.row value s.run; run = number_write_after (length s.row) value s.run }
 write_moment value s (Other call) = record { row = row_after_call s.row call; run = s.run }
 
 -- after these moments, the newest first
@@ -76,7 +76,7 @@ pub record ReadState : Type 0 where
 -- after one moment of a reader's read
 abbrev pub read_moment : ℕ → ReadState → Moment → ReadState
 read_moment reader s (Own flick) = record {
-  row = row_after s.row (length s.run.bits) (next_read reader (bit_read s.run) (loaded s.row reader s.run flick));
+  row = register_read s.row reader s.run flick;
   run = number_read_after s.run (loaded s.row reader s.run flick);
 }
 read_moment reader s (Other call) = record { row = row_after_call s.row call; run = s.run }

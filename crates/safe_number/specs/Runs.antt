@@ -1,8 +1,9 @@
 -- The cursors of a register: how far a write or a read of it has come, and which access comes next.
-use Rattle.std.specs.Prelude.{ℕ, ◌+◌, Bool, false, not, if◌then◌else◌, Option, Some, None, unwrap_or, List, [], ◌∷◌, ◌++◌, map, length}
+use Rattle.std.specs.Prelude.{ℕ, ◌+◌, ◌*◌, ◌<◌, Bool, false, not, if◌then◌else◌, Option, Some, None, unwrap_or, List, [], ◌∷◌, ◌++◌, map, length}
 use Rattle.std.specs.List.{range_with_len}
 use Rattle.reader_copies.specs.safe_bit.Cell.{Cell, new_cell}
 use Rattle.reader_copies.specs.declared.Made.{Made}
+use Rattle.reader_copies.specs.Row.{row_after}
 use Rattle.reader_copies.specs.Runs.{Writing, Reading, Settling, next_write, write_after, next_read, torn_of}
 use Rattle.safe_number.specs.Bytes.{bit_in}
 
@@ -33,6 +34,14 @@ bit_write value w = unwrap_or w.run (record { value = bit_in value w.bit; made =
 -- the next access of a write of a value: its bit, and what is made of it
 abbrev pub next_of_write : List ℕ → NumberWrite → ℕ × Made
 next_of_write value w = (w.bit, next_write (bit_write value w))
+
+-- its next access is there, with so many copies of each bit
+abbrev pub IsGoing : List ℕ → NumberWrite → ℕ → Type 0
+IsGoing value w readers = w.bit < w.width × (bit_write value w).made < 2 * readers
+
+-- the register after it
+abbrev pub register_written : List (List Cell) → List ℕ → NumberWrite → List (List Cell)
+register_written row value w = row_after row w.bit (next_write (bit_write value w))
 
 -- the write once its present bit has come so far
 abbrev pub write_on : NumberWrite → Writing → NumberWrite

@@ -2,11 +2,12 @@
 use Rattle.std.specs.Prelude.{◌≡◌, ◌≢◌, ℕ, ◌*◌, ◌<◌, ◌≤◌, List, Bool, true, false, length, map}
 use Rattle.std.specs.List.{range_with_len}
 use Rattle.reader_copies.specs.safe_bit.Cell.{Cell, read_answer}
-use Rattle.reader_copies.specs.Row.{cell_at, HasCell, IsRow}
-use Rattle.reader_copies.specs.Runs.{Settling, settled_at}
+use Rattle.reader_copies.specs.declared.Made.{Made}
+use Rattle.reader_copies.specs.Row.{cell_at, row_after, HasCell, IsClosed, IsRow}
+use Rattle.reader_copies.specs.Runs.{Settling, next_read, settled_at}
 use Rattle.reader_copies.specs.Written.{IsPartlyWritten, IsPartlySettled}
 use Rattle.safe_number.specs.Bytes.{bit_in}
-use Rattle.safe_number.specs.Runs.{NumberWrite, NumberRead, bit_write}
+use Rattle.safe_number.specs.Runs.{NumberWrite, NumberRead, bit_read, bit_write}
 
 -- a write of a value over old bits has come so far
 pub record IsWriting (row : List (List Cell)) (old : ℕ → Bool) (value : List ℕ) (w : NumberWrite) : Type 0 where
@@ -40,3 +41,15 @@ pub record IsUndisturbed (row : List (List Cell)) (v : ℕ → Bool) (reader : �
 -- what the present bit's read would end with
 abbrev pub loaded : List (List Cell) → ℕ → NumberRead → Bool → Bool
 loaded row reader r flick = read_answer (cell_at row (length r.bits) reader) flick
+
+-- the next access of a read, by what the present bit's would end with
+abbrev pub read_made : List (List Cell) → ℕ → NumberRead → Bool → Made
+read_made row reader r flick = next_read reader (bit_read r) (loaded row reader r flick)
+
+-- the register after it
+abbrev pub register_read : List (List Cell) → ℕ → NumberRead → Bool → List (List Cell)
+register_read row reader r flick = row_after row (length r.bits) (read_made row reader r flick)
+
+-- no access to any bit is open
+abbrev pub AreClosed : List (List Cell) → Type 0
+AreClosed row = (bit reader : ℕ) → HasCell row bit reader → IsClosed (cell_at row bit reader)

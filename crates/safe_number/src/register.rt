@@ -1,10 +1,10 @@
 ghost use Rattle.std.specs.Prelude.{◌≡◌, ℕ, ◌<◌, ◌≤◌, ◌*◌, ◌==◌, ◌↔◌, false, length, IfOk, IsErrOf, slice_index_or, []};
 ghost use Rattle.reader_copies.specs.safe_bit.Cell.{read_answer};
-ghost use Rattle.reader_copies.specs.Row.{cell_at, row_after, new_row, without_reads, HasCell, CanMake, HaveOneShape, IsClosed};
-ghost use Rattle.reader_copies.specs.Runs.{next_write, next_read, next_settle, settle_after, settled_at, progress_of};
+ghost use Rattle.reader_copies.specs.Row.{cell_at, row_after, new_row, without_reads, HasCell, CanMake, HaveOneShape};
+ghost use Rattle.reader_copies.specs.Runs.{next_write, next_settle, settle_after, settled_at, progress_of};
 ghost use Rattle.safe_number.specs.Bytes.{IsBadWidth};
-ghost use Rattle.safe_number.specs.Runs.{bit_write, number_write_after, bit_read, number_read_after, preset_number};
-ghost use Rattle.safe_number.specs.Written.{loaded};
+ghost use Rattle.safe_number.specs.Runs.{IsGoing, bit_write, number_write_after, number_read_after, preset_number, register_written};
+ghost use Rattle.safe_number.specs.Written.{AreClosed, loaded, read_made, register_read};
 
 use crate::bytes;
 use crate::fault::NumberFault;
@@ -87,7 +87,7 @@ impl Register {
     /// reader in all.
     #[inline]
     pub fn write_step(&mut self, run: &mut WriteRun, value: &[u8]) -> (u16, Made, Progress)
-        requires going { run.old.bit < run.old.width × (bit_write value.now run.old).made < 2 * length self.old }
+        requires going { IsGoing value.now run.old (length self.old) }
         requires value { run.old.width ≤ 8 * length value.now }
         requires can { CanMake self.old run.old.bit (next_write (bit_write value.now run.old)) }
         ensures bit { result.0 ≡ run.old.bit }
@@ -110,7 +110,7 @@ impl Register {
         requires there { HasCell self.old (length run.old.bits) reader }
         requires turn { (cell_at self.old (length run.old.bits) reader).reading ≡ run.old.begun }
         ensures bit { result.0 ≡ length run.old.bits }
-        ensures made { result.1 ≡ next_read reader (bit_read run.old) (loaded self.old reader run.old flick) }
+        ensures made { result.1 ≡ read_made self.old reader run.old flick }
         ensures register { self.new ≡ row_after self.old result.0 result.1 }
         ensures run { run.new ≡ number_read_after run.old (loaded self.old reader run.old flick) }
         ensures progress { result.2 ≡ progress_of (length run.new.bits == run.new.width) }
@@ -125,11 +125,11 @@ impl Register {
     /// write goes on as of a register with copies for `readers` readers.
     #[inline(always)]
     pub fn write_on(&mut self, readers: u8, run: &mut WriteRun, value: &[u8])
-        requires going { run.old.bit < run.old.width × (bit_write value.now run.old).made < 2 * readers }
+        requires going { IsGoing value.now run.old readers }
         requires readers { readers ≤ 16 }
         requires value { run.old.bit < 8 * length value.now }
         requires can { CanMake self.old run.old.bit (next_write (bit_write value.now run.old)) }
-        ensures register { self.new ≡ row_after self.old run.old.bit (next_write (bit_write value.now run.old)) }
+        ensures register { self.new ≡ register_written self.old value.now run.old }
         ensures run { run.new ≡ number_write_after readers value.now run.old }
     {
         let (bit, made) = run.next(value);
@@ -144,7 +144,7 @@ impl Register {
         requires going { length run.old.bits < run.old.width }
         requires there { HasCell self.old (length run.old.bits) reader }
         requires turn { (cell_at self.old (length run.old.bits) reader).reading ≡ run.old.begun }
-        ensures register { self.new ≡ row_after self.old (length run.old.bits) (next_read reader (bit_read run.old) (loaded self.old reader run.old flick)) }
+        ensures register { self.new ≡ register_read self.old reader run.old flick }
         ensures run { run.new ≡ number_read_after run.old (loaded self.old reader run.old flick) }
     {
         match pace {
@@ -162,7 +162,7 @@ impl Register {
         requires going { length run.old.bits < run.old.width }
         requires there { HasCell self.old (length run.old.bits) reader }
         requires turn { (cell_at self.old (length run.old.bits) reader).reading ≡ run.old.begun }
-        ensures register { self.new ≡ row_after self.old (length run.old.bits) (next_read reader (bit_read run.old) (loaded self.old reader run.old flick)) }
+        ensures register { self.new ≡ register_read self.old reader run.old flick }
         ensures run { run.new ≡ number_read_after run.old (loaded self.old reader run.old flick) }
     {
         let bit = run.bit();
@@ -215,7 +215,7 @@ impl Register {
     /// Sets all copies of all bits to those of `value`, while no access is open.
     pub fn preset(&mut self, value: &[u8])
         requires value { length (slice_index_or self.old 0 []) ≤ 8 * length value.now }
-        requires closed { (bit reader : ℕ) → HasCell self.old bit reader → IsClosed (cell_at self.old bit reader) }
+        requires closed { AreClosed self.old }
         ensures { self.new ≡ preset_number self.old value.now }
     {
         for k in 0..self.width {

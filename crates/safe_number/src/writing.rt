@@ -1,6 +1,6 @@
 ghost use Rattle.std.specs.Prelude.{◌≡◌, ◌<◌, ◌≤◌, ◌+◌, ◌-◌, ◌*◌, ◌==◌, length};
 ghost use Rattle.reader_copies.specs.Runs.{progress_of};
-ghost use Rattle.safe_number.specs.Runs.{NumberWrite, bit_write, next_of_write, number_write_after, new_write, torn_bit};
+ghost use Rattle.safe_number.specs.Runs.{IsGoing, NumberWrite, bit_write, next_of_write, number_write_after, new_write, torn_bit};
 
 use crate::bytes;
 use reader_copies::{CopyWrite, Made, Progress, Torn};
@@ -68,7 +68,7 @@ impl WriteRun {
     /// bits have ended on every copy.
     #[inline]
     pub fn advance(&mut self, readers: u8, value: &[u8]) -> Progress
-        requires going { self.old.bit < self.old.width × (bit_write value.now self.old).made < 2 * readers }
+        requires going { IsGoing value.now self.old readers }
         requires readers { readers ≤ 16 }
         requires value { self.old.bit < 8 * length value.now }
         ensures run { self.new ≡ number_write_after readers value.now self.old }

@@ -1,5 +1,5 @@
 -- Which bytes are an image, what refuses the others, and the store that bytes stand for.
-use Rattle.std.specs.Prelude.{◌≡◌, ℕ, zero, suc, ◌+◌, ◌-◌, ◌*◌, ◌/◌, ◌<◌, ◌==◌, Bool, true, false, not, ◌&&◌, ◌||◌, List, length, take, drop, if◌then◌else◌}
+use Rattle.std.specs.Prelude.{◌≡◌, ℕ, zero, suc, ◌+◌, ◌-◌, ◌*◌, ◌/◌, ◌<◌, ◌==◌, Bool, true, false, not, ◌&&◌, ◌||◌, List, length, take, drop, if◌then◌else◌, ◌≤◌, Option, Some, None}
 use Rattle.std.specs.Int.{is_in_range}
 use Rattle.std.specs.List.{list_all, list_any}
 use Rattle.std.specs.Str.{bytes_eq}
@@ -22,6 +22,10 @@ slot_count callers n = (n - 2 * callers) / 23
 -- whether the length less 2 times the callers is 23 times 1 to 8
 abbrev pub is_length : ℕ → ℕ → Bool
 is_length callers n = is_in_range 1 8 (slot_count callers n) && (n == 23 * slot_count callers n + 2 * callers)
+
+-- how many slots there are, if the length is that of an image
+abbrev pub slots_if_length : ℕ → ℕ → Option ℕ
+slots_if_length callers n = if is_length callers n then Some (slot_count callers n) else None
 
 -- whether one of the slots has the name
 abbrev pub have_name : List (List ℕ) → List ℕ → Bool
@@ -65,3 +69,7 @@ unfoldable pub store_in : ℕ → ℕ → List ℕ → Contents
 store_in slots callers bytes =
     let s = store_read (used_in slots bytes) slots callers bytes in
     if has_image s bytes then s else empty_store slots callers
+
+-- these bytes say a store without pairs, of however many slots
+abbrev pub SaysNothing : ℕ → List ℕ → Type 0
+SaysNothing callers bytes = (slots : ℕ) → 1 ≤ slots → slots ≤ 8 → store_in slots callers bytes ≡ empty_store slots callers

@@ -1,14 +1,14 @@
 //! A store that works in place on the bytes of its image.
-ghost use Rattle.std.specs.Prelude.{◌≡◌, ◌≤◌, ◌<◌, nat_lt, length, slice_get, slice_set, IsTrue, IsSome, nat_eq, IsOk, IfOk, IfErr, OnOk, OnErr, ℕ, ◌↔◌, option_map};
+ghost use Rattle.std.specs.Prelude.{◌≡◌, ◌≤◌, ◌<◌, nat_lt, length, slice_get, IsTrue, IsSome, nat_eq, IsOk, IfOk, IfErr, OnOk, OnErr, ◌↔◌, option_map};
 ghost use Rattle.std.specs.Cmp.{partial_equiv_from_equiv};
 ghost use Rattle.std.specs.Cmp.Lexicographic.{pointwise, on_texts_equal};
 ghost use Rattle.std.specs.Ordering.{on};
 ghost use Rattle.plain_store.specs.Commands.{name_of};
 ghost use Rattle.store_image.specs.Image.{image_of, IsStore, number_bytes, number_in};
 ghost use Rattle.store_image.specs.Placing.{place_of, place_for};
-ghost use Rattle.store_image.specs.Reading.{IsImageOf, IsFault, store_in};
+ghost use Rattle.store_image.specs.Reading.{IsImageOf, IsFault, SaysNothing, store_in};
 ghost use Rattle.store_image.specs.Slots.{is_used, pair_in};
-ghost use Rattle.plain_store.specs.Store.{Contents, empty_store, put, value_for, with_written, reply_to, after};
+ghost use Rattle.plain_store.specs.Store.{Contents, empty_store, put, value_for, with_number, with_written, reply_to, after};
 
 use crate::rules;
 use crate::slots::{self, SLOT_BYTES};
@@ -86,7 +86,7 @@ impl Image {
         ensures store { IfOk result (λ s. IsImageOf callers bytes.now s) }
         ensures fault { IfErr result (λ fault. IsFault callers bytes.now fault) }
         ensures known { IfOk result (λ s. s ≡ store_in s.slots callers bytes.now) }
-        ensures unknown { OnErr result ((slots : ℕ) → 1 ≤ slots → slots ≤ 8 → store_in slots callers bytes.now ≡ empty_store slots callers) }
+        ensures unknown { OnErr result (SaysNothing callers bytes.now) }
         ensures faultless { IsOk result ↔ ((fault : BadImage) → ¬ IsFault callers bytes.now fault) }
     {
         let Some(slots) = rules::slot_count(bytes.len(), callers) else {
@@ -189,7 +189,7 @@ impl Image {
 
     fn set_number(&mut self, process: u8, number: u16)
         requires { process < length self.old.numbers }
-        ensures { self.new ≡ record self.old { numbers = slice_set self.old.numbers process number } }
+        ensures { self.new ≡ with_number process number self.old }
     {
         let at = SLOT_BYTES * usize::from(self.slots) + NUMBER_BYTES * usize::from(process);
         self.bytes[at..at + NUMBER_BYTES].copy_from_slice(&number_bytes(number));
@@ -208,7 +208,7 @@ impl Image {
     }
 
     fn note(&mut self, caller: Caller)
-        ensures { self.new ≡ record self.old { numbers = slice_set self.old.numbers caller.process caller.number } }
+        ensures { self.new ≡ with_number caller.process caller.number self.old }
     {
         if caller.process < self.callers {
             self.set_number(caller.process, caller.number);

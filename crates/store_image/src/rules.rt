@@ -1,13 +1,13 @@
 //! The rules that the slots of an image follow.
-ghost use Rattle.std.specs.Prelude.{◌≡◌, ◌≤◌, ◌<◌, ◌+◌, ◌*◌, ℕ, length, IfSome, IfNone, Some, None, true, if◌then◌else◌};
+ghost use Rattle.std.specs.Prelude.{◌≡◌, ◌≤◌, ◌<◌, ◌+◌, ◌*◌, ℕ, length, IfSome, IfNone, true};
 ghost use Rattle.store_image.specs.Image.{rows};
-ghost use Rattle.store_image.specs.Reading.{slot_count, is_length, slot_in, have_name, follows_rules, IsFirstBad, used_in};
+ghost use Rattle.store_image.specs.Reading.{slots_if_length, slot_in, have_name, follows_rules, IsFirstBad, used_in};
 
 use crate::slots::{self, SLOT_BYTES};
 
 /// How many slots an image of so many bytes has, if there is one.
 pub fn slot_count(length: usize, callers: u8) -> Option<u8>
-    ensures { result ≡ (if is_length callers length then Some (slot_count callers length) else None) }
+    ensures { result ≡ slots_if_length callers length }
 {
     let numbers = 2 * usize::from(callers);
     let slots = length.saturating_sub(numbers) / SLOT_BYTES;
