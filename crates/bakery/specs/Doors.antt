@@ -16,7 +16,7 @@ use Rattle.record.specs.declared.Stage.TheVariants as stage
 use Rattle.record.specs.Cuts.{torn_run}
 use Rattle.record.specs.Moves.{ended_with}
 use Rattle.record.specs.Parts as part
-use Rattle.record.specs.Parts.{Part, is_read, is_over, read_at, written_at}
+use Rattle.record.specs.Parts.{Part, is_read, is_over}
 use Rattle.record.specs.Places.{Run, Writing, Reading, Place, bit_written, new_run, access_at, marks_of, place_of, place_after, stage_at, value_of}
 use Rattle.record.specs.Program.{greatest, max_of, first_full}
 use Rattle.record.specs.Registers.{width}
@@ -26,7 +26,7 @@ use Rattle.bakery.specs.declared.progress.DoorProgress.TheVariants as told
 use Rattle.bakery.specs.declared.standing.DoorPart.{DoorPart}
 use Rattle.bakery.specs.declared.standing.DoorPart.TheVariants.{Away, Raises, Asks, TakesTicket, Lowers, Refuses, AwaitsChoosing, AwaitsTicket}
 use Rattle.bakery.specs.Locks.{LockRows, answered, row_in, lock_of, locks_after, locks_without_reads}
-use Rattle.bakery.specs.Standings.{part_of}
+use Rattle.bakery.specs.Standings.{part_of, read_by}
 
 -- what a door keeps: which number access it stands for, and how far that has come
 pub record DoorState : Type 0 where
@@ -97,7 +97,7 @@ torn_of d = torn_run (call_of d.setup d.process) (part_of d.standing) d.run
 
 -- the register that the door reads, if it reads one
 abbrev pub read_of : DoorState → Option (ℕ × Field)
-read_of d = cond (is_read (part_of d.standing)) (Some (read_at (call_of d.setup d.process) (part_of d.standing))) None
+read_of d = read_by (call_of d.setup d.process) d.standing
 
 -- the reader of that register is there, so that its open read can be dropped
 abbrev pub MayDrop : DoorState → List LockRows → Type 0

@@ -1,8 +1,8 @@
 -- The locks of all processes: their registers, and what one access makes of them.
 use Rattle.std.specs.Prelude.{◌≡◌, ℕ, ◌<◌, Bool, List, [], length, replicate, slice_index_or, slice_set}
-use Rattle.reader_copies.specs.safe_bit.Cell.{Cell, read_answer}
+use Rattle.reader_copies.specs.safe_bit.Cell.{Cell}
 use Rattle.reader_copies.specs.declared.Made.{Made}
-use Rattle.reader_copies.specs.Row.{cell_at, row_after, without_reads, new_row, CanMake, HaveOneShape}
+use Rattle.reader_copies.specs.Row.{answer_at, row_after, without_reads, new_row, CanMake, HasCell, HaveOneShape}
 use Rattle.record.specs.declared.access.Access.{Access}
 use Rattle.record.specs.declared.access.Field.{Field}
 use Rattle.record.specs.declared.access.Field.TheVariants.{Choosing, Ticket}
@@ -59,19 +59,25 @@ lock_of locks p = slice_index_or locks p no_lock
 abbrev pub locks_after : List LockRows → Access → List LockRows
 locks_after locks a = slice_set locks a.owner (lock_after (lock_of locks a.owner) a)
 
+-- the copy of an access is there
+abbrev pub HasCopy : List LockRows → Access → Type 0
+HasCopy locks a = HasCell (row_in (lock_of locks a.owner) a.field) a.bit a.reader
+
 -- what the end of a read of the bit of an access gives
 abbrev pub answer_to : List LockRows → Access → Bool → Bool
-answer_to locks a flick = read_answer (cell_at (row_in (lock_of locks a.owner) a.field) a.bit a.reader) flick
+answer_to locks a flick = answer_at (row_in (lock_of locks a.owner) a.field) a.bit a.reader flick
 
 -- the access, a read's end with what it gives
 abbrev pub answered : List LockRows → Bool → Access → Access
 answered locks flick a = ended_with (answer_to locks a flick) a
 
--- the locks with each open read of a process's register by a reader dropped
+-- the lock with each open read of a register by a reader dropped
+abbrev pub lock_without_reads : LockRows → Field → ℕ → LockRows
+lock_without_reads lock field reader = with_row lock field (without_reads (row_in lock field) reader)
+
+-- the locks with those of a process's register dropped
 abbrev pub locks_without_reads : List LockRows → ℕ → Field → ℕ → List LockRows
-locks_without_reads locks p field reader =
-    let lock = lock_of locks p in
-    slice_set locks p (with_row lock field (without_reads (row_in lock field) reader))
+locks_without_reads locks p field reader = slice_set locks p (lock_without_reads (lock_of locks p) field reader)
 
 -- two locks of one shape: their registers have as many readers and bits
 pub record AreAlike (lock other : LockRows) : Type 0 where

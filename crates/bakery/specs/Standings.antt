@@ -1,10 +1,12 @@
 -- How a process goes through the door, by what it keeps: not the numbers that it has read, but the greatest of them and the lowest full process.
 use Rattle.std.specs.Prelude.{ℕ, ◌+◌, ◌==◌, ◌||◌, nat_lt, max, cond, Option, None, Some, unwrap_or, []}
+use Rattle.plain_store.specs.declared.Setup.{Setup}
 use Rattle.record.specs.declared.access.Field.{Field}
 use Rattle.record.specs.declared.access.Field.TheVariants.{Choosing, Ticket}
 use Rattle.record.specs.Parts as part
-use Rattle.record.specs.Parts.{Part}
+use Rattle.record.specs.Parts.{Part, is_read, read_at}
 use Rattle.record.specs.Program.{max_of, is_below}
+use Rattle.record.specs.Scripts.{Call}
 use Rattle.bakery.specs.declared.progress.DoorProgress.{DoorProgress}
 use Rattle.bakery.specs.declared.progress.DoorProgress.TheVariants as told
 use Rattle.bakery.specs.declared.standing.DoorPart.{DoorPart}
@@ -20,6 +22,10 @@ part_of (Lowers t) = part.Lowers t
 part_of (Refuses full) = part.Refuses full
 part_of (AwaitsChoosing t j) = part.Waits t (j, Choosing) []
 part_of (AwaitsTicket t j) = part.Waits t (j, Ticket) []
+
+-- the register that is read, if one is
+abbrev pub read_by : Call → DoorPart → Option (ℕ × Field)
+read_by c standing = cond (is_read (part_of standing)) (Some (read_at c (part_of standing))) None
 
 -- the first process from k on that is not p, of n
 abbrev pub other_from : ℕ → ℕ → ℕ → Option ℕ
@@ -56,6 +62,10 @@ standing_after n bits p (Lowers t) v = await t (other_from n p 0)
 standing_after n bits p (Refuses full) v = Away
 standing_after n bits p (AwaitsChoosing t j) v = cond (v == 0) (AwaitsTicket t j) (AwaitsChoosing t j)
 standing_after n bits p (AwaitsTicket t j) v = cond ((v == 0) || is_below t p v j) (await t (other_from n p (j + 1))) (AwaitsTicket t j)
+
+-- the same, in a setup
+abbrev pub standing_then : Setup → ℕ → DoorPart → ℕ → DoorPart
+standing_then s p standing v = standing_after s.processes s.ticket_bits p standing v
 
 -- the own register that is written, and its new number, where none is read
 abbrev pub number_written : DoorPart → Field × ℕ

@@ -1,13 +1,10 @@
-ghost use Rattle.std.specs.Prelude.{◌≡◌, ◌<◌, List, [], ◌∷◌, true, false, Ok, IfOk, IfSome};
-ghost use Rattle.record.specs.declared.access.Access.{Access};
-ghost use Rattle.record.specs.declared.access.Field.TheVariants.{Ticket};
+ghost use Rattle.std.specs.Prelude.{◌≡◌, ◌<◌, true, Ok, IfOk, IfSome};
 ghost use Rattle.plain_store.specs.Setups.{checked};
-ghost use Rattle.record.specs.Cuts.{torn_at, IsTornOf};
-ghost use Rattle.record.specs.Moves.{ended_with};
-ghost use Rattle.record.specs.Places.{place_of, place_after, stage_at, marks_of, value_of};
-ghost use Rattle.record.specs.Scripts.{Call};
-ghost use Rattle.bakery.specs.Doors.{door_at, new_door, IsDoorAfter, next_after, bits_within, is_going, is_waiting, next_of, GoesOnWithin, read_of, torn_of, IsNamed, progress_at, marks_told, MayDrop, dropped, goes_on, tells_wait};
-ghost use Rattle.bakery.specs.Locks.{lock_of, CanAccess, answered, locks_after};
+ghost use Rattle.record.specs.Cuts.{IsTornOf};
+ghost use Rattle.record.specs.Places.{value_of};
+ghost use Rattle.bakery.specs.DoorCalls.{BeginsCalls, GoesOn, IsInTurn, IsNext, IsNextAnswered, IsTicketInTurn, Tears, Tells, TellsMarks};
+ghost use Rattle.bakery.specs.Doors.{new_door, bits_within, is_going, is_waiting, next_of, GoesOnWithin, read_of, torn_of, IsNamed, MayDrop, dropped, goes_on, tells_wait};
+ghost use Rattle.bakery.specs.Locks.{locks_after};
 
 use crate::lock::Locks;
 use crate::progress::DoorProgress;
@@ -62,7 +59,7 @@ impl Door {
 
     /// Begins the doorway of a call of this process: nothing of it is made.
     pub fn start(&mut self)
-        ensures door { (c : Call) → self.old.setup ≡ c.setup → self.old.process ≡ c.process → IsDoorAfter self.new c [] }
+        ensures door { BeginsCalls self.old self.new }
         ensures going { is_going self.new ≡ true }
     {
         self.standing = DoorPart::Raises;
@@ -74,7 +71,7 @@ impl Door {
     pub fn next(&self, value: bool) -> Access
         requires { is_going self.now ≡ true }
         ensures access { result ≡ next_of self.now value }
-        ensures program { (c : Call) (accesses : List Access) → IsDoorAfter self.now c accesses → result ≡ ended_with value (next_after c accesses) }
+        ensures program { IsNext self.now value result }
         ensures named { IsNamed self.now.setup result }
     {
         match self.standing.read() {
@@ -94,9 +91,9 @@ impl Door {
     #[inline]
     pub fn advance(&mut self, value: bool) -> DoorProgress
         requires { is_going self.old ≡ true }
-        ensures door { (c : Call) (accesses : List Access) → IsDoorAfter self.old c accesses → self.new ≡ door_at c (place_after c (place_of c accesses) value) }
-        ensures progress { (c : Call) (accesses : List Access) → IsDoorAfter self.old c accesses → result ≡ progress_at c (place_of c accesses) value }
-        ensures marks { (c : Call) (accesses : List Access) → IsDoorAfter self.old c accesses → marks_of c (place_of c accesses) value ≡ marks_told (stage_at (place_of c accesses)) result }
+        ensures door { GoesOn self.old value self.new }
+        ensures progress { Tells self.old value result }
+        ensures marks { TellsMarks self.old value result }
         ensures going { is_going self.new ≡ goes_on result }
         ensures waiting { is_waiting self.new ≡ tells_wait result }
     {
@@ -116,12 +113,12 @@ impl Door {
     #[inline]
     pub fn step(&mut self, locks: &mut Locks, flick: bool) -> (Access, DoorProgress)
         requires going { is_going self.old ≡ true }
-        requires turn { let next = answered locks.old flick (next_of self.old false) in CanAccess (lock_of locks.old next.owner) next }
-        ensures access { (c : Call) (accesses : List Access) → IsDoorAfter self.old c accesses → result.0 ≡ answered locks.old flick (next_after c accesses) }
+        requires turn { IsInTurn self.old locks.old flick }
+        ensures access { IsNextAnswered self.old locks.old flick result.0 }
         ensures locks { locks.new ≡ locks_after locks.old result.0 }
-        ensures door { (c : Call) (accesses : List Access) → IsDoorAfter self.old c accesses → IsDoorAfter self.new c (result.0 ∷ accesses) }
-        ensures progress { (c : Call) (accesses : List Access) → IsDoorAfter self.old c accesses → result.1 ≡ progress_at c (place_of c accesses) (value_of result.0.how) }
-        ensures marks { (c : Call) (accesses : List Access) → IsDoorAfter self.old c accesses → marks_of c (place_of c accesses) (value_of result.0.how) ≡ marks_told (stage_at (place_of c accesses)) result.1 }
+        ensures door { GoesOn self.old (value_of result.0.how) self.new }
+        ensures progress { Tells self.old (value_of result.0.how) result.1 }
+        ensures marks { TellsMarks self.old (value_of result.0.how) result.1 }
         ensures going { is_going self.new ≡ goes_on result.1 }
         ensures waiting { is_waiting self.new ≡ tells_wait result.1 }
     {
@@ -150,7 +147,7 @@ impl Door {
     #[inline(always)]
     pub fn step_within(&mut self, locks: &mut Locks, flick: bool, pace: Pace)
         requires within { 0 < bits_within self.old }
-        requires turn { (next_of self.old false).field ≡ Ticket → let next = answered locks.old flick (next_of self.old false) in CanAccess (lock_of locks.old next.owner) next }
+        requires turn { IsTicketInTurn self.old locks.old flick }
         ensures { GoesOnWithin self.old locks.old flick self.new locks.new }
     {
         match self.standing.read() {
@@ -198,7 +195,7 @@ impl Door {
     /// the bit whose write has begun and has not ended on every copy, if there is one; that write stays open.
     pub fn halt(&mut self) -> Option<TornBit>
         requires going { is_going self.old ≡ true }
-        ensures torn { (c : Call) (accesses : List Access) → IsDoorAfter self.old c accesses → result ≡ torn_at c (place_of c accesses) }
+        ensures torn { Tears self.old result }
         ensures known { IfSome result (IsTornOf self.old.setup) }
         ensures door { self.new ≡ new_door self.old.setup self.old.process }
     {
@@ -224,7 +221,7 @@ impl Door {
     pub fn fail(&mut self, locks: &mut Locks) -> Option<TornBit>
         requires going { is_going self.old ≡ true }
         requires there { MayDrop self.old locks.old }
-        ensures torn { (c : Call) (accesses : List Access) → IsDoorAfter self.old c accesses → result ≡ torn_at c (place_of c accesses) }
+        ensures torn { Tears self.old result }
         ensures known { IfSome result (IsTornOf self.old.setup) }
         ensures locks { locks.new ≡ dropped self.old locks.old }
         ensures door { self.new ≡ new_door self.old.setup self.old.process }

@@ -1,13 +1,8 @@
-ghost use Rattle.std.specs.Prelude.{◌≡◌, ◌<◌, Bool, true, not, Ok, IfSome};
+ghost use Rattle.std.specs.Prelude.{◌≡◌, ◌<◌, true, not, Ok, IfSome};
 ghost use Rattle.reader_copies.specs.Runs.{progress_of};
 ghost use Rattle.plain_store.specs.Setups.{checked};
-ghost use Rattle.plain_store.specs.declared.Answer.{Answer};
-ghost use Rattle.record.specs.Closings.{Closing, withdrawing, closing_after, is_last_written, no_ticket};
-ghost use Rattle.record.specs.Cuts.{torn_at, torn_closing};
-ghost use Rattle.record.specs.Parts.{Clears};
-ghost use Rattle.record.specs.Places.{Place, enter, place_after, access_at, is_last};
-ghost use Rattle.record.specs.Scripts.{Call};
-ghost use Rattle.bakery.specs.Leavings.{leaving_at, leaving_of, new_leaving, is_leaving, next_of_leaving};
+ghost use Rattle.bakery.specs.Leavings.{new_leaving, is_leaving, next_of_leaving};
+ghost use Rattle.bakery.specs.LeavingCalls.{BeginsClearing, BeginsWithdrawal, CallGoesOn, CallTears, IsNextOfCall, IsOfTicket, IsTornTicket, TellsLast, WithdrawalGoesOn, WithdrawalTears};
 ghost use Rattle.bakery.specs.Locks.{CanAccess, lock_after};
 
 use crate::lock::Lock;
@@ -48,8 +43,8 @@ impl Leaving {
         requires setup { checked setup.now ≡ Ok tt }
         requires process { process < setup.now.processes }
         ensures leaving { result ≡ new_leaving setup.now process }
-        ensures program { (c : Call) (a : Answer) → setup.now ≡ c.setup → process ≡ c.process → result ≡ leaving_at c (enter c (Clears a)) }
-        ensures withdrawal { (c : Call) → setup.now ≡ c.setup → process ≡ c.process → result ≡ leaving_of c (withdrawing c) }
+        ensures program { BeginsClearing setup.now process result }
+        ensures withdrawal { BeginsWithdrawal setup.now process result }
     {
         Leaving {
             process,
@@ -64,8 +59,8 @@ impl Leaving {
     pub fn next(&self) -> Access
         requires { is_leaving self.now ≡ true }
         ensures access { result ≡ next_of_leaving self.now }
-        ensures program { (c : Call) (at : Place) → self.now ≡ leaving_at c at → result ≡ access_at c at.part at.run }
-        ensures named { (result.owner < self.now.processes) × (result.reader < self.now.processes) × (result.bit < self.now.ticket_bits) }
+        ensures program { IsNextOfCall self.now result }
+        ensures named { IsOfTicket self.now result }
     {
         let next = runs::next(&self.run, &bits_of(0));
         Access::of(self.process, Field::Ticket, next)
@@ -75,9 +70,9 @@ impl Leaving {
     #[inline]
     pub fn advance(&mut self) -> Progress
         requires { is_leaving self.old ≡ true }
-        ensures program { (c : Call) (at : Place) (value : Bool) → self.old ≡ leaving_at c at → self.new ≡ leaving_at c (place_after c at value) }
-        ensures withdrawal { (c : Call) (at : Closing) (flick : Bool) → self.old ≡ leaving_of c at → self.new ≡ leaving_of c (closing_after c at flick) }
-        ensures last { (c : Call) (at : Place) → self.old ≡ leaving_at c at → result ≡ progress_of (is_last c at.part at.run) }
+        ensures program { CallGoesOn self.old self.new }
+        ensures withdrawal { WithdrawalGoesOn self.old self.new }
+        ensures last { TellsLast self.old result }
         ensures progress { result ≡ progress_of (not (is_leaving self.new)) }
     {
         runs::advance(&mut self.run, self.processes, &bits_of(0))
@@ -90,9 +85,9 @@ impl Leaving {
         requires turn { CanAccess lock.old (next_of_leaving self.old) }
         ensures access { result.0 ≡ next_of_leaving self.old }
         ensures lock { lock.new ≡ lock_after lock.old result.0 }
-        ensures program { (c : Call) (at : Place) (value : Bool) → self.old ≡ leaving_at c at → self.new ≡ leaving_at c (place_after c at value) }
-        ensures withdrawal { (c : Call) (at : Closing) (flick : Bool) → self.old ≡ leaving_of c at → self.new ≡ leaving_of c (closing_after c at flick) }
-        ensures last { (c : Call) (at : Place) → self.old ≡ leaving_at c at → result.1 ≡ progress_of (is_last c at.part at.run) }
+        ensures program { CallGoesOn self.old self.new }
+        ensures withdrawal { WithdrawalGoesOn self.old self.new }
+        ensures last { TellsLast self.old result.1 }
         ensures progress { result.1 ≡ progress_of (not (is_leaving self.new)) }
     {
         let access = self.next();
@@ -104,9 +99,9 @@ impl Leaving {
     /// there is one. Its write stays open.
     pub fn fail(&self) -> Option<TornBit>
         requires { is_leaving self.now ≡ true }
-        ensures program { (c : Call) (at : Place) → self.now ≡ leaving_at c at → result ≡ torn_at c at }
-        ensures withdrawal { (c : Call) (at : Closing) → self.now ≡ leaving_of c at → result ≡ torn_closing at }
-        ensures known { IfSome result (λ t. (t.bit < self.now.ticket_bits) × (t.torn.reader < self.now.processes)) }
+        ensures program { CallTears self.now result }
+        ensures withdrawal { WithdrawalTears self.now result }
+        ensures known { IfSome result (IsTornTicket self.now) }
     {
         let (bit, torn) = self.run.torn()?;
         Some(TornBit {

@@ -1,9 +1,8 @@
 ghost use Rattle.std.specs.Prelude.{◌≡◌, ◌<◌, ◌≤◌, Ok, IfOk, length, slice_set};
 ghost use Rattle.std.specs.Borrow.{sem};
-ghost use Rattle.reader_copies.specs.safe_bit.Cell.{read_answer};
-ghost use Rattle.reader_copies.specs.Row.{cell_at, new_row, without_reads, HasCell};
+ghost use Rattle.reader_copies.specs.Row.{answer_at, new_row, HasCell};
 ghost use Rattle.plain_store.specs.Setups.{checked};
-ghost use Rattle.bakery.specs.Locks.{new_lock, new_locks, row_in, with_row, made_by, CanAccess, lock_after, lock_of, locks_after, answer_to, answered, locks_without_reads, AreAlike, AreAllAlike};
+ghost use Rattle.bakery.specs.Locks.{new_lock, new_locks, row_in, made_by, CanAccess, HasCopy, lock_after, lock_of, lock_without_reads, locks_after, answer_to, answered, locks_without_reads, AreAlike, AreAllAlike};
 ghost use Rattle.bakery.specs.Lending.{LendsLock};
 
 use plain_store::Setup;
@@ -76,7 +75,7 @@ impl Lock {
     #[inline]
     fn answer(&self, access: Access, flick: bool) -> bool
         requires { HasCell (row_in self.now access.field) access.bit access.reader }
-        ensures { result ≡ read_answer (cell_at (row_in self.now access.field) access.bit access.reader) flick }
+        ensures { result ≡ answer_at (row_in self.now access.field) access.bit access.reader flick }
     {
         let register = match access.field {
             Field::Choosing => &self.choosing,
@@ -88,7 +87,7 @@ impl Lock {
     /// Drops the open read of a register by a reader.
     fn drop_read(&mut self, field: Field, reader: u8)
         requires { reader < length (row_in self.old field) }
-        ensures { self.new ≡ with_row self.old field (without_reads (row_in self.old field) reader) }
+        ensures { self.new ≡ lock_without_reads self.old field reader }
     {
         match field {
             Field::Choosing => self.choosing.drop_read(reader),
@@ -149,7 +148,7 @@ impl Locks {
     /// What the end of an open read of the bit of an access gives.
     #[inline]
     pub(crate) fn answer(&self, access: Access, flick: bool) -> bool
-        requires { HasCell (row_in (lock_of self.now access.owner) access.field) access.bit access.reader }
+        requires { HasCopy self.now access }
         ensures { result ≡ answer_to self.now access flick }
     {
         self.locks[access.owner as usize].answer(access, flick)
@@ -158,7 +157,7 @@ impl Locks {
     /// The access, a read's end with what the reader's copy answers.
     #[inline]
     pub fn answered(&self, access: Access, flick: bool) -> Access
-        requires { HasCell (row_in (lock_of self.now access.owner) access.field) access.bit access.reader }
+        requires { HasCopy self.now access }
         ensures { result ≡ answered self.now flick access }
     {
         match access.how {

@@ -1,12 +1,10 @@
-ghost use Rattle.std.specs.Prelude.{◌≡◌, ◌<◌, ◌≤◌, ◌+◌, ◌*◌, ◌/◌, ◌==◌, false, cond, Bool, List, Some, None, [], length, IfOk, IfSome};
+ghost use Rattle.std.specs.Prelude.{◌≡◌, ◌<◌, ◌≤◌, ◌*◌, ◌==◌, false, cond, Bool, List, Some, None, length, IfOk, IfSome};
 ghost use Rattle.reader_copies.specs.Runs.{progress_of};
-ghost use Rattle.safe_number.specs.Bytes.{bits_of_number, number_of_bits, little_endian, IsBytesOf};
+ghost use Rattle.safe_number.specs.Bytes.{number_of_bits, little_endian, IsBytesOf};
 ghost use Rattle.safe_number.specs.Runs.{new_write, new_read, number_read_after};
 ghost use Rattle.record.specs.Parts.{is_over};
-ghost use Rattle.record.specs.Places.{bit_written, next_written, write_moved, is_last, bits_with, run_after};
 ghost use Rattle.record.specs.Program.{max_of};
-ghost use Rattle.record.specs.Scripts.{Call};
-ghost use Rattle.bakery.specs.Doors.{KeepsDoor, run_shown, ended_number};
+ghost use Rattle.bakery.specs.DoorRuns.{AreOfFewBits, EndsWith, IsWriteGoing, KeepsRuns, RunGoesOn, next_of_number, number_moved, number_read};
 ghost use Rattle.bakery.specs.Standings.{part_of};
 
 use crate::standing::DoorPart;
@@ -67,12 +65,12 @@ impl Runs {
         standing: DoorPart,
         value: bool,
     ) -> Option<u32>
-        requires keeps { KeepsDoor setup.now process standing self.old.write self.old.read }
+        requires keeps { KeepsRuns setup.now process standing self.old }
         requires going { is_over (part_of standing) ≡ false }
-        ensures ended { (c : Call) → setup.now ≡ c.setup → result ≡ ended_number (is_last c (part_of standing) (run_shown standing self.old.write self.old.read)) (bits_with (run_shown standing self.old.write self.old.read) value) }
-        ensures run { (c : Call) → setup.now ≡ c.setup → run_shown standing self.new.write self.new.read ≡ run_after c (part_of standing) (run_shown standing self.old.write self.old.read) value }
+        ensures ended { EndsWith setup.now standing self.old value result }
+        ensures run { RunGoesOn setup.now standing self.old value self.new }
         ensures fits { IfSome result (λ number. number ≤ max_of setup.now.ticket_bits) }
-        ensures keeps { result ≡ None → KeepsDoor setup.now process standing self.new.write self.new.read }
+        ensures keeps { result ≡ None → KeepsRuns setup.now process standing self.new }
         ensures room { self.new.read.room ≡ self.old.read.room }
     {
         match standing.read() {
@@ -88,7 +86,7 @@ impl Runs {
         requires width { self.old.read.width ≤ 32 }
         ensures read { self.new.read ≡ number_read_after self.old.read value }
         ensures write { self.new.write ≡ self.old.write }
-        ensures number { result ≡ cond (length self.new.read.bits == self.new.read.width) (Some (number_of_bits self.new.read.bits)) None }
+        ensures number { result ≡ number_read self.new.read }
     {
         match self.read.advance(value) {
             Progress::Going => None,
@@ -100,10 +98,10 @@ impl Runs {
     /// Once it is done it tells 0, as if that had been read.
     #[inline]
     fn write_on(&mut self, readers: u8, number: u32) -> Option<u32>
-        requires going { self.old.write.bit < self.old.write.width × (bit_written [] self.old.write).made < 2 * readers }
+        requires going { IsWriteGoing self.old.write readers }
         requires width { self.old.write.width ≤ 32 }
         requires readers { readers ≤ 16 }
-        ensures write { self.new.write ≡ write_moved readers (bits_of_number self.old.write.width number) self.old.write }
+        ensures write { self.new.write ≡ number_moved readers number self.old.write }
         ensures read { self.new.read ≡ self.old.read }
         ensures number { result ≡ cond (self.new.write.bit == self.new.write.width) (Some 0) None }
     {
@@ -119,7 +117,7 @@ impl Runs {
 pub fn next(write: &WriteRun, value: &[u8]) -> (u16, Made)
     requires going { write.now.bit < write.now.width }
     requires value { write.now.width ≤ 8 * length value.now }
-    ensures { result ≡ next_written (bits_of_number write.now.width (little_endian value.now)) write.now }
+    ensures { result ≡ next_of_number (little_endian value.now) write.now }
 {
     write.next(value)
 }
@@ -127,10 +125,10 @@ pub fn next(write: &WriteRun, value: &[u8]) -> (u16, Made)
 /// Goes on by the next access of a write of these bytes to a register with copies for `readers` readers.
 #[inline]
 pub fn advance(write: &mut WriteRun, readers: u8, value: &[u8]) -> Progress
-    requires going { write.old.bit < write.old.width × (bit_written [] write.old).made < 2 * readers }
+    requires going { IsWriteGoing write.old readers }
     requires value { write.old.width ≤ 8 * length value.now }
     requires readers { readers ≤ 16 }
-    ensures write { write.new ≡ write_moved readers (bits_of_number write.old.width (little_endian value.now)) write.old }
+    ensures write { write.new ≡ number_moved readers (little_endian value.now) write.old }
     ensures progress { result ≡ progress_of (write.new.bit == write.new.width) }
 {
     write.advance(readers, value)
@@ -138,7 +136,7 @@ pub fn advance(write: &mut WriteRun, readers: u8, value: &[u8]) -> Progress
 
 /// The number whose bits were read as these bytes.
 fn number(bytes: &[u8]) -> u32
-    requires { (bits : List Bool) × (length bits ≤ 32) × IsBytesOf bits bytes.now × (length bytes.now ≡ (length bits + 7) / 8) }
+    requires { AreOfFewBits bytes.now }
     ensures { (bits : List Bool) → IsBytesOf bits bytes.now → result ≡ number_of_bits bits }
 {
     number_of(bytes) as u32

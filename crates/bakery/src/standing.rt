@@ -1,10 +1,9 @@
 //! Which number access of its doorway or its waiting a process is making, and what it knows then.
-ghost use Rattle.std.specs.Prelude.{◌≡◌, ◌≤◌, ◌<◌, ◌-◌, ◌^◌, cond, Some, None};
-ghost use Rattle.record.specs.Parts.{is_read, read_at};
+ghost use Rattle.std.specs.Prelude.{◌≡◌, ◌≤◌, ◌<◌, ◌-◌, ◌^◌, None};
 ghost use Rattle.record.specs.Program.{max_of};
 ghost use Rattle.record.specs.Scripts.{Call};
 ghost use Rattle.bakery.specs.Doors.{IsKnown, bits_at};
-ghost use Rattle.bakery.specs.Standings.{part_of, standing_after, number_written, other_from, ask, await, choose, told_before, told_with, full_with};
+ghost use Rattle.bakery.specs.Standings.{read_by, standing_then, number_written, other_from, ask, await, choose, told_before, told_with, full_with};
 
 use crate::progress::DoorProgress;
 use plain_store::Setup;
@@ -46,7 +45,7 @@ impl DoorPart {
     /// The register that is read: whose, and which field.
     #[inline]
     pub fn read(self) -> Option<(u8, Field)>
-        ensures { (c : Call) → result ≡ cond (is_read (part_of self)) (Some (read_at c (part_of self))) None }
+        ensures { (c : Call) → result ≡ read_by c self }
     {
         match self {
             DoorPart::Asks { owner, .. } | DoorPart::AwaitsTicket { owner, .. } => {
@@ -88,7 +87,7 @@ impl DoorPart {
         requires number { number ≤ max_of setup.now.ticket_bits }
         requires bits { setup.now.ticket_bits ≤ 32 }
         requires processes { process < setup.now.processes × setup.now.processes ≤ 16 }
-        ensures { result ≡ standing_after setup.now.processes setup.now.ticket_bits process self number }
+        ensures { result ≡ standing_then setup.now process self number }
     {
         match self {
             DoorPart::Away | DoorPart::Refuses(_) => DoorPart::Away,
