@@ -1,7 +1,7 @@
 -- How a number access of a door goes on, and the numbers that it writes and reads.
-use Rattle.std.specs.Prelude.{◌≡◌, ℕ, ◌+◌, ◌*◌, ◌/◌, ◌==◌, ◌<◌, ◌≤◌, Bool, cond, List, [], length, Option, None, Some}
+use Rattle.std.specs.Prelude.{◌≡◌, ℕ, ◌*◌, ◌==◌, ◌<◌, Bool, cond, [], length, Option, None, Some}
 use Rattle.reader_copies.specs.declared.Made.{Made}
-use Rattle.safe_number.specs.Bytes.{IsBytesOf, bits_of_number, number_of_bits}
+use Rattle.safe_number.specs.Bytes.{bits_of_number, number_of_bits}
 use Rattle.safe_number.specs.Runs.{NumberWrite, NumberRead}
 use Rattle.plain_store.specs.declared.Setup.{Setup}
 use Rattle.record.specs.Places.{Run, bit_written, bits_with, is_last, next_written, run_after, write_moved}
@@ -42,7 +42,3 @@ next_of_number number w = next_written (bits_of_number w.width number) w
 -- the write after it, with copies for so many readers
 abbrev pub number_moved : ℕ → ℕ → NumberWrite → NumberWrite
 number_moved readers number w = write_moved readers (bits_of_number w.width number) w
-
--- bytes of at most 32 bits, and no more bytes than these need
-abbrev pub AreOfFewBits : List ℕ → Type 0
-AreOfFewBits bytes = (bits : List Bool) × (length bits ≤ 32) × IsBytesOf bits bytes × (length bytes ≡ (length bits + 7) / 8)

@@ -1,10 +1,10 @@
 ghost use Rattle.std.specs.Prelude.{◌≡◌, ◌<◌, ◌≤◌, ◌*◌, ◌==◌, false, cond, Bool, List, Some, None, length, IfOk, IfSome};
 ghost use Rattle.reader_copies.specs.Runs.{progress_of};
-ghost use Rattle.safe_number.specs.Bytes.{number_of_bits, little_endian, IsBytesOf};
+ghost use Rattle.safe_number.specs.Bytes.{AreOfFewBits, number_of_bits, little_endian, IsBytesOf};
 ghost use Rattle.safe_number.specs.Runs.{new_write, new_read, number_read_after};
 ghost use Rattle.record.specs.Parts.{is_over};
 ghost use Rattle.record.specs.Program.{max_of};
-ghost use Rattle.bakery.specs.DoorRuns.{AreOfFewBits, EndsWith, IsWriteGoing, KeepsRuns, RunGoesOn, next_of_number, number_moved, number_read};
+ghost use Rattle.bakery.specs.DoorRuns.{EndsWith, IsWriteGoing, KeepsRuns, RunGoesOn, next_of_number, number_moved, number_read};
 ghost use Rattle.bakery.specs.Standings.{part_of};
 
 use crate::standing::DoorPart;

@@ -15,7 +15,7 @@ use Rattle.laws.specs.Steps.{marks_with}
 use Rattle.process.specs.declared.process.ActiveCursor.TheVariants as work
 use Rattle.process.specs.Processes as kept
 use Rattle.process.specs.Processes.{Kept, ProcessState}
-use Rattle.process.specs.Registers.{MayStep, MayWalk, RegistersState, StepsWithin, WalksWithin, answered}
+use Rattle.process.specs.Registers.{MayStep, MayRun, RegistersState, StepsWithin, RunsWithin, answered}
 use Rattle.process.specs.Steps.{IsAt}
 use Rattle.process.proofs.Data.{IsAtData, answered-at, data-turn, here, made-data, next-is, then-data}
 use Rattle.std.specs.Prelude.{List}
@@ -79,15 +79,15 @@ may-data x door section locks row flick going m =
     data-turn x.setup x.process x.command x.number section m.doing (at-this x door section going m.doing m.is_at) (rows locks row) flick m.next m.is_next m.can
 
 -- the same of several in a row
-pub may-walk-data : (n : ℕ) (x : Caller) (door : DoorState) (section : Section) (locks : List LockRows) (row : DataRow) (f : FlickState) → is_going section ≡ true → MayWalk (at_data x section) (rows locks row) f n → sections.MayWalk section row f n
+pub may-walk-data : (n : ℕ) (x : Caller) (door : DoorState) (section : Section) (locks : List LockRows) (row : DataRow) (f : FlickState) → is_going section ≡ true → MayRun (at_data x section) (rows locks row) f n → sections.MayRun section row f n
 may-walk-data zero x door section locks row f going m = tt
 may-walk-data (suc n) x door section locks row f going m = (
   may-data x door section locks row (flick_of f) going m.0,
   λ then row_then e. may-walk-data n x door then locks row_then (after_flick f) e.going (m.1 (rows locks row_then) (at_data x then) (within-data x door section then locks row row_then (flick_of f) going m.0 e)),
 )
 
-pub walks-data : (n : ℕ) (x : Caller) (door : DoorState) (section then : Section) (locks : List LockRows) (row row_then : DataRow) (f f_then : FlickState) → is_going section ≡ true → MayWalk (at_data x section) (rows locks row) f n → sections.WalksWithin section row f n then row_then f_then →
-    WalksWithin (rows locks row) f (at_data x section) n (rows locks row_then) f_then (at_data x then)
+pub walks-data : (n : ℕ) (x : Caller) (door : DoorState) (section then : Section) (locks : List LockRows) (row row_then : DataRow) (f f_then : FlickState) → is_going section ≡ true → MayRun (at_data x section) (rows locks row) f n → sections.RunsWithin section row f n then row_then f_then →
+    RunsWithin (rows locks row) f (at_data x section) n (rows locks row_then) f_then (at_data x then)
 walks-data zero x door section then locks row row_then f f_then going m (same, same_row, same_flicks) = (ap (at_data x) same, ap (rows locks) same_row, same_flicks)
 walks-data (suc n) x door section then locks row row_then f f_then going m (mid, row_mid, e, rest) =
     let step = within-data x door section mid locks row row_mid (flick_of f) going m.0 e in
@@ -99,7 +99,7 @@ pub record IsOn (c : Call) (then : Section) : Type 0 where
   pub shown : then ≡ section_at c place
   pub going : is_going then ≡ true
 
-pub walk-stays : (n : ℕ) (c : Call) (section then : Section) (row row_then : DataRow) (f f_then : FlickState) → IsOn c section → sections.WalksWithin section row f n then row_then f_then → IsOn c then
+pub walk-stays : (n : ℕ) (c : Call) (section then : Section) (row row_then : DataRow) (f f_then : FlickState) → IsOn c section → sections.RunsWithin section row f n then row_then f_then → IsOn c then
 walk-stays zero c section then row row_then f f_then on (same, same_row, same_flicks) = subst (IsOn c) (sym same) on
 walk-stays (suc n) c section then row row_then f f_then on (mid, row_mid, e, rest) =
     walk-stays n c mid then row_mid row_then (after_flick f) f_then (record { place = place_after c on.place (value_of e.access.how); shown = e.place c on.place on.shown; going = e.going }) rest

@@ -63,11 +63,11 @@ pub record StepsWithin (r : RegistersState) (flick : Bool) (now : ProcessState) 
   pub registers : r_then ≡ made r access
 
 -- so many steps may be made one after another, each by the flick that is next
-abbrev pub MayWalk : ProcessState → RegistersState → FlickState → ℕ → Type 0
-MayWalk now r flicks zero = Unit {0}
-MayWalk now r flicks (suc n) = MayStep now r (flick_of flicks) × ((r_then : RegistersState) (then : ProcessState) → StepsWithin r (flick_of flicks) now r_then then → MayWalk then r_then (after_flick flicks) n)
+abbrev pub MayRun : ProcessState → RegistersState → FlickState → ℕ → Type 0
+MayRun now r flicks zero = Unit {0}
+MayRun now r flicks (suc n) = MayStep now r (flick_of flicks) × ((r_then : RegistersState) (then : ProcessState) → StepsWithin r (flick_of flicks) now r_then then → MayRun then r_then (after_flick flicks) n)
 
 -- so many steps within a number access, each by the flick that is next, and what they leave
-abbrev pub WalksWithin : RegistersState → FlickState → ProcessState → ℕ → RegistersState → FlickState → ProcessState → Type 0
-WalksWithin r flicks now zero r_then flicks_then then = (then ≡ now) × (r_then ≡ r) × (flicks_then ≡ flicks)
-WalksWithin r flicks now (suc n) r_then flicks_then then = (r_mid : RegistersState) × (mid : ProcessState) × StepsWithin r (flick_of flicks) now r_mid mid × WalksWithin r_mid (after_flick flicks) mid n r_then flicks_then then
+abbrev pub RunsWithin : RegistersState → FlickState → ProcessState → ℕ → RegistersState → FlickState → ProcessState → Type 0
+RunsWithin r flicks now zero r_then flicks_then then = (then ≡ now) × (r_then ≡ r) × (flicks_then ≡ flicks)
+RunsWithin r flicks now (suc n) r_then flicks_then then = (r_mid : RegistersState) × (mid : ProcessState) × StepsWithin r (flick_of flicks) now r_mid mid × RunsWithin r_mid (after_flick flicks) mid n r_then flicks_then then

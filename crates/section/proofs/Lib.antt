@@ -7,7 +7,7 @@ pub mod Ends
 pub mod Within
 pub mod WithinSteps
 pub mod WithinKept
-pub mod SectionWalks
+pub mod SectionRuns
 -- What is written
 pub mod Widths
 pub mod Writings

@@ -12,6 +12,7 @@ use Rattle.record.specs.Program.{stamp_field, image_field}
 use Rattle.record.specs.Registers.{width, image_bytes}
 use Rattle.record.specs.Scripts.{Call}
 use Rattle.section.specs.declared.change.PendingChange.{PendingChange}
+use Rattle.section.specs.declared.change.Written.{Written}
 use Rattle.section.specs.declared.newest.Newest.{Newest}
 use Rattle.section.specs.declared.standing.SectionRead.{SectionRead}
 use Rattle.section.specs.declared.standing.SectionRead.TheVariants as asked
@@ -32,6 +33,10 @@ abbrev pub register_asked : SectionRead → Versions → ℕ × Field
 register_asked (asked.Commit k) versions = (k, field.Commit)
 register_asked (asked.Stamp k commit) versions = (k, stamp_field commit)
 register_asked asked.Image versions = (versions.newest.process, image_field versions.newest.commit)
+
+-- the bits of the register that is read
+abbrev pub bits_asked : Setup → SectionRead → Versions → ℕ
+bits_asked s part versions = width s (register_asked part versions).1
 
 -- the register of the next access, and whose it is
 abbrev pub register_next : SectionCall → SectionPart → ℕ × Field
@@ -54,6 +59,14 @@ run_of Done r w = Reading [] false
 -- what contracts see of the fields
 abbrev pub section_of : SectionCall → SectionPart → NumberRead → NumberWrite → Section
 section_of c standing r w = record { call = call_of c; standing = shown c.setup.processes standing; run = run_of standing r w }
+
+-- the section of a call that reads this, and has come so far
+abbrev pub section_reading : SectionCall → SectionRead → Versions → NumberRead → Section
+section_reading c part versions r = record { call = call_of c; standing = shown c.setup.processes (Reads part versions); run = Reading r.bits r.begun }
+
+-- the section of a call that writes this, and has come so far
+abbrev pub section_writing : SectionCall → Written → PendingChange → NumberWrite → Section
+section_writing c part change w = record { call = call_of c; standing = shown c.setup.processes (Writes part change); run = Writing w }
 
 -- a call of a process of a good setup
 pub record IsCall (c : SectionCall) : Type 0 where

@@ -49,6 +49,10 @@ with_register d Stamp1 register = record d { stamp1 = register }
 with_register d Image0 register = record d { image0 = register }
 with_register d Image1 register = record d { image1 = register }
 
+-- the registers of a process after one access to a bit of this one
+abbrev pub data_after : Data → Field → ℕ → Made → Data
+data_after d field bit made = with_register d field (row_after (register_of d field) bit made)
+
 -- the part of a process
 abbrev pub data_of : DataRow → ℕ → Data
 data_of row p = slice_index_or row.parts p no_data

@@ -42,6 +42,10 @@ section_at c at = record { call = c; standing = standing_at c at.part; run = con
 abbrev pub inside_place : Call → Place
 inside_place c = enter c (to_e (processes c.setup) [])
 
+-- the section of a call that comes inside
+abbrev pub section_inside : Call → Section
+section_inside c = section_at c (inside_place c)
+
 -- the section of a process before its first call
 abbrev pub new_section : Setup → ℕ → Section
 new_section s p = record { call = record { setup = s; process = p; command = Ask; number = 0 }; standing = Done; run = Reading [] false }
@@ -91,6 +95,10 @@ pub record IsInRange (s : Setup) (a : Access) : Type 0 where
   pub bit : a.bit < width s a.field
   pub reader : a.reader < s.processes
 
+-- a register of a process's versions
+abbrev pub IsDataOf : Setup → ℕ × Field → Type 0
+IsDataOf s register = (register.0 < s.processes) × (is_data register.1 ≡ true)
+
 -- a place that the section shows, whose next access may be made on the registers
 pub record MayStep (section : Section) (row : DataRow) (flick : Bool) : Type 0 where
   pub call : Call
@@ -137,11 +145,11 @@ pub record GoesOnWithin (section : Section) (row : DataRow) (flick : Bool) (then
   pub going : is_going then ≡ true
 
 -- so many accesses may be made one after another, each by the flick that is next
-abbrev pub MayWalk : Section → DataRow → FlickState → ℕ → Type 0
-MayWalk section row flicks zero = Unit {0}
-MayWalk section row flicks (suc n) = MayStep section row (flick_of flicks) × ((then : Section) (row_then : DataRow) → GoesOnWithin section row (flick_of flicks) then row_then → MayWalk then row_then (after_flick flicks) n)
+abbrev pub MayRun : Section → DataRow → FlickState → ℕ → Type 0
+MayRun section row flicks zero = Unit {0}
+MayRun section row flicks (suc n) = MayStep section row (flick_of flicks) × ((then : Section) (row_then : DataRow) → GoesOnWithin section row (flick_of flicks) then row_then → MayRun then row_then (after_flick flicks) n)
 
 -- so many accesses within a number access, each by the flick that is next, and what they leave
-abbrev pub WalksWithin : Section → DataRow → FlickState → ℕ → Section → DataRow → FlickState → Type 0
-WalksWithin section row flicks zero then row_then flicks_then = (then ≡ section) × (row_then ≡ row) × (flicks_then ≡ flicks)
-WalksWithin section row flicks (suc n) then row_then flicks_then = (mid : Section) × (row_mid : DataRow) × GoesOnWithin section row (flick_of flicks) mid row_mid × WalksWithin mid row_mid (after_flick flicks) n then row_then flicks_then
+abbrev pub RunsWithin : Section → DataRow → FlickState → ℕ → Section → DataRow → FlickState → Type 0
+RunsWithin section row flicks zero then row_then flicks_then = (then ≡ section) × (row_then ≡ row) × (flicks_then ≡ flicks)
+RunsWithin section row flicks (suc n) then row_then flicks_then = (mid : Section) × (row_mid : DataRow) × GoesOnWithin section row (flick_of flicks) mid row_mid × RunsWithin mid row_mid (after_flick flicks) n then row_then flicks_then

@@ -1,11 +1,9 @@
-ghost use Rattle.std.specs.Prelude.{◌≡◌, ℕ, ◌<◌, ◌==◌, ◌*◌, ◌≤◌, length};
+ghost use Rattle.std.specs.Prelude.{◌≡◌, ◌<◌, ◌==◌, ◌*◌, ◌≤◌};
 ghost use Rattle.reader_copies.specs.Runs.{progress_of};
-ghost use Rattle.safe_number.specs.Bytes.{bits_in, little_endian};
-ghost use Rattle.record.specs.Accesses.{access_of};
-ghost use Rattle.record.specs.Places.{next_written, write_moved};
+ghost use Rattle.safe_number.specs.Bytes.{little_endian};
 ghost use Rattle.record.specs.Program.{stamp_field, image_field, max_of};
-ghost use Rattle.section.specs.Changes.{change_field, change_bits, number_written, made_so_far, FitsWidth};
-ghost use Rattle.section.specs.Registers.{after_access, MayMake};
+ghost use Rattle.section.specs.Changes.{AreEnough, AreItsBytes, FitsWidth, change_field, change_moved, data_written, made_so_far, next_access, next_of_change, number_written};
+ghost use Rattle.section.specs.Registers.{MayMake};
 
 use crate::data_row::DataRow;
 use plain_store::Reply;
@@ -52,7 +50,7 @@ impl PendingChange {
     pub fn next(&self, part: Written, run: &WriteRun) -> (u16, Made)
         requires width { FitsWidth part self.now run.now.width }
         requires going { run.now.bit < run.now.width }
-        ensures { result ≡ next_written (change_bits part self.now run.now.width) run.now }
+        ensures { result ≡ next_of_change part self.now run.now }
     {
         bytes_go_by_their_bits();
         let number = bits_of(self.number(part));
@@ -65,7 +63,7 @@ impl PendingChange {
         requires width { FitsWidth part self.now run.old.width }
         requires going { run.old.bit < run.old.width × made_so_far run.old < 2 * readers }
         requires readers { readers ≤ 16 }
-        ensures run { run.new ≡ write_moved readers (change_bits part self.now run.old.width) run.old }
+        ensures run { run.new ≡ change_moved readers part self.now run.old }
         ensures progress { result ≡ progress_of (run.new.bit == run.new.width) }
     {
         bytes_go_by_their_bits();
@@ -86,9 +84,9 @@ impl PendingChange {
         requires width { FitsWidth part self.now run.old.width }
         requires going { run.old.bit < run.old.width × made_so_far run.old < 2 * readers }
         requires readers { readers ≤ 16 }
-        requires may { MayMake row.old (access_of owner (change_field part self.now) (next_written (change_bits part self.now run.old.width) run.old)) }
-        ensures registers { row.new ≡ after_access row.old (access_of owner (change_field part self.now) (next_written (change_bits part self.now run.old.width) run.old)) }
-        ensures run { run.new ≡ write_moved readers (change_bits part self.now run.old.width) run.old }
+        requires may { MayMake row.old (next_access owner part self.now run.old) }
+        ensures registers { row.new ≡ data_written row.old owner part self.now run.old }
+        ensures run { run.new ≡ change_moved readers part self.now run.old }
     {
         bytes_go_by_their_bits();
         let number = bits_of(self.number(part));
@@ -101,8 +99,8 @@ impl PendingChange {
     #[inline(always)]
     fn value<'a>(&'a self, part: Written, number: &'a [u8; 8]) -> &'a [u8]
         requires number { little_endian number.now ≡ number_written part self.now }
-        ensures enough { (width : ℕ) → FitsWidth part self.now width → width ≤ 8 * length result.now }
-        ensures bits { (width : ℕ) → FitsWidth part self.now width → bits_in result.now width ≡ change_bits part self.now width }
+        ensures enough { AreEnough part self.now result.now }
+        ensures bits { AreItsBytes part self.now result.now }
     {
         match part {
             Written::Image => self.store.bytes(),

@@ -1,11 +1,8 @@
 ghost use Rattle.std.specs.Prelude.{◌≡◌, ◌≤◌, ◌*◌, true, IfOk, Ok, length, take};
-ghost use Rattle.reader_copies.specs.safe_bit.Cell.{read_answer};
-ghost use Rattle.reader_copies.specs.Row.{cell_at, row_after, HasCell, CanMake};
+ghost use Rattle.reader_copies.specs.Row.{answer_at, HasCell, CanMake};
 ghost use Rattle.plain_store.specs.Setups.{checked, opening_store};
-ghost use Rattle.record.specs.Program.{image_field};
-ghost use Rattle.record.specs.Registers.{bytes_of_bits};
-ghost use Rattle.section.specs.Newest.{version_held, values_of, IsReadable};
-ghost use Rattle.section.specs.Registers.{is_data, register_of, with_register, data_from, register_from, opening_cell, zero_cell, AreAlike};
+ghost use Rattle.section.specs.Newest.{image_held, version_held, values_of, IsReadable};
+ghost use Rattle.section.specs.Registers.{is_data, register_of, data_after, data_from, register_from, opening_cell, zero_cell, AreAlike};
 
 use crate::held;
 use crate::image::{self, MOST_IMAGE_BYTES};
@@ -90,7 +87,7 @@ impl Data {
     #[inline]
     pub fn apply(&mut self, field: Field, bit: u16, made: Made)
         requires { CanMake (register_of self.old field) bit made }
-        ensures { self.new ≡ with_register self.old field (row_after (register_of self.old field) bit made) }
+        ensures { self.new ≡ data_after self.old field bit made }
     {
         self.register(field).apply(bit, made);
     }
@@ -100,7 +97,7 @@ impl Data {
     #[inline]
     pub(crate) fn answer(&self, field: Field, bit: u16, reader: u8, flick: bool) -> bool
         requires { HasCell (register_of self.now field) bit reader }
-        ensures { result ≡ read_answer (cell_at (register_of self.now field) bit reader) flick }
+        ensures { result ≡ answer_at (register_of self.now field) bit reader flick }
     {
         match field {
             Field::Choosing | Field::Ticket => unreachable!(),
@@ -153,7 +150,7 @@ impl Data {
         requires image0 { IsReadable self.now.image0 (8 * count) }
         requires image1 { IsReadable self.now.image1 (8 * count) }
         ensures length { length result ≡ 216 }
-        ensures bytes { take count result ≡ bytes_of_bits count (values_of (register_of self.now (image_field commit))) }
+        ensures bytes { take count result ≡ image_held self.now commit count }
     {
         if commit {
             held::bytes_held(&self.image1, count)

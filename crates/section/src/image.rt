@@ -1,9 +1,9 @@
 //! The image of a setup: its size, and the store that bytes stand for.
-ghost use Rattle.std.specs.Prelude.{◌≡◌, ◌*◌, ◌≤◌, length, List, Bool, Ok};
-ghost use Rattle.safe_number.specs.Bytes.{IsBytesOf};
+ghost use Rattle.std.specs.Prelude.{◌≡◌, ◌≤◌, length, Ok};
 ghost use Rattle.store_image.specs.Reading.{store_in};
 ghost use Rattle.plain_store.specs.Setups.{checked, callers_of};
-ghost use Rattle.record.specs.Registers.{image_bytes, bytes_of_bits, width};
+ghost use Rattle.record.specs.Registers.{image_bytes, width};
+ghost use Rattle.section.specs.Newest.{IsStoreOf};
 
 use plain_store::Setup;
 use record::{Field, bytes_go_by_their_bits};
@@ -56,7 +56,7 @@ pub(crate) fn image_in(setup: &Setup, bytes: &[u8]) -> Image
 pub(crate) fn image_read(setup: &Setup, bytes: &[u8]) -> Image
     requires good { checked setup.now ≡ Ok tt }
     requires length { length bytes.now ≡ image_bytes setup.now }
-    ensures store { (bits : List Bool) → length bits ≡ 8 * image_bytes setup.now → IsBytesOf bits bytes.now → result ≡ store_in setup.now.slots (callers_of setup.now) (bytes_of_bits (image_bytes setup.now) bits) }
+    ensures store { IsStoreOf setup.now bytes.now result }
     ensures slots { result.slots ≡ setup.now.slots }
     ensures numbers { length result.numbers ≡ callers_of setup.now }
 {

@@ -10,9 +10,9 @@ mod held;
 mod image;
 mod newest;
 mod progress;
+mod runs;
 mod section;
 mod standing;
-mod walking;
 
 pub use data::Data;
 pub use data_row::DataRow;

@@ -1,6 +1,5 @@
-ghost use Rattle.std.specs.Prelude.{◌≡◌, ◌⊎◌, List, [], ◌∷◌, ◌++◌, length};
-ghost use Rattle.record.specs.Program.{Version};
-ghost use Rattle.section.specs.Newest.{newest_of};
+ghost use Rattle.std.specs.Prelude.{◌≡◌, ◌⊎◌, []};
+ghost use Rattle.section.specs.Newest.{IsNewestWith, newest_of};
 
 /// The newest of the versions of processes 0, 1 and so on: the greatest stamp, the lowest process that has
 /// it, and the commit bit of that process.
@@ -25,8 +24,9 @@ impl Newest {
 
     /// The newest once the version of the next process is among them.
     pub fn with(self, process: u8, commit: bool, stamp: u32) -> Newest
-        ensures either { (result ≡ self) ⊎ (result ≡ record { stamp = stamp; process = process; commit = commit }) }
-        ensures newest { (versions : List Version) → length versions ≡ process → self ≡ newest_of versions → result ≡ newest_of (versions ++ (commit, stamp) ∷ []) }
+        ensures either { (result ≡ self)
+            ⊎ (result ≡ record { stamp = stamp; process = process; commit = commit }) }
+        ensures newest { IsNewestWith self process (commit, stamp) result }
     {
         if process == 0 || self.stamp < stamp {
             Newest {

@@ -1,19 +1,18 @@
 ghost use Rattle.std.specs.Prelude.{◌≡◌, ◌<◌, ◌≤◌, ◌*◌, true, IfOk, IfSome, Ok};
 ghost use Rattle.plain_store.specs.Setups.{checked};
-ghost use Rattle.record.specs.Cuts.{IsTornOf, pending_at, torn_at, torn_in};
-ghost use Rattle.record.specs.Moves.{ended_with};
-ghost use Rattle.record.specs.Places.{Place, place_after, access_at, marks_of, value_of};
+ghost use Rattle.record.specs.Cuts.{IsTornOf, torn_in};
+ghost use Rattle.record.specs.Places.{value_of};
 ghost use Rattle.record.specs.Registers.{image_bytes};
-ghost use Rattle.record.specs.Scripts.{Call};
 ghost use Rattle.section.specs.Keeping.{IsRunOf, run_of, fresh_run, IsStanding};
-ghost use Rattle.section.specs.Registers.{after_access, answered, is_data, FitsSetup};
-ghost use Rattle.section.specs.Sections.{is_going, section_at, inside_place, new_section, started, ended, goes_on, progress_at, marks_told, reads_in, after_fail, bits_within, GoesOnWithin, IsInRange, MayStep, MayWalk, WalksWithin};
+ghost use Rattle.section.specs.Registers.{after_access, FitsSetup};
+ghost use Rattle.section.specs.SectionCalls.{DropsRead, GoesOn, IsNext, IsNextAnswered, Tears, Tells, TellsMarks, TellsPending, TellsRead};
+ghost use Rattle.section.specs.Sections.{is_going, section_inside, new_section, started, ended, goes_on, bits_within, GoesOnWithin, IsDataOf, IsInRange, MayRun, MayStep, RunsWithin};
 
 use crate::change::{PendingChange, Written};
 use crate::data_row::DataRow;
 use crate::progress::SectionProgress;
 use crate::standing::{self, SectionCall, SectionPart, SectionRead, Versions};
-use crate::{image, walking};
+use crate::{image, runs};
 use flicks::Flicks;
 use plain_store::{Command, Reply, Setup};
 use reader_copies::{Move, Progress};
@@ -79,7 +78,7 @@ impl Section {
     /// Begins with a command of a call of this number, once its process is inside. The number is 0 in
     /// version 1.
     pub fn start(&mut self, command: Command, number: u16)
-        ensures place { self.new ≡ section_at (started self.old command number) (inside_place (started self.old command number)) }
+        ensures place { self.new ≡ section_inside (started self.old command number) }
         ensures going { is_going self.new ≡ true }
     {
         self.call.command = command;
@@ -95,7 +94,7 @@ impl Section {
     #[inline(always)]
     pub fn next(&self, value: bool) -> Access
         requires going { is_going self.now ≡ true }
-        ensures place { (c : Call) (at : Place) → self.now ≡ section_at c at → result ≡ ended_with value (access_at c at.part at.run) }
+        ensures place { IsNext self.now value result }
         ensures in_range { IsInRange self.now.call.setup result }
     {
         let (owner, field) = standing::register_next(&self.call, &self.standing);
@@ -113,9 +112,9 @@ impl Section {
     #[inline]
     pub fn advance(&mut self, value: bool) -> SectionProgress
         requires going { is_going self.old ≡ true }
-        ensures place { (c : Call) (at : Place) → self.old ≡ section_at c at → self.new ≡ section_at c (place_after c at value) }
-        ensures progress { (c : Call) (at : Place) → self.old ≡ section_at c at → result ≡ progress_at c at value }
-        ensures marks { (c : Call) (at : Place) → self.old ≡ section_at c at → marks_of c at value ≡ marks_told result }
+        ensures place { GoesOn self.old value self.new }
+        ensures progress { Tells self.old value result }
+        ensures marks { TellsMarks self.old value result }
         ensures going { is_going self.new ≡ goes_on result }
     {
         match &self.standing {
@@ -163,11 +162,11 @@ impl Section {
     pub fn step(&mut self, row: &mut DataRow, flick: bool) -> (Access, SectionProgress)
         requires going { is_going self.old ≡ true }
         requires may { MayStep self.old row.old flick }
-        ensures access { (c : Call) (at : Place) → self.old ≡ section_at c at → result.0 ≡ answered row.old flick (access_at c at.part at.run) }
+        ensures access { IsNextAnswered self.old row.old flick result.0 }
         ensures registers { row.new ≡ after_access row.old result.0 }
-        ensures place { (c : Call) (at : Place) → self.old ≡ section_at c at → self.new ≡ section_at c (place_after c at (value_of result.0.how)) }
-        ensures progress { (c : Call) (at : Place) → self.old ≡ section_at c at → result.1 ≡ progress_at c at (value_of result.0.how) }
-        ensures marks { (c : Call) (at : Place) → self.old ≡ section_at c at → marks_of c at (value_of result.0.how) ≡ marks_told result.1 }
+        ensures place { GoesOn self.old (value_of result.0.how) self.new }
+        ensures progress { Tells self.old (value_of result.0.how) result.1 }
+        ensures marks { TellsMarks self.old (value_of result.0.how) result.1 }
         ensures going { is_going self.new ≡ goes_on result.1 }
     {
         let access = row.answered(self.next(false), flick);
@@ -204,10 +203,10 @@ impl Section {
             SectionPart::Reads { part, versions } => {
                 let asked = standing::register_asked(part, versions);
                 let run = &mut self.reading;
-                walking::read_on(&self.call, part, versions, asked, run, row, flick, pace);
+                runs::read_on(&self.call, part, versions, asked, run, row, flick, pace);
             }
             SectionPart::Writes { part, change } => {
-                walking::write_on(&self.call, *part, change, &mut self.writing, row, flick);
+                runs::write_on(&self.call, *part, change, &mut self.writing, row, flick);
             }
             SectionPart::Done => unreachable!(),
         }
@@ -216,20 +215,20 @@ impl Section {
     /// Makes so many of the next accesses as `step_within` makes each, by the flicks that are next, where as many bits
     /// at least are left: which register it is is looked up once.
     #[inline]
-    pub fn walk_within(&mut self, row: &mut DataRow, flicks: &mut Flicks, steps: u32)
+    pub fn run_within(&mut self, row: &mut DataRow, flicks: &mut Flicks, steps: u32)
         requires within { steps ≤ bits_within self.old }
-        requires may { MayWalk self.old row.old flicks.old steps }
-        ensures { WalksWithin self.old row.old flicks.old steps self.new row.new flicks.new }
+        requires may { MayRun self.old row.old flicks.old steps }
+        ensures { RunsWithin self.old row.old flicks.old steps self.new row.new flicks.new }
     {
         match &self.standing {
             SectionPart::Reads { part, versions } => {
                 let asked = standing::register_asked(part, versions);
                 let run = &mut self.reading;
-                walking::read_all_on(&self.call, part, versions, asked, run, row, flicks, steps);
+                runs::read_all_on(&self.call, part, versions, asked, run, row, flicks, steps);
             }
             SectionPart::Writes { part, change } => {
                 let run = &mut self.writing;
-                walking::write_all_on(&self.call, *part, change, run, row, flicks, steps);
+                runs::write_all_on(&self.call, *part, change, run, row, flicks, steps);
             }
             SectionPart::Done => {}
         }
@@ -238,7 +237,7 @@ impl Section {
     /// While a change is written: the reply, the greatest stamp that was read, and the new value of the commit
     /// bit.
     pub fn pending(&self) -> Option<(Reply, u32, bool)>
-        ensures { (c : Call) (at : Place) → self.now ≡ section_at c at → result ≡ pending_at c at.part }
+        ensures { TellsPending self.now result }
     {
         match &self.standing {
             SectionPart::Writes { change, .. } => {
@@ -251,8 +250,8 @@ impl Section {
     /// The register that its next access reads, and whose it is; none, if that access is of a write.
     #[inline]
     pub fn reads(&self) -> Option<(u8, Field)>
-        ensures place { (c : Call) (at : Place) → self.now ≡ section_at c at → is_going self.now ≡ true → result ≡ reads_in c at.part at.run }
-        ensures there { IfSome result (λ register. (register.0 < self.now.call.setup.processes) × (is_data register.1 ≡ true)) }
+        ensures place { TellsRead self.now result }
+        ensures there { IfSome result (IsDataOf self.now.call.setup) }
     {
         match &self.standing {
             SectionPart::Reads { part, versions } => Some(standing::register_asked(part, versions)),
@@ -276,7 +275,7 @@ impl Section {
     /// Halts at the next access, whatever memory serves the section: the bit whose write was cut is told, if there
     /// is one. The section does nothing until it starts anew. An open read is left to that memory.
     pub fn halt(&mut self) -> Option<TornBit>
-        ensures torn { (c : Call) (at : Place) → self.old ≡ section_at c at → is_going self.old ≡ true → result ≡ torn_at c at }
+        ensures torn { Tears self.old result }
         ensures known { IfSome result (IsTornOf self.old.call.setup) }
         ensures section { self.new ≡ ended self.old }
     {
@@ -292,9 +291,9 @@ impl Section {
     /// one. The section does nothing until it starts anew.
     pub fn fail(&mut self, row: &mut DataRow) -> Option<TornBit>
         requires { FitsSetup self.old.call.setup row.old }
-        ensures torn { (c : Call) (at : Place) → self.old ≡ section_at c at → is_going self.old ≡ true → result ≡ torn_at c at }
+        ensures torn { Tears self.old result }
         ensures known { IfSome result (IsTornOf self.old.call.setup) }
-        ensures registers { (c : Call) (at : Place) → self.old ≡ section_at c at → is_going self.old ≡ true → row.new ≡ after_fail c at row.old }
+        ensures registers { DropsRead self.old row.old row.new }
         ensures section { self.new ≡ ended self.old }
     {
         if let Some((owner, field)) = self.reads() {

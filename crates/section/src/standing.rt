@@ -1,16 +1,14 @@
 //! What a section keeps of the place of its process, and what comes after a number access.
-ghost use Rattle.std.specs.Prelude.{◌≡◌, ℕ, ◌+◌, ◌-◌, ◌^◌, ◌<◌, ◌≤◌, false, List, [], Bool, length, slice_index_or, true};
-ghost use Rattle.std.specs.List.{range_with_len};
-ghost use Rattle.safe_number.specs.Bytes.{number_of_bits, IsBytesOf};
+ghost use Rattle.std.specs.Prelude.{◌≡◌, ℕ, ◌-◌, ◌^◌, ◌<◌, ◌≤◌, false, List, [], Bool, length, slice_index_or, true};
+ghost use Rattle.safe_number.specs.Bytes.{AreOfFewBits, number_of_bits, IsBytesOf};
 ghost use Rattle.plain_store.specs.Setups.{callers_of};
 ghost use Rattle.plain_store.specs.Store.{changes, after};
-ghost use Rattle.record.specs.Parts.{Part, part_after, to_e};
-ghost use Rattle.record.specs.Program.{Version, store_read, reply};
-ghost use Rattle.record.specs.Registers.{width};
-ghost use Rattle.record.specs.Scripts.{Call, caller};
-ghost use Rattle.section.specs.Keeping.{call_of, made_next, register_asked, register_next, IsCall, IsKept, IsAsked, IsNewest, IsChange, IsStanding};
-ghost use Rattle.section.specs.Sections.{changes_at, told, goes, goes_on};
-ghost use Rattle.section.specs.Standings.{standing_at, versions_of, asking, shown, Writes};
+ghost use Rattle.record.specs.Program.{reply};
+ghost use Rattle.record.specs.Scripts.{caller};
+ghost use Rattle.section.specs.Following.{IsAskedAfter, IsKeptAfter, IsKeptAfterStamp, IsKeptAfterStore, IsKeptAfterWrite, IsToldAfter, IsToldAfterStore, IsToldAfterWrite};
+ghost use Rattle.section.specs.Keeping.{bits_asked, call_of, made_next, register_asked, register_next, IsCall, IsKept, IsAsked, IsNewest, IsChange, IsStanding};
+ghost use Rattle.section.specs.Sections.{goes, goes_on};
+ghost use Rattle.section.specs.Standings.{versions_of, asking, shown};
 
 use crate::change::{self, PendingChange, Written};
 use crate::image;
@@ -137,10 +135,10 @@ pub(crate) fn after_read(
     requires call { IsCall call.now }
     requires asked { IsAsked call.now.setup part.now }
     requires newest { IsNewest call.now.setup versions.now.newest }
-    requires whole { length read.now.bits ≡ width call.now.setup (register_asked part.now versions.now).1 }
+    requires whole { length read.now.bits ≡ bits_asked call.now.setup part.now versions.now }
     requires last { slice_index_or read.now.bits (length read.now.bits - 1) false ≡ value }
-    ensures standing { (at : Part) → standing_at (call_of call.now) at ≡ asking call.now.setup.processes part.now versions.now → shown call.now.setup.processes result.0 ≡ standing_at (call_of call.now) (part_after (call_of call.now) at read.now.bits) }
-    ensures progress { (at : Part) → standing_at (call_of call.now) at ≡ asking call.now.setup.processes part.now versions.now → result.1 ≡ told (changes_at at) (part_after (call_of call.now) at read.now.bits) }
+    ensures standing { IsKeptAfter call.now part.now versions.now read.now.bits result.0 }
+    ensures progress { IsToldAfter call.now part.now versions.now read.now.bits result.1 }
     ensures going { goes (shown call.now.setup.processes result.0) ≡ goes_on result.1 }
     ensures kept { IsStanding call.now.setup result.0 }
 {
@@ -172,7 +170,7 @@ pub(crate) fn after_read(
 
 /// The number of at most 32 bits that stand in the bytes.
 fn stamp_in(bytes: &[u8]) -> u32
-    requires { (bits : List Bool) × (length bits ≤ 32) × (length bytes.now ≤ 8) × IsBytesOf bits bytes.now }
+    requires { AreOfFewBits bytes.now }
     ensures { (bits : List Bool) → IsBytesOf bits bytes.now → result ≡ number_of_bits bits }
 {
     number_of(bytes) as u32
@@ -190,7 +188,7 @@ fn after_version(
     requires process { process < call.now.setup.processes }
     requires newest { IsNewest call.now.setup versions.now.newest }
     requires stamp { stamp < 2 ^ call.now.setup.stamp_bits }
-    ensures standing { (at : Part) (bits : List Bool) → standing_at (call_of call.now) at ≡ asking call.now.setup.processes (SectionRead.Stamp process commit) versions.now → number_of_bits bits ≡ stamp → shown call.now.setup.processes result ≡ standing_at (call_of call.now) (part_after (call_of call.now) at bits) }
+    ensures standing { IsKeptAfterStamp call.now process commit versions.now stamp result }
     ensures going { goes (shown call.now.setup.processes result) ≡ true }
     ensures kept { IsStanding call.now.setup result }
 {
@@ -209,7 +207,7 @@ fn after_version(
 /// What is read after the version of a process.
 fn asked_after(process: u8, processes: u8) -> SectionRead
     requires { process < processes }
-    ensures asked { (c : Call) (versions : List Version) → length versions ≡ process + 1 → asking processes result (versions_of c.process versions) ≡ standing_at c (to_e (range_with_len (process + 1) (processes - (process + 1))) versions) }
+    ensures asked { IsAskedAfter processes process result }
     ensures going { (versions : Versions) → goes (asking processes result versions) ≡ true }
     ensures kept { (s : Setup) → s.processes ≡ processes → IsAsked s result }
 {
@@ -233,8 +231,8 @@ fn after_image(
     requires newest { IsNewest call.now.setup versions.now.newest }
     requires slots { read.slots ≡ call.now.setup.slots }
     requires numbers { length read.numbers ≡ callers_of call.now.setup }
-    ensures standing { (at : Part) (bits : List Bool) → standing_at (call_of call.now) at ≡ asking call.now.setup.processes SectionRead.Image versions.now → store_read (call_of call.now) bits ≡ read → shown call.now.setup.processes result.0 ≡ standing_at (call_of call.now) (part_after (call_of call.now) at bits) }
-    ensures progress { (at : Part) (bits : List Bool) → standing_at (call_of call.now) at ≡ asking call.now.setup.processes SectionRead.Image versions.now → store_read (call_of call.now) bits ≡ read → result.1 ≡ told (changes_at at) (part_after (call_of call.now) at bits) }
+    ensures standing { IsKeptAfterStore call.now versions.now read result.0 }
+    ensures progress { IsToldAfterStore call.now versions.now read result.1 }
     ensures going { goes (shown call.now.setup.processes result.0) ≡ goes_on result.1 }
     ensures kept { IsStanding call.now.setup result.0 }
 {
@@ -290,8 +288,8 @@ fn applied(call: &SectionCall, read: Image) -> (Image, Reply)
 /// the command is taken.
 #[inline(never)]
 pub(crate) fn after_write(part: Written, change: &PendingChange) -> (SectionPart, SectionProgress)
-    ensures standing { (c : Call) (at : Part) (bits : List Bool) (n : ℕ) → standing_at c at ≡ Writes part change.now → shown n result.0 ≡ standing_at c (part_after c at bits) }
-    ensures progress { (c : Call) (at : Part) (bits : List Bool) → standing_at c at ≡ Writes part change.now → result.1 ≡ told (changes_at at) (part_after c at bits) }
+    ensures standing { IsKeptAfterWrite part change.now result.0 }
+    ensures progress { IsToldAfterWrite part change.now result.1 }
     ensures going { (n : ℕ) → goes (shown n result.0) ≡ goes_on result.1 }
     ensures kept { (s : Setup) → IsChange s change.now → IsStanding s result.0 }
 {

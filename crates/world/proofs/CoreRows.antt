@@ -3,7 +3,7 @@ use Rattle.std.proofs.Common.{◌≡◌, ℕ, zero, suc, ◌<◌, ◌≤◌, ◌
 use Rattle.std.specs.Prelude.{slice_index_or}
 use Rattle.flicks.specs.Flicks.{FlickState}
 use Rattle.record.specs.declared.history.Taken.{Taken}
-use Rattle.process.specs.Registers.{MayWalk, RegistersState, WalksWithin}
+use Rattle.process.specs.Registers.{MayRun, RegistersState, RunsWithin}
 use Rattle.process.specs.Steps.{bits_to_walk, is_at_door}
 use Rattle.world.specs.Changes.{pending_in}
 use Rattle.world.specs.Cores.{CoreState, CoreWalks, KeepsCore, with_history}
@@ -27,7 +27,7 @@ walked-in : (core : CoreState) (taken : List Taken) (p i n : ℕ) (seat : Seat) 
 walked-in core taken p i n seat h left = record { index = h.index; there = h.there; seat_is = h.seat_is; left = left }
 
 -- they may be made
-pub rows-may : (n : ℕ) (core : CoreState) (p i : ℕ) (seat : Seat) (f : FlickState) → IsWithin core p i seat → n ≤ bits_to_walk seat.process.kept → MayWalk seat.process core.registers f n
+pub rows-may : (n : ℕ) (core : CoreState) (p i : ℕ) (seat : Seat) (f : FlickState) → IsWithin core p i seat → n ≤ bits_to_walk seat.process.kept → MayRun seat.process core.registers f n
 rows-may n core p i seat f h left = may-walk n (with_history core h.kept.taken) h.kept.events p i seat f h.kept.shows (walked-in core h.kept.taken p i n seat h left)
 
 -- the seat after them
@@ -36,7 +36,7 @@ IsAfter seat then = then ≡ record seat { process = then.process; begun = seat.
 
 -- with the history that the core keeps they leave what a world keeps
 rows-end : (n : ℕ) (core : CoreState) (p i : ℕ) (seat : Seat) (f f_then : FlickState) (registers : RegistersState) (then : Seat) → (h : IsWithin core p i seat) → suc n ≤ bits_to_walk seat.process.kept → IsAfter seat then →
-    WalksWithin core.registers f seat.process (suc n) registers f_then then.process → KeepsWorld (with_history (core_within core i registers then) h.kept.taken) (room_of (with_history core h.kept.taken))
+    RunsWithin core.registers f seat.process (suc n) registers f_then then.process → KeepsWorld (with_history (core_within core i registers then) h.kept.taken) (room_of (with_history core h.kept.taken))
 rows-end n core p i seat f f_then registers then h left after walks =
     let w : WorldState = with_history core h.kept.taken in
     subst (λ (x : Seat). KeepsWorld (with_history (core_within core i registers x) h.kept.taken) (room_of w)) (sym after)
@@ -44,7 +44,7 @@ rows-end n core p i seat f f_then registers then h left after walks =
 
 -- with each history they are steps without a mark
 pub rows-walk : (n : ℕ) (core : CoreState) (p i : ℕ) (seat : Seat) (f f_then : FlickState) (registers : RegistersState) (then : Seat) → 0 < n → IsWithin core p i seat → n ≤ bits_to_walk seat.process.kept → IsAfter seat then →
-    WalksWithin core.registers f seat.process n registers f_then then.process → CoreWalks core f p n (core_within core i registers then) f_then
+    RunsWithin core.registers f seat.process n registers f_then then.process → CoreWalks core f p n (core_within core i registers then) f_then
 rows-walk zero core p i seat f f_then registers then some h left after walks = absurd (omega (arith, some))
 rows-walk (suc n) core p i seat f f_then registers then some h left after walks = record {
   walks = λ taken.
@@ -55,7 +55,7 @@ rows-walk (suc n) core p i seat f f_then registers then some h left after walks 
 
 -- and what a core keeps is kept
 pub rows-keep : (n : ℕ) (core : CoreState) (p i : ℕ) (seat : Seat) (f f_then : FlickState) (registers : RegistersState) (then : Seat) → 0 < n → IsWithin core p i seat → n ≤ bits_to_walk seat.process.kept → IsAfter seat then →
-    WalksWithin core.registers f seat.process n registers f_then then.process → KeepsCore (core_within core i registers then)
+    RunsWithin core.registers f seat.process n registers f_then then.process → KeepsCore (core_within core i registers then)
 rows-keep zero core p i seat f f_then registers then some h left after walks = absurd (omega (arith, some))
 rows-keep (suc n) core p i seat f f_then registers then some h left after walks =
     let ends = rows-end n core p i seat f f_then registers then h left after walks in

@@ -6,7 +6,7 @@ use Rattle.flicks.specs.Flicks.{FlickState, after_flick, flick_of}
 use Rattle.record.specs.declared.events.Event.{Event}
 use Rattle.record.specs.declared.events.Event.TheVariants.{Step}
 use Rattle.process.specs.Processes.{ProcessState}
-use Rattle.process.specs.Registers.{MayWalk, RegistersState, StepsWithin, WalksWithin}
+use Rattle.process.specs.Registers.{MayRun, RegistersState, StepsWithin, RunsWithin}
 use Rattle.process.specs.Steps.{bits_to_walk, is_at_door}
 use Rattle.world.specs.Events.{KeepsWorld}
 use Rattle.world.specs.Seats.{Seat}
@@ -48,7 +48,7 @@ one : (n : ℕ) (w : WorldState) (p i : ℕ) (flick : Bool) (seat : Seat) (r_the
 one n w p i flick seat r_then then h e = quiet-on w p i flick seat r_then (seat_then seat then) h.index h.there h.seat_is (some-left n w p i seat h) refl e
 
 -- they may be made
-pub may-walk : (n : ℕ) (w : WorldState) (events : List Event) (p i : ℕ) (seat : Seat) (f : FlickState) → Shows w events → IsWalked w p i n seat → MayWalk seat.process w.registers f n
+pub may-walk : (n : ℕ) (w : WorldState) (events : List Event) (p i : ℕ) (seat : Seat) (f : FlickState) → Shows w events → IsWalked w p i n seat → MayRun seat.process w.registers f n
 may-walk zero w events p i seat f shows h = tt
 may-walk (suc n) w events p i seat f shows h = (
   within-may w (room_of w) p i (flick_of f) seat (keeps_of w events shows) h.index h.there h.seat_is (some-left n w p i seat h),
@@ -73,7 +73,7 @@ rest-world w i seat r_mid r_then mid then begun =
     ap (λ seats. world_with w.setup r_then seats w.history) (set-set w.seats i (seat_then seat mid) (let x : Seat = record seat { process = then; begun = begun } in x))
 
 -- each is a step without a mark
-pub walks-of : (n : ℕ) (w : WorldState) (p i : ℕ) (seat : Seat) (f f_then : FlickState) (r_then : RegistersState) (then : ProcessState) (begun : Bool) → IsWalked w p i (suc n) seat → WalksWithin w.registers f seat.process (suc n) r_then f_then then →
+pub walks-of : (n : ℕ) (w : WorldState) (p i : ℕ) (seat : Seat) (f f_then : FlickState) (r_then : RegistersState) (then : ProcessState) (begun : Bool) → IsWalked w p i (suc n) seat → RunsWithin w.registers f seat.process (suc n) r_then f_then then →
     begun ≡ seat.begun || is_at_door seat.process.kept → Walks w f p (suc n) (world_then w i r_then seat then begun) f_then
 walks-of zero w p i seat f f_then r_then then begun h (r_mid, mid, e, (same, same_r, same_f)) is =
     (w, f, (refl, refl), subst (StepsQuietly w p (flick_of f)) (last-world w i seat r_mid r_then mid then begun same same_r is) (one zero w p i (flick_of f) seat r_mid mid h e), same_f)
@@ -88,7 +88,7 @@ walks-of (suc n) w p i seat f f_then r_then then begun h (r_mid, mid, e, rest) i
     (walks-then (suc n) w after (world_then after i r_then next then begun) f (after_flick f) f_then p 1 first more))
 
 -- and what a world keeps is kept
-pub ends-of : (n : ℕ) (w : WorldState) (capacity p i : ℕ) (seat : Seat) (f f_then : FlickState) (r_then : RegistersState) (then : ProcessState) (begun : Bool) → KeepsWorld w capacity → IsWalked w p i (suc n) seat → WalksWithin w.registers f seat.process (suc n) r_then f_then then →
+pub ends-of : (n : ℕ) (w : WorldState) (capacity p i : ℕ) (seat : Seat) (f f_then : FlickState) (r_then : RegistersState) (then : ProcessState) (begun : Bool) → KeepsWorld w capacity → IsWalked w p i (suc n) seat → RunsWithin w.registers f seat.process (suc n) r_then f_then then →
     begun ≡ seat.begun || is_at_door seat.process.kept → KeepsWorld (world_then w i r_then seat then begun) capacity
 ends-of zero w capacity p i seat f f_then r_then then begun keeps h (r_mid, mid, e, (same, same_r, same_f)) is =
     subst (λ new. KeepsWorld new capacity) (last-world w i seat r_mid r_then mid then begun same same_r is)

@@ -270,7 +270,7 @@ impl Core {
                 return made;
             }
             let steps = u32::from(bits).min(most - made);
-            self.walk_within(process, flicks, steps);
+            self.run_within(process, flicks, steps);
             made += steps;
         }
         made
@@ -310,13 +310,13 @@ impl Core {
 
     /// So many steps of a process, one at least, that has as many bits at least before the last one.
     #[inline]
-    fn walk_within(&mut self, process: u8, flicks: &mut Flicks, steps: u32)
+    fn run_within(&mut self, process: u8, flicks: &mut Flicks, steps: u32)
         requires some { 0 < steps }
         requires within { steps ≤ bits_within_at self.old.seats process }
         ensures { CoreWalks self.old flicks.old process steps self.new flicks.new }
     {
         let at = usize::from(process);
-        self.seats[at].walk_within(&mut self.registers, flicks, steps);
+        self.seats[at].run_within(&mut self.registers, flicks, steps);
     }
 
     /// A call begins.

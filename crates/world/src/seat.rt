@@ -9,7 +9,7 @@ ghost use Rattle.laws.specs.Steps.{does_then, marks_with, next_of};
 ghost use Rattle.process.specs.Drops.{AreOf, dropped};
 ghost use Rattle.process.specs.Processes.{kept_at, stage_kept};
 ghost use Rattle.process.specs.Processes as kept;
-ghost use Rattle.process.specs.Registers.{MayStep, MayWalk, StepsWithin, WalksWithin, answered, made};
+ghost use Rattle.process.specs.Registers.{MayStep, MayRun, StepsWithin, RunsWithin, answered, made};
 ghost use Rattle.process.specs.Steps.{IsAt, bits_to_walk, is_at_door, kept_failing, kept_withdrawing, may_fail, may_step};
 ghost use Rattle.process.specs.Telling.{marks_told};
 ghost use Rattle.world.specs.Changes.{told};
@@ -146,17 +146,17 @@ impl Seat {
 
     /// Makes so many of the next accesses, one at least, within a number access at the door or at the data.
     #[inline(always)]
-    pub fn walk_within(&mut self, registers: &mut Registers, flicks: &mut Flicks, steps: u32)
+    pub fn run_within(&mut self, registers: &mut Registers, flicks: &mut Flicks, steps: u32)
         requires some { 0 < steps }
         requires within { steps ≤ bits_to_walk self.old.process.kept }
-        requires may { MayWalk self.old.process registers.old flicks.old steps }
+        requires may { MayRun self.old.process registers.old flicks.old steps }
         ensures seat { self.new ≡ record self.old { process = self.new.process; begun = self.old.begun || is_at_door self.old.process.kept } }
-        ensures within { WalksWithin registers.old flicks.old self.old.process steps registers.new flicks.new self.new.process }
+        ensures within { RunsWithin registers.old flicks.old self.old.process steps registers.new flicks.new self.new.process }
     {
         if self.process.is_at_door() {
             self.begun = true;
         }
-        self.process.walk_within(registers, flicks, steps);
+        self.process.run_within(registers, flicks, steps);
     }
 
     /// Becomes as the other, of the same setup. It takes no memory.

@@ -6,7 +6,7 @@ ghost use Rattle.laws.specs.Doings.{Doing};
 ghost use Rattle.laws.specs.Steps.{does_then, marks_with, next_of};
 ghost use Rattle.process.specs.Drops.{AreOf, dropped};
 ghost use Rattle.process.specs.Processes.{kept_at, stage_kept};
-ghost use Rattle.process.specs.Registers.{MayStep, MayWalk, StepsWithin, WalksWithin, answered, made};
+ghost use Rattle.process.specs.Registers.{MayStep, MayRun, StepsWithin, RunsWithin, answered, made};
 ghost use Rattle.process.specs.Steps.{IsAt, bits_to_walk, bits_within, is_at_door, kept_failing, kept_withdrawing, may_fail, may_step};
 ghost use Rattle.process.specs.Telling.{marks_told};
 
@@ -95,15 +95,15 @@ impl Process {
     /// Makes so many of the next accesses, one at least, as `step_within` makes each, by the flicks that are next: at the
     /// data it looks up once which register it is.
     #[inline]
-    pub fn walk_within(&mut self, registers: &mut Registers, flicks: &mut Flicks, steps: u32)
+    pub fn run_within(&mut self, registers: &mut Registers, flicks: &mut Flicks, steps: u32)
         requires some { 0 < steps }
         requires within { steps ≤ bits_to_walk self.old.kept }
-        requires may { MayWalk self.old registers.old flicks.old steps }
-        ensures { WalksWithin registers.old flicks.old self.old steps registers.new flicks.new self.new }
+        requires may { MayRun self.old registers.old flicks.old steps }
+        ensures { RunsWithin registers.old flicks.old self.old steps registers.new flicks.new self.new }
     {
         if !self.is_at_door() {
             let row = &mut registers.versions;
-            self.section.walk_within(row, flicks, steps);
+            self.section.run_within(row, flicks, steps);
             return;
         }
         let mut made = 0;

@@ -5,13 +5,13 @@ use Rattle.section.specs.Sections.{GoesOnWithin, MayStep, Section, bits_within}
 use Rattle.section.proofs.section.Section.step_within.Goals as goal
 
 pub read_on-requires-clause-within : goal.read_on-requires-clause-within
-read_on-requires-clause-within c = λ w.
+read_on-requires-clause-within c =
     let s = c.self.inside in
     let same : section_of s.call (keeps.Reads c.in-Reads.part c.in-Reads.versions) s.reading s.writing ≡ c.args.self.now = ap (λ st. section_of s.call st s.reading s.writing) (sym c.in-Reads.is) ∙ c.self.view_is in
     subst (λ (x : Section). 0 < bits_within x) (sym same) c.requires.within
 
 pub read_on-requires-clause-may : goal.read_on-requires-clause-may
-read_on-requires-clause-may c = λ w.
+read_on-requires-clause-may c =
     let s = c.self.inside in
     let same : section_of s.call (keeps.Reads c.in-Reads.part c.in-Reads.versions) s.reading s.writing ≡ c.args.self.now = ap (λ st. section_of s.call st s.reading s.writing) (sym c.in-Reads.is) ∙ c.self.view_is in
     subst (λ (x : Section). MayStep x c.args.row.now c.args.flick) (sym same) c.requires.may
@@ -26,16 +26,16 @@ returns-in-Reads c =
     let same : old ≡ c.args.self.now = ap (λ st. section_of s.call st s.reading s.writing) (sym c.in-Reads.is) ∙ c.self.view_is in
     subst (λ (x : Section). GoesOnWithin x c.args.row.now c.args.flick (section_of s.call s.standing c.read_on.new.run s.writing) c.read_on.new.row) same
     (subst (λ st. GoesOnWithin old c.args.row.now c.args.flick (section_of s.call st c.read_on.new.run s.writing) c.read_on.new.row) (sym c.in-Reads.is)
-    (c.read_on.ensures.goes s.writing))
+    c.read_on.ensures.goes)
 
 pub write_on-requires-clause-within : goal.write_on-requires-clause-within
-write_on-requires-clause-within c = λ r.
+write_on-requires-clause-within c =
     let s = c.self.inside in
     let same : section_of s.call (keeps.Writes c.in-Writes.part c.in-Writes.change) s.reading s.writing ≡ c.args.self.now = ap (λ st. section_of s.call st s.reading s.writing) (sym c.in-Writes.is) ∙ c.self.view_is in
     subst (λ (x : Section). 0 < bits_within x) (sym same) c.requires.within
 
 pub write_on-requires-clause-may : goal.write_on-requires-clause-may
-write_on-requires-clause-may c = λ r.
+write_on-requires-clause-may c =
     let s = c.self.inside in
     let same : section_of s.call (keeps.Writes c.in-Writes.part c.in-Writes.change) s.reading s.writing ≡ c.args.self.now = ap (λ st. section_of s.call st s.reading s.writing) (sym c.in-Writes.is) ∙ c.self.view_is in
     subst (λ (x : Section). MayStep x c.args.row.now c.args.flick) (sym same) c.requires.may
@@ -53,4 +53,4 @@ returns-in-Writes c =
     let same : old ≡ c.args.self.now = ap (λ st. section_of s.call st s.reading s.writing) (sym c.in-Writes.is) ∙ c.self.view_is in
     subst (λ (x : Section). GoesOnWithin x c.args.row.now c.args.flick (section_of s.call s.standing s.reading c.write_on.new.run) c.write_on.new.row) same
     (subst (λ st. GoesOnWithin old c.args.row.now c.args.flick (section_of s.call st s.reading c.write_on.new.run) c.write_on.new.row) (sym c.in-Writes.is)
-    (c.write_on.ensures.goes s.reading))
+    c.write_on.ensures.goes)

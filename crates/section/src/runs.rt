@@ -1,12 +1,11 @@
 //! Accesses of a section within one number access, one of them or several in a row: which register it is is looked up
 //! before.
 ghost use Rattle.std.specs.Prelude.{◌≡◌, ◌<◌, ◌≤◌, Ok};
-ghost use Rattle.safe_number.specs.Runs.{NumberRead, NumberWrite};
 ghost use Rattle.plain_store.specs.Setups.{checked};
 ghost use Rattle.section.specs.Changes.{change_field};
-ghost use Rattle.section.specs.Keeping.{IsCall, IsChange, IsReadOf, IsWriteOf, register_asked, section_of};
-ghost use Rattle.section.specs.Sections.{GoesOnWithin, MayStep, MayWalk, WalksWithin, bits_within};
-ghost use Rattle.section.specs.declared.standing.SectionPart.TheVariants as keeps;
+ghost use Rattle.section.specs.Keeping.{IsCall, IsChange, IsReadOf, IsWriteOf, register_asked, section_reading, section_writing};
+ghost use Rattle.section.specs.Runs.{MayReadOn, MayWriteOn, ReadsAllOn, ReadsOn, WritesAllOn, WritesOn};
+ghost use Rattle.section.specs.Sections.{MayStep, bits_within};
 
 use crate::change::{PendingChange, Written};
 use crate::data_row::DataRow;
@@ -28,10 +27,10 @@ pub(crate) fn read_on(
     pace: Pace,
 )
     requires asked { asked ≡ register_asked part.now versions.now }
-    requires within { (w : NumberWrite) → 0 < bits_within (section_of call.now (keeps.Reads part.now versions.now) run.old w) }
-    requires may { (w : NumberWrite) → MayStep (section_of call.now (keeps.Reads part.now versions.now) run.old w) row.old flick }
+    requires within { 0 < bits_within (section_reading call.now part.now versions.now run.old) }
+    requires may { MayStep (section_reading call.now part.now versions.now run.old) row.old flick }
     requires kept { IsReadOf call.now.setup (register_asked part.now versions.now).1 run.old }
-    ensures goes { (w : NumberWrite) → GoesOnWithin (section_of call.now (keeps.Reads part.now versions.now) run.old w) row.old flick (section_of call.now (keeps.Reads part.now versions.now) run.new w) row.new }
+    ensures goes { ReadsOn call.now part.now versions.now run.old row.old flick run.new row.new }
     ensures kept { IsReadOf call.now.setup (register_asked part.now versions.now).1 run.new }
     ensures room { run.new.room ≡ run.old.room }
 {
@@ -53,10 +52,11 @@ pub(crate) fn read_all_on(
     steps: u32,
 )
     requires asked { asked ≡ register_asked part.now versions.now }
-    requires within { (w : NumberWrite) → steps ≤ bits_within (section_of call.now (keeps.Reads part.now versions.now) run.old w) }
-    requires may { (w : NumberWrite) → MayWalk (section_of call.now (keeps.Reads part.now versions.now) run.old w) row.old flicks.old steps }
+    requires within { steps ≤ bits_within (section_reading call.now part.now versions.now run.old) }
+    requires may { MayReadOn call.now part.now versions.now run.old row.old flicks.old steps }
     requires kept { IsReadOf call.now.setup (register_asked part.now versions.now).1 run.old }
-    ensures walks { (w : NumberWrite) → WalksWithin (section_of call.now (keeps.Reads part.now versions.now) run.old w) row.old flicks.old steps (section_of call.now (keeps.Reads part.now versions.now) run.new w) row.new flicks.new }
+    ensures runs { ReadsAllOn call.now part.now versions.now run.old row.old flicks.old steps
+        run.new row.new flicks.new }
     ensures kept { IsReadOf call.now.setup (register_asked part.now versions.now).1 run.new }
     ensures room { run.new.room ≡ run.old.room }
 {
@@ -80,10 +80,10 @@ pub(crate) fn write_on(
 )
     requires call { IsCall call.now }
     requires change { IsChange call.now.setup change.now }
-    requires within { (r : NumberRead) → 0 < bits_within (section_of call.now (keeps.Writes part change.now) r run.old) }
-    requires may { (r : NumberRead) → MayStep (section_of call.now (keeps.Writes part change.now) r run.old) row.old flick }
+    requires within { 0 < bits_within (section_writing call.now part change.now run.old) }
+    requires may { MayStep (section_writing call.now part change.now run.old) row.old flick }
     requires kept { IsWriteOf call.now.setup (change_field part change.now) run.old }
-    ensures goes { (r : NumberRead) → GoesOnWithin (section_of call.now (keeps.Writes part change.now) r run.old) row.old flick (section_of call.now (keeps.Writes part change.now) r run.new) row.new }
+    ensures goes { WritesOn call.now part change.now run.old row.old flick run.new row.new }
     ensures kept { IsWriteOf call.now.setup (change_field part change.now) run.new }
 {
     change.write_on(part, row, call.process, call.setup.processes, run);
@@ -102,10 +102,11 @@ pub(crate) fn write_all_on(
 )
     requires call { IsCall call.now }
     requires change { IsChange call.now.setup change.now }
-    requires within { (r : NumberRead) → steps ≤ bits_within (section_of call.now (keeps.Writes part change.now) r run.old) }
-    requires may { (r : NumberRead) → MayWalk (section_of call.now (keeps.Writes part change.now) r run.old) row.old flicks.old steps }
+    requires within { steps ≤ bits_within (section_writing call.now part change.now run.old) }
+    requires may { MayWriteOn call.now part change.now run.old row.old flicks.old steps }
     requires kept { IsWriteOf call.now.setup (change_field part change.now) run.old }
-    ensures walks { (r : NumberRead) → WalksWithin (section_of call.now (keeps.Writes part change.now) r run.old) row.old flicks.old steps (section_of call.now (keeps.Writes part change.now) r run.new) row.new flicks.new }
+    ensures runs { WritesAllOn call.now part change.now run.old row.old flicks.old steps
+        run.new row.new flicks.new }
     ensures kept { IsWriteOf call.now.setup (change_field part change.now) run.new }
 {
     let mut made = 0;
