@@ -1,8 +1,10 @@
 -- The memory unit's cursor: what it keeps of a closing of the failure rule, and what it tells.
-use Rattle.std.specs.Prelude.{◌≡◌, ℕ, ◌*◌, ◌<◌, ◌≤◌, Bool, true, false, ◌&&◌, cond, List, [], ◌∷◌, Option, None, Some, option_map}
+use Rattle.std.specs.Prelude.{◌≡◌, ℕ, ◌*◌, ◌<◌, ◌≤◌, ◌==◌, Bool, true, false, ◌&&◌, cond, List, [], ◌∷◌, Option, None, Some, option_map, slice_index_or}
 use Rattle.reader_copies.specs.Runs.{settled_at}
 use Rattle.record.specs.declared.access.Access.{Access}
+use Rattle.record.specs.declared.access.Field.{Field}
 use Rattle.record.specs.declared.access.TornBit.{TornBit}
+use Rattle.record.specs.Accesses.{access_of}
 use Rattle.record.specs.safe_number.Runs.{NumberWrite, new_write}
 use Rattle.plain_store.specs.declared.Command.TheVariants.{Ask}
 use Rattle.plain_store.specs.declared.Setup.{Setup}
@@ -11,7 +13,7 @@ use Rattle.record.specs.declared.Mark.TheVariants as mark
 use Rattle.record.specs.Closings as closing
 use Rattle.record.specs.Closings.{Closing, closing_next, closing_after, settled_marks, is_unwritten}
 use Rattle.record.specs.Cuts.{IsTornOf}
-use Rattle.record.specs.Places.{bit_written}
+use Rattle.record.specs.Places.{bit_written, next_written, write_moved}
 use Rattle.record.specs.Scripts.{Call, Next}
 use Rattle.memory_unit.specs.declared.progress.UnitProgress.{UnitProgress}
 use Rattle.memory_unit.specs.declared.progress.UnitProgress.TheVariants as progress
@@ -110,6 +112,14 @@ pub record IsUnderWay (n bits : ℕ) (w : NumberWrite) : Type 0 where
   pub width : w.width ≡ bits
   pub bit : w.bit < w.width
   pub made : (bit_written [] w).made < 2 * n
+
+-- the next access of a write of bits of which the present one is 0
+abbrev pub IsNextClearing : ℕ → Field → NumberWrite → Access → Type 0
+IsNextClearing p field w access = (bits : List Bool) → slice_index_or bits w.bit false ≡ false → access ≡ access_of p field (next_written bits w)
+
+-- such a write after it, with n copies of each bit, if it is not done
+abbrev pub IsClearedOn : ℕ → NumberWrite → Option NumberWrite → Type 0
+IsClearedOn n w then = (bits : List Bool) → slice_index_or bits w.bit false ≡ false → then ≡ cond ((write_moved n bits w).bit == w.width) None (Some (write_moved n bits w))
 
 -- a part of the work in this setup
 abbrev pub IsWork : Setup → Work → Type 0

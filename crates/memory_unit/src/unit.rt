@@ -1,13 +1,11 @@
-ghost use Rattle.std.specs.Prelude.{◌≡◌, ◌<◌, Bool, Option, true, Some, Ok, IfSome};
+ghost use Rattle.std.specs.Prelude.{◌≡◌, ◌<◌, true, Some, Ok, IfSome};
 ghost use Rattle.plain_store.specs.Setups.{checked};
-ghost use Rattle.record.specs.Closings.{Closing, closing_next, closing_after};
-ghost use Rattle.record.specs.Cuts.{Change, IsTornOf};
-ghost use Rattle.record.specs.Failures.{cut};
-ghost use Rattle.record.specs.Scripts.{Call};
+ghost use Rattle.record.specs.Cuts.{IsTornOf};
 ghost use Rattle.bakery.specs.Doors.{IsNamed};
 ghost use Rattle.bakery.specs.Locks.{lock_after};
-ghost use Rattle.memory_unit.specs.Memory.{CanAccess, versions_after};
-ghost use Rattle.memory_unit.specs.Units.{unit_at, next_access, next_marks, next_of, is_going, remains, marks_told};
+ghost use Rattle.memory_unit.specs.Memory.{versions_after};
+ghost use Rattle.memory_unit.specs.UnitClosings.{BeginsClosings, CanGoOn, GoesOn, IsNext, TellsMarks};
+ghost use Rattle.memory_unit.specs.Units.{next_of, is_going, remains};
 
 use crate::progress::UnitProgress;
 use crate::work::Work;
@@ -50,7 +48,7 @@ impl Unit {
         requires process { p < setup.now.processes }
         requires torn { IfSome torn (λ t. IsTornOf setup.now t) }
         ensures going { is_going result ≡ true }
-        ensures unit { (c : Call) (begun : Bool) (pending : Option Change) (inside : Bool) → c.setup ≡ setup.now → c.process ≡ p → result ≡ unit_at c (cut c torn begun pending inside) }
+        ensures unit { BeginsClosings setup.now p torn result }
     {
         Unit {
             setup: *setup,
@@ -64,7 +62,7 @@ impl Unit {
     #[inline]
     pub fn next(&self, flick: bool) -> Access
         requires going { is_going self.now ≡ true }
-        ensures access { (c : Call) (at : Closing) → self.now ≡ unit_at c at → next_access c at flick ≡ Some result }
+        ensures access { IsNext self.now flick result }
         ensures named { IsNamed self.now.setup result }
         ensures own { next_of self.now flick ≡ Some result }
     {
@@ -75,9 +73,9 @@ impl Unit {
     #[inline]
     pub fn advance(&mut self, flick: bool) -> UnitProgress
         requires going { is_going self.old ≡ true }
-        ensures unit { (c : Call) (at : Closing) → self.old ≡ unit_at c at → self.new ≡ unit_at c (closing_after c at flick) }
+        ensures unit { GoesOn self.old flick self.new }
         ensures progress { result ≡ remains self.new.work }
-        ensures marks { (c : Call) (at : Closing) → self.old ≡ unit_at c at → next_marks c at flick ≡ Some (marks_told at flick (remains self.old.work) result) }
+        ensures marks { TellsMarks self.old flick result }
     {
         self.work = self.work.after(&self.setup, flick);
         self.work.remains()
@@ -93,13 +91,13 @@ impl Unit {
         flick: bool,
     ) -> (Access, UnitProgress)
         requires going { is_going self.old ≡ true }
-        requires can { (a : Access) → next_of self.old flick ≡ Some a → CanAccess lock.old versions.old a }
-        ensures access { (c : Call) (at : Closing) → self.old ≡ unit_at c at → next_access c at flick ≡ Some result.0 }
+        requires can { CanGoOn self.old lock.old versions.old flick }
+        ensures access { IsNext self.old flick result.0 }
         ensures lock { lock.new ≡ lock_after lock.old result.0 }
         ensures versions { versions.new ≡ versions_after versions.old result.0 }
-        ensures unit { (c : Call) (at : Closing) → self.old ≡ unit_at c at → self.new ≡ unit_at c (closing_after c at flick) }
+        ensures unit { GoesOn self.old flick self.new }
         ensures progress { result.1 ≡ remains self.new.work }
-        ensures marks { (c : Call) (at : Closing) → self.old ≡ unit_at c at → next_marks c at flick ≡ Some (marks_told at flick (remains self.old.work) result.1) }
+        ensures marks { TellsMarks self.old flick result.1 }
     {
         let access = self.next(flick);
         match access.field {

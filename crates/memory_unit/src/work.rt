@@ -1,9 +1,8 @@
 //! What a memory unit does, part by part.
-ghost use Rattle.std.specs.Prelude.{◌≡◌, ◌<◌, ◌≤◌, ◌*◌, ◌==◌, List, Bool, true, false, [], cond, Some, None, IfSome, slice_index_or};
-ghost use Rattle.record.specs.Accesses.{access_of};
-ghost use Rattle.record.specs.Places.{bit_written, next_written, write_moved};
+ghost use Rattle.std.specs.Prelude.{◌≡◌, ◌<◌, ◌≤◌, ◌*◌, true, [], Some, None, IfSome};
+ghost use Rattle.record.specs.Places.{bit_written};
 ghost use Rattle.record.specs.Cuts.{IsTornOf};
-ghost use Rattle.memory_unit.specs.Units.{whole_work, next_of_work, work_after, remains, goes, IsWork};
+ghost use Rattle.memory_unit.specs.Units.{whole_work, next_of_work, work_after, remains, goes, IsClearedOn, IsNextClearing, IsWork};
 
 use crate::progress::UnitProgress;
 use bakery::WriteRun;
@@ -112,7 +111,7 @@ fn frees(setup: &Setup) -> Work
 #[inline]
 fn clearing(process: u8, field: Field, run: &WriteRun) -> Access
     requires { run.now.bit < 32 }
-    ensures { (bits : List Bool) → slice_index_or bits run.now.bit false ≡ false → result ≡ access_of process field (next_written bits run.now) }
+    ensures { IsNextClearing process field run.now result }
 {
     Access::of(process, field, run.next(&CLEAR))
 }
@@ -123,7 +122,7 @@ fn clear_on(run: WriteRun, readers: u8) -> Option<WriteRun>
     requires going { run.bit < run.width × (bit_written [] run).made < 2 * readers }
     requires readers { readers ≤ 16 }
     requires width { run.width ≤ 32 }
-    ensures { (bits : List Bool) → slice_index_or bits run.bit false ≡ false → result ≡ cond ((write_moved readers bits run).bit == run.width) None (Some (write_moved readers bits run)) }
+    ensures { IsClearedOn readers run result }
 {
     let mut run = run;
     match run.advance(readers, &CLEAR) {
