@@ -17,7 +17,8 @@ pub trait Store {
     /// it was.
     fn apply(&mut self, command: &Command, caller: Caller) -> Result<Reply, AllocError>
         ensures reply { IfOk result (λ r. r ≡ reply_to (contents self.old) command.now caller) }
-        ensures ok { OnOk result (contents self.new ≡ after (contents self.old) command.now caller) }
+        ensures ok { OnOk result
+            (contents self.new ≡ after (contents self.old) command.now caller) }
         ensures err { OnErr result (contents self.new ≡ contents self.old) };
 
     /// Whether the command would change the pairs.

@@ -1,30 +1,26 @@
-use Rattle.std.proofs.Common.{◌≡◌, ◌<◌, Bool, false, List, length, slice_set, sym, ap, subst, ◌∙◌, rules}
+use Rattle.std.proofs.Common.{◌≡◌, ◌<◌, List, length, slice_set, sym, ap, subst, ◌∙◌, rules}
 use Rattle.reader_copies.specs.safe_bit.Cell.{Cell}
 use Rattle.reader_copies.specs.Row.{CanMake, HasCell, cell_at, row_after}
 use Rattle.reader_copies.specs.Runs.{Writing, next_read, next_write}
-use Rattle.record.specs.declared.access.Access.{Access}
 use Rattle.record.specs.declared.access.Field.TheVariants.{Ticket}
 use Rattle.safe_number.specs.Bytes.{AreBytes, little_endian}
 use Rattle.safe_number.specs.Runs.{bit_read, bit_write, number_read_after}
 use Rattle.safe_number.specs.Written.{loaded}
-use Rattle.bakery.specs.Doors.{DoorState, GoesOnWithin, bits_at, bits_within, next_of, run_shown}
-use Rattle.bakery.specs.Locks.{CanAccess, LockRows, answered, lock_of}
+use Rattle.bakery.specs.DoorCalls.{IsTicketInTurn}
+use Rattle.bakery.specs.Doors.{DoorState, GoesOnWithin, bits_at, bits_within, run_shown}
+use Rattle.bakery.specs.Locks.{LockRows, lock_of}
 use Rattle.bakery.proofs.Accesses.{door_with}
 use Rattle.bakery.proofs.Cells.{owner-there}
 use Rattle.bakery.proofs.NumberRuns.{write-bit, writes-number}
 use Rattle.bakery.proofs.Within.{goes-within, read-keeps, read-less, read-turn, reads-ticket, reads-within, takes-ticket, taking-within, turn-read, write-keeps, write-turn}
 use Rattle.bakery.proofs.door.Door.step_within.Goals as goal
 
--- a ticket's access is in its turn
-abbrev IsInTurn : List LockRows → Bool → DoorState → Type 0
-IsInTurn locks flick d = (next_of d false).field ≡ Ticket → let next : Access = answered locks flick (next_of d false) in CanAccess (lock_of locks next.owner) next
-
 pub own-lock-requires : goal.own-lock-requires
 own-lock-requires c =
     let f = c.self.inside in
     let h = subst (λ (d : DoorState). 0 < bits_within d) (sym c.self.view_is) c.requires.within in
     let is = reads-ticket f.setup f.process c.in-Some.owner _ f.standing f.runs.write f.runs.read h c.in-Some.ensures in
-    let turn = subst (IsInTurn c.args.locks.now c.args.flick) (sym c.self.view_is) c.requires.turn in
+    let turn = subst (λ (d : DoorState). IsTicketInTurn d c.args.locks.now c.args.flick) (sym c.self.view_is) c.requires.turn in
     let can = read-turn f.setup f.process c.in-Some.owner f.standing f.runs.write f.runs.read c.args.locks.now c.args.flick is turn in
     owner-there c.args.locks.now c.in-Some.owner Ticket (length f.runs.read.bits) f.process can.there
 
@@ -33,7 +29,7 @@ read_on-requires-clause-there c =
     let f = c.self.inside in
     let h = subst (λ (d : DoorState). 0 < bits_within d) (sym c.self.view_is) c.requires.within in
     let is = reads-ticket f.setup f.process c.in-Some.owner _ f.standing f.runs.write f.runs.read h c.in-Some.ensures in
-    let turn = subst (IsInTurn c.args.locks.now c.args.flick) (sym c.self.view_is) c.requires.turn in
+    let turn = subst (λ (d : DoorState). IsTicketInTurn d c.args.locks.now c.args.flick) (sym c.self.view_is) c.requires.turn in
     let can = read-turn f.setup f.process c.in-Some.owner f.standing f.runs.write f.runs.read c.args.locks.now c.args.flick is turn in
     let same : c.lock.inside.ticket ≡ (lock_of c.args.locks.now c.in-Some.owner).ticket = ap (λ (lock : LockRows). lock.ticket) (c.lock.view_is ∙ c.own-lock.ensures.lock) in
     subst (λ (row : List (List Cell)). HasCell row (length f.runs.read.bits) f.process) (sym same) can.there
@@ -43,7 +39,7 @@ read_on-requires-clause-turn c =
     let f = c.self.inside in
     let h = subst (λ (d : DoorState). 0 < bits_within d) (sym c.self.view_is) c.requires.within in
     let is = reads-ticket f.setup f.process c.in-Some.owner _ f.standing f.runs.write f.runs.read h c.in-Some.ensures in
-    let turn = subst (IsInTurn c.args.locks.now c.args.flick) (sym c.self.view_is) c.requires.turn in
+    let turn = subst (λ (d : DoorState). IsTicketInTurn d c.args.locks.now c.args.flick) (sym c.self.view_is) c.requires.turn in
     let can = read-turn f.setup f.process c.in-Some.owner f.standing f.runs.write f.runs.read c.args.locks.now c.args.flick is turn in
     let same : c.lock.inside.ticket ≡ (lock_of c.args.locks.now c.in-Some.owner).ticket = ap (λ (lock : LockRows). lock.ticket) (c.lock.view_is ∙ c.own-lock.ensures.lock) in
     subst (λ (row : List (List Cell)). (cell_at row (length f.runs.read.bits) f.process).reading ≡ f.runs.read.begun) (sym same)
@@ -77,7 +73,7 @@ own-lock-requires-in-None c =
     let f = c.self.inside in
     let h = subst (λ (d : DoorState). 0 < bits_within d) (sym c.self.view_is) c.requires.within in
     let is = takes-ticket f.setup f.process f.standing f.runs.write f.runs.read c.written.result h c.in-None.ensures c.written.ensures in
-    let turn = subst (IsInTurn c.args.locks.now c.args.flick) (sym c.self.view_is) c.requires.turn in
+    let turn = subst (λ (d : DoorState). IsTicketInTurn d c.args.locks.now c.args.flick) (sym c.self.view_is) c.requires.turn in
     let can = write-turn f.setup f.process c.written.result.1 f.standing f.runs.write f.runs.read c.args.locks.now c.args.flick is (c.self.invariant.write_width ∙ ap (bits_at f.setup) is) turn in
     owner-there c.args.locks.now f.process Ticket f.runs.write.bit _ can.there
 
@@ -86,7 +82,7 @@ write_on-requires-clause-can c =
     let f = c.self.inside in
     let h = subst (λ (d : DoorState). 0 < bits_within d) (sym c.self.view_is) c.requires.within in
     let is = takes-ticket f.setup f.process f.standing f.runs.write f.runs.read c.written.result h c.in-None.ensures c.written.ensures in
-    let turn = subst (IsInTurn c.args.locks.now c.args.flick) (sym c.self.view_is) c.requires.turn in
+    let turn = subst (λ (d : DoorState). IsTicketInTurn d c.args.locks.now c.args.flick) (sym c.self.view_is) c.requires.turn in
     let can = write-turn f.setup f.process c.written.result.1 f.standing f.runs.write f.runs.read c.args.locks.now c.args.flick is (c.self.invariant.write_width ∙ ap (bits_at f.setup) is) turn in
     let same : c.lock-in-None.inside.ticket ≡ (lock_of c.args.locks.now f.process).ticket = ap (λ (lock : LockRows). lock.ticket) (c.lock-in-None.view_is ∙ c.own-lock-in-None.ensures.lock) in
     let are : AreBytes c.bits_of-ticket.result = search rules in
