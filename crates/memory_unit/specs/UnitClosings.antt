@@ -31,4 +31,4 @@ GoesOn u flick then = (c : Call) (at : Closing) → u ≡ unit_at c at → then 
 
 -- what remains after it tells its marks
 abbrev pub TellsMarks : UnitState → Bool → UnitProgress → Type 0
-TellsMarks u flick left = (c : Call) (at : Closing) → u ≡ unit_at c at → next_marks c at flick ≡ Some (marks_told at flick (remains u.work) left)
+TellsMarks u flick remaining = (c : Call) (at : Closing) → u ≡ unit_at c at → next_marks c at flick ≡ Some (marks_told at flick (remains u.work) remaining)
