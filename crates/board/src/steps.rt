@@ -53,7 +53,8 @@ fn store<T: Turn>(
     _pending: Pending,
 )
     requires place { (seat.old.table_id ≡ words.now.table_id) × (word < words.now.table_id.words) }
-    requires keeps { MayStore words.now.key words.now.table_id seat.old word new T.setup T.flick T.view }
+    requires keeps { MayStore words.now.key words.now.table_id seat.old word new
+        T.setup T.flick T.view }
     ensures same { SameSeat seat.old seat.new }
     ensures told { Stores T.setup T.flick T.view seat.new.me.0 }
 {

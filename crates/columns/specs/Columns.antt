@@ -1,7 +1,8 @@
 -- Columns as lists, and what they are by the lines and the reads that they show.
-use Rattle.std.specs.Prelude.{ℕ, ◌+◌, ◌*◌, max, min, Bool, true, false, ◌==◌, ◌&&◌, nat_le, nat_lt, cond, List, [], ◌∷◌, ◌++◌, codes, filter_map, find, is_some, length, map, string_bytes, take, Option, None, Some, option_map, option_and_then}
+use Rattle.std.specs.Prelude.{◌≡◌, ℕ, ◌+◌, ◌*◌, max, min, Bool, true, false, ◌==◌, ◌&&◌, nat_le, nat_lt, cond, List, [], ◌∷◌, ◌++◌, codes, filter_map, find, is_some, length, map, string_bytes, take, IfOk, Result, Option, None, Some, option_map, option_and_then}
 use Rattle.std.specs.Fmt.{decimal}
-use Rattle.std.specs.Option.{option_or}
+use Rattle.std.specs.Global.{Vec}
+use Rattle.std.specs.Option.{option_or, option_to_list}
 use Rattle.record.specs.Shown.{mark_text, refusal_text}
 use Rattle.record.specs.plain_store.Shown.{answer_text, command_text, reply_text}
 use Rattle.record.specs.declared.marks.Mark.{Mark}
@@ -40,6 +41,14 @@ pub record Seen : Type 0 where
 abbrev pub wording : TextRow → Wording
 wording row = record { is_verb = row.is_verb; text = row.text.items; characters = row.characters }
 
+-- rows as lists
+abbrev pub wordings : Vec TextRow → List Wording
+wordings rows = map wording rows.items
+
+-- a call gives these rows, unless memory is wanting
+abbrev pub GivesRows : {E : Type 0} → Result (Vec TextRow) E → List Wording → Type 0
+GivesRows result rows = IfOk result (λ (given : Vec TextRow). wordings given ≡ rows)
+
 -- a column as lists
 abbrev pub seen : Column → Seen
 seen column = record {
@@ -49,7 +58,7 @@ seen column = record {
   gap = column.gap;
   lines = column.lines.items;
   read = column.read;
-  rows = map wording column.rows.items;
+  rows = wordings column.rows;
   frees = column.frees;
   after = column.after;
   x = column.x;
@@ -66,6 +75,10 @@ verb = worded true
 abbrev pub rest : List ℕ → Wording
 rest = worded false
 
+-- words that stand out, and others below them
+abbrev pub verb_and_rest : List ℕ → List ℕ → List Wording
+verb_and_rest above below = verb above ∷ rest below ∷ []
+
 -- what is drawn of a store's words: all, or of more than 44 the first 43 and three dots, U+2026
 abbrev pub shortened : List ℕ → List ℕ
 shortened words = cond (nat_le (length words) 44) words (take 43 words ++ 226 ∷ 128 ∷ 166 ∷ [])
@@ -74,24 +87,40 @@ shortened words = cond (nat_le (length words) 44) words (take 43 words ++ 226 �
 abbrev pub row_shortened : List ℕ → Wording
 row_shortened words = record { is_verb = false; text = shortened words; characters = min (length words) 44 }
 
+-- the rows of the newest store
+abbrev pub rows_shown : List ℕ → List Wording
+rows_shown words = verb (codes "show") ∷ row_shortened words ∷ []
+
+-- what stands out of a refusal, in the lane of its process or in that of the history
+abbrev pub verb_refused : Bool → ℕ → List ℕ
+verb_refused in_lane p = cond in_lane (codes "refused") (decimal p ++ codes " refused")
+
+-- how many commands were taken, and how many events refused
+abbrev pub counts_text : (taken refused : ℕ) → List ℕ
+counts_text taken refused = codes "taken " ++ decimal taken ++ codes " refused " ++ decimal refused
+
 -- the rows of a mark that stands alone
 abbrev pub rows_marked : Mark → List Wording
-rows_marked (Called command) = verb (codes "call") ∷ rest (command_text command) ∷ []
-rows_marked (Taken place reply) = verb (codes "taken " ++ decimal place) ∷ rest (reply_text reply) ∷ []
-rows_marked (Answered answer) = verb (codes "answer") ∷ rest (answer_text answer) ∷ []
+rows_marked (Called command) = verb_and_rest (codes "call") (command_text command)
+rows_marked (Taken place reply) = verb_and_rest (codes "taken " ++ decimal place) (reply_text reply)
+rows_marked (Answered answer) = verb_and_rest (codes "answer") (answer_text answer)
 rows_marked mark = verb (mark_text mark) ∷ []
 
 -- the rows of what a line says that stands alone, in the lane of its process or in that of the history
 abbrev pub rows_told : Bool → Saying → List Wording
 rows_told in_lane (Marked p mark change) = rows_marked mark
-rows_told in_lane (Refused p refusal) = verb (cond in_lane (codes "refused") (decimal p ++ codes " refused")) ∷ rest (refusal_text refusal) ∷ []
+rows_told in_lane (Refused p refusal) = verb_and_rest (verb_refused in_lane p) (refusal_text refusal)
 rows_told in_lane (Tired p) = verb (codes "turns") ∷ []
-rows_told in_lane (Shown words) = verb (codes "show") ∷ row_shortened words.items ∷ []
-rows_told in_lane (Ended events taken refused) = verb (codes "end events " ++ decimal events) ∷ rest (codes "taken " ++ decimal taken ++ codes " refused " ++ decimal refused) ∷ []
+rows_told in_lane (Shown words) = rows_shown words.items
+rows_told in_lane (Ended events taken refused) = verb_and_rest (codes "end events " ++ decimal events) (counts_text taken refused)
 
 -- the row of a line that shares its column
 abbrev pub row_shared : RunLine → Option Wording
 row_shared line = option_map (λ mark. verb (mark_text mark)) (mark_told line.saying)
+
+-- it in a list, if the line tells a mark
+abbrev pub row_if_marked : RunLine → List Wording
+row_if_marked line = option_to_list (row_shared line)
 
 -- the lane of a process, if there are more processes than its number
 abbrev pub lane_among : ℕ → Option ℕ → Option ℕ
@@ -121,7 +150,7 @@ column_of_read read gap after = record {
   gap = gap;
   lines = [];
   read = Some read;
-  rows = verb (saw_text read) ∷ rest (bit_text read) ∷ [];
+  rows = verb_and_rest (saw_text read) (bit_text read);
   frees = None;
   after = after;
   x = 0;

@@ -1,10 +1,10 @@
 -- What lines have told of all processes: who stands in line, what each bar says, and how a line leads on.
-use Rattle.std.specs.Prelude.{ℕ, zero, suc, ◌+◌, ◌-◌, ◌^◌, min, Bool, true, false, ◌==◌, cond, nat_le, nat_lt, List, [], ◌∷◌, ◌++◌, get_or, length, map, replicate, set, take, Option, None, Some}
+use Rattle.std.specs.Prelude.{◌≡◌, ℕ, zero, suc, ◌+◌, ◌-◌, ◌^◌, min, Bool, true, false, ◌==◌, cond, nat_le, nat_lt, List, [], ◌∷◌, ◌++◌, get_or, length, map, replicate, set, take, Option, None, Some}
 use Rattle.record.specs.declared.marks.Mark.{Mark}
 use Rattle.record.specs.declared.marks.Mark.TheVariants as mark
 use Rattle.record.specs.declared.stages.Stage.{Stage}
 use Rattle.record.specs.declared.stages.Stage.TheVariants as stage
-use Rattle.columns.specs.Stages.{nothing_told, stage_among, stages_marked}
+use Rattle.columns.specs.Stages.{nothing_told, stage_among, stages_marked, stages_told}
 use Rattle.columns.specs.declared.state.Group.{Group}
 use Rattle.columns.specs.declared.seats.KnownProcess.{KnownProcess}
 use Rattle.columns.specs.declared.state.State.{State}
@@ -81,11 +81,19 @@ awaited_in state p = places_from 0 (get_or state.seats p no_seat).awaits
 abbrev pub group_of : List ℕ → Group
 group_of some = record { count = min (length some) 255; first = take 3 (some ++ 0 ∷ 0 ∷ 0 ∷ []) }
 
+-- the processes of a group, and these behind them
+abbrev pub GroupGrows : Group → List ℕ → Group → Type 0
+GroupGrows group more then = (some : List ℕ) → group ≡ group_of some → then ≡ group_of (some ++ more)
+
 -- what the bar of one that waits says, by those before it and those that it awaits
 abbrev pub word_of_waiting : List ℕ → List ℕ → Word
 word_of_waiting [] [] = word.Is stage.Waiting
 word_of_waiting [] (q ∷ others) = word.Awaits (group_of (q ∷ others))
 word_of_waiting (q ∷ others) awaited = word.Behind (group_of (q ∷ others))
+
+-- the same, by groups of them
+abbrev pub IsWordOfWaiting : Group → Group → Word → Type 0
+IsWordOfWaiting behind awaits said = (before awaited : List ℕ) → behind ≡ group_of before → awaits ≡ group_of awaited → said ≡ word_of_waiting before awaited
 
 -- what the bar of a process says, by its stage
 abbrev pub word_by : Stage → Word → Word
@@ -124,6 +132,13 @@ goes_on _ = true
 abbrev pub seats_marked : List Stage → List KnownProcess → ℕ → Mark → List KnownProcess
 seats_marked stages seats p mark = cond (goes_on mark) (seats_by stages (map (not_awaiting p) seats) p mark) seats
 
+-- a state with those tickets, and with whom each awaits then
+abbrev pub with_seats_by : State → ℕ → Mark → State
+with_seats_by state p mark = record state { seats = seats_by state.stages state.seats p mark }
+
+abbrev pub with_seats_marked : State → ℕ → Mark → State
+with_seats_marked state p mark = record state { seats = seats_marked state.stages state.seats p mark }
+
 -- who is inside after a mark of a process
 abbrev pub inside_marked : Option ℕ → ℕ → Mark → Option ℕ
 inside_marked inside p mark.Entered = Some p
@@ -144,6 +159,10 @@ state_marked state p mark = record {
   inside = inside_marked state.inside p mark;
   places = places_marked state.places mark;
 }
+
+-- the stages after what a line says
+abbrev pub stages_next : State → Saying → List Stage
+stages_next state = stages_told state.processes state.stages
 
 -- after what a line says
 abbrev pub state_told : State → Saying → State

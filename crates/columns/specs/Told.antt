@@ -4,19 +4,33 @@ use Rattle.std.specs.Fmt.{decimal}
 use Rattle.record.specs.Shown.{mark_text, refusal_text}
 use Rattle.record.specs.declared.marks.Mark.{Mark}
 use Rattle.record.specs.declared.marks.Mark.TheVariants.{Taken}
+use Rattle.record.specs.declared.refusals.Refusal.{Refusal}
 use Rattle.columns.specs.declared.columns.Column.{Column}
 use Rattle.columns.specs.declared.told.TakenChange.{TakenChange}
 use Rattle.columns.specs.declared.told.RunLine.{RunLine}
 use Rattle.columns.specs.declared.told.Saying.{Saying}
 use Rattle.columns.specs.declared.told.Saying.TheVariants.{Marked, Refused, Tired, Shown, Ended}
 
+-- what a line says of a mark, of a refusal, of a process that has made all its steps, and of the end
+abbrev pub marked_text : ℕ → ℕ → Mark → List ℕ
+marked_text at p mark = decimal at ++ codes " " ++ decimal p ++ codes " " ++ mark_text mark
+
+abbrev pub refused_text : ℕ → Refusal → List ℕ
+refused_text p refusal = codes "- " ++ decimal p ++ codes " refused " ++ refusal_text refusal
+
+abbrev pub tired_text : ℕ → List ℕ
+tired_text p = codes "- " ++ decimal p ++ codes " turns"
+
+abbrev pub ended_text : (events taken refused : ℕ) → List ℕ
+ended_text events taken refused = codes "end events " ++ decimal events ++ codes " taken " ++ decimal taken ++ codes " refused " ++ decimal refused
+
 -- what a line says, where so many events were accepted before it
 abbrev pub saying_text : ℕ → Saying → List ℕ
-saying_text at (Marked p mark change) = decimal at ++ codes " " ++ decimal p ++ codes " " ++ mark_text mark
-saying_text at (Refused p refusal) = codes "- " ++ decimal p ++ codes " refused " ++ refusal_text refusal
-saying_text at (Tired p) = codes "- " ++ decimal p ++ codes " turns"
+saying_text at (Marked p mark change) = marked_text at p mark
+saying_text at (Refused p refusal) = refused_text p refusal
+saying_text at (Tired p) = tired_text p
 saying_text at (Shown words) = codes "show " ++ words.items
-saying_text at (Ended events taken refused) = codes "end events " ++ decimal events ++ codes " taken " ++ decimal taken ++ codes " refused " ++ decimal refused
+saying_text at (Ended events taken refused) = ended_text events taken refused
 
 -- a line, without its end
 abbrev pub text_of : RunLine → List ℕ

@@ -1,7 +1,6 @@
 //! Columns: an event with its marks, a line without an event, or a read that a write overlapped.
-ghost use Rattle.std.specs.Prelude.{◌≡◌, ◌++◌, [], ◌∷◌, true, false, codes, cond, filter_map, IfOk, OnOk, map, option_copied, option_to_list, string_bytes};
-ghost use Rattle.std.specs.Fmt.{decimal};
-ghost use Rattle.columns.specs.Columns.{alone, column_of_read, digits_of, joined, joins, knot_width, lane_among, longest_row, pair_of, row_shared, row_shortened, rows_marked, rows_told, seen, settles_and_takes_in, shortened, taken_in, verb, width_below_of, width_of, worded, wording};
+ghost use Rattle.std.specs.Prelude.{◌≡◌, ◌++◌, [], ◌∷◌, true, false, filter_map, IfOk, OnOk, map, option_copied, string_bytes};
+ghost use Rattle.columns.specs.Columns.{GivesRows, alone, column_of_read, counts_text, digits_of, joined, joins, knot_width, lane_among, longest_row, pair_of, row_if_marked, row_shared, row_shortened, rows_marked, rows_shown, rows_told, seen, settles_and_takes_in, shortened, taken_in, verb, verb_and_rest, verb_refused, width_below_of, width_of, worded, wording, wordings};
 ghost use Rattle.columns.specs.Told.{change_told, text_of, told_in};
 
 use crate::measures::{CHARACTER, DIGIT, LONGEST, PAD, room};
@@ -230,7 +229,7 @@ fn width_of_knot(alloc: Global, line: &RunLine) -> Result<u16, AllocError>
 
 /// The rows of lines that share a column: each mark has one.
 fn rows_shared(alloc: Global, lines: &[RunLine]) -> Result<Vec<TextRow>, AllocError>
-    ensures { IfOk result (λ rows. map wording rows.items ≡ filter_map row_shared lines.now) }
+    ensures { GivesRows result (filter_map row_shared lines.now) }
 {
     let mut rows = Vec::new(alloc);
     for line in lines {
@@ -241,7 +240,7 @@ fn rows_shared(alloc: Global, lines: &[RunLine]) -> Result<Vec<TextRow>, AllocEr
 
 /// The row of one more of them, if it tells a mark.
 fn push_shared(alloc: Global, line: &RunLine, rows: &mut Vec<TextRow>) -> Result<(), AllocError>
-    ensures { OnOk result (map wording rows.new.items ≡ map wording rows.old.items ++ option_to_list (row_shared line.now)) }
+    ensures { OnOk result (wordings rows.new ≡ wordings rows.old ++ row_if_marked line.now) }
 {
     if let Some(mark) = line.mark() {
         rows.push(TextRow::new(true, mark.to_string(alloc)?))?;
@@ -251,7 +250,7 @@ fn push_shared(alloc: Global, line: &RunLine, rows: &mut Vec<TextRow>) -> Result
 
 /// The rows of a line alone in its column, in the lane of its process or in that of the history.
 fn rows_alone(alloc: Global, line: &RunLine, in_lane: bool) -> Result<Vec<TextRow>, AllocError>
-    ensures { IfOk result (λ rows. map wording rows.items ≡ rows_told in_lane line.now.saying) }
+    ensures { GivesRows result (rows_told in_lane line.now.saying) }
 {
     match &line.saying {
         Saying::Marked { mark, .. } => mark_rows(alloc, mark),
@@ -276,7 +275,7 @@ fn rows_alone(alloc: Global, line: &RunLine, in_lane: bool) -> Result<Vec<TextRo
 
 /// What stands out of a refusal.
 fn refused_verb(alloc: Global, process: u8, in_lane: bool) -> Result<String, AllocError>
-    ensures { IfOk result (λ verb. string_bytes verb ≡ cond in_lane (codes "refused") (decimal process ++ codes " refused")) }
+    ensures { IfOk result (λ verb. string_bytes verb ≡ verb_refused in_lane process) }
 {
     if in_lane {
         return Ok(String::from_str(alloc, "refused")?);
@@ -287,14 +286,14 @@ fn refused_verb(alloc: Global, process: u8, in_lane: bool) -> Result<String, All
 /// How many commands were taken, and how many events refused.
 #[tactic(auto, using(crate::proofs::Texts::counts_are))]
 fn counts(alloc: Global, taken: u64, refused: u64) -> Result<String, AllocError>
-    ensures { IfOk result (λ text. string_bytes text ≡ codes "taken " ++ decimal taken ++ codes " refused " ++ decimal refused) }
+    ensures { IfOk result (λ text. string_bytes text ≡ counts_text taken refused) }
 {
     format!(in alloc; "taken {taken} refused {refused}")
 }
 
 /// The rows of the newest store.
 fn shown_rows(alloc: Global, words: &[u8]) -> Result<Vec<TextRow>, AllocError>
-    ensures { IfOk result (λ rows. map wording rows.items ≡ verb (codes "show") ∷ row_shortened words.now ∷ []) }
+    ensures { GivesRows result (rows_shown words.now) }
 {
     let mut rows = Vec::new(alloc);
     rows.push(TextRow::new(true, String::from_str(alloc, "show")?))?;
@@ -304,7 +303,7 @@ fn shown_rows(alloc: Global, words: &[u8]) -> Result<Vec<TextRow>, AllocError>
 
 /// Words that stand out, and others below them.
 fn two_rows(alloc: Global, verb: String, rest: String) -> Result<Vec<TextRow>, AllocError>
-    ensures { IfOk result (λ rows. map wording rows.items ≡ worded true (string_bytes verb) ∷ worded false (string_bytes rest) ∷ []) }
+    ensures { GivesRows result (verb_and_rest (string_bytes verb) (string_bytes rest)) }
 {
     let mut rows = Vec::new(alloc);
     rows.push(TextRow::new(true, verb))?;
@@ -314,7 +313,7 @@ fn two_rows(alloc: Global, verb: String, rest: String) -> Result<Vec<TextRow>, A
 
 /// Words that stand out, alone.
 fn one_row(alloc: Global, verb: String) -> Result<Vec<TextRow>, AllocError>
-    ensures { IfOk result (λ rows. map wording rows.items ≡ worded true (string_bytes verb) ∷ []) }
+    ensures { GivesRows result (worded true (string_bytes verb) ∷ []) }
 {
     let mut rows = Vec::new(alloc);
     rows.push(TextRow::new(true, verb))?;
@@ -323,7 +322,7 @@ fn one_row(alloc: Global, verb: String) -> Result<Vec<TextRow>, AllocError>
 
 /// The rows of a mark alone in its column.
 fn mark_rows(alloc: Global, mark: &Mark) -> Result<Vec<TextRow>, AllocError>
-    ensures { IfOk result (λ rows. map wording rows.items ≡ rows_marked mark.now) }
+    ensures { GivesRows result (rows_marked mark.now) }
 {
     match mark {
         Mark::Called(command) => two_rows(

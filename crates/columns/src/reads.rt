@@ -1,6 +1,6 @@
 //! Reads that writes overlapped, as values, and what is said of them.
-ghost use Rattle.std.specs.Prelude.{◌≡◌, [], ◌∷◌, IfOk, map, string_bytes};
-ghost use Rattle.columns.specs.Columns.{rest, verb, wording};
+ghost use Rattle.std.specs.Prelude.{◌≡◌, IfOk, string_bytes};
+ghost use Rattle.columns.specs.Columns.{GivesRows, verb_and_rest};
 ghost use Rattle.columns.specs.Overlaps.{bit_text, field_text, read_text, saw_text, title_text};
 
 use crate::columns::TextRow;
@@ -29,7 +29,7 @@ pub struct OverlappedRead {
 impl OverlappedRead {
     /// The rows of its column.
     pub(crate) fn rows(&self, alloc: Global) -> Result<Vec<TextRow>, AllocError>
-        ensures { IfOk result (λ rows. map wording rows.items ≡ verb (saw_text self.now) ∷ rest (bit_text self.now) ∷ []) }
+        ensures { GivesRows result (verb_and_rest (saw_text self.now) (bit_text self.now)) }
     {
         let mut rows = Vec::new(alloc);
         rows.push(TextRow::new(true, self.saw(alloc)?))?;

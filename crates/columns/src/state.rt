@@ -1,7 +1,8 @@
 //! What the lines have told so far: a fold over them.
-ghost use Rattle.std.specs.Prelude.{◌≡◌, ◌≤◌, [], ◌∷◌, ◌++◌, ℕ, List, cond, drop, insert, length, map, set, IfOk, OnOk};
-ghost use Rattle.columns.specs.Stages.{stage_among, stages_marked, stages_told, nothing_told};
-ghost use Rattle.columns.specs.States.{at_first, awaited_in, before_in, behind_in, first_waiting, freed_by, freed_in, group_of, is_in_doorway, lined_up, places_from, queue_of, seats_by, seats_marked, state_marked, state_told, ticket_in, is_waiting, ticket_set, word_of, word_of_waiting};
+ghost use Rattle.std.specs.Prelude.{◌≡◌, ◌≤◌, [], ◌∷◌, cond, drop, insert, length, map, set, IfOk, OnOk};
+ghost use Rattle.record.specs.declared.marks.Mark.TheVariants as mark_variants;
+ghost use Rattle.columns.specs.Stages.{stage_among, stages_marked, nothing_told};
+ghost use Rattle.columns.specs.States.{GroupGrows, IsWordOfWaiting, at_first, awaited_in, before_in, behind_in, first_waiting, freed_by, freed_in, group_of, is_in_doorway, lined_up, places_from, queue_of, stages_next, state_marked, state_told, ticket_in, is_waiting, ticket_set, with_seats_by, with_seats_marked, word_of};
 
 use crate::marks::{inside_after, leads_on, places_after, stage_after};
 use crate::seats::{KnownProcess, forget};
@@ -58,7 +59,7 @@ impl Group {
 
     /// One process more.
     fn with(&self, process: u8) -> Group
-        ensures { (some : List ℕ) → self.now ≡ group_of some → result ≡ group_of (some ++ process ∷ []) }
+        ensures { GroupGrows self.now (process ∷ []) result }
     {
         Group {
             count: self.count.saturating_add(1),
@@ -68,7 +69,7 @@ impl Group {
 
     /// The same, if it is to be one of them.
     fn with_if(&self, process: u8, is_one: bool) -> Group
-        ensures { (some : List ℕ) → self.now ≡ group_of some → result ≡ group_of (some ++ cond is_one (process ∷ []) []) }
+        ensures { GroupGrows self.now (cond is_one (process ∷ []) []) result }
     {
         if is_one { self.with(process) } else { *self }
     }
@@ -157,7 +158,7 @@ impl State {
 
     /// Who stands before a process in the line.
     fn before(&self, alloc: Global, process: u8) -> Result<Group, AllocError>
-        ensures { IfOk result (λ before. before ≡ group_of (before_in process (queue_of self.now))) }
+        ensures { IfOk result (λ these. these ≡ group_of (before_in process (queue_of self.now))) }
     {
         let queue = self.queue(alloc)?;
         Ok(group_before(queue.as_slice(), process))
@@ -175,7 +176,7 @@ impl State {
 
     /// Takes in a line; answers whom its process frees. The stages go on as the line tells.
     pub fn take(&mut self, alloc: Global, line: &RunLine) -> Result<Option<u8>, AllocError>
-        ensures stages { OnOk result (self.new.stages ≡ stages_told self.old.processes self.old.stages line.now.saying) }
+        ensures stages { OnOk result (self.new.stages ≡ stages_next self.old line.now.saying) }
         ensures processes { self.new.processes ≡ self.old.processes }
         ensures whole { OnOk result (self.new ≡ state_told self.old line.now.saying) }
         ensures frees { IfOk result (λ freed. freed ≡ freed_by self.old line.now.saying) }
@@ -236,7 +237,7 @@ impl State {
 
     /// A process that goes on is awaited by nobody, and gets its ticket or lets it go.
     fn set_seats(&mut self, process: u8, mark: &Mark)
-        ensures { self.new ≡ record self.old { seats = seats_marked self.old.stages self.old.seats process mark.now } }
+        ensures { self.new ≡ with_seats_marked self.old process mark.now }
     {
         if leads_on(mark) {
             forget(&mut self.seats, process);
@@ -246,7 +247,7 @@ impl State {
 
     /// What a mark makes of the ticket of its process.
     fn hold_ticket(&mut self, process: u8, mark: &Mark)
-        ensures { self.new ≡ record self.old { seats = seats_by self.old.stages self.old.seats process mark.now } }
+        ensures { self.new ≡ with_seats_by self.old process mark.now }
     {
         match mark {
             Mark::Waiting(ticket) => self.begin_wait(process, *ticket),
@@ -277,7 +278,7 @@ impl State {
 
     /// A process has a ticket, and awaits those that are in their doorways now.
     fn begin_wait(&mut self, process: u8, ticket: u32)
-        ensures { self.new ≡ record self.old { seats = set self.old.seats process (record { ticket = ticket; awaits = map is_in_doorway self.old.stages }) } }
+        ensures { self.new ≡ with_seats_by self.old process (mark_variants.Waiting ticket) }
     {
         let awaits = self.in_doorways();
         let place = usize::from(process);
@@ -300,7 +301,7 @@ impl State {
 
 /// What the bar of a process says that waits: behind whom, or else whom it awaits.
 fn waiting_word(behind: Group, awaits: Group) -> Word
-    ensures { (before awaited : List ℕ) → behind ≡ group_of before → awaits ≡ group_of awaited → result ≡ word_of_waiting before awaited }
+    ensures { IsWordOfWaiting behind awaits result }
 {
     if behind.count > 0 {
         Word::Behind(behind)

@@ -1,9 +1,7 @@
 //! A line of a run's text, as a value.
 ghost use Rattle.std.specs.Prelude.{◌≡◌, ◌++◌, codes, IfOk, option_copied};
-ghost use Rattle.std.specs.Fmt.{decimal};
 ghost use Rattle.std.specs.String.{string_bytes};
-ghost use Rattle.record.specs.Shown.{mark_text, refusal_text};
-ghost use Rattle.columns.specs.Told.{change_told, event_told, mark_told, place_told, process_told, tells_refusal, text_of};
+ghost use Rattle.columns.specs.Told.{change_told, ended_text, event_told, mark_told, marked_text, place_told, process_told, refused_text, tells_refusal, text_of, tired_text};
 
 use record::{Mark, Refusal};
 use std::alloc::{AllocError, Global};
@@ -138,21 +136,21 @@ impl RunLine {
 
 #[tactic(auto, using(crate::proofs::Texts::marked_is))]
 fn marked(alloc: Global, event: u64, process: u8, mark: &Mark) -> Result<String, AllocError>
-    ensures { IfOk result (λ text. string_bytes text ≡ decimal event ++ codes " " ++ decimal process ++ codes " " ++ mark_text mark.now) }
+    ensures { IfOk result (λ text. string_bytes text ≡ marked_text event process mark.now) }
 {
     format!(in alloc; "{event} {process} {mark}")
 }
 
 #[tactic(auto, using(crate::proofs::Texts::refused_is))]
 fn refused(alloc: Global, process: u8, refusal: &Refusal) -> Result<String, AllocError>
-    ensures { IfOk result (λ text. string_bytes text ≡ codes "- " ++ decimal process ++ codes " refused " ++ refusal_text refusal.now) }
+    ensures { IfOk result (λ text. string_bytes text ≡ refused_text process refusal.now) }
 {
     format!(in alloc; "- {process} refused {refusal}")
 }
 
 #[tactic(auto, using(crate::proofs::Texts::tired_is))]
 fn tired(alloc: Global, process: u8) -> Result<String, AllocError>
-    ensures { IfOk result (λ text. string_bytes text ≡ codes "- " ++ decimal process ++ codes " turns") }
+    ensures { IfOk result (λ text. string_bytes text ≡ tired_text process) }
 {
     format!(in alloc; "- {process} turns")
 }
@@ -167,7 +165,7 @@ fn shown(alloc: Global, words: &[u8]) -> Result<Vec<u8>, AllocError>
 }
 
 fn ended(alloc: Global, events: u64, taken: u64, refused: u64) -> Result<String, AllocError>
-    ensures { IfOk result (λ text. string_bytes text ≡ codes "end events " ++ decimal events ++ codes " taken " ++ decimal taken ++ codes " refused " ++ decimal refused) }
+    ensures { IfOk result (λ text. string_bytes text ≡ ended_text events taken refused) }
 {
     format!(in alloc; "end events {events} taken {taken} refused {refused}")
 }

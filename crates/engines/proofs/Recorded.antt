@@ -1,6 +1,7 @@
 -- The record of a list of events, one event after the other.
 use Rattle.std.proofs.Common.{◌≡◌, ℕ, true, ◌+◌, ◌<◌, List, [], ◌∷◌, ◌++◌, length, reverse, take, get_or, Option, None, Some, ap, sym, subst, ◌∙◌, inl, inr}
 use Rattle.std.proofs.lemmas.List.{reverse-append, take_more}
+use Rattle.std.specs.Global.{Vec}
 use Rattle.course.specs.«record».declared.events.Event.{Event}
 use Rattle.course.specs.«record».declared.refusals.Refusal.{Refusal}
 use Rattle.course.specs.«record».declared.refusals.Refusal.TheVariants.{Memory}
@@ -15,7 +16,7 @@ use Rattle.engines.proofs.Listed.{reverse-front}
 use Rattle.course.proofs.Refusals.{past_kept, shows_refused}
 
 -- an event that is refused
-pub records_refused : (old new : WorldState) (event : Event) (r : Refusal) (had has : List Entry) → is_event event ≡ true → IsTurnedAway old event r → (r ≡ Memory → ⊥) → new ≡ old → has ≡ had → RecordsEvent event old new had has
+pub records_refused : (old new : WorldState) (event : Event) (r : Refusal) (had has : Vec Entry) → is_event event ≡ true → IsTurnedAway old event r → (r ≡ Memory → ⊥) → new ≡ old → has.items ≡ had.items → RecordsEvent event old new had has
 records_refused old new event r had has given (inr away) other same kept events shows are = absurd (other away.1)
 records_refused old new event r had has given (inl away) other same kept events shows are = record {
   shows = subst (λ (w : WorldState). Shows w (event ∷ events)) (sym same) (shows_refused old events event r shows given (away events shows));

@@ -10,20 +10,28 @@ use Rattle.scenario.specs.files.declared.faults.LineFault.{LineFault}
 use Rattle.scenario.specs.Reading.{Script, scenario_of}
 use Rattle.course.specs.RunRecords.{run_record}
 
+-- how many entries the record of a scenario's run has
+abbrev pub run_length : Script → ℕ
+run_length said = length (run_record said)
+
 -- the text of the audit of a scenario's run: each entry of its record keeps each law
 abbrev pub audited : Script → List ℕ
-audited said = verdict_line (length (run_record said)) Good
+audited said = verdict_line (run_length said) Good
 
 -- the text of a file, or its fault
 abbrev pub audit_text : List ℕ → Result (List ℕ) LineFault
 audit_text = text_by scenario_of audited
 
+-- the verdict on the record of a scenario's run
+abbrev pub IsRunVerdict : Script → Verdict → Type 0
+IsRunVerdict said = IsVerdict said.setup (run_record said)
+
 -- the verdict on the record of a scenario's run: its status is answered, and its line is written
 pub record TellsVerdict (said : Script) (status : ℕ) (old new : Option (List ℕ)) : Type 0 where
   pub verdict : Verdict
-  pub is : IsVerdict said.setup (run_record said) verdict
+  pub is : IsRunVerdict said verdict
   pub answer : status ≡ status_of_verdict verdict
-  pub line : Appends old new (verdict_line (length (run_record said)) verdict)
+  pub line : Appends old new (verdict_line (run_length said) verdict)
 
 -- that of the whole input
 abbrev pub InputTellsVerdict : Option (List ℕ) → ℕ → Option (List ℕ) → Option (List ℕ) → Type 0

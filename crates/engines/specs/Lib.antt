@@ -6,4 +6,6 @@ pub mod Listings
 pub mod Plain
 pub mod RecordedRuns
 pub mod Recordings
+pub mod Replayings
+pub mod Sinks
 pub mod Sweepings

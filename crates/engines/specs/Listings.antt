@@ -1,5 +1,6 @@
 -- The accepted events of a run, and what an event adds to a record.
 use Rattle.std.specs.Prelude.{◌≡◌, List, [], ◌∷◌, reverse}
+use Rattle.std.specs.Global.{Vec}
 use Rattle.plain_store.specs.declared.setups.Setup.{Setup}
 use Rattle.course.specs.«record».declared.events.Event.{Event}
 use Rattle.course.specs.«record».Entries.{Entry}
@@ -22,5 +23,5 @@ pub record Records (old new : WorldState) (events : List Event) (entries : List 
   pub entries_are : entries ≡ reverse (past_of old.setup events)
 
 -- whatever the world shows
-abbrev pub RecordsEvent : Event → WorldState → WorldState → List Entry → List Entry → Type 0
-RecordsEvent event old new had has = (events : List Event) → Shows old events → had ≡ reverse (past_of old.setup events) → Records old new (event ∷ events) has
+abbrev pub RecordsEvent : Event → WorldState → WorldState → Vec Entry → Vec Entry → Type 0
+RecordsEvent event old new had has = (events : List Event) → Shows old events → had.items ≡ reverse (past_of old.setup events) → Records old new (event ∷ events) has.items

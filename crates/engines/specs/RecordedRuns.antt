@@ -3,13 +3,20 @@ use Rattle.std.specs.Prelude.{◌≡◌, ℕ, List, Option, IfSome, Ok}
 use Rattle.std.specs.Io.KnownBytes.{Appends}
 use Rattle.scenario.specs.Reading.{Script, scenario_of}
 use Rattle.scenario.specs.Scripts.{IsScenario}
+use Rattle.judge.specs.record_file.Printing.{record_text}
 use Rattle.judge.specs.record_file.RecordFiles.{record_of}
+use Rattle.plain_store.specs.declared.setups.Setup.{Setup}
+use Rattle.course.specs.«record».Entries.{Entry}
 use Rattle.engines.specs.Recordings.{recorded}
 use Rattle.course.specs.RunRecords.{run_record}
 
 -- The text of the record of a scenario's run is read as the scenario's setup and that record.
 abbrev pub RecordedRunsAreReadAgain : Type 0
 RecordedRunsAreReadAgain = (said : Script) → IsScenario said → record_of (recorded said) ≡ Ok (record { setup = said.setup; entries = run_record said })
+
+-- the text of a record is read again, as its setup and its entries
+abbrev pub IsReadAgain : Setup → List Entry → Type 0
+IsReadAgain s entries = record_of (record_text s entries) ≡ Ok (record { setup = s; entries = entries })
 
 -- what was written is read as the scenario's setup and the record of its run
 pub record WritesRecord (said : Script) (old new : Option (List ℕ)) : Type 0 where

@@ -4,12 +4,13 @@ use Rattle.std.proofs.Common.{ap, sym, ◌∙◌, append-nil, append_assoc}
 use Rattle.std.proofs.lemmas.Grind.{flat_map-append}
 use Rattle.std.proofs.lemmas.List.{reverse-append}
 use Rattle.plain_store.specs.declared.setups.Setup.{Setup}
-use Rattle.judge.specs.record_file.Printing.{entry_line, record_text}
+use Rattle.judge.specs.record_file.Printing.{entry_line, record_text, step_entry}
 use Rattle.scenario.specs.files.Engines.{text_by}
 use Rattle.scenario.specs.files.declared.faults.LineFault.{LineFault}
 use Rattle.scenario.specs.Reading.{Script, scenario_of}
 use Rattle.scenario.specs.declared.lines.Line.{Line}
 use Rattle.course.specs.Courses.{CourseState, Follows}
+use Rattle.course.specs.«record».declared.access.Access.{Access}
 use Rattle.course.specs.«record».Entries.{Entry, Past}
 use Rattle.course.specs.«record».Records.{entry_of}
 use Rattle.course.specs.Happenings.{Happening, Tries, Lacks, Tires, Looks, past_after}
@@ -38,6 +39,10 @@ entry_told (told.Accepted made) = entry_line (entry_made made)
 entry_told (told.Refused p refusal) = []
 entry_told (told.Tired p) = []
 entry_told (told.Shown store) = []
+
+-- the line of the entry of a Step
+abbrev pub step_line : ℕ → Access → List ℕ
+step_line p access = entry_line (step_entry p access)
 
 -- from one run to another: the cursor, and the lines of the entries between, which were written
 pub record Copies (s : Setup) (before after : Run) (course : CourseState) (old new : Option (List ℕ)) : Type 0 where

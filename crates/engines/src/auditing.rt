@@ -1,16 +1,14 @@
 //! The engine `audit`: the verdict on the record of a scenario's run, of which an auditor hears each entry as the
 //! run makes it. No record is held.
-ghost use Rattle.std.specs.Prelude.{◌≡◌, ◌+◌, ◌-◌, ◌^◌, ◌<◌, IfErr, IfOk, OnOk, length};
-ghost use Rattle.std.specs.Io.KnownBytes.{Appends};
+ghost use Rattle.std.specs.Prelude.{◌≡◌, ◌+◌, ◌-◌, ◌^◌, ◌<◌, IfErr, IfOk};
 ghost use Rattle.judge.specs.auditor.declared.verdicts.Verdict.TheVariants.{Good};
-ghost use Rattle.judge.specs.auditor.Verdicts.{IsVerdict};
 ghost use Rattle.scenario.specs.files.Engines.{Ran, streams};
-ghost use Rattle.scenario.specs.files.Streams.{ReadsFront, WritesFront};
+ghost use Rattle.engines.specs.Sinks.{Wrote, WroteFront};
+ghost use Rattle.scenario.specs.files.Streams.{ReadsFront};
 ghost use Rattle.scenario.specs.Reads.{script};
-ghost use Rattle.engines.specs.Audits.{InputTellsVerdict, TellsVerdict, audit_text, audited};
+ghost use Rattle.engines.specs.Audits.{InputTellsVerdict, IsRunVerdict, TellsVerdict, audit_text, audited, run_length};
 ghost use Rattle.course.specs.Replays.{ended};
 ghost use Rattle.course.specs.Writing.{IsWriteFault, failed_write};
-ghost use Rattle.course.specs.RunRecords.{run_record};
 
 use crate::writing::write_line;
 use course::{Audit, Course, Overheard, Summary};
@@ -35,7 +33,8 @@ pub fn run_audit<R: Source, W: Sink, L: Onlooker>(
         (streams ⟦<R as Source>⟧ ⟦<W as Sink>⟧ input.old output.old)
         (streams ⟦<R as Source>⟧ ⟦<W as Sink>⟧ input.new output.new) }
     ensures input { ReadsFront (R.to_come input.old) (R.to_come input.new) }
-    ensures verdict { IfOk result (λ status. InputTellsVerdict (R.to_come input.old) status (W.taken output.old) (W.taken output.new)) }
+    ensures verdict { IfOk result (λ status. InputTellsVerdict (R.to_come input.old) status
+        (W.taken output.old) (W.taken output.new)) }
 {
     let file = read_input(alloc, input)?;
     let scenario = read_scenario(alloc, file.as_slice())?;
@@ -51,9 +50,10 @@ fn audit_scenario<W: Sink, L: Onlooker>(
     onlooker: &mut L,
 ) -> Result<u8, Fault>
     requires { W.failures output.old < 2 ^ 64 - 1 }
-    ensures ok { OnOk result (Appends (W.taken output.old) (W.taken output.new) (audited (script scenario.now))) }
-    ensures front { WritesFront (W.taken output.old) (W.taken output.new) (audited (script scenario.now)) }
-    ensures verdict { IfOk result (λ status. TellsVerdict (script scenario.now) status (W.taken output.old) (W.taken output.new)) }
+    ensures ok { Wrote W.taken result output.old output.new (audited (script scenario.now)) }
+    ensures front { WroteFront W.taken output.old output.new (audited (script scenario.now)) }
+    ensures verdict { IfOk result (λ status. TellsVerdict (script scenario.now) status
+        (W.taken output.old) (W.taken output.new)) }
     ensures fault { IfErr result IsWriteFault }
     ensures failures { W.failures output.new ≡ W.failures output.old + failed_write result }
 {
@@ -69,9 +69,9 @@ fn audit_run<L: Onlooker>(
     scenario: &Scenario,
     onlooker: &mut L,
 ) -> Result<Audited, AllocError>
-    ensures verdict { IfOk result (λ audited. IsVerdict scenario.now.setup (run_record (script scenario.now)) audited.verdict) }
+    ensures verdict { IfOk result (λ audited. IsRunVerdict (script scenario.now) audited.verdict) }
     ensures good { IfOk result (λ audited. audited.verdict ≡ Good) }
-    ensures entries { IfOk result (λ audited. audited.entries ≡ length (run_record (script scenario.now))) }
+    ensures entries { IfOk result (λ audited. audited.entries ≡ run_length (script scenario.now)) }
 {
     let mut course = Course::new(alloc, &scenario.setup)?;
     let audit = Audit::new(alloc, &scenario.setup)?;

@@ -5,11 +5,10 @@ ghost use Rattle.course.specs.«record».declared.Refusal.TheVariants.{Memory};
 ghost use Rattle.course.specs.«record».Given.{AreGiven, is_event};
 ghost use Rattle.course.specs.«record».Headline.{KeepsHeadlineThroughout};
 ghost use Rattle.course.specs.«record».Records.{record_of as record_made};
-ghost use Rattle.judge.specs.record_file.Printing.{record_text};
 ghost use Rattle.judge.specs.record_file.ReadAgain.{FitLines};
-ghost use Rattle.judge.specs.record_file.RecordFiles.{record_of as record_read};
 ghost use Rattle.scenario.specs.Reads.{script};
 ghost use Rattle.engines.specs.Listings.{RecordsEvent, event_told};
+ghost use Rattle.engines.specs.RecordedRuns.{IsReadAgain};
 ghost use Rattle.course.specs.RunRecords.{accepted_events, listed};
 
 use course::{Course, Entry, Event, Listener, Record, Refusal, Stepped, Taken, Told, World};
@@ -105,7 +104,7 @@ pub fn record_of(alloc: Global, setup: &Setup, events: &[Event]) -> Result<Recor
     ensures given { OnOk result (AreGiven setup.now (reverse events.now)) }
     ensures headline { IfOk result (λ made. KeepsHeadlineThroughout setup.now (reverse made)) }
     ensures fit { IfOk result (λ made. FitLines made) }
-    ensures read_again { IfOk result (λ made. record_read (record_text setup.now made) ≡ Ok (record { setup = setup.now; entries = made })) }
+    ensures read_again { IfOk result (IsReadAgain setup.now) }
 {
     let mut world = World::new(alloc, setup)?;
     let mut entries = Vec::new(alloc);
@@ -121,7 +120,7 @@ fn record_event(
     event: &Event,
     entries: &mut Vec<Entry>,
 ) -> Result<(), AllocError>
-    ensures { OnOk result (RecordsEvent event.now world.old world.new entries.old.items entries.new.items) }
+    ensures { OnOk result (RecordsEvent event.now world.old world.new entries.old entries.new) }
 {
     sound_event(event);
     match world.event(*event) {

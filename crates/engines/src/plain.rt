@@ -1,11 +1,12 @@
 //! The command `plain`: the calls of a file on one store, in order.
 ghost use Rattle.std.specs.Prelude.{◌≡◌, ◌^◌, ◌-◌, ◌<◌, ◌≤◌, length, IfOk, OnOk, Ok};
-ghost use Rattle.std.specs.String.{string_bytes};
 ghost use Rattle.plain_store.specs.Setups.{checked};
 ghost use Rattle.plain_store.specs.Shown.{reply_text};
 ghost use Rattle.scenario.specs.files.Engines.{Ran, streams};
+ghost use Rattle.scenario.specs.Reads.{script};
 ghost use Rattle.scenario.specs.files.Streams.{ReadsFront};
-ghost use Rattle.engines.specs.Plain.{line_text, run_after, text_from, run_at_start, plain_text, call_text, called, applied_text, applied, caller_of, counted, reply_line as line_of_reply};
+ghost use Rattle.scenario.specs.files.Texts.{GivesText};
+ghost use Rattle.engines.specs.Plain.{line_text, printed, run_after, run_at_start, plain_text, call_text, called, applied_text, applied, caller_of, counted, reply_line as line_of_reply};
 
 use course::{Refusal, refusal_line};
 use plain_store::{Caller, Command, PlainStore, Reply, Setup, Store, opened, show_line};
@@ -49,7 +50,7 @@ impl PlainRun {
     fn line(&mut self, alloc: Global, setup: &Setup, line: &Line) -> Result<String, AllocError>
         requires known { length self.old.counts ≡ setup.now.processes }
         requires few { self.old.place < 2 ^ 16 - 1 }
-        ensures text { IfOk result (λ text. string_bytes text ≡ line_text setup.now self.old line.now) }
+        ensures text { GivesText result (line_text setup.now self.old line.now) }
         ensures ok { OnOk result (self.new ≡ run_after setup.now self.old line.now) }
     {
         match line {
@@ -68,7 +69,7 @@ impl PlainRun {
     ) -> Result<String, AllocError>
         requires known { length self.old.counts ≡ setup.now.processes }
         requires few { self.old.place < 2 ^ 16 - 1 }
-        ensures text { IfOk result (λ text. string_bytes text ≡ call_text setup.now self.old process command.now) }
+        ensures text { GivesText result (call_text setup.now self.old process command.now) }
         ensures ok { OnOk result (self.new ≡ called setup.now self.old process command.now) }
     {
         if process < setup.processes {
@@ -87,7 +88,7 @@ impl PlainRun {
     ) -> Result<String, AllocError>
         requires known { process < length self.old.counts }
         requires few { self.old.place < 2 ^ 16 - 1 }
-        ensures text { IfOk result (λ text. string_bytes text ≡ applied_text setup.now self.old process command.now) }
+        ensures text { GivesText result (applied_text setup.now self.old process command.now) }
         ensures ok { OnOk result (self.new ≡ applied setup.now self.old process command.now) }
     {
         let caller = self.caller(setup, process);
@@ -124,7 +125,7 @@ impl PlainRun {
 /// The line that is printed for a call.
 #[tactic(auto, using(crate::proofs::Lists::reply_line_is))]
 fn reply_line(alloc: Global, place: u64, process: u8, reply: &Reply) -> Result<String, AllocError>
-    ensures { IfOk result (λ line. string_bytes line ≡ line_of_reply place process (reply_text reply.now)) }
+    ensures { GivesText result (line_of_reply place process (reply_text reply.now)) }
 {
     format!(in alloc; "{place} {process} {reply}\n")
 }
@@ -132,7 +133,7 @@ fn reply_line(alloc: Global, place: u64, process: u8, reply: &Reply) -> Result<S
 /// What a scenario prints.
 #[tactic(auto, using(crate::proofs::Lists::text_more, crate::proofs::Lists::counts_kept, crate::proofs::Lists::place_next))]
 fn text_of(alloc: Global, scenario: &Scenario) -> Result<String, AllocError>
-    ensures { IfOk result (λ text. string_bytes text ≡ text_from scenario.now.setup (run_at_start scenario.now.setup) scenario.now.lines.items) }
+    ensures { GivesText result (printed (script scenario.now)) }
 {
     let mut run = PlainRun::new(alloc, &scenario.setup)?;
     let mut text = String::new(alloc);

@@ -1,15 +1,15 @@
 //! The engine `record`: the record of a scenario's run as text, each entry written before the next event is made. No
 //! record is held.
-ghost use Rattle.std.specs.Prelude.{◌≡◌, ◌+◌, ◌-◌, ◌^◌, ◌<◌, IfErr, IfOk, IsOk, OnErr, OnOk, ⊤, false, true, refl};
+ghost use Rattle.std.specs.Prelude.{◌≡◌, ◌+◌, ◌-◌, ◌^◌, ◌<◌, IfErr, IsOk, OnErr, OnOk, ⊤, true, refl};
 ghost use Rattle.std.proofs.Common.{◌∙◌};
-ghost use Rattle.std.specs.Io.KnownBytes.{Appends};
 ghost use Rattle.scenario.specs.files.Engines.{Ran, streams};
-ghost use Rattle.scenario.specs.files.Streams.{ReadsFront, WritesFront};
-ghost use Rattle.judge.specs.record_file.Printing.{entry_line, step_entry};
+ghost use Rattle.engines.specs.Sinks.{Wrote, WroteBytes, WroteBytesFront, WroteFront};
+ghost use Rattle.scenario.specs.files.Streams.{ReadsFront};
+ghost use Rattle.judge.specs.record_file.Printing.{entry_line};
 ghost use Rattle.judge.specs.record_file.ReadAgain.{RecordsAreReadAgain, RecordsFitLines};
 ghost use Rattle.scenario.specs.Reads.{script};
 ghost use Rattle.engines.specs.RecordedRuns.{InputWritesRecord, RecordedRunsAreReadAgain};
-ghost use Rattle.engines.specs.Recordings.{CopiesLine, CutsCopy, entries_longer, entries_text, entry_told, recorded, recording_text};
+ghost use Rattle.engines.specs.Recordings.{CopiesLine, CutsCopy, entries_longer, entries_text, entry_told, recorded, recording_text, step_line};
 ghost use Rattle.course.specs.Takings.{Took, TookPart, part_before, part_on, part_unheard, took_none, took_on};
 ghost use Rattle.course.specs.Replays.{ended};
 ghost use Rattle.course.specs.Writing.{IsWriteFault, failed_write};
@@ -38,7 +38,8 @@ pub fn run_record<R: Source, W: Sink, L: Onlooker>(
         (streams ⟦<R as Source>⟧ ⟦<W as Sink>⟧ input.old output.old)
         (streams ⟦<R as Source>⟧ ⟦<W as Sink>⟧ input.new output.new) }
     ensures input { ReadsFront (R.to_come input.old) (R.to_come input.new) }
-    ensures read_again { OnOk result (InputWritesRecord (R.to_come input.old) (W.taken output.old) (W.taken output.new)) }
+    ensures read_again { OnOk result (InputWritesRecord (R.to_come input.old)
+        (W.taken output.old) (W.taken output.new)) }
     ensures runs { RecordedRunsAreReadAgain }
     ensures records { RecordsAreReadAgain }
     ensures fit { RecordsFitLines }
@@ -57,8 +58,8 @@ fn record_scenario<W: Sink, L: Onlooker>(
     onlooker: &mut L,
 ) -> Result<(), Fault>
     requires { W.failures output.old < 2 ^ 64 - 1 }
-    ensures ok { OnOk result (Appends (W.taken output.old) (W.taken output.new) (recorded (script scenario.now))) }
-    ensures front { WritesFront (W.taken output.old) (W.taken output.new) (recorded (script scenario.now)) }
+    ensures ok { Wrote W.taken result output.old output.new (recorded (script scenario.now)) }
+    ensures front { WroteFront W.taken output.old output.new (recorded (script scenario.now)) }
     ensures fault { IfErr result IsWriteFault }
     ensures failures { W.failures output.new ≡ W.failures output.old + failed_write result }
 {
@@ -86,8 +87,10 @@ fn record_line<W: Sink>(
     output: &mut W,
 ) -> Result<(), Fault>
     requires { W.failures output.old < 2 ^ 64 - 1 }
-    ensures ok { OnOk result (CopiesLine line.now course.old course.new (W.taken output.old) (W.taken output.new)) }
-    ensures cut { OnErr result (CutsCopy line.now course.old (W.taken output.old) (W.taken output.new)) }
+    ensures ok { OnOk result (CopiesLine line.now course.old course.new
+        (W.taken output.old) (W.taken output.new)) }
+    ensures cut { OnErr result (CutsCopy line.now course.old
+        (W.taken output.old) (W.taken output.new)) }
     ensures fault { IfErr result IsWriteFault }
     ensures failures { W.failures output.new ≡ W.failures output.old + failed_write result }
 {
@@ -161,8 +164,8 @@ impl<'a, W: Sink> Listener for Copier<'a, W> {
 #[inline]
 fn write_step<W: Sink>(made: Stepped, printed: &mut StepLine, output: &mut W) -> Result<(), Fault>
     requires { W.failures output.old < 2 ^ 64 - 1 }
-    ensures ok { OnOk result (Appends (W.taken output.old) (W.taken output.new) (entry_line (step_entry made.process made.access))) }
-    ensures front { WritesFront (W.taken output.old) (W.taken output.new) (entry_line (step_entry made.process made.access)) }
+    ensures ok { Wrote W.taken result output.old output.new (step_line made.process made.access) }
+    ensures front { WroteFront W.taken output.old output.new (step_line made.process made.access) }
     ensures fault { IfErr result IsWriteFault }
     ensures failures { W.failures output.new ≡ W.failures output.old + failed_write result }
 {
@@ -183,8 +186,8 @@ fn write_entry<W: Sink>(
     output: &mut W,
 ) -> Result<(), Fault>
     requires { W.failures output.old < 2 ^ 64 - 1 }
-    ensures ok { OnOk result (Appends (W.taken output.old) (W.taken output.new) (entry_told told.now)) }
-    ensures front { WritesFront (W.taken output.old) (W.taken output.new) (entry_told told.now) }
+    ensures ok { Wrote W.taken result output.old output.new (entry_told told.now) }
+    ensures front { WroteFront W.taken output.old output.new (entry_told told.now) }
     ensures fault { IfErr result IsWriteFault }
     ensures failures { W.failures output.new ≡ W.failures output.old + failed_write result }
 {
@@ -206,8 +209,8 @@ fn write_entry_line<W: Sink>(
     output: &mut W,
 ) -> Result<(), Fault>
     requires { W.failures output.old < 2 ^ 64 - 1 }
-    ensures ok { OnOk result (Appends (W.taken output.old) (W.taken output.new) (entry_line entry.now)) }
-    ensures front { WritesFront (W.taken output.old) (W.taken output.new) (entry_line entry.now) }
+    ensures ok { Wrote W.taken result output.old output.new (entry_line entry.now) }
+    ensures front { WroteFront W.taken output.old output.new (entry_line entry.now) }
     ensures fault { IfErr result IsWriteFault }
     ensures failures { W.failures output.new ≡ W.failures output.old + failed_write result }
 {
@@ -219,9 +222,9 @@ fn write_entry_line<W: Sink>(
 /// Writes bytes, unless there was no memory for them.
 fn write_bytes<W: Sink>(output: &mut W, bytes: Result<Vec<u8>, AllocError>) -> Result<(), Fault>
     requires { W.failures output.old < 2 ^ 64 - 1 }
-    ensures ok { OnOk result (IfOk bytes (λ made. Appends (W.taken output.old) (W.taken output.new) made.items)) }
+    ensures ok { WroteBytes W.taken result output.old output.new bytes }
     ensures made { OnOk result (IsOk bytes) }
-    ensures front { IfOk bytes (λ made. WritesFront (W.taken output.old) (W.taken output.new) made.items) }
+    ensures front { WroteBytesFront W.taken output.old output.new bytes }
     ensures none { OnErr bytes (W.taken output.new ≡ W.taken output.old) }
     ensures fault { IfErr result IsWriteFault }
     ensures failures { W.failures output.new ≡ W.failures output.old + failed_write result }

@@ -1,14 +1,14 @@
 //! The engine `replay`: the marks of a scenario's run, each written before the next event is made.
-ghost use Rattle.std.specs.Prelude.{◌≡◌, ◌+◌, ◌-◌, ◌^◌, ◌<◌, ℕ, IfErr, IfOk, OnErr, OnOk, false, refl};
+ghost use Rattle.std.specs.Prelude.{◌≡◌, ◌+◌, ◌-◌, ◌^◌, ◌<◌, IfErr, IfOk, OnErr, OnOk, false, refl};
 ghost use Rattle.std.proofs.Common.{◌∙◌};
-ghost use Rattle.std.specs.Io.KnownBytes.{Appends};
 ghost use Rattle.scenario.specs.files.Engines.{Ran, streams};
 ghost use Rattle.scenario.specs.Reads.{script};
-ghost use Rattle.scenario.specs.files.Streams.{ReadsFront, WritesFront};
+ghost use Rattle.engines.specs.Replayings.{IsRunSummary, TakesRoomOfLine};
+ghost use Rattle.engines.specs.Sinks.{Wrote, WroteFront};
+ghost use Rattle.scenario.specs.files.Streams.{ReadsFront};
 ghost use Rattle.course.specs.Replays.{CutsLine, InputKeepsHeadline, IsSummaryOf, MakesLine, RunKeepsHeadline, ended};
-ghost use Rattle.course.specs.Runs.{happenings};
 ghost use Rattle.course.specs.Growing.{text_longer};
-ghost use Rattle.course.specs.Summaries.{CanCount, can_count_less, summary_of};
+ghost use Rattle.course.specs.Summaries.{CanCount, can_count_less};
 ghost use Rattle.course.specs.Texts.{replay_text, replayed, text_of};
 ghost use Rattle.course.specs.Writing.{Counts, IsWriteFault, failed_write};
 ghost use Rattle.course.specs.Takings.{Took, TookPart, part_before, part_on, part_unheard, took_none, took_on};
@@ -55,9 +55,9 @@ fn replay_scenario<W: Sink, L: Onlooker>(
     onlooker: &mut L,
 ) -> Result<Summary, Fault>
     requires { W.failures output.old < 2 ^ 64 - 1 }
-    ensures ok { OnOk result (Appends (W.taken output.old) (W.taken output.new) (replayed (script scenario.now))) }
-    ensures front { WritesFront (W.taken output.old) (W.taken output.new) (replayed (script scenario.now)) }
-    ensures summary { IfOk result (λ summary. summary ≡ summary_of scenario.now.setup (happenings (script scenario.now))) }
+    ensures ok { Wrote W.taken result output.old output.new (replayed (script scenario.now)) }
+    ensures front { WroteFront W.taken output.old output.new (replayed (script scenario.now)) }
+    ensures summary { IfOk result (IsRunSummary (script scenario.now)) }
     ensures headline { OnOk result (RunKeepsHeadline (script scenario.now)) }
     ensures fault { IfErr result IsWriteFault }
     ensures failures { W.failures output.new ≡ W.failures output.old + failed_write result }
@@ -85,9 +85,11 @@ fn replay_line<W: Sink>(
 ) -> Result<(), Fault>
     requires writes { W.failures output.old < 2 ^ 64 - 1 }
     requires room { CanCount summary.old (2 ^ 32) }
-    ensures ok { OnOk result (MakesLine line.now course.old course.new summary.old summary.new (W.taken output.old) (W.taken output.new)) }
-    ensures room { OnOk result ((more : ℕ) → CanCount summary.old (more + 2 ^ 32) → CanCount summary.new more) }
-    ensures cut { OnErr result (CutsLine line.now course.old summary.old (W.taken output.old) (W.taken output.new)) }
+    ensures ok { OnOk result (MakesLine line.now course.old course.new summary.old summary.new
+        (W.taken output.old) (W.taken output.new)) }
+    ensures room { OnOk result (TakesRoomOfLine summary.old summary.new) }
+    ensures cut { OnErr result (CutsLine line.now course.old summary.old
+        (W.taken output.old) (W.taken output.new)) }
     ensures fault { IfErr result IsWriteFault }
     ensures failures { W.failures output.new ≡ W.failures output.old + failed_write result }
 {

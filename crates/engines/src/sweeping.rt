@@ -1,9 +1,9 @@
 //! The engine `sweep`: what a sweep over a scenario's run finds.
 ghost use Rattle.std.specs.Prelude.{◌≡◌, ◌+◌, ◌++◌, ◌-◌, ◌^◌, ◌<◌, IfErr, IfOk, OnOk, Ok};
 ghost use Rattle.std.specs.String.{string_bytes};
-ghost use Rattle.std.specs.Io.KnownBytes.{Appends};
 ghost use Rattle.scenario.specs.files.Engines.{Ran, streams};
-ghost use Rattle.scenario.specs.files.Streams.{ReadsFront, WritesFront};
+ghost use Rattle.engines.specs.Sinks.{Wrote, WroteFront};
+ghost use Rattle.scenario.specs.files.Streams.{ReadsFront};
 ghost use Rattle.scenario.specs.Reads.{script};
 ghost use Rattle.course.specs.Replays.{ended};
 ghost use Rattle.engines.specs.Sweepings.{InputTellsSweep, IsRunSwept, TellsSweep, call_of, calls_in as calls_among, run_swept, status_of_swept, sweep_text, swept, swept_lines as lines_of_swept};
@@ -36,7 +36,8 @@ pub fn run_sweep<R: Source, W: Sink, L: Onlooker>(
         (streams ⟦<R as Source>⟧ ⟦<W as Sink>⟧ input.old output.old)
         (streams ⟦<R as Source>⟧ ⟦<W as Sink>⟧ input.new output.new) }
     ensures input { ReadsFront (R.to_come input.old) (R.to_come input.new) }
-    ensures swept { IfOk result (λ status. InputTellsSweep (R.to_come input.old) status (W.taken output.old) (W.taken output.new)) }
+    ensures swept { IfOk result (λ status. InputTellsSweep (R.to_come input.old) status
+        (W.taken output.old) (W.taken output.new)) }
 {
     let file = read_input(alloc, input)?;
     let scenario = read_scenario(alloc, file.as_slice())?;
@@ -61,9 +62,10 @@ fn sweep_scenario<W: Sink, L: Onlooker>(
     onlooker: &mut L,
 ) -> Result<u8, Fault>
     requires { W.failures output.old < 2 ^ 64 - 1 }
-    ensures ok { OnOk result (Appends (W.taken output.old) (W.taken output.new) (swept (script scenario.now))) }
-    ensures front { WritesFront (W.taken output.old) (W.taken output.new) (swept (script scenario.now)) }
-    ensures swept { IfOk result (λ status. TellsSweep (script scenario.now) status (W.taken output.old) (W.taken output.new)) }
+    ensures ok { Wrote W.taken result output.old output.new (swept (script scenario.now)) }
+    ensures front { WroteFront W.taken output.old output.new (swept (script scenario.now)) }
+    ensures swept { IfOk result (λ status. TellsSweep (script scenario.now) status
+        (W.taken output.old) (W.taken output.new)) }
     ensures fault { IfErr result IsWriteFault }
     ensures failures { W.failures output.new ≡ W.failures output.old + failed_write result }
 {

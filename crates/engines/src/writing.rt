@@ -1,8 +1,9 @@
 //! How what is told is written, a line at a time.
-ghost use Rattle.std.specs.Prelude.{◌≡◌, ◌+◌, ◌-◌, ◌^◌, ◌<◌, IfOk, IfErr, IsOk, OnOk, OnErr, flat_map};
+ghost use Rattle.std.specs.Prelude.{◌≡◌, ◌+◌, ◌-◌, ◌^◌, ◌<◌, IfOk, IfErr, IsOk, OnOk, OnErr};
 ghost use Rattle.std.specs.String.{string_bytes};
-ghost use Rattle.std.specs.Io.KnownBytes.{Appends};
-ghost use Rattle.scenario.specs.files.Streams.{WritesFront};
+ghost use Rattle.engines.specs.Replayings.{mark_lines, numbers, text_next};
+ghost use Rattle.engines.specs.Sinks.{Wrote, WroteFront, WroteLine, WroteLineFront};
+ghost use Rattle.scenario.specs.files.Texts.{GivesText};
 ghost use Rattle.course.specs.Summaries.{counted};
 ghost use Rattle.course.specs.Telling.{told_text};
 ghost use Rattle.course.specs.Texts.{mark_line as line_of_mark, turns_line as line_of_turns, end_line as line_at_end};
@@ -15,8 +16,8 @@ use std::alloc::{AllocError, Global};
 /// Writes what is told; `number` is how many events were accepted before it.
 fn write_told<W: Sink>(alloc: Global, number: u64, told: &Told, output: &mut W) -> Result<(), Fault>
     requires { W.failures output.old < 2 ^ 64 - 1 }
-    ensures ok { OnOk result (Appends (W.taken output.old) (W.taken output.new) (told_text number told.now)) }
-    ensures front { WritesFront (W.taken output.old) (W.taken output.new) (told_text number told.now) }
+    ensures ok { Wrote W.taken result output.old output.new (told_text number told.now) }
+    ensures front { WroteFront W.taken output.old output.new (told_text number told.now) }
     ensures fault { IfErr result IsWriteFault }
     ensures failures { W.failures output.new ≡ W.failures output.old + failed_write result }
 {
@@ -42,8 +43,8 @@ fn write_marks<W: Sink>(
     output: &mut W,
 ) -> Result<(), Fault>
     requires { W.failures output.old < 2 ^ 64 - 1 }
-    ensures ok { OnOk result (Appends (W.taken output.old) (W.taken output.new) (flat_map (line_of_mark number process) marks.now)) }
-    ensures front { WritesFront (W.taken output.old) (W.taken output.new) (flat_map (line_of_mark number process) marks.now) }
+    ensures ok { Wrote W.taken result output.old output.new (mark_lines number process marks.now) }
+    ensures front { WroteFront W.taken output.old output.new (mark_lines number process marks.now) }
     ensures fault { IfErr result IsWriteFault }
     ensures failures { W.failures output.new ≡ W.failures output.old + failed_write result }
 {
@@ -59,9 +60,9 @@ pub(crate) fn write_line<W: Sink>(
     line: Result<String, AllocError>,
 ) -> Result<(), Fault>
     requires { W.failures output.old < 2 ^ 64 - 1 }
-    ensures ok { OnOk result (IfOk line (λ text. Appends (W.taken output.old) (W.taken output.new) (string_bytes text))) }
+    ensures ok { WroteLine W.taken result output.old output.new line }
     ensures made { OnOk result (IsOk line) }
-    ensures front { IfOk line (λ text. WritesFront (W.taken output.old) (W.taken output.new) (string_bytes text)) }
+    ensures front { WroteLineFront W.taken output.old output.new line }
     ensures none { OnErr line (W.taken output.new ≡ W.taken output.old) }
     ensures fault { IfErr result IsWriteFault }
     ensures failures { W.failures output.new ≡ W.failures output.old + failed_write result }
@@ -87,7 +88,7 @@ fn turns_line(alloc: Global, process: u8) -> Result<String, AllocError>
 /// The last line of a replay, with these numbers.
 #[tactic(auto, using(crate::proofs::Lines::end_line_is))]
 fn numbers_line(alloc: Global, events: u64, taken: u64, refused: u64) -> Result<String, AllocError>
-    ensures { IfOk result (λ line. string_bytes line ≡ line_at_end (record { events = events; taken = taken; refused = refused })) }
+    ensures { GivesText result (line_at_end (numbers events taken refused)) }
 {
     format!(in alloc; "end events {events} taken {taken} refused {refused}\n")
 }
@@ -107,8 +108,8 @@ pub(crate) fn write_end<W: Sink>(
     output: &mut W,
 ) -> Result<(), Fault>
     requires { W.failures output.old < 2 ^ 64 - 1 }
-    ensures ok { OnOk result (Appends (W.taken output.old) (W.taken output.new) (line_at_end summary.now)) }
-    ensures front { WritesFront (W.taken output.old) (W.taken output.new) (line_at_end summary.now) }
+    ensures ok { Wrote W.taken result output.old output.new (line_at_end summary.now) }
+    ensures front { WroteFront W.taken output.old output.new (line_at_end summary.now) }
     ensures fault { IfErr result IsWriteFault }
     ensures failures { W.failures output.new ≡ W.failures output.old + failed_write result }
 {
@@ -125,9 +126,9 @@ pub(crate) fn tell<W: Sink>(
     requires writes { W.failures output.old < 2 ^ 64 - 1 }
     requires events { summary.old.events < 2 ^ 64 - 1 }
     requires refused { summary.old.refused < 2 ^ 64 - 1 }
-    ensures ok { OnOk result (Appends (W.taken output.old) (W.taken output.new) (told_text summary.old.events told.now)) }
+    ensures ok { Wrote W.taken result output.old output.new (text_next summary.old told.now) }
     ensures count { OnOk result (summary.new ≡ counted told.now summary.old) }
-    ensures front { WritesFront (W.taken output.old) (W.taken output.new) (told_text summary.old.events told.now) }
+    ensures front { WroteFront W.taken output.old output.new (text_next summary.old told.now) }
     ensures fault { IfErr result IsWriteFault }
     ensures failures { W.failures output.new ≡ W.failures output.old + failed_write result }
 {

@@ -1,8 +1,11 @@
 -- What goes along with a good record.
-use Rattle.std.specs.Prelude.{◌≡◌, Bool, false}
+use Rattle.std.specs.Prelude.{◌≡◌, ℕ, ◌<◌, ◌^◌, Bool, false, ◌∷◌, length, Option}
 use Rattle.plain_store.specs.declared.setups.Setup.{Setup}
-use Rattle.record.specs.Entries.{Past}
+use Rattle.record.specs.declared.events.Event.TheVariants.{Step}
+use Rattle.record.specs.Entries.{Entry, Past}
+use Rattle.record.specs.Records.{entry_of}
 use Rattle.auditor.specs.Hearing.{AuditorState, HasHeard}
+use Rattle.auditor.specs.Verdicts.{KeepsAll}
 
 -- an auditor, and whether it has lost the record
 pub record FollowerState : Type 0 where
@@ -14,3 +17,15 @@ pub record HasFollowed (f : FollowerState) (s : Setup) (past : Past) : Type 0 wh
   pub kept : f.is_lost ≡ false
   pub setup : f.auditor.core.setup ≡ s
   pub heard : HasHeard f.auditor past
+
+-- so it is of every past that was followed
+abbrev pub OfFollowed : FollowerState → (Setup → Past → Type 0) → Type 0
+OfFollowed f P = (s : Setup) (past : Past) → HasFollowed f s past → P s past
+
+-- one entry more is followed, which keeps all laws
+abbrev pub FollowsOneMore : FollowerState → Entry → FollowerState → Type 0
+FollowsOneMore old e new = (s : Setup) (past : Past) → KeepsAll s past e → HasFollowed old s past → HasFollowed new s (e ∷ past)
+
+-- the entry that a Step of a process adds by this flick, if it adds one
+abbrev pub IsAddedByStep : FollowerState → ℕ → Bool → Option Entry → Type 0
+IsAddedByStep f p flick added = OfFollowed f (λ s past. length past < 2 ^ 64 → added ≡ entry_of s past (Step p flick))

@@ -1,5 +1,5 @@
 -- What a judge keeps of the entries that it has heard.
-use Rattle.std.specs.Prelude.{◌≡◌, ℕ, Bool, true, false, List, length, reverse, Option, Some, None, Ok}
+use Rattle.std.specs.Prelude.{◌≡◌, ℕ, Bool, true, false, List, [], ◌∷◌, ◌++◌, length, reverse, Option, Some, None, Ok}
 use Rattle.plain_store.specs.declared.setups.Setup.{Setup}
 use Rattle.plain_store.specs.Setups.{checked}
 use Rattle.record.specs.Entries.{Entry, Past}
@@ -32,6 +32,22 @@ pub record HasJudged (j : JudgeState) (s : Setup) (entries : List Entry) : Type 
   pub count : j.entries ≡ length entries
   pub verdict : IsVerdict s entries j.verdict
   pub goes_on : j.verdict ≡ Good → BothHeard j s (reverse entries)
+
+-- so it is of all entries that were judged
+abbrev pub OfJudged : JudgeState → (Setup → List Entry → Type 0) → Type 0
+OfJudged j P = (s : Setup) (entries : List Entry) → HasJudged j s entries → P s entries
+
+-- one entry more is judged
+abbrev pub JudgesOneMore : JudgeState → Entry → JudgeState → Type 0
+JudgesOneMore old e new = (s : Setup) (entries : List Entry) → HasJudged old s entries → HasJudged new s (entries ++ e ∷ [])
+
+-- the verdict with one entry more, where that on the entries before it is good
+abbrev pub IsNextVerdict : JudgeState → Entry → Verdict → Type 0
+IsNextVerdict old e verdict = (s : Setup) (entries : List Entry) → old.verdict ≡ Good → HasJudged old s entries → IsVerdict s (entries ++ e ∷ []) verdict
+
+-- if it is good too, both have heard the entry
+abbrev pub BothHearOneMore : JudgeState → Entry → Verdict → JudgeState → Type 0
+BothHearOneMore old e verdict new = (s : Setup) (entries : List Entry) → old.verdict ≡ Good → HasJudged old s entries → verdict ≡ Good → BothHeard new s (reverse (entries ++ e ∷ []))
 
 -- the verdict with entry k, where that on the entries before it is good: by what a watch and an auditor say of it
 abbrev pub found : ℕ → Bool → Option Law → Verdict

@@ -1,8 +1,8 @@
 //! A judge who tells the reasons of a bad verdict too.
 ghost use Rattle.std.specs.Prelude.{◌≡◌, ◌↔◌, ◌++◌, IfOk, IsTrue, OnOk, codes};
-ghost use Rattle.std.specs.String.{string_bytes};
 ghost use Rattle.record.specs.Shown.{refusal_text as text_of_refusal};
 ghost use Rattle.auditor.specs.declared.verdicts.Verdict.TheVariants.{Good};
+ghost use Rattle.judge.specs.trial.files.Texts.{GivesText};
 ghost use Rattle.trial.specs.ReasonLines.{word_line};
 ghost use Rattle.judge.specs.Explanations.{HasExplained, ReasonsGoOn, Writes, event_or_step, is_crowded, may_line as line_of_may, may_lines, reason_lines, refusal_line, refused_line, without_twin};
 ghost use Rattle.judge.specs.Judgements.{TellsReasons};
@@ -229,7 +229,7 @@ fn push_refusal(
 }
 
 fn refusal_text(alloc: Global, refusal: &Refusal) -> Result<String, AllocError>
-    ensures { IfOk result (λ line. string_bytes line ≡ word_line (codes "refused") (text_of_refusal refusal.now)) }
+    ensures { GivesText result (word_line (codes "refused") (text_of_refusal refusal.now)) }
 {
     format!(in alloc; "refused {refusal}\n")
 }

@@ -1,13 +1,9 @@
 //! What goes along with a good record, one entry behind the judge: it tells what a process would do next.
-ghost use Rattle.std.specs.Prelude.{◌≡◌, ◌^◌, ◌<◌, [], ◌∷◌, IfOk, Ok, length};
-ghost use Rattle.plain_store.specs.declared.setups.Setup.{Setup as Given};
+ghost use Rattle.std.specs.Prelude.{◌≡◌, ◌<◌, [], IfOk, Ok};
 ghost use Rattle.plain_store.specs.Setups.{checked};
-ghost use Rattle.record.specs.declared.events.Event.TheVariants.{Step as Stepped};
-ghost use Rattle.record.specs.Entries.{Past};
-ghost use Rattle.record.specs.Records.{entry_of, refused};
-ghost use Rattle.auditor.specs.Verdicts.{KeepsAll};
+ghost use Rattle.record.specs.Records.{refused};
 ghost use Rattle.world.specs.Events.{stage_in};
-ghost use Rattle.judge.specs.Following.{HasFollowed};
+ghost use Rattle.judge.specs.Following.{FollowsOneMore, HasFollowed, IsAddedByStep, OfFollowed};
 
 use auditor::Auditor;
 use plain_store::{NestedTypes, Setup};
@@ -51,7 +47,7 @@ impl Follower {
 
     /// One more entry, which keeps all laws. It takes no memory.
     pub fn follow(&mut self, entry: &Entry)
-        ensures { (s : Given) (past : Past) → KeepsAll s past entry.now → HasFollowed self.old s past → HasFollowed self.new s (entry.now ∷ past) }
+        ensures { FollowsOneMore self.old entry.now self.new }
     {
         if self.auditor.hear(entry).is_some() {
             self.is_lost = true;
@@ -60,14 +56,14 @@ impl Follower {
 
     /// The stage of a process, if it is there.
     pub fn stage(&self, process: u8) -> Option<Stage>
-        ensures { (s : Given) (past : Past) → HasFollowed self.now s past → result ≡ stage_in s past process }
+        ensures { OfFollowed self.now (λ s past. result ≡ stage_in s past process) }
     {
         self.auditor.core().stage(process)
     }
 
     /// Why an event is refused, if it is.
     pub fn refusal(&self, event: &Event) -> Option<Refusal>
-        ensures { (s : Given) (past : Past) → HasFollowed self.now s past → result ≡ refused s past event.now }
+        ensures { OfFollowed self.now (λ s past. result ≡ refused s past event.now) }
     {
         self.auditor.core().refusal(event)
     }
@@ -75,7 +71,7 @@ impl Follower {
     /// The entry that a Step of a process adds, by this flick; none where it is refused.
     pub fn stepped(&mut self, alloc: Global, process: u8, flick: bool) -> Option<Entry>
         ensures same { self.new ≡ self.old }
-        ensures added { (s : Given) (past : Past) → HasFollowed self.old s past → length past < 2 ^ 64 → result ≡ entry_of s past (Stepped process flick) }
+        ensures added { IsAddedByStep self.old process flick result }
     {
         let _nested: NestedTypes = None;
         if self.is_lost {

@@ -1,11 +1,9 @@
-ghost use Rattle.std.specs.Prelude.{◌≡◌, ◌+◌, ◌^◌, ◌-◌, ◌<◌, ◌∷◌, ◌++◌, [], IfOk, List, Ok, length, reverse};
-ghost use Rattle.plain_store.specs.declared.setups.Setup.{Setup as Given};
+ghost use Rattle.std.specs.Prelude.{◌≡◌, ◌+◌, ◌^◌, ◌-◌, ◌<◌, [], IfOk, Ok, length};
 ghost use Rattle.plain_store.specs.Setups.{checked};
-ghost use Rattle.record.specs.Entries.{Entry as Noted};
 ghost use Rattle.auditor.specs.Verdicts.{IsVerdict};
 ghost use Rattle.auditor.specs.declared.verdicts.Verdict.TheVariants.{Good};
 ghost use Rattle.record_file.specs.Printing.{step_entry};
-ghost use Rattle.judge.specs.Judging.{BothHeard, HasJudged, found as verdict_found};
+ghost use Rattle.judge.specs.Judging.{BothHearOneMore, HasJudged, IsNextVerdict, JudgesOneMore, OfJudged, found as verdict_found};
 
 use auditor::{Audited, Auditor, Law, Verdict, Watch};
 use plain_store::Setup;
@@ -48,7 +46,7 @@ impl RecordJudge {
     /// One more entry, whatever it is. It takes no memory.
     pub fn hear(&mut self, entry: &Entry)
         requires { self.old.entries < 2 ^ 64 - 1 }
-        ensures heard { (s : Given) (entries : List Noted) → HasJudged self.old s entries → HasJudged self.new s (entries ++ entry.now ∷ []) }
+        ensures heard { JudgesOneMore self.old entry.now self.new }
         ensures count { self.new.entries ≡ self.old.entries + 1 }
     {
         if self.verdict == Verdict::Good {
@@ -61,8 +59,8 @@ impl RecordJudge {
     fn verdict_with(&mut self, entry: &Entry) -> Verdict
         ensures verdict { self.new.verdict ≡ self.old.verdict }
         ensures entries { self.new.entries ≡ self.old.entries }
-        ensures heard { (s : Given) (entries : List Noted) → self.old.verdict ≡ Good → HasJudged self.old s entries → IsVerdict s (entries ++ entry.now ∷ []) result }
-        ensures goes_on { (s : Given) (entries : List Noted) → self.old.verdict ≡ Good → HasJudged self.old s entries → result ≡ Good → BothHeard self.new s (reverse (entries ++ entry.now ∷ [])) }
+        ensures heard { IsNextVerdict self.old entry.now result }
+        ensures goes_on { BothHearOneMore self.old entry.now result self.new }
     {
         let is_safe = self.watch.hear(entry);
         let law = self.auditor.hear(entry);
@@ -74,7 +72,7 @@ impl RecordJudge {
     #[inline]
     pub fn hear_access(&mut self, process: u8, access: Access)
         requires { self.old.entries < 2 ^ 64 - 1 }
-        ensures heard { (s : Given) (entries : List Noted) → HasJudged self.old s entries → HasJudged self.new s (entries ++ step_entry process access ∷ []) }
+        ensures heard { JudgesOneMore self.old (step_entry process access) self.new }
         ensures count { self.new.entries ≡ self.old.entries + 1 }
     {
         if self.verdict == Verdict::Good {
@@ -88,8 +86,8 @@ impl RecordJudge {
     fn verdict_with_access(&mut self, process: u8, access: Access) -> Verdict
         ensures verdict { self.new.verdict ≡ self.old.verdict }
         ensures entries { self.new.entries ≡ self.old.entries }
-        ensures heard { (s : Given) (entries : List Noted) → self.old.verdict ≡ Good → HasJudged self.old s entries → IsVerdict s (entries ++ step_entry process access ∷ []) result }
-        ensures goes_on { (s : Given) (entries : List Noted) → self.old.verdict ≡ Good → HasJudged self.old s entries → result ≡ Good → BothHeard self.new s (reverse (entries ++ step_entry process access ∷ [])) }
+        ensures heard { IsNextVerdict self.old (step_entry process access) result }
+        ensures goes_on { BothHearOneMore self.old (step_entry process access) result self.new }
     {
         let is_safe = self.watch.hear_access(access);
         let law = self.auditor.hear_access(process, access);
@@ -98,8 +96,8 @@ impl RecordJudge {
 
     /// The verdict on the entries so far, and how many there are.
     pub fn audited(&self) -> Audited
-        ensures entries { (s : Given) (entries : List Noted) → HasJudged self.now s entries → result.entries ≡ length entries }
-        ensures verdict { (s : Given) (entries : List Noted) → HasJudged self.now s entries → IsVerdict s entries result.verdict }
+        ensures entries { OfJudged self.now (λ s entries. result.entries ≡ length entries) }
+        ensures verdict { OfJudged self.now (λ s entries. IsVerdict s entries result.verdict) }
     {
         Audited {
             verdict: self.verdict,

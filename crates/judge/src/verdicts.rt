@@ -1,6 +1,6 @@
 //! What engines write and answer for verdicts.
-ghost use Rattle.std.specs.Prelude.{◌≡◌, IfOk};
-ghost use Rattle.std.specs.String.{string_bytes};
+ghost use Rattle.std.specs.Prelude.{◌≡◌};
+ghost use Rattle.judge.specs.trial.files.Texts.{GivesText};
 ghost use Rattle.judge.specs.Judgements.{status_of_verdict, verdict_line as line_of_verdict};
 
 use auditor::{Audited, Verdict};
@@ -23,7 +23,7 @@ pub fn status_of(verdict: &Verdict) -> u8
 /// The line of a verdict.
 #[tactic(auto, using(crate::proofs::Lines::verdict_line_is))]
 pub fn verdict_line(alloc: Global, audited: &Audited) -> Result<String, AllocError>
-    ensures { IfOk result (λ line. string_bytes line ≡ line_of_verdict audited.now.entries audited.now.verdict) }
+    ensures { GivesText result (line_of_verdict audited.now.entries audited.now.verdict) }
 {
     format!(in alloc; "{audited}\n")
 }

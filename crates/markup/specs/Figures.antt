@@ -1,5 +1,5 @@
 -- The shapes of a picture, and how each is written.
-use Rattle.std.specs.Prelude.{ℕ, List, [], ◌∷◌, ◌++◌, codes, flat_map}
+use Rattle.std.specs.Prelude.{◌≡◌, ℕ, List, [], ◌∷◌, ◌++◌, codes, flat_map, OnOk, Result}
 use Rattle.std.specs.Fmt.{decimal}
 use Rattle.markup.specs.Markup.{Said, marking_by, noting, said_text, standing_by, telling_by}
 use Rattle.markup.specs.declared.figures.Point.{Point}
@@ -35,6 +35,10 @@ drawn (Label style at text) = telling_by tag.Text (styled style (place_said at))
 drawn (Mark says line) = marking_by (flat_map said_text says) line
 drawn (Note title) = noting title
 drawn End = codes "</g>\n"
+
+-- a call adds a shape to markup, unless memory is wanting
+abbrev pub AddsShape : {A E : Type 0} → Result A E → List ℕ → Shape → List ℕ → Type 0
+AddsShape result old shape new = OnOk result (new ≡ old ++ drawn shape)
 
 -- shapes, one after the other
 abbrev pub drawings : List Shape → List ℕ

@@ -65,12 +65,15 @@ said_text said = codes " " ++ key_name said.0 ++ codes "=\"" ++ escaped said.1 +
 abbrev pub attribute_text : Attribute → List ℕ
 attribute_text attribute = said_text (attribute.key, meant attribute.meaning)
 
+abbrev pub attributes_text : List Attribute → List ℕ
+attributes_text = flat_map attribute_text
+
 -- a tag with these attributes, without its end
 abbrev pub front_by : Tag → List ℕ → List ℕ
 front_by tag attributes = codes "<" ++ tag_name tag ++ attributes
 
 abbrev pub tag_front : Tag → List Attribute → List ℕ
-tag_front tag attributes = front_by tag (flat_map attribute_text attributes)
+tag_front tag attributes = front_by tag (attributes_text attributes)
 
 -- the tag that ends another
 abbrev pub tag_end : Tag → List ℕ
@@ -81,35 +84,35 @@ abbrev pub standing_by : Tag → List ℕ → List ℕ
 standing_by tag attributes = front_by tag attributes ++ codes "/>\n"
 
 abbrev pub standing : Tag → List Attribute → List ℕ
-standing tag attributes = standing_by tag (flat_map attribute_text attributes)
+standing tag attributes = standing_by tag (attributes_text attributes)
 
 -- a tag whose content follows
 abbrev pub entering_by : Tag → List ℕ → List ℕ
 entering_by tag attributes = front_by tag attributes ++ codes ">"
 
 abbrev pub entering : Tag → List Attribute → List ℕ
-entering tag attributes = entering_by tag (flat_map attribute_text attributes)
+entering tag attributes = entering_by tag (attributes_text attributes)
 
 -- a tag around a text
 abbrev pub telling_by : Tag → List ℕ → List ℕ → List ℕ
 telling_by tag attributes text = entering_by tag attributes ++ escaped text ++ tag_end tag
 
 abbrev pub telling : Tag → List Attribute → List ℕ → List ℕ
-telling tag attributes = telling_by tag (flat_map attribute_text attributes)
+telling tag attributes = telling_by tag (attributes_text attributes)
 
 -- the tag of a mark
 abbrev pub mark_front_by : List ℕ → List ℕ
 mark_front_by attributes = codes "<g class=\"m\" role=\"img\"" ++ attributes ++ codes ">"
 
 abbrev pub mark_front : List Attribute → List ℕ
-mark_front attributes = mark_front_by (flat_map attribute_text attributes)
+mark_front attributes = mark_front_by (attributes_text attributes)
 
 -- a mark and its title, and the end of their line: the mark is still to be ended
 abbrev pub marking_by : List ℕ → List ℕ → List ℕ
 marking_by attributes title = mark_front_by attributes ++ telling tag.Title [] title ++ codes "\n"
 
 abbrev pub marking : List Attribute → List ℕ → List ℕ
-marking attributes = marking_by (flat_map attribute_text attributes)
+marking attributes = marking_by (attributes_text attributes)
 
 -- a group that is no mark and its title, and the end of their line: the group is still to be ended
 abbrev pub noting : List ℕ → List ℕ
@@ -117,7 +120,7 @@ noting title = codes "<g class=\"r\">" ++ telling tag.Title [] title ++ codes "\
 
 -- a field for input, which has no content
 abbrev pub input_field : List Attribute → List ℕ
-input_field attributes = codes "<input" ++ flat_map attribute_text attributes ++ codes ">"
+input_field attributes = codes "<input" ++ attributes_text attributes ++ codes ">"
 
 -- a group whose shapes stand so far below their places: it is still to be ended
 abbrev pub lowering : ℕ → List ℕ

@@ -1,7 +1,9 @@
 -- What is read of markup.
 use Rattle.std.specs.Prelude.{ℕ, List, [], ◌∷◌, ◌++◌, codes}
 use Rattle.markup.specs.Elements.{Stack, begun, ended, opens_in}
+use Rattle.markup.specs.Markup.{tag_name}
 use Rattle.markup.specs.Titles.{lines_in}
+use Rattle.markup.specs.declared.names.Tag.{Tag}
 
 -- what is read of markup: the lines that it tells, and the elements that are open behind it, by those that are open before it
 pub record Reading : Type 0 where
@@ -15,6 +17,10 @@ reading markup = record { lines = lines_in markup; opens = opens_in markup }
 abbrev pub joined : Reading → Reading → Reading
 joined read more = record { lines = read.lines ++ more.lines; opens = λ stack. more.opens (read.opens stack) }
 
+-- once this markup follows
+abbrev pub followed_by : List ℕ → Reading → Reading
+followed_by more read = joined read (reading more)
+
 -- once these lines more are told
 abbrev pub with_lines : List (List ℕ) → Reading → Reading
 with_lines lines read = record { lines = read.lines ++ lines; opens = read.opens }
@@ -23,12 +29,20 @@ with_lines lines read = record { lines = read.lines ++ lines; opens = read.opens
 abbrev pub with_tags : (Stack → Stack) → Reading → Reading
 with_tags change read = record { lines = read.lines; opens = λ stack. change (read.opens stack) }
 
+-- once markup has followed that tells no line
+abbrev pub with_tags_of : List ℕ → Reading → Reading
+with_tags_of more = with_tags (opens_in more)
+
 -- once an element begins, or ends
 abbrev pub with_begun : List ℕ → Reading → Reading
 with_begun name = with_tags (begun name)
 
 abbrev pub with_ended : List ℕ → Reading → Reading
 with_ended name = with_tags (ended name)
+
+-- once a tag's element begins
+abbrev pub with_entered : Tag → Reading → Reading
+with_entered tag = with_begun (tag_name tag)
 
 -- the name of a group
 abbrev pub group : List ℕ

@@ -1,7 +1,7 @@
 //! Attributes, and tags with them, as bytes.
-ghost use Rattle.std.specs.Prelude.{◌≡◌, ◌++◌, [], flat_map, IfOk, OnOk};
+ghost use Rattle.std.specs.Prelude.{◌≡◌, ◌++◌, [], IfOk, OnOk};
 ghost use Rattle.markup.specs.Escaping.{escaped};
-ghost use Rattle.markup.specs.Markup.{attribute_text, entering, input_field, lowering, marking, meant, noting, said_text, standing, tag_front, telling};
+ghost use Rattle.markup.specs.Markup.{attribute_text, attributes_text, entering, input_field, lowering, marking, meant, noting, said_text, standing, tag_front, telling};
 ghost use Rattle.std.specs.Fmt.{decimal};
 ghost use Rattle.markup.specs.declared.names.Key.TheVariants as key_variants;
 
@@ -83,7 +83,7 @@ fn push_attributes(
     bytes: &mut Vec<u8>,
     attributes: &[Attribute],
 ) -> Result<(), AllocError>
-    ensures { OnOk result (bytes.new.items ≡ bytes.old.items ++ flat_map attribute_text attributes.now) }
+    ensures { OnOk result (bytes.new.items ≡ bytes.old.items ++ attributes_text attributes.now) }
 {
     for attribute in attributes {
         push_attribute(alloc, bytes, attribute)?;

@@ -1,7 +1,7 @@
 //! Lines, boxes, paths and words, each on a line of its own.
-ghost use Rattle.std.specs.Prelude.{◌≡◌, ◌++◌, OnOk};
+ghost use Rattle.std.specs.Prelude.{◌≡◌, OnOk};
 ghost use Rattle.std.specs.Fmt.{decimal};
-ghost use Rattle.markup.specs.Figures.{Block, Label, Pill, Ring, drawn, line_from, path_from};
+ghost use Rattle.markup.specs.Figures.{AddsShape, Block, Label, Pill, Ring, line_from, path_from};
 ghost use Rattle.markup.specs.Readings.{reading};
 
 use crate::attributes::{class, number, words};
@@ -29,7 +29,7 @@ impl Markup {
     /// A line from one place to another.
     #[tactic(auto, using(crate::proofs::Runs::line_is), unfolding(crate::specs::Figures::line_from))]
     pub fn line(&mut self, style: &str, from: Point, to: Point) -> Result<(), AllocError>
-        ensures draws { OnOk result (self.new ≡ self.old ++ drawn (line_from style.now from to)) }
+        ensures draws { AddsShape result self.old (line_from style.now from to) self.new }
         ensures read { OnOk result (reading self.new ≡ reading self.old) }
     {
         let Point { x, y } = to;
@@ -40,7 +40,7 @@ impl Markup {
     /// A path from a place on, by what follows the place in its description.
     #[tactic(auto, using(crate::proofs::Runs::path_is), unfolding(crate::specs::Figures::drawn, crate::specs::Figures::path_from))]
     pub fn path(&mut self, style: &str, from: Point, rest: &str) -> Result<(), AllocError>
-        ensures draws { OnOk result (self.new ≡ self.old ++ drawn (path_from style.now from rest.now)) }
+        ensures draws { AddsShape result self.old (path_from style.now from rest.now) self.new }
         ensures read { OnOk result (reading self.new ≡ reading self.old) }
     {
         let Point { x, y } = from;
@@ -60,7 +60,7 @@ impl Markup {
         width: u32,
         height: u32,
     ) -> Result<(), AllocError>
-        ensures draws { OnOk result (self.new ≡ self.old ++ drawn (Block style.now corner width height)) }
+        ensures draws { AddsShape result self.old (Block style.now corner width height) self.new }
         ensures read { OnOk result (reading self.new ≡ reading self.old) }
     {
         self.stand(
@@ -78,7 +78,7 @@ impl Markup {
     /// A box 16 pixels high with round ends.
     #[tactic(auto, unfolding(crate::specs::Figures::drawn))]
     pub fn pill(&mut self, style: &str, corner: Point, width: u32) -> Result<(), AllocError>
-        ensures draws { OnOk result (self.new ≡ self.old ++ drawn (Pill style.now corner width)) }
+        ensures draws { AddsShape result self.old (Pill style.now corner width) self.new }
         ensures read { OnOk result (reading self.new ≡ reading self.old) }
     {
         self.stand(
@@ -97,7 +97,7 @@ impl Markup {
     /// A ring of 5 pixels round a place.
     #[tactic(auto, unfolding(crate::specs::Figures::drawn))]
     pub fn ring(&mut self, style: &str, middle: Point) -> Result<(), AllocError>
-        ensures draws { OnOk result (self.new ≡ self.old ++ drawn (Ring style.now middle)) }
+        ensures draws { AddsShape result self.old (Ring style.now middle) self.new }
         ensures read { OnOk result (reading self.new ≡ reading self.old) }
     {
         self.stand(
@@ -114,7 +114,7 @@ impl Markup {
     /// Words that begin at a place.
     #[tactic(auto, unfolding(crate::specs::Figures::drawn))]
     pub fn label(&mut self, style: &str, at: Point, text: &[u8]) -> Result<(), AllocError>
-        ensures draws { OnOk result (self.new ≡ self.old ++ drawn (Label style.now at text.now)) }
+        ensures draws { AddsShape result self.old (Label style.now at text.now) self.new }
         ensures read { OnOk result (reading self.new ≡ reading self.old) }
     {
         let attributes = [
@@ -128,7 +128,7 @@ impl Markup {
 
     /// A number that begins at a place.
     pub fn numeral(&mut self, style: &str, at: Point, numeral: u64) -> Result<(), AllocError>
-        ensures draws { OnOk result (self.new ≡ self.old ++ drawn (Label style.now at (decimal numeral))) }
+        ensures draws { AddsShape result self.old (Label style.now at (decimal numeral)) self.new }
         ensures read { OnOk result (reading self.new ≡ reading self.old) }
     {
         let digits = numeral.to_string(self.alloc())?;

@@ -1,9 +1,9 @@
 //! Markup that grows.
 ghost use Rattle.std.specs.Prelude.{◌≡◌, ◌++◌, [], true, OnOk};
-ghost use Rattle.markup.specs.Elements.{is_even, opens_in};
-ghost use Rattle.markup.specs.Figures.{Note, drawn};
+ghost use Rattle.markup.specs.Elements.{is_even};
+ghost use Rattle.markup.specs.Figures.{AddsShape, Note};
 ghost use Rattle.markup.specs.Markup.{entering, input_field, marking, standing, tag_name, telling};
-ghost use Rattle.markup.specs.Readings.{group, joined, reading, with_begun, with_mark, with_tags};
+ghost use Rattle.markup.specs.Readings.{followed_by, group, reading, with_begun, with_entered, with_mark, with_tags_of};
 ghost use Rattle.markup.specs.Titles.{is_at_rest, is_no_mark, lines_in, tags_of};
 
 use crate::attributes::{
@@ -70,7 +70,7 @@ impl Markup {
     pub fn enter(&mut self, tag: Tag, attributes: &[Attribute]) -> Result<(), AllocError>
         requires { is_no_mark (tag_name tag) ≡ true }
         ensures draws { OnOk result (self.new ≡ self.old ++ entering tag attributes.now) }
-        ensures read { OnOk result (reading self.new ≡ with_begun (tag_name tag) (reading self.old)) }
+        ensures read { OnOk result (reading self.new ≡ with_entered tag (reading self.old)) }
     {
         let bytes = entering_tag(self.alloc, tag, attributes)?;
         self.add(bytes.as_slice())
@@ -111,7 +111,7 @@ impl Markup {
     /// Begins a group that is no mark, with a title that is no line of the run.
     #[tactic(auto, unfolding(crate::specs::Figures::drawn))]
     pub fn note(&mut self, title: &[u8]) -> Result<(), AllocError>
-        ensures draws { OnOk result (self.new ≡ self.old ++ drawn (Note title.now)) }
+        ensures draws { AddsShape result self.old (Note title.now) self.new }
         ensures read { OnOk result (reading self.new ≡ with_begun group (reading self.old)) }
     {
         let bytes = noting_tags(self.alloc, title)?;
@@ -134,7 +134,7 @@ impl Markup {
         requires rests { is_at_rest (tags_of markup.now) ≡ true }
         requires lines { lines_in markup.now ≡ [] }
         ensures draws { OnOk result (self.new ≡ self.old ++ markup.now) }
-        ensures read { OnOk result (reading self.new ≡ with_tags (opens_in markup.now) (reading self.old)) }
+        ensures read { OnOk result (reading self.new ≡ with_tags_of markup.now (reading self.old)) }
     {
         self.add(markup.as_bytes())
     }
@@ -144,7 +144,7 @@ impl Markup {
     pub(crate) fn add(&mut self, bytes: &[u8]) -> Result<(), AllocError>
         requires { is_at_rest (tags_of bytes.now) ≡ true }
         ensures draws { OnOk result (self.new ≡ self.old ++ bytes.now) }
-        ensures read { OnOk result (reading self.new ≡ joined (reading self.old) (reading bytes.now)) }
+        ensures read { OnOk result (reading self.new ≡ followed_by bytes.now (reading self.old)) }
     {
         self.bytes.extend_from_slice(bytes)
     }

@@ -7,7 +7,7 @@ use Rattle.section.specs.Sections.{Section}
 use Rattle.laws.specs.Doings.{Doing}
 use Rattle.process.specs.declared.process.ActiveCursor.{ActiveCursor}
 use Rattle.process.specs.declared.process.ActiveCursor.TheVariants as work
-use Rattle.process.specs.Keeping.{Goes, is_door, kept_shown}
+use Rattle.process.specs.Keeping.{Goes, kept_shown}
 use Rattle.process.specs.Processes as kept
 use Rattle.process.specs.Processes.{Kept, kept_at, stage_kept}
 use Rattle.process.specs.Steps.{is_at_door}

@@ -4,10 +4,9 @@ use Rattle.std.specs.Prelude.{IfSome, None, Option, Some, option_map, slice_inde
 use Rattle.record.specs.reader_copies.Runs as copies
 use Rattle.record.specs.reader_copies.Runs.{Settling}
 use Rattle.record.specs.declared.access.Field.{Field}
-use Rattle.record.specs.declared.access.Field.TheVariants.{Choosing, Ticket, Commit, Stamp0, Stamp1, Image0, Image1}
+use Rattle.record.specs.declared.access.Field.TheVariants.{Ticket, Commit}
 use Rattle.record.specs.declared.access.TornBit.{TornBit}
 use Rattle.record.specs.safe_number.Runs.{NumberWrite, torn_run as torn_of_bit, torn_with}
-use Rattle.plain_store.specs.declared.Answer.{Answer}
 use Rattle.plain_store.specs.declared.Command.{Command}
 use Rattle.plain_store.specs.declared.Command.TheVariants.{Ask}
 use Rattle.plain_store.specs.declared.Reply.{Reply}
@@ -22,11 +21,8 @@ use Rattle.record.specs.Program.{image_field, stamp_field, version_of}
 use Rattle.record.specs.Registers.{width}
 use Rattle.record.specs.Scripts.{Call}
 use Rattle.record.specs.Unit.{is_commit}
-use Rattle.bakery.specs.Doors.{DoorState, is_going, standing_at}
 use Rattle.bakery.specs.Leavings.{LeavingState, leaving_of}
-use Rattle.bakery.specs.Standings.{part_of}
-use Rattle.bakery.proofs.Passage.{IsOfKind, not-over, on-the-way}
-use Rattle.section.specs.Registers.{is_data}
+use Rattle.bakery.proofs.Passage.{IsOfKind, on-the-way}
 use Rattle.section.specs.Sections.{Section, goes}
 use Rattle.section.specs.Standings as data_standings
 use Rattle.memory_unit.specs.Units.{unit_at}
@@ -38,11 +34,8 @@ use Rattle.process.specs.Processes as kept
 use Rattle.process.specs.Processes.{Kept, inside_kept, kept_at, kept_closing, kept_in}
 use Rattle.process.specs.Steps.{kept_failing}
 use Rattle.laws.specs.Steps.{IsLive}
-use Rattle.process.proofs.Clears.{IsClearing, clears_at}
 use Rattle.process.proofs.Data.{IsAtData}
-use Rattle.process.proofs.Doors.{IsAtDoor}
 use Rattle.process.proofs.Stages.{inside-kept}
-use Rattle.process.proofs.Steps.{door-written, goes-at}
 use Rattle.process.proofs.Withdraws.{IsWithdrawing}
 
 -- the torn bit of a write of this register, of which nothing is settled

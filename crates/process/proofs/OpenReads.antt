@@ -5,7 +5,7 @@ use Rattle.record.specs.declared.access.Access.{Access}
 use Rattle.plain_store.specs.declared.Command.{Command}
 use Rattle.plain_store.specs.declared.Command.TheVariants.{Ask}
 use Rattle.plain_store.specs.declared.Setup.{Setup}
-use Rattle.record.specs.Parts.{Part, Raises, Asks, TakesTicket, Lowers, Refuses, Waits, AsksCommit, AsksStamp, AsksImage, WritesImage, WritesStamp, WritesCommit, Clears, Over, is_over, is_read, read_at}
+use Rattle.record.specs.Parts.{Part, is_over, is_read, read_at}
 use Rattle.record.specs.Places.{Place, Run, Writing, Reading, place_of, value_of}
 use Rattle.record.specs.Scripts.{Call}
 use Rattle.record.proofs.Width.{IsGood}
@@ -20,7 +20,6 @@ use Rattle.laws.proofs.HeldOwners.{OwnersThere, after-there, owner-there}
 use Rattle.process.specs.declared.process.ActiveCursor.{ActiveCursor}
 use Rattle.process.specs.declared.process.ActiveCursor.TheVariants as work
 use Rattle.process.specs.Keeping.{is_at_data, kept_shown}
-use Rattle.process.specs.Processes.{kept_at, kept_in}
 use Rattle.process.specs.Steps.{is_at_door}
 use Rattle.process.proofs.Data.{IsAtData}
 use Rattle.process.proofs.Doors.{IsAtDoor}

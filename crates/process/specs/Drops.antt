@@ -6,7 +6,9 @@ use Rattle.bakery.specs.Locks.{LockRows, lock_of, row_in, locks_without_reads}
 use Rattle.section.specs.Registers.{FitsSetup, is_data, register_at, without_reads_at}
 use Rattle.laws.specs.Doings.{Doing}
 use Rattle.laws.specs.Steps.{reads_of}
+use Rattle.process.specs.Processes.{ProcessState}
 use Rattle.process.specs.Registers.{RegistersState}
+use Rattle.process.specs.Steps.{IsAt}
 
 -- the registers without the open read that p has of one of them, if it has one
 abbrev pub without_read : Option (ℕ × Field) → ℕ → RegistersState → RegistersState
@@ -27,6 +29,10 @@ CanDrop r (Some register) p = elim (is_data register.1) [
 -- those of a process that drops what it reads
 abbrev pub dropped : Setup → ℕ → Doing → RegistersState → RegistersState
 dropped s p d r = without_read (reads_of s p d) p r
+
+-- the process drops what it reads
+abbrev pub DropsRead : ProcessState → RegistersState → RegistersState → Type 0
+DropsRead now r r_then = (d : Doing) → IsAt now d → r_then ≡ dropped now.setup now.process d r
 
 -- the locks are those of a setup: each of their registers has a copy for each process
 abbrev pub AreLocksOf : Setup → List LockRows → Type 0

@@ -1,6 +1,6 @@
 -- The registers of all processes, those of the lock and those of the versions, and a process that is served by them.
 use Rattle.section.specs.flicks.Flicks.{FlickState, after_flick, flick_of}
-use Rattle.std.specs.Prelude.{ℕ, zero, suc, ◌≡◌, ◌+◌, ◌≤◌, Bool, true, false, cond, List, [], Some}
+use Rattle.std.specs.Prelude.{ℕ, zero, suc, ◌≡◌, ◌+◌, ◌≤◌, Bool, true, false, cond, List, Some}
 use Rattle.record.specs.declared.access.Access.{Access}
 use Rattle.plain_store.specs.declared.Setup.{Setup}
 use Rattle.record.specs.Doorways.{is_waiting_stage}
@@ -10,9 +10,9 @@ use Rattle.bakery.specs.Locks.{LockRows, lock_of, locks_after, new_locks, row_in
 use Rattle.section.specs.Registers as versions
 use Rattle.section.specs.Registers.{DataRow, after_access, is_data, opening_cell, row_from}
 use Rattle.laws.specs.Doings.{Doing}
-use Rattle.laws.specs.Steps.{does_then, marks_with, next_of}
-use Rattle.process.specs.Processes.{ProcessState, kept_at, stage_kept}
-use Rattle.process.specs.Steps.{IsAt, bits_to_walk, is_at_door}
+use Rattle.laws.specs.Steps.{next_of}
+use Rattle.process.specs.Processes.{ProcessState, stage_kept}
+use Rattle.process.specs.Steps.{GoesBy, HasNoMark, IsAt, bits_to_walk, is_at_door}
 
 pub record RegistersState : Type 0 where
   pub locks : List LockRows
@@ -29,6 +29,10 @@ CanMake r a = elim (is_data a.field) [ true ↦ versions.MayMake r.versions a | 
 -- the access, a read's end with what its copy answers
 abbrev pub answered : RegistersState → Bool → Access → Access
 answered r flick a = cond (is_data a.field) (versions.answered r.versions flick a) (locks.answered r.locks flick a)
+
+-- the next access of the process, as they answer it
+abbrev pub IsNextAnswered : RegistersState → Bool → ProcessState → Access → Type 0
+IsNextAnswered r flick now access = (d : Doing) (next : Access) → IsAt now d → next_of now.setup now.process d flick ≡ Some next → access ≡ answered r flick next
 
 -- the registers after one access: its register goes on by it, and all others stay
 abbrev pub made : RegistersState → Access → RegistersState
@@ -54,11 +58,11 @@ pub record MayStep (now : ProcessState) (r : RegistersState) (flick : Bool) : Ty
 -- after it exactly if it waited before, and is at the door exactly if it was
 pub record StepsWithin (r : RegistersState) (flick : Bool) (now : ProcessState) (r_then : RegistersState) (then : ProcessState) : Type 0 where
   pub access : Access
-  pub is_next : (d : Doing) (next : Access) → IsAt now d → next_of now.setup now.process d flick ≡ Some next → access ≡ answered r flick next
-  pub then_is : (d : Doing) → IsAt now d → then ≡ record now { kept = kept_at now.setup now.process (does_then now.setup now.process d flick (value_of access.how)) }
+  pub is_next : IsNextAnswered r flick now access
+  pub then_is : GoesBy now flick (value_of access.how) then
   pub stays : is_waiting_stage (stage_kept then.kept) ≡ is_waiting_stage (stage_kept now.kept)
   pub at_door : is_at_door then.kept ≡ is_at_door now.kept
-  pub marks : (d : Doing) → IsAt now d → marks_with now.setup now.process d flick (value_of access.how) ≡ []
+  pub marks : HasNoMark now flick (value_of access.how)
   pub fewer : bits_to_walk now.kept ≤ bits_to_walk then.kept + 1
   pub registers : r_then ≡ made r access
 

@@ -1,14 +1,10 @@
-ghost use Rattle.std.specs.Prelude.{◌≡◌, ◌<◌, Bool, [], IfOk, IfSome, Ok};
+ghost use Rattle.std.specs.Prelude.{◌≡◌, ◌<◌, [], IfOk, Ok};
 ghost use Rattle.plain_store.specs.Setups.{checked};
 ghost use Rattle.record.specs.Doorways.{is_waiting_stage};
-ghost use Rattle.record.specs.Parts.{Raises};
-ghost use Rattle.record.specs.Places.{enter};
-ghost use Rattle.laws.specs.Doings.{Doing, Runs, call};
-ghost use Rattle.laws.specs.Steps.{reads_of};
 ghost use Rattle.process.specs.Keeping.{is_at_data};
-ghost use Rattle.process.specs.Processes.{inside_kept, kept_at, process_after, stage_kept};
+ghost use Rattle.process.specs.Processes.{inside_kept, process_after, stage_kept};
 ghost use Rattle.process.specs.Processes as kept;
-ghost use Rattle.process.specs.Steps.{IsAt, changes_pending, is_at_door, may_step};
+ghost use Rattle.process.specs.Steps.{IsPending, IsRead, ReadsWithin, called, is_at_door, may_step};
 
 mod advance;
 mod cut;
@@ -181,8 +177,8 @@ impl Process {
     /// The register that it reads, and whose it is; none, if it reads none. Where the process gives up waiting or
     /// fails, its read of that register is dropped by whoever keeps the memory.
     pub fn reads(&self) -> Option<(u8, Field)>
-        ensures register { (d : Doing) → IsAt self.now d → result ≡ reads_of self.now.setup self.now.process d }
-        ensures there { (d : Doing) → IsAt self.now d → IfSome result (λ register. register.0 < self.now.setup.processes) }
+        ensures register { IsRead self.now result }
+        ensures there { ReadsWithin self.now result }
     {
         match &self.work {
             ActiveCursor::AtDoor { .. } => self.door.reads(),
@@ -194,7 +190,7 @@ impl Process {
     /// While it writes a change of the store, the greatest stamp that it has read: how many changes were taken before
     /// that one.
     pub fn changes_pending(&self) -> Option<u32>
-        ensures { (d : Doing) → IsAt self.now d → result ≡ changes_pending self.now.setup self.now.process d }
+        ensures { IsPending self.now result }
     {
         match &self.work {
             ActiveCursor::AtData => match self.section.pending() {
@@ -207,7 +203,7 @@ impl Process {
 
     /// A call begins.
     pub fn call(&mut self, command: Command, number: u16)
-        ensures { self.new ≡ record self.old { kept = kept_at self.old.setup self.old.process (Runs command number (enter (call self.old.setup self.old.process command number) Raises)); command = command; number = number } }
+        ensures { self.new ≡ called self.old command number }
     {
         self.door.start();
         self.work = ActiveCursor::AtDoor { waits: false };

@@ -4,7 +4,11 @@ use Rattle.reader_copies.specs.safe_bit.Cell.{Cell}
 use Rattle.reader_copies.specs.Row.{IsRow}
 use Rattle.reader_copies.specs.Written.{IsWritten}
 use Rattle.safe_number.specs.Runs.{NumberRead}
-use Rattle.safe_number.specs.Written.{IsReading, IsUndisturbed}
+use Rattle.safe_number.specs.Written.{IsReading, IsUndisturbed, first_bits}
+
+-- these are the first bits of what is written
+abbrev pub AreWritten : List (List Cell) → ℕ → List Bool → Type 0
+AreWritten row width bits = (v : ℕ → Bool) → IsWritten row v → bits ≡ first_bits v width
 
 -- it has come so far and goes on, and what was written when it began still is
 pub record ReadsAlong (start row : List (List Cell)) (reader width : ℕ) (r : NumberRead) : Type 0 where

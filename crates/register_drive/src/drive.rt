@@ -3,8 +3,8 @@ ghost use Rattle.std.specs.Prelude.{◌≡◌, ℕ, Bool, ◌<◌, ◌≤◌, �
 ghost use Rattle.reader_copies.specs.Row.{IsRow};
 ghost use Rattle.reader_copies.specs.Written.{IsWritten};
 ghost use Rattle.safe_number.specs.Bytes.{bit_in};
-ghost use Rattle.safe_number.specs.Written.{first_bits};
 ghost use Rattle.register_drive.specs.Idle.{IsIdle};
+ghost use Rattle.register_drive.specs.Reads.{AreWritten};
 
 use reader_copies::Progress;
 use safe_number::{ReadRun, Register, WriteRun};
@@ -44,7 +44,7 @@ pub fn read_all(register: &mut Register, width: u16, reader: u8, run: &mut ReadR
     ensures readers { length register.new ≡ length register.old }
     ensures room { run.new.room ≡ run.old.room }
     ensures written { (v : ℕ → Bool) → IsWritten register.old v → IsWritten register.new v }
-    ensures bits { OnSome result ((v : ℕ → Bool) → IsWritten register.old v → run.new.bits ≡ first_bits v width) }
+    ensures bits { OnSome result (AreWritten register.old width run.new.bits) }
     ensures idle { OnSome result (IsIdle register.new reader) }
 {
     run.reset(width);

@@ -2,9 +2,10 @@
 ghost use Rattle.std.specs.Prelude.{◌≡◌, ℕ, Bool, ◌<◌, ◌≤◌, ◌*◌, length, OnSome};
 ghost use Rattle.reader_copies.specs.Row.{IsRow};
 ghost use Rattle.reader_copies.specs.Runs.{settled_at};
-ghost use Rattle.reader_copies.specs.Written.{IsWritten, with_value};
+ghost use Rattle.reader_copies.specs.Written.{IsWritten};
 ghost use Rattle.safe_number.specs.Written.{IsWriting, IsSettling};
 ghost use Rattle.register_drive.specs.Idle.{IsIdle};
+ghost use Rattle.register_drive.specs.Writes.{SettlesAt, WritesOn};
 
 use reader_copies::{Progress, Torn};
 use safe_number::{Register, WriteRun};
@@ -17,7 +18,7 @@ pub fn write_some(register: &mut Register, run: &mut WriteRun, value: &[u8], ste
     requires idle { IsIdle register.old reader }
     ensures readers { length register.new ≡ length register.old }
     ensures width { run.new.width ≡ run.old.width }
-    ensures writing { (old : ℕ → Bool) → IsWriting register.old old value.now run.old → IsWriting register.new old value.now run.new }
+    ensures writing { WritesOn register.old run.old value.now register.new run.new }
     ensures idle { IsIdle register.new reader }
 {
     for _ in 0..steps {
@@ -45,7 +46,7 @@ pub fn settle_all(
     requires idle { IsIdle register.old reader }
     ensures shape { IsRow register.new width }
     ensures readers { length register.new ≡ length register.old }
-    ensures written { OnSome result ((others : ℕ → Bool) → IsSettling register.old others bit torn → IsWritten register.new (with_value others bit value)) }
+    ensures written { OnSome result (SettlesAt register.old bit torn value register.new) }
     ensures idle { IsIdle register.new reader }
 {
     let mut torn = torn;

@@ -1,25 +1,30 @@
 -- A world without its history: what it keeps, and what it shows with a history.
-use Rattle.std.specs.Prelude.{ℕ, ◌<◌, ◌≤◌, Bool, List, Option, None, Some, length, slice_get}
+use Rattle.std.specs.Prelude.{◌≡◌, ℕ, ◌+◌, ◌<◌, ◌≤◌, Bool, true, false, List, Option, None, Some, length, slice_get}
+use Rattle.std.specs.Global.{Vec}
+use Rattle.std.specs.Vec.{vec_capacity, vec_len}
 use Rattle.plain_store.specs.declared.Command.{Command}
 use Rattle.plain_store.specs.declared.Command.TheVariants.{Ask}
+use Rattle.plain_store.specs.declared.Reply.{Reply}
 use Rattle.plain_store.specs.declared.Setup.{Setup}
+use Rattle.record.specs.declared.access.Access.{Access}
 use Rattle.record.specs.declared.events.Event.{Event}
 use Rattle.record.specs.declared.events.Event.TheVariants.{Step}
 use Rattle.record.specs.declared.history.Taken.{Taken}
 use Rattle.record.specs.declared.refusals.Refusal.{Refusal}
+use Rattle.record.specs.Entries.{Past}
 use Rattle.record.specs.Histories.{reply_taken}
-use Rattle.record.specs.Records.{process_of}
+use Rattle.record.specs.Records.{is_call, process_of}
 use Rattle.process.specs.declared.told.Effect.{Effect}
 use Rattle.process.specs.declared.told.Effect.TheVariants.{Steps}
 use Rattle.process.specs.declared.told.StepTold.{StepTold}
 use Rattle.process.specs.Registers.{RegistersState}
 use Rattle.process.specs.Telling.{marks_of}
 use Rattle.world.specs.Changes.{pending_in, with_taken}
-use Rattle.world.specs.Events.{GoesOn, IsRefused}
+use Rattle.world.specs.Events.{AddsEvent, GoesOn, InEachPast, IsRefused, IsTurnedAway, UnlessRefused}
 use Rattle.flicks.specs.Flicks.{FlickState}
 use Rattle.world.specs.Seats.{Seat}
 use Rattle.world.specs.Shows.{Shows, WorldState}
-use Rattle.world.specs.Walks.{StepsQuietly, Walks}
+use Rattle.world.specs.Walks.{AddsQuietly, StepsQuietly, Walks}
 
 -- the registers, and what is kept of each process: of fixed size
 pub record CoreState : Type 0 where
@@ -37,9 +42,22 @@ pub record KeepsCore (c : CoreState) : Type 0 where
   pub events : List Event
   pub shows : Shows (with_history c taken) events
 
+-- so it is in the past of each record that it shows with any history
+abbrev pub InEachCorePast : CoreState → (Setup → Past → Type 0) → Type 0
+InEachCorePast c P = (taken : List Taken) → InEachPast (with_history c taken) P
+
 -- with each history: why an event is refused, and that the world then shows it
 abbrev pub CoreRefuses : CoreState → Event → Option Refusal → Type 0
 CoreRefuses c event refusal = (taken : List Taken) → IsRefused (with_history c taken) event refusal
+
+abbrev pub CoreRefusesStep : CoreState → ℕ → Bool → Refusal → Type 0
+CoreRefusesStep c p flick refusal = CoreRefuses c (Step p flick) (Some refusal)
+
+abbrev pub CoreTurnsAway : CoreState → Event → Refusal → Type 0
+CoreTurnsAway c event refusal = (taken : List Taken) → IsTurnedAway (with_history c taken) event refusal
+
+abbrev pub UnlessCoreRefuses : CoreState → Event → Type 0 → Type 0
+UnlessCoreRefuses c event P = (taken : List Taken) → UnlessRefused (with_history c taken) event P
 
 abbrev pub CoreGoesOn : CoreState → Event → CoreState → Type 0
 CoreGoesOn old event new = (taken : List Taken) → GoesOn (with_history old taken) event (with_history new taken)
@@ -48,10 +66,28 @@ CoreGoesOn old event new = (taken : List Taken) → GoesOn (with_history old tak
 abbrev pub call_in : List Seat → ℕ → Command × ℕ
 call_in seats p = elim (slice_get seats p) as (λ _. Command × ℕ) [ None ↦ (Ask, 0) | Some seat ↦ (seat.process.command, seat.process.number) ]
 
+-- what a process takes, where its command is taken and this is the reply
+abbrev pub taken_by : List Seat → ℕ → Reply → Taken
+taken_by seats p reply = record { process = p; command = (call_in seats p).0; reply = reply; number = (call_in seats p).1 }
+
+-- the history with what a process takes, if it takes a command
+abbrev pub history_with : List Taken → CoreState → ℕ → Option Reply → List Taken
+history_with taken c p reply = with_taken taken p (call_in c.seats p).0 (call_in c.seats p).1 reply
+
+-- with each history: the entry that an event adds, that of a step, and that of one without a mark
+abbrev pub CoreAdds : CoreState → Event → Effect → Option Access → Type 0
+CoreAdds c event effect access = (taken : List Taken) → AddsEvent (with_history c taken) event effect access
+
+abbrev pub CoreAddsStep : CoreState → ℕ → Bool → StepTold → Access → Type 0
+CoreAddsStep c p flick told access = CoreAdds c (Step p flick) (Steps told) (Some access)
+
+abbrev pub CoreAddsQuietly : CoreState → ℕ → Bool → Access → Type 0
+CoreAddsQuietly c p flick access = (taken : List Taken) → AddsQuietly (with_history c taken) p flick access
+
 -- an event of a process that there is: the world goes on, with the command in its history that the event takes
 pub record CoreMakes (old : CoreState) (event : Event) (effect : Effect) (new : CoreState) : Type 0 where
   pub there : process_of event < length new.seats
-  pub goes : (taken : List Taken) → GoesOn (with_history old taken) event (with_history new (with_taken taken (process_of event) (call_in new.seats (process_of event)).0 (call_in new.seats (process_of event)).1 (reply_taken (marks_of effect))))
+  pub goes : (taken : List Taken) → GoesOn (with_history old taken) event (with_history new (history_with taken new (process_of event) (reply_taken (marks_of effect))))
 
 -- a step
 abbrev pub CoreSteps : CoreState → ℕ → Bool → StepTold → CoreState → Type 0
@@ -60,6 +96,26 @@ CoreSteps old p flick told new = CoreMakes old (Step p flick) (Steps told) new
 -- 1 if an event takes a command
 abbrev pub taking : Effect → ℕ
 taking effect = elim (reply_taken (marks_of effect)) as (λ _. ℕ) [ None ↦ 0 | Some r ↦ 1 ]
+
+-- the calls that are pending, with the one that is taken
+abbrev pub pending_with : Effect → CoreState → ℕ
+pending_with effect c = pending_in c.seats + taking effect
+
+-- they were pending before
+abbrev pub PendedBefore : CoreState → Effect → CoreState → Type 0
+PendedBefore old effect new = pending_with effect new ≤ pending_in old.seats
+
+-- unless the event is a call
+abbrev pub PendedUnlessCall : Event → CoreState → Effect → CoreState → Type 0
+PendedUnlessCall event old effect new = is_call event ≡ false → PendedBefore old effect new
+
+-- before a call the history gets room for each call that may be taken
+abbrev pub MakesRoomForCall : Event → CoreState → Vec Taken → Vec Taken → Type 0
+MakesRoomForCall event c old new = is_call event ≡ true → length old.items + length c.seats ≤ vec_capacity new
+
+-- there is room in the history for what is taken, if something is
+abbrev pub HasRoomToTake : Option Reply → Vec Taken → Type 0
+HasRoomToTake reply history = (r : Reply) → reply ≡ Some r → vec_len history < vec_capacity history
 
 -- a step by this flick that has no mark, with each history; no more calls are pending
 pub record CoreStepsQuietly (old : CoreState) (p : ℕ) (flick : Bool) (new : CoreState) : Type 0 where

@@ -1,12 +1,18 @@
 -- What an accepted event makes of a world, in every record that it shows.
-use Rattle.std.specs.Prelude.{◌≡◌, ◌⊎◌, ℕ, ◌+◌, ◌≤◌, true, cond, nat_lt, List, ◌∷◌, length, Option, None, Some}
+use Rattle.std.specs.Prelude.{◌≡◌, ◌⊎◌, ℕ, ◌+◌, ◌≤◌, Bool, true, cond, nat_lt, List, ◌∷◌, length, Option, None, Some}
 use Rattle.record.specs.declared.events.Event.{Event}
+use Rattle.record.specs.declared.events.Event.TheVariants.{Step}
 use Rattle.record.specs.declared.refusals.Refusal.{Refusal}
 use Rattle.record.specs.declared.refusals.Refusal.TheVariants.{Memory}
+use Rattle.record.specs.declared.access.Access.{Access}
 use Rattle.record.specs.Acts.{Act}
 use Rattle.record.specs.Entries.{Entry, Past}
 use Rattle.record.specs.Headline.{KeepsHeadline}
-use Rattle.record.specs.Records.{entry_of, is_call, past_of, refused}
+use Rattle.record.specs.Records.{entry_of, is_call, past_of, process_of, refused}
+use Rattle.process.specs.declared.told.Effect.{Effect}
+use Rattle.process.specs.declared.told.Effect.TheVariants.{Steps}
+use Rattle.process.specs.declared.told.StepTold.{StepTold}
+use Rattle.process.specs.Telling.{act_of}
 use Rattle.plain_store.specs.declared.Setup.{Setup}
 use Rattle.record.specs.declared.stages.Stage.{Stage}
 use Rattle.record.specs.Stages.{stage}
@@ -17,9 +23,17 @@ use Rattle.world.specs.Shows.{Shows, WorldState}
 abbrev pub entry_with : ℕ → Act → Entry
 entry_with p act = record { process = p; access = act.access; marks = act.marks }
 
+-- so it is in the past of each record that a world shows
+abbrev pub InEachPast : WorldState → (Setup → Past → Type 0) → Type 0
+InEachPast w P = (events : List Event) → Shows w events → P w.setup (past_of w.setup events)
+
 -- why an event is refused, in every record that a world shows
 abbrev pub IsRefused : WorldState → Event → Option Refusal → Type 0
 IsRefused w event refusal = (events : List Event) → Shows w events → refused w.setup (past_of w.setup events) event ≡ refusal
+
+-- an event that is not refused comes to this
+abbrev pub UnlessRefused : WorldState → Event → Type 0 → Type 0
+UnlessRefused w event P = (events : List Event) → Shows w events → refused w.setup (past_of w.setup events) event ≡ None → P
 
 -- the act is that of the entry that the event adds
 abbrev pub Adds : WorldState → Event → ℕ → Act → Type 0
@@ -28,6 +42,24 @@ Adds w event p act = (events : List Event) → Shows w events → entry_of w.set
 -- the headline holds of the entry with this act, and of each record that the world shows before it
 abbrev pub KeepsTheHeadline : WorldState → ℕ → Act → Type 0
 KeepsTheHeadline w p act = (events : List Event) → Shows w events → KeepsHeadline w.setup (past_of w.setup events) (entry_with p act)
+
+-- the act of an event with this access, and with what it leads to; a command that it takes is the next of the history
+abbrev pub act_next : WorldState → Option Access → Effect → Act
+act_next w access effect = act_of (length w.history) (record { access = access; effect = effect })
+
+-- an event adds the entry with that act, and the headline holds of it
+abbrev pub AddsEvent : WorldState → Event → Effect → Option Access → Type 0
+AddsEvent w event effect access = Adds w event (process_of event) (act_next w access effect)
+
+abbrev pub EventKeepsHeadline : WorldState → Event → Effect → Option Access → Type 0
+EventKeepsHeadline w event effect access = KeepsTheHeadline w (process_of event) (act_next w access effect)
+
+-- the same of a step
+abbrev pub AddsStep : WorldState → ℕ → Bool → StepTold → Access → Type 0
+AddsStep w p flick told access = AddsEvent w (Step p flick) (Steps told) (Some access)
+
+abbrev pub StepKeepsHeadline : WorldState → ℕ → StepTold → Access → Type 0
+StepKeepsHeadline w p told access = KeepsTheHeadline w p (act_next w (Some access) (Steps told))
 
 -- the world then shows the event too
 abbrev pub GoesOn : WorldState → Event → WorldState → Type 0

@@ -1,22 +1,19 @@
 //! N processes over one set of registers, without a history.
-ghost use Rattle.std.specs.Prelude.{◌≡◌, ◌+◌, ◌<◌, ◌≤◌, Bool, false, true, List, length, None, Some, IfOk, IfErr, IfSome, IsOk, OnErr, OnOk, Ok, [], option_map};
+ghost use Rattle.std.specs.Prelude.{◌≡◌, ◌+◌, ◌<◌, ◌≤◌, Bool, false, true, length, None, Some, IfOk, IfErr, IfSome, IsOk, OnErr, OnOk, Ok, [], option_map};
 ghost use Rattle.plain_store.specs.Setups.{checked};
 ghost use Rattle.plain_store.specs.Commands.{is_command};
 ghost use Rattle.record.specs.store_image.Image.{image_of};
-ghost use Rattle.record.specs.declared.Event.{Event as Happening};
 ghost use Rattle.record.specs.declared.Event.TheVariants.{Call, Step, Fail, Withdraw, Restart};
-ghost use Rattle.record.specs.declared.history.Taken.{Taken as Seen};
 ghost use Rattle.record.specs.Doorways.{ahead};
 ghost use Rattle.record.specs.Newest.{newest};
-ghost use Rattle.record.specs.Records.{is_call, past_of, process_of, refused};
+ghost use Rattle.record.specs.Records.{refused};
 ghost use Rattle.process.specs.declared.told.Effect.TheVariants.{Steps};
-ghost use Rattle.process.specs.Telling.{act_of};
 ghost use Rattle.world.specs.Changes.{pending_in};
-ghost use Rattle.world.specs.Cores.{CoreGoesOn, CoreMakes, CoreRefuses, CoreSteps, CoreStepsQuietly, CoreWalks, call_in, taking, with_history};
+ghost use Rattle.world.specs.Cores.{CoreAdds, CoreAddsQuietly, CoreAddsStep, CoreGoesOn, CoreMakes, CoreRefuses, CoreRefusesStep, CoreSteps, CoreStepsQuietly, CoreWalks, InEachCorePast, PendedBefore, PendedUnlessCall, UnlessCoreRefuses, pending_with, taken_by, with_history};
 ghost use Rattle.process.specs.Refusals.{WantsNoMemory};
-ghost use Rattle.world.specs.Events.{Adds, stage_in};
+ghost use Rattle.world.specs.Events.{stage_in};
 ghost use Rattle.world.specs.Shows.{Shows};
-ghost use Rattle.world.specs.Walks.{KeepOthers, bits_within_at};
+ghost use Rattle.world.specs.Walks.{HasOneFewerAtMost, KeepOthers, bits_within_at};
 
 mod copies;
 mod told;
@@ -81,7 +78,7 @@ impl Core {
 
     /// Where a process stands; none, if there is no such process.
     pub fn stage(&self, process: u8) -> Option<Stage>
-        ensures { (taken : List Seen) (events : List Happening) → Shows (with_history self.now taken) events → result ≡ stage_in self.now.setup (past_of self.now.setup events) process }
+        ensures { InEachCorePast self.now (λ s past. result ≡ stage_in s past process) }
     {
         let at = usize::from(process);
         if self.seats.len() <= at {
@@ -93,7 +90,7 @@ impl Core {
     /// The processes that wait and whose doorways ended before that of this process began, ascending; none,
     /// unless it is in its doorway or waiting.
     pub fn ahead(&self, alloc: Global, process: u8) -> SmallVec<u8, 16>
-        ensures { (taken : List Seen) (events : List Happening) → Shows (with_history self.now taken) events → result.items ≡ ahead self.now.setup process (past_of self.now.setup events) }
+        ensures { InEachCorePast self.now (λ s past. result.items ≡ ahead s process past) }
     {
         let at = usize::from(process);
         if self.seats.len() <= at {
@@ -109,7 +106,7 @@ impl Core {
 
     /// The store after the history, off the registers; none while somebody is inside.
     pub fn newest(&self) -> Option<Image>
-        ensures { (taken : List Seen) (events : List Happening) → Shows (with_history self.now taken) events → option_map image_of result ≡ newest self.now.setup (past_of self.now.setup events) }
+        ensures { InEachCorePast self.now (λ s past. option_map image_of result ≡ newest s past) }
     {
         if is_occupied(&self.seats) {
             return None;
@@ -120,7 +117,7 @@ impl Core {
     /// What a process takes, where its command is taken and this is the reply.
     pub fn taken(&self, process: u8, reply: Reply) -> Taken
         requires { process < length self.now.seats }
-        ensures { result ≡ record { process = process; command = (call_in self.now.seats process).0; reply = reply; number = (call_in self.now.seats process).1 } }
+        ensures { result ≡ taken_by self.now.seats process reply }
     {
         let _nested: NestedTypes = None;
         let caller = self.seats[usize::from(process)].process();
@@ -148,10 +145,10 @@ impl Core {
     /// if it takes one, is that of the process's last call. An event that is refused leaves `effect` as it is. None is
     /// refused for want of memory: whoever keeps a history sees to its room before a call.
     pub fn event(&mut self, event: &Event, effect: &mut Effect) -> Result<Option<Access>, Refusal>
-        ensures accepted { IfOk result (λ access. (taken : List Seen) → Adds (with_history self.old taken) event.now (process_of event.now) (act_of (length taken) (record { access = access; effect = effect.new }))) }
+        ensures accepted { IfOk result (CoreAdds self.old event.now effect.new) }
         ensures shows { OnOk result (CoreMakes self.old event.now effect.new self.new) }
-        ensures pending { OnOk result (is_call event.now ≡ false → pending_in self.new.seats + taking effect.new ≤ pending_in self.old.seats) }
-        ensures few { OnOk result (pending_in self.new.seats + taking effect.new ≤ length self.old.seats) }
+        ensures pending { OnOk result (PendedUnlessCall event.now self.old effect.new self.new) }
+        ensures few { OnOk result (pending_with effect.new self.new ≤ length self.old.seats) }
         ensures refused { IfErr result (λ refusal. CoreRefuses self.old event.now (Some refusal)) }
         ensures never { IfErr result WantsNoMemory }
         ensures unchanged { OnErr result (self.new ≡ self.old) }
@@ -197,15 +194,15 @@ impl Core {
     /// takes, if it takes one, is that of the process's last call. A step that is refused leaves `told` as it is.
     #[inline]
     pub fn step(&mut self, process: u8, flick: bool, told: &mut StepTold) -> Result<Access, Refusal>
-        ensures accepted { IfOk result (λ access. (taken : List Seen) → Adds (with_history self.old taken) (Step process flick) process (act_of (length taken) (record { access = Some access; effect = Steps told.new }))) }
+        ensures accepted { IfOk result (CoreAddsStep self.old process flick told.new) }
         ensures shows { OnOk result (CoreSteps self.old process flick told.new self.new) }
-        ensures pending { OnOk result (pending_in self.new.seats + taking (Steps told.new) ≤ pending_in self.old.seats) }
-        ensures refused { IfErr result (λ refusal. CoreRefuses self.old (Step process flick) (Some refusal)) }
+        ensures pending { OnOk result (PendedBefore self.old (Steps told.new) self.new) }
+        ensures refused { IfErr result (CoreRefusesStep self.old process flick) }
         ensures never { IfErr result WantsNoMemory }
         ensures unchanged { OnErr result (self.new ≡ self.old) }
         ensures untold { OnErr result (told.new ≡ told.old) }
         ensures setup { OnOk result (self.new.setup ≡ self.old.setup) }
-        ensures through { (taken : List Seen) (events : List Happening) → Shows (with_history self.old taken) events → refused self.old.setup (past_of self.old.setup events) (Step process flick) ≡ None → IsOk result }
+        ensures through { UnlessCoreRefuses self.old (Step process flick) (IsOk result) }
         ensures others { KeepOthers self.old.seats process self.new.seats }
     {
         if 0 < self.bits_within(process) {
@@ -240,9 +237,9 @@ impl Core {
     #[inline]
     fn make_step(&mut self, process: u8, flick: bool, told: &mut StepTold) -> Access
         requires { CoreRefuses self.old (Step process flick) None }
-        ensures accepted { (taken : List Seen) → Adds (with_history self.old taken) (Step process flick) process (act_of (length taken) (record { access = Some result; effect = Steps told.new })) }
+        ensures accepted { CoreAddsStep self.old process flick told.new result }
         ensures shows { CoreSteps self.old process flick told.new self.new }
-        ensures pending { pending_in self.new.seats + taking (Steps told.new) ≤ pending_in self.old.seats }
+        ensures pending { PendedBefore self.old (Steps told.new) self.new }
         ensures setup { self.new.setup ≡ self.old.setup }
         ensures others { KeepOthers self.old.seats process self.new.seats }
     {
@@ -296,9 +293,9 @@ impl Core {
     pub fn make_step_told(&mut self, process: u8, flick: bool, pace: Pace) -> Access
         requires { 0 < bits_within_at self.old.seats process }
         ensures quietly { CoreStepsQuietly self.old process flick self.new }
-        ensures accepted { (taken : List Seen) → Adds (with_history self.old taken) (Step process flick) process (record { access = Some result; marks = [] }) }
+        ensures accepted { CoreAddsQuietly self.old process flick result }
         ensures there { process < length self.new.seats }
-        ensures fewer { bits_within_at self.old.seats process ≤ bits_within_at self.new.seats process + 1 }
+        ensures fewer { HasOneFewerAtMost self.old.seats process self.new.seats }
         ensures others { KeepOthers self.old.seats process self.new.seats }
     {
         let at = usize::from(process);

@@ -1,19 +1,17 @@
 //! What a world keeps of one process.
-ghost use Rattle.std.specs.Prelude.{◌≡◌, ◌<◌, ◌≤◌, ◌||◌, Bool, true, false, [], IfOk, Ok, Some};
+ghost use Rattle.std.specs.Prelude.{◌≡◌, ◌<◌, ◌≤◌, ◌||◌, true, false, [], IfOk, Ok};
 ghost use Rattle.plain_store.specs.Setups.{checked};
-ghost use Rattle.record.specs.Parts.{Raises};
-ghost use Rattle.record.specs.Places.{enter, value_of};
+ghost use Rattle.record.specs.Places.{value_of};
 ghost use Rattle.record.specs.declared.Stage.TheVariants.{Waiting};
-ghost use Rattle.laws.specs.Doings.{Doing, Runs, call};
-ghost use Rattle.laws.specs.Steps.{does_then, marks_with, next_of};
-ghost use Rattle.process.specs.Drops.{AreOf, dropped};
-ghost use Rattle.process.specs.Processes.{kept_at, stage_kept};
+ghost use Rattle.laws.specs.Doings.{Doing, call};
+ghost use Rattle.process.specs.Drops.{AreOf, DropsRead};
+ghost use Rattle.process.specs.Processes.{stage_kept};
 ghost use Rattle.process.specs.Processes as kept;
-ghost use Rattle.process.specs.Registers.{MayStep, MayRun, StepsWithin, RunsWithin, answered, made};
-ghost use Rattle.process.specs.Steps.{IsAt, bits_to_walk, is_at_door, kept_failing, kept_withdrawing, may_fail, may_step};
-ghost use Rattle.process.specs.Telling.{marks_told};
+ghost use Rattle.process.specs.Registers.{IsNextAnswered, MayStep, MayRun, StepsWithin, RunsWithin, made};
+ghost use Rattle.process.specs.Steps.{IsAt, bits_to_walk, may_fail, may_step, withdrawn};
+ghost use Rattle.process.specs.Telling.{TellsMarks};
 ghost use Rattle.world.specs.Changes.{told};
-ghost use Rattle.world.specs.Seats.{seat_of, with_kept};
+ghost use Rattle.world.specs.Seats.{SeatGoesBy, SeatHasFailed, seat_called, seat_of, seat_with, with_kept};
 
 use flicks::Flicks;
 use plain_store::{Command, Setup};
@@ -70,7 +68,7 @@ impl Seat {
 
     /// A call begins, before which these processes wait.
     pub fn call(&mut self, command: Command, number: u16, before: [bool; 16])
-        ensures { self.new ≡ record { process = record self.old.process { kept = kept_at self.old.process.setup self.old.process.process (Runs command number (enter (call self.old.process.setup self.old.process.process command number) Raises)); command = command; number = number }; begun = false; before = before } }
+        ensures { self.new ≡ seat_called self.old command number before }
     {
         self.process.call(command, number);
         self.begun = false;
@@ -99,8 +97,8 @@ impl Seat {
         requires waiting { stage_kept self.old.process.kept ≡ Waiting }
         requires at { (d : Doing) × IsAt self.old.process d }
         requires registers { AreOf self.old.process.setup registers.old }
-        ensures seat { self.new ≡ with_kept (kept_withdrawing self.old.process.setup self.old.process.process) self.old }
-        ensures registers { (d : Doing) → IsAt self.old.process d → registers.new ≡ dropped self.old.process.setup self.old.process.process d registers.old }
+        ensures seat { self.new ≡ record self.old { process = withdrawn self.old.process } }
+        ensures registers { DropsRead self.old.process registers.old registers.new }
     {
         self.process.withdraw(registers);
     }
@@ -110,8 +108,8 @@ impl Seat {
         requires may { may_fail self.old.process.kept ≡ true }
         requires at { (d : Doing) × IsAt self.old.process d }
         requires registers { AreOf self.old.process.setup registers.old }
-        ensures seat { (d : Doing) → IsAt self.old.process d → self.new ≡ with_kept (kept_failing self.old.process.setup self.old.process.process d) self.old }
-        ensures registers { (d : Doing) → IsAt self.old.process d → registers.new ≡ dropped self.old.process.setup self.old.process.process d registers.old }
+        ensures seat { SeatHasFailed self.old self.new }
+        ensures registers { DropsRead self.old.process registers.old registers.new }
     {
         self.process.fail(registers);
     }
@@ -121,9 +119,9 @@ impl Seat {
     pub fn step(&mut self, registers: &mut Registers, flick: bool, leads: &mut StepTold) -> Access
         requires goes { may_step self.old.process.kept ≡ true }
         requires may { MayStep self.old.process registers.old flick }
-        ensures access { (d : Doing) (next : Access) → IsAt self.old.process d → next_of self.old.process.setup self.old.process.process d flick ≡ Some next → result ≡ answered registers.old flick next }
-        ensures seat { (d : Doing) → IsAt self.old.process d → self.new ≡ record (with_kept (kept_at self.old.process.setup self.old.process.process (does_then self.old.process.setup self.old.process.process d flick (value_of result.how))) self.old) { begun = self.old.begun || is_at_door self.old.process.kept } }
-        ensures marks { (d : Doing) → IsAt self.old.process d → marks_told leads.new ≡ marks_with self.old.process.setup self.old.process.process d flick (value_of result.how) }
+        ensures access { IsNextAnswered registers.old flick self.old.process result }
+        ensures seat { SeatGoesBy self.old flick (value_of result.how) self.new }
+        ensures marks { TellsMarks self.old.process flick (value_of result.how) leads.new }
         ensures registers { registers.new ≡ made registers.old result }
     {
         self.begun = self.begun || self.process.is_at_door();
@@ -135,8 +133,9 @@ impl Seat {
     pub fn step_within(&mut self, registers: &mut Registers, flick: bool, pace: Pace)
         requires within { 0 < bits_to_walk self.old.process.kept }
         requires may { MayStep self.old.process registers.old flick }
-        ensures seat { self.new ≡ record self.old { process = self.new.process; begun = self.old.begun || is_at_door self.old.process.kept } }
-        ensures within { StepsWithin registers.old flick self.old.process registers.new self.new.process }
+        ensures seat { self.new ≡ seat_with self.new.process self.old }
+        ensures within { StepsWithin registers.old flick self.old.process
+            registers.new self.new.process }
     {
         if self.process.is_at_door() {
             self.begun = true;
@@ -150,8 +149,9 @@ impl Seat {
         requires some { 0 < steps }
         requires within { steps ≤ bits_to_walk self.old.process.kept }
         requires may { MayRun self.old.process registers.old flicks.old steps }
-        ensures seat { self.new ≡ record self.old { process = self.new.process; begun = self.old.begun || is_at_door self.old.process.kept } }
-        ensures within { RunsWithin registers.old flicks.old self.old.process steps registers.new flicks.new self.new.process }
+        ensures seat { self.new ≡ seat_with self.new.process self.old }
+        ensures within { RunsWithin registers.old flicks.old self.old.process steps
+            registers.new flicks.new self.new.process }
     {
         if self.process.is_at_door() {
             self.begun = true;

@@ -1,26 +1,19 @@
-ghost use Rattle.std.specs.Prelude.{◌≡◌, ◌↔◌, Bool, ◌==◌, ◌&&◌, nat_le, ◌<◌, ◌≤◌, ◌∷◌, ◌++◌, ◌+◌, [], true, false, map, option_map, None, Some, IfOk, IfErr, OnOk, OnErr, IsOk, Ok, length, List};
-ghost use Rattle.std.specs.Vec.{vec_capacity, vec_len};
+ghost use Rattle.std.specs.Prelude.{◌≡◌, ◌<◌, ◌≤◌, [], false, option_map, None, Some, IfOk, IfErr, OnOk, OnErr, IsOk, Ok, length, List};
+ghost use Rattle.std.specs.Vec.{vec_capacity};
 ghost use Rattle.plain_store.specs.Setups.{checked};
 ghost use Rattle.record.specs.store_image.Image.{image_of};
 ghost use Rattle.record.specs.declared.Event.{Event as Happening};
-ghost use Rattle.record.specs.declared.Event.TheVariants.{Call, Step, Fail, Withdraw, Restart};
+ghost use Rattle.record.specs.declared.Event.TheVariants.{Call, Step};
 ghost use Rattle.record.specs.declared.Refusal.TheVariants.{Memory};
-ghost use Rattle.record.specs.Doorways.{ahead, is_waiting_stage, is_queued as queued};
+ghost use Rattle.record.specs.Doorways.{ahead};
 ghost use Rattle.record.specs.Histories.{history};
-ghost use Rattle.plain_store.specs.Commands.{is_command};
-ghost use Rattle.record.specs.Records.{is_call, past_of, process_of, refused, refused_at};
-ghost use Rattle.world.specs.Changes.{with_taken};
-ghost use Rattle.record.specs.declared.history.Taken.{Taken as Seen};
-ghost use Rattle.world.specs.Cores.{call_in, with_history};
-ghost use Rattle.plain_store.specs.declared.Reply.{Reply as Answered};
-ghost use Rattle.world.specs.Events.{Adds, GoesOn, IsRefused, IsTurnedAway, KeepsTheHeadline, stage_in};
-ghost use Rattle.process.specs.Processes.{inside_kept, stage_kept};
-ghost use Rattle.std.specs.List.{list_any};
+ghost use Rattle.record.specs.Records.{is_call, process_of, refused};
+ghost use Rattle.world.specs.Cores.{CoreTurnsAway, HasRoomToTake, MakesRoomForCall, history_with, with_history};
+ghost use Rattle.world.specs.Events.{Adds, AddsEvent, AddsStep, EventKeepsHeadline, GoesOn, InEachPast, IsRefused, IsTurnedAway, KeepsTheHeadline, StepKeepsHeadline, UnlessRefused, stage_in};
 ghost use Rattle.record.specs.Newest.{newest};
 ghost use Rattle.world.specs.Shows.{Shows};
 ghost use Rattle.process.specs.declared.told.Effect.TheVariants.{Steps};
-ghost use Rattle.process.specs.Telling.{act_of};
-ghost use Rattle.world.specs.Walks.{KeepOthers, StepsQuietly, Walks, bits_within_at};
+ghost use Rattle.world.specs.Walks.{HasOneFewerAtMost, KeepOthers, StepsQuietly, Walks, bits_within_at};
 
 use crate::cores::Core;
 use flicks::Flicks;
@@ -80,7 +73,7 @@ impl World {
         ensures refused { IfErr result (λ refusal. IsTurnedAway self.old event refusal) }
         ensures unchanged { OnErr result (self.new ≡ self.old) }
         ensures setup { OnOk result (self.new.setup ≡ self.old.setup) }
-        ensures through { (events : List Happening) → Shows self.old events → refused self.old.setup (past_of self.old.setup events) event ≡ None → is_call event ≡ false → IsOk result }
+        ensures through { UnlessRefused self.old event (is_call event ≡ false → IsOk result) }
         ensures headline { IfOk result (λ act. KeepsTheHeadline self.old (process_of event) act) }
     {
         let place = self.history.len() as u64;
@@ -94,13 +87,13 @@ impl World {
     /// One event, as `event` makes it, and in `effect` what it leads to; the access of a step. The place of a command
     /// that it takes is the length of the history before. An event that is refused leaves `effect` as it is.
     pub fn make(&mut self, event: &Event, effect: &mut Effect) -> Result<Option<Access>, Refusal>
-        ensures accepted { IfOk result (λ access. Adds self.old event.now (process_of event.now) (act_of (length self.old.history) (record { access = access; effect = effect.new }))) }
+        ensures accepted { IfOk result (AddsEvent self.old event.now effect.new) }
         ensures shows { OnOk result (GoesOn self.old event.now self.new) }
         ensures refused { IfErr result (λ refusal. IsTurnedAway self.old event.now refusal) }
         ensures unchanged { OnErr result (self.new ≡ self.old) }
         ensures untold { OnErr result (effect.new ≡ effect.old) }
         ensures setup { OnOk result (self.new.setup ≡ self.old.setup) }
-        ensures headline { IfOk result (λ access. KeepsTheHeadline self.old (process_of event.now) (act_of (length self.old.history) (record { access = access; effect = effect.new }))) }
+        ensures headline { IfOk result (EventKeepsHeadline self.old event.now effect.new) }
     {
         if let Err(refusal) = reserve(&mut self.history, &self.core, event) {
             return Err(refusal);
@@ -125,14 +118,14 @@ impl World {
     /// refused leaves `told` as it is.
     #[inline(never)]
     pub fn step(&mut self, process: u8, flick: bool, told: &mut StepTold) -> Result<Access, Refusal>
-        ensures accepted { IfOk result (λ access. Adds self.old (Step process flick) process (act_of (length self.old.history) (record { access = Some access; effect = Steps told.new }))) }
+        ensures accepted { IfOk result (AddsStep self.old process flick told.new) }
         ensures shows { OnOk result (GoesOn self.old (Step process flick) self.new) }
-        ensures refused { IfErr result (λ refusal. IsRefused self.old (Step process flick) (Some refusal)) }
+        ensures refused { IfErr result (λ why. IsRefused self.old (Step process flick) (Some why)) }
         ensures unchanged { OnErr result (self.new ≡ self.old) }
         ensures untold { OnErr result (told.new ≡ told.old) }
         ensures setup { OnOk result (self.new.setup ≡ self.old.setup) }
-        ensures through { (events : List Happening) → Shows self.old events → refused self.old.setup (past_of self.old.setup events) (Step process flick) ≡ None → IsOk result }
-        ensures headline { IfOk result (λ access. KeepsTheHeadline self.old process (act_of (length self.old.history) (record { access = Some access; effect = Steps told.new }))) }
+        ensures through { UnlessRefused self.old (Step process flick) (IsOk result) }
+        ensures headline { IfOk result (StepKeepsHeadline self.old process told.new) }
         ensures others { KeepOthers self.old.seats process self.new.seats }
     {
         match self.core.step(process, flick, told) {
@@ -173,7 +166,7 @@ impl World {
     pub fn make_step_within(&mut self, process: u8, flick: bool)
         requires { 0 < bits_within_at self.old.seats process }
         ensures quietly { StepsQuietly self.old process flick self.new }
-        ensures fewer { bits_within_at self.old.seats process ≤ bits_within_at self.new.seats process + 1 }
+        ensures fewer { HasOneFewerAtMost self.old.seats process self.new.seats }
         ensures others { KeepOthers self.old.seats process self.new.seats }
     {
         let _access = self.core.make_step_told(process, flick, Pace::Single);
@@ -189,14 +182,14 @@ impl World {
 
     /// Where a process stands; none, if there is no such process.
     pub fn stage(&self, process: u8) -> Option<Stage>
-        ensures { (events : List Happening) → Shows self.now events → result ≡ stage_in self.now.setup (past_of self.now.setup events) process }
+        ensures { InEachPast self.now (λ s past. result ≡ stage_in s past process) }
     {
         self.core.stage(process)
     }
 
     /// The commands taken, in their order.
     pub fn history(&self) -> &[Taken]
-        ensures { (events : List Happening) → Shows self.now events → result.now ≡ history self.now.setup (past_of self.now.setup events) }
+        ensures { InEachPast self.now (λ s past. result.now ≡ history s past) }
     {
         &self.history
     }
@@ -204,14 +197,14 @@ impl World {
     /// The processes that wait and whose doorways ended before that of this process began, ascending; none,
     /// unless it is in its doorway or waiting.
     pub fn ahead(&self, process: u8) -> SmallVec<u8, 16>
-        ensures { (events : List Happening) → Shows self.now events → result.items ≡ ahead self.now.setup process (past_of self.now.setup events) }
+        ensures { InEachPast self.now (λ s past. result.items ≡ ahead s process past) }
     {
         self.core.ahead(self.alloc, process)
     }
 
     /// The store after the history, off the registers; none while somebody is inside.
     pub fn newest(&self) -> Option<Image>
-        ensures { (events : List Happening) → Shows self.now events → option_map image_of result ≡ newest self.now.setup (past_of self.now.setup events) }
+        ensures { InEachPast self.now (λ s past. option_map image_of result ≡ newest s past) }
     {
         self.core.newest()
     }
@@ -219,8 +212,8 @@ impl World {
 
 /// Before a call that is not refused: the history gets room for each call that may be taken.
 fn reserve(history: &mut Vec<Taken>, core: &Core, event: &Event) -> Result<(), Refusal>
-    ensures room { OnOk result (is_call event.now ≡ true → length history.old.items + length core.now.seats ≤ vec_capacity history.new) }
-    ensures refused { IfErr result (λ refusal. (taken : List Seen) → IsTurnedAway (with_history core.now taken) event.now refusal) }
+    ensures room { OnOk result (MakesRoomForCall event.now core.now history.old history.new) }
+    ensures refused { IfErr result (CoreTurnsAway core.now event.now) }
     ensures items { history.new.items ≡ history.old.items }
     ensures capacity { vec_capacity history.old ≤ vec_capacity history.new }
 {
@@ -238,9 +231,9 @@ fn reserve(history: &mut Vec<Taken>, core: &Core, event: &Event) -> Result<(), R
 
 /// The command that a process takes, if it takes one, goes into the history, where there is room for it.
 fn take(history: &mut Vec<Taken>, core: &Core, process: u8, reply: Option<Reply>)
-    requires room { (r : Answered) → reply ≡ Some r → vec_len history.old < vec_capacity history.old }
+    requires room { HasRoomToTake reply history.old }
     requires there { process < length core.now.seats }
-    ensures items { history.new.items ≡ with_taken history.old.items process (call_in core.now.seats process).0 (call_in core.now.seats process).1 reply }
+    ensures items { history.new.items ≡ history_with history.old.items core.now process reply }
     ensures capacity { vec_capacity history.old ≤ vec_capacity history.new }
 {
     let _nested: NestedTypes = None;

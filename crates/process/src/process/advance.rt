@@ -1,13 +1,12 @@
 //! The next access of a process, and how it goes on by it.
-ghost use Rattle.std.specs.Prelude.{◌≡◌, ◌+◌, ◌<◌, ◌≤◌, true, false, Bool, [], IfSome, None, Some};
+ghost use Rattle.std.specs.Prelude.{◌≡◌, ◌+◌, ◌<◌, ◌≤◌, true, Bool, None};
 ghost use Rattle.section.specs.Registers.{is_data};
 ghost use Rattle.laws.specs.Doings.{Doing};
 ghost use Rattle.laws.specs.Held.{IsThere};
-ghost use Rattle.laws.specs.Steps.{does_then, marks_with, next_of};
 ghost use Rattle.process.specs.Keeping.{is_at_data, is_clearing, is_door, is_unit_freeing, is_unit_settling, is_withdrawing, stage_waiting};
-ghost use Rattle.process.specs.Processes.{kept_at, stage_kept};
-ghost use Rattle.process.specs.Steps.{IsAt, bits_within, changes_read, is_at_door, may_step};
-ghost use Rattle.process.specs.Telling.{changes_told, marks_told};
+ghost use Rattle.process.specs.Processes.{stage_kept};
+ghost use Rattle.process.specs.Steps.{GoesBy, HasNoMark, IsAt, IsNext, bits_within, is_at_door, may_step};
+ghost use Rattle.process.specs.Telling.{TellsChanges, TellsMarks, changes_told};
 ghost use Rattle.process.specs.declared.process.ActiveCursor.TheVariants as works;
 
 use super::{ActiveCursor, Process};
@@ -23,7 +22,7 @@ impl Process {
     #[inline]
     pub fn next(&self, flick: bool) -> Access
         requires goes { may_step self.now.kept ≡ true }
-        ensures access { (d : Doing) → IsAt self.now d → next_of self.now.setup self.now.process d flick ≡ Some result }
+        ensures access { IsNext self.now flick result }
         ensures there { IsThere self.now.setup result }
     {
         match &self.work {
@@ -41,7 +40,7 @@ impl Process {
     #[inline(always)]
     pub fn next_at_data(&self) -> Access
         requires { is_at_data self.now.kept ≡ true }
-        ensures access { (d : Doing) (flick : Bool) → IsAt self.now d → next_of self.now.setup self.now.process d flick ≡ Some result }
+        ensures access { (flick : Bool) → IsNext self.now flick result }
         ensures there { IsThere self.now.setup result }
         ensures versions { (d : Doing) → IsAt self.now d → is_data result.field ≡ true }
     {
@@ -52,7 +51,7 @@ impl Process {
     #[inline(always)]
     pub(crate) fn next_at_door(&self) -> Access
         requires { is_at_door self.now.kept ≡ true }
-        ensures access { (d : Doing) (flick : Bool) → IsAt self.now d → next_of self.now.setup self.now.process d flick ≡ Some result }
+        ensures access { (flick : Bool) → IsNext self.now flick result }
         ensures there { IsThere self.now.setup result }
     {
         self.door.next(false)
@@ -63,9 +62,9 @@ impl Process {
     pub fn advance(&mut self, flick: bool, value: bool) -> StepTold
         requires goes { may_step self.old.kept ≡ true }
         requires at { (d : Doing) × IsAt self.old d }
-        ensures process { (d : Doing) → IsAt self.old d → self.new ≡ record self.old { kept = kept_at self.old.setup self.old.process (does_then self.old.setup self.old.process d flick value) } }
-        ensures marks { (d : Doing) → IsAt self.old d → marks_told result ≡ marks_with self.old.setup self.old.process d flick value }
-        ensures changes { (d : Doing) → IsAt self.old d → IfSome (changes_told result) (λ changes. changes ≡ changes_read d) }
+        ensures process { GoesBy self.old flick value self.new }
+        ensures marks { TellsMarks self.old flick value result }
+        ensures changes { TellsChanges self.old result }
     {
         match &self.work {
             ActiveCursor::AtDoor { .. } => self.advance_door(value),
@@ -83,8 +82,8 @@ impl Process {
     fn advance_door(&mut self, value: bool) -> StepTold
         requires at_door { is_at_door self.old.kept ≡ true }
         requires at { (d : Doing) × IsAt self.old d }
-        ensures process { (flick : Bool) (d : Doing) → IsAt self.old d → self.new ≡ record self.old { kept = kept_at self.old.setup self.old.process (does_then self.old.setup self.old.process d flick value) } }
-        ensures marks { (flick : Bool) (d : Doing) → IsAt self.old d → marks_told result ≡ marks_with self.old.setup self.old.process d flick value }
+        ensures process { (flick : Bool) → GoesBy self.old flick value self.new }
+        ensures marks { (flick : Bool) → TellsMarks self.old flick value result }
         ensures changes { changes_told result ≡ None }
     {
         let waits = self.waits();
@@ -106,9 +105,9 @@ impl Process {
     pub(crate) fn advance_at_data(&mut self, value: bool) -> StepTold
         requires at_data { is_at_data self.old.kept ≡ true }
         requires at { (d : Doing) × IsAt self.old d }
-        ensures process { (flick : Bool) (d : Doing) → IsAt self.old d → self.new ≡ record self.old { kept = kept_at self.old.setup self.old.process (does_then self.old.setup self.old.process d flick value) } }
-        ensures marks { (flick : Bool) (d : Doing) → IsAt self.old d → marks_told result ≡ marks_with self.old.setup self.old.process d flick value }
-        ensures changes { (d : Doing) → IsAt self.old d → IfSome (changes_told result) (λ changes. changes ≡ changes_read d) }
+        ensures process { (flick : Bool) → GoesBy self.old flick value self.new }
+        ensures marks { (flick : Bool) → TellsMarks self.old flick value result }
+        ensures changes { TellsChanges self.old result }
     {
         let progress = self.section.advance(value);
         match answer_told(&progress) {
@@ -129,8 +128,8 @@ impl Process {
     pub fn advance_within(&mut self, value: bool)
         requires within { 0 < bits_within self.old.kept }
         requires at { (d : Doing) × IsAt self.old d }
-        ensures process { (flick : Bool) (d : Doing) → IsAt self.old d → self.new ≡ record self.old { kept = kept_at self.old.setup self.old.process (does_then self.old.setup self.old.process d flick value) } }
-        ensures marks { (flick : Bool) (d : Doing) → IsAt self.old d → marks_with self.old.setup self.old.process d flick value ≡ [] }
+        ensures process { (flick : Bool) → GoesBy self.old flick value self.new }
+        ensures marks { (flick : Bool) → HasNoMark self.old flick value }
         ensures fewer { bits_within self.old.kept ≤ bits_within self.new.kept + 1 }
     {
         self.advance_at_data(value);
@@ -141,8 +140,8 @@ impl Process {
     fn advance_leaves(&mut self) -> StepTold
         requires clears { is_clearing self.old.kept ≡ true }
         requires at { (d : Doing) × IsAt self.old d }
-        ensures process { (flick value : Bool) (d : Doing) → IsAt self.old d → self.new ≡ record self.old { kept = kept_at self.old.setup self.old.process (does_then self.old.setup self.old.process d flick value) } }
-        ensures marks { (flick value : Bool) (d : Doing) → IsAt self.old d → marks_told result ≡ marks_with self.old.setup self.old.process d flick value }
+        ensures process { (flick value : Bool) → GoesBy self.old flick value self.new }
+        ensures marks { (flick value : Bool) → TellsMarks self.old flick value result }
         ensures changes { changes_told result ≡ None }
     {
         match &mut self.work {
@@ -175,8 +174,8 @@ impl Process {
     fn advance_withdraws(&mut self) -> StepTold
         requires withdraws { is_withdrawing self.old.kept ≡ true }
         requires at { (d : Doing) × IsAt self.old d }
-        ensures process { (flick value : Bool) (d : Doing) → IsAt self.old d → self.new ≡ record self.old { kept = kept_at self.old.setup self.old.process (does_then self.old.setup self.old.process d flick value) } }
-        ensures marks { (flick value : Bool) (d : Doing) → IsAt self.old d → marks_told result ≡ marks_with self.old.setup self.old.process d flick value }
+        ensures process { (flick value : Bool) → GoesBy self.old flick value self.new }
+        ensures marks { (flick value : Bool) → TellsMarks self.old flick value result }
         ensures changes { changes_told result ≡ None }
     {
         match &mut self.work {
@@ -196,8 +195,8 @@ impl Process {
     fn advance_settles(&mut self, flick: bool) -> StepTold
         requires settles { is_unit_settling self.old.kept ≡ true }
         requires at { (d : Doing) × IsAt self.old d }
-        ensures process { (value : Bool) (d : Doing) → IsAt self.old d → self.new ≡ record self.old { kept = kept_at self.old.setup self.old.process (does_then self.old.setup self.old.process d flick value) } }
-        ensures marks { (value : Bool) (d : Doing) → IsAt self.old d → marks_told result ≡ marks_with self.old.setup self.old.process d flick value }
+        ensures process { (value : Bool) → GoesBy self.old flick value self.new }
+        ensures marks { (value : Bool) → TellsMarks self.old flick value result }
         ensures changes { changes_told result ≡ None }
     {
         let _nested: NestedTypes = None;
@@ -234,8 +233,8 @@ impl Process {
     fn advance_frees(&mut self, flick: bool) -> StepTold
         requires frees { is_unit_freeing self.old.kept ≡ true }
         requires at { (d : Doing) × IsAt self.old d }
-        ensures process { (value : Bool) (d : Doing) → IsAt self.old d → self.new ≡ record self.old { kept = kept_at self.old.setup self.old.process (does_then self.old.setup self.old.process d flick value) } }
-        ensures marks { (value : Bool) (d : Doing) → IsAt self.old d → marks_told result ≡ marks_with self.old.setup self.old.process d flick value }
+        ensures process { (value : Bool) → GoesBy self.old flick value self.new }
+        ensures marks { (value : Bool) → TellsMarks self.old flick value result }
         ensures changes { changes_told result ≡ None }
     {
         match &mut self.work {

@@ -3,11 +3,11 @@ ghost use Rattle.std.specs.Prelude.{◌≡◌, true, false, IfSome, None};
 ghost use Rattle.record.specs.Cuts.{IsTornOf};
 ghost use Rattle.record.specs.declared.Stage.TheVariants.{Waiting};
 ghost use Rattle.laws.specs.Doings.{Doing};
-ghost use Rattle.process.specs.Halts.{kept_cut, taken_in};
+ghost use Rattle.process.specs.Halts.{FailsWith, taken_in};
 ghost use Rattle.process.specs.Keeping.{is_at_data, is_clearing, is_withdrawing};
 ghost use Rattle.process.specs.Processes.{inside_kept, stage_kept};
 ghost use Rattle.process.specs.Processes as kept;
-ghost use Rattle.process.specs.Steps.{IsAt, is_at_door, kept_failing, kept_withdrawing, may_fail};
+ghost use Rattle.process.specs.Steps.{HasFailed, IsAt, is_at_door, may_fail, withdrawn};
 
 use super::{ActiveCursor, Process};
 use bakery::Leaving;
@@ -20,7 +20,7 @@ impl Process {
     /// by whoever keeps the memory.
     pub fn give_up(&mut self)
         requires waiting { stage_kept self.old.kept ≡ Waiting }
-        ensures process { self.new ≡ record self.old { kept = kept_withdrawing self.old.setup self.old.process } }
+        ensures process { self.new ≡ withdrawn self.old }
     {
         self.door.quit();
         self.work = ActiveCursor::Withdraws(Leaving::new(self.process, &self.setup));
@@ -31,7 +31,7 @@ impl Process {
     pub fn cut(&mut self)
         requires may { may_fail self.old.kept ≡ true }
         requires at { (d : Doing) × IsAt self.old d }
-        ensures process { (d : Doing) → IsAt self.old d → self.new ≡ record self.old { kept = kept_failing self.old.setup self.old.process d } }
+        ensures process { HasFailed self.old self.new }
     {
         let inside = self.is_inside();
         let (torn, taken) = self.cut_off();
@@ -60,7 +60,7 @@ impl Process {
         requires at { (d : Doing) × IsAt self.old d }
         ensures process { self.new ≡ record self.old { kept = kept.Lies } }
         ensures known { IfSome result.0 (IsTornOf self.old.setup) }
-        ensures cut { (d : Doing) → IsAt self.old d → kept_cut self.old.setup self.old.process result.0 result.1 (inside_kept self.old.kept) ≡ kept_failing self.old.setup self.old.process d }
+        ensures cut { FailsWith self.old result.0 result.1 (inside_kept self.old.kept) }
     {
         match &self.work {
             ActiveCursor::Rests => {
@@ -82,7 +82,7 @@ impl Process {
         requires at { (d : Doing) × IsAt self.old d }
         ensures process { self.new ≡ record self.old { kept = kept.Lies } }
         ensures known { IfSome result (IsTornOf self.old.setup) }
-        ensures cut { (d : Doing) → IsAt self.old d → kept_cut self.old.setup self.old.process result None false ≡ kept_failing self.old.setup self.old.process d }
+        ensures cut { FailsWith self.old result None false }
     {
         self.work = ActiveCursor::Lies;
         self.door.halt()
@@ -93,7 +93,7 @@ impl Process {
         requires at_data { is_at_data self.old.kept ≡ true }
         ensures process { self.new ≡ record self.old { kept = kept.Lies } }
         ensures known { IfSome result.0 (IsTornOf self.old.setup) }
-        ensures cut { (d : Doing) → IsAt self.old d → kept_cut self.old.setup self.old.process result.0 result.1 true ≡ kept_failing self.old.setup self.old.process d }
+        ensures cut { FailsWith self.old result.0 result.1 true }
     {
         self.work = ActiveCursor::Lies;
         let pending = self.section.pending();
@@ -107,7 +107,7 @@ impl Process {
         requires clears { is_clearing self.old.kept ≡ true }
         ensures process { self.new ≡ record self.old { kept = kept.Lies } }
         ensures known { IfSome result (IsTornOf self.old.setup) }
-        ensures cut { (d : Doing) → IsAt self.old d → kept_cut self.old.setup self.old.process result None (inside_kept self.old.kept) ≡ kept_failing self.old.setup self.old.process d }
+        ensures cut { FailsWith self.old result None (inside_kept self.old.kept) }
     {
         match &self.work {
             ActiveCursor::Leaves { leaving, .. } => {
@@ -124,7 +124,7 @@ impl Process {
         requires withdraws { is_withdrawing self.old.kept ≡ true }
         ensures process { self.new ≡ record self.old { kept = kept.Lies } }
         ensures known { IfSome result (IsTornOf self.old.setup) }
-        ensures cut { (d : Doing) → IsAt self.old d → kept_cut self.old.setup self.old.process result None false ≡ kept_failing self.old.setup self.old.process d }
+        ensures cut { FailsWith self.old result None false }
     {
         match &self.work {
             ActiveCursor::Withdraws(leaving) => {

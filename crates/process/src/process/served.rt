@@ -1,14 +1,13 @@
 //! A process that is served by registers.
-ghost use Rattle.std.specs.Prelude.{◌≡◌, ◌<◌, ◌≤◌, true, false, Some};
+ghost use Rattle.std.specs.Prelude.{◌≡◌, ◌<◌, ◌≤◌, true};
 ghost use Rattle.record.specs.Places.{value_of};
 ghost use Rattle.record.specs.declared.Stage.TheVariants.{Waiting};
 ghost use Rattle.laws.specs.Doings.{Doing};
-ghost use Rattle.laws.specs.Steps.{does_then, marks_with, next_of};
-ghost use Rattle.process.specs.Drops.{AreOf, dropped};
-ghost use Rattle.process.specs.Processes.{kept_at, stage_kept};
-ghost use Rattle.process.specs.Registers.{MayStep, MayRun, StepsWithin, RunsWithin, answered, made};
-ghost use Rattle.process.specs.Steps.{IsAt, bits_to_walk, bits_within, is_at_door, kept_failing, kept_withdrawing, may_fail, may_step};
-ghost use Rattle.process.specs.Telling.{marks_told};
+ghost use Rattle.process.specs.Drops.{AreOf, DropsRead};
+ghost use Rattle.process.specs.Processes.{stage_kept};
+ghost use Rattle.process.specs.Registers.{IsNextAnswered, MayStep, MayRun, StepsWithin, RunsWithin, made};
+ghost use Rattle.process.specs.Steps.{GoesBy, HasFailed, IsAt, bits_to_walk, bits_within, may_fail, may_step, withdrawn};
+ghost use Rattle.process.specs.Telling.{TellsMarks};
 
 use super::{ActiveCursor, Process};
 use crate::registers::{Registers, ended};
@@ -25,9 +24,9 @@ impl Process {
     pub fn step(&mut self, registers: &mut Registers, flick: bool, told: &mut StepTold) -> Access
         requires goes { may_step self.old.kept ≡ true }
         requires may { MayStep self.old registers.old flick }
-        ensures access { (d : Doing) (next : Access) → IsAt self.old d → next_of self.old.setup self.old.process d flick ≡ Some next → result ≡ answered registers.old flick next }
-        ensures process { (d : Doing) → IsAt self.old d → self.new ≡ record self.old { kept = kept_at self.old.setup self.old.process (does_then self.old.setup self.old.process d flick (value_of result.how)) } }
-        ensures marks { (d : Doing) → IsAt self.old d → marks_told told.new ≡ marks_with self.old.setup self.old.process d flick (value_of result.how) }
+        ensures access { IsNextAnswered registers.old flick self.old result }
+        ensures process { GoesBy self.old flick (value_of result.how) self.new }
+        ensures marks { TellsMarks self.old flick (value_of result.how) told.new }
         ensures registers { registers.new ≡ made registers.old result }
     {
         let asked = self.next(flick);
@@ -67,7 +66,7 @@ impl Process {
     pub fn answered_within(&self, registers: &Registers, flick: bool) -> Access
         requires within { 0 < bits_to_walk self.now.kept }
         requires may { MayStep self.now registers.now flick }
-        ensures { (d : Doing) (next : Access) → IsAt self.now d → next_of self.now.setup self.now.process d flick ≡ Some next → result ≡ answered registers.now flick next }
+        ensures { IsNextAnswered registers.now flick self.now result }
     {
         if self.is_at_door() {
             registers.answered(self.next_at_door(), flick)
@@ -99,7 +98,8 @@ impl Process {
         requires some { 0 < steps }
         requires within { steps ≤ bits_to_walk self.old.kept }
         requires may { MayRun self.old registers.old flicks.old steps }
-        ensures { RunsWithin registers.old flicks.old self.old steps registers.new flicks.new self.new }
+        ensures { RunsWithin registers.old flicks.old self.old steps
+            registers.new flicks.new self.new }
     {
         if !self.is_at_door() {
             let row = &mut registers.versions;
@@ -119,8 +119,8 @@ impl Process {
         requires waiting { stage_kept self.old.kept ≡ Waiting }
         requires at { (d : Doing) × IsAt self.old d }
         requires registers { AreOf self.old.setup registers.old }
-        ensures process { self.new ≡ record self.old { kept = kept_withdrawing self.old.setup self.old.process } }
-        ensures registers { (d : Doing) → IsAt self.old d → registers.new ≡ dropped self.old.setup self.old.process d registers.old }
+        ensures process { self.new ≡ withdrawn self.old }
+        ensures registers { DropsRead self.old registers.old registers.new }
     {
         registers.drop_read(self.reads(), self.process());
         self.give_up();
@@ -131,8 +131,8 @@ impl Process {
         requires may { may_fail self.old.kept ≡ true }
         requires at { (d : Doing) × IsAt self.old d }
         requires registers { AreOf self.old.setup registers.old }
-        ensures process { (d : Doing) → IsAt self.old d → self.new ≡ record self.old { kept = kept_failing self.old.setup self.old.process d } }
-        ensures registers { (d : Doing) → IsAt self.old d → registers.new ≡ dropped self.old.setup self.old.process d registers.old }
+        ensures process { HasFailed self.old self.new }
+        ensures registers { DropsRead self.old registers.old registers.new }
     {
         registers.drop_read(self.reads(), self.process());
         self.cut();

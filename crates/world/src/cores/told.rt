@@ -1,9 +1,6 @@
 //! A step of a core within a number access, with its access.
-ghost use Rattle.std.specs.Prelude.{◌≡◌, ◌↔◌, ◌<◌, [], IfSome, IsSome, List, None, OnSome, Some};
-ghost use Rattle.record.specs.declared.Event.TheVariants.{Step};
-ghost use Rattle.record.specs.declared.history.Taken.{Taken as Seen};
-ghost use Rattle.world.specs.Cores.{CoreStepsQuietly, with_history};
-ghost use Rattle.world.specs.Events.{Adds};
+ghost use Rattle.std.specs.Prelude.{◌≡◌, ◌↔◌, ◌<◌, IfSome, IsSome, None, OnSome, Some};
+ghost use Rattle.world.specs.Cores.{CoreAddsQuietly, CoreStepsQuietly};
 ghost use Rattle.world.specs.Walks.{bits_within_at};
 
 use super::Core;
@@ -17,7 +14,7 @@ impl Core {
     pub fn step_told(&mut self, process: u8, flick: bool) -> Option<Access>
         ensures whether { IsSome result ↔ (0 < bits_within_at self.old.seats process) }
         ensures made { OnSome result (CoreStepsQuietly self.old process flick self.new) }
-        ensures adds { IfSome result (λ access. (taken : List Seen) → Adds (with_history self.old taken) (Step process flick) process (record { access = Some access; marks = [] })) }
+        ensures adds { IfSome result (CoreAddsQuietly self.old process flick) }
         ensures unmade { result ≡ None → self.new ≡ self.old }
     {
         if self.bits_within(process) == 0 {

@@ -18,7 +18,7 @@ read_within-requires-clause-place c = let s = c.args.words.now.key in let n = c.
 pub unreachable-requires : goal.unreachable-requires
 unreachable-requires c = let s = c.args.words.now.key in let n = c.next_at_data-access.result in
     no_end s c.args.pending c.args.process.now c.args.value.now c.args.flick c.in-EndRead.field-0 c.word_of-word.result n c.args.seat.now.me.0 c.requires.tied
-    (record { next = λ d is. c.next_at_data-access.ensures.access d c.args.flick is; at = c.word_of-word.ensures.word ∙ ap (λ s. word_of s n) (sym c.requires.key) }) c.in-EndRead.is
+    (record { next = c.next_at_data-access.ensures.access c.args.flick; at = c.word_of-word.ensures.word ∙ ap (λ s. word_of s n) (sym c.requires.key) }) c.in-EndRead.is
 
 pub returns-in-BeginRead-clause-tied : goal.returns-in-BeginRead-clause-tied
 returns-in-BeginRead-clause-tied c = c.read_within.ensures.tied c.args.value.now c.requires.tied
@@ -33,7 +33,7 @@ write_within-requires c = let s = c.args.words.now.key in let n = c.next_at_data
         (
           n,
           c.requires.tied,
-          record { next = λ d is. c.next_at_data-access.ensures.access d c.args.flick is; at = c.word_of-word.ensures.word ∙ ap (λ s. word_of s n) (sym c.requires.key) },
+          record { next = c.next_at_data-access.ensures.access c.args.flick; at = c.word_of-word.ensures.word ∙ ap (λ s. word_of s n) (sym c.requires.key) },
           is_written n.how c.in_default.not-BeginRead c.in_default.not-EndRead,
           c.stored-new.ensures.word,
         ),
@@ -47,7 +47,7 @@ returns-in_default c = let s = c.args.words.now.key in let n = c.next_at_data-ac
       same = c.write_within.ensures.same;
       tied = subst (λ value. IsTied s nothing c.write_within.new.process value c.write_within.new.seat.me.0) (sym c.stored-new.ensures.value)
           (c.write_within.ensures.tied c.args.value.now c.word_of-word.result n c.requires.tied
-          (record { next = λ d is. c.next_at_data-access.ensures.access d c.args.flick is; at = c.word_of-word.ensures.word ∙ ap (λ s. word_of s n) (sym c.requires.key) })
+          (record { next = c.next_at_data-access.ensures.access c.args.flick; at = c.word_of-word.ensures.word ∙ ap (λ s. word_of s n) (sym c.requires.key) })
           (is_written n.how c.in_default.not-BeginRead c.in_default.not-EndRead));
       step = c.write_within.ensures.step;
       leads = c.write_within.ensures.leads;

@@ -21,7 +21,7 @@ next_at_door-requires c =
     sym (ap is_at_door (kept-is f.setup f.process f.command f.number f.work f.door f.section c.args.self.now c.self.view_is _ c.in-AtDoor.is))
 
 pub returns-in-AtDoor : goal.returns-in-AtDoor
-returns-in-AtDoor c = record { access = λ d. c.next_at_door.ensures.access d c.args.flick; there = c.next_at_door.ensures.there }
+returns-in-AtDoor c = record { access = c.next_at_door.ensures.access c.args.flick; there = c.next_at_door.ensures.there }
 
 pub next_at_data-requires : goal.next_at_data-requires
 next_at_data-requires c =
@@ -29,7 +29,7 @@ next_at_data-requires c =
     sym (ap is_at_data (kept-is f.setup f.process f.command f.number f.work f.door f.section c.args.self.now c.self.view_is _ c.in-AtData.is))
 
 pub returns-in-AtData : goal.returns-in-AtData
-returns-in-AtData c = record { access = λ d. c.next_at_data.ensures.access d c.args.flick; there = c.next_at_data.ensures.there }
+returns-in-AtData c = record { access = c.next_at_data.ensures.access c.args.flick; there = c.next_at_data.ensures.there }
 
 pub returns-in-Leaves : goal.returns-in-Leaves
 returns-in-Leaves c =

@@ -18,7 +18,7 @@ next-requires c =
     record { going = (here f.setup f.process f.command f.number f.work f.door f.section c.args.self.now c.self.view_is c.self.invariant.goes c.requires).0 }
 
 pub returns-clause-access : goal.returns-clause-access
-returns-clause-access c = λ d flick is.
+returns-clause-access c = λ flick d is.
     let f = c.self.inside in
     let at = (here f.setup f.process f.command f.number f.work f.door f.section c.args.self.now c.self.view_is c.self.invariant.goes c.requires).1 d is in
     let k = call f.setup f.process f.command f.number in

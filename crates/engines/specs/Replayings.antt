@@ -1,0 +1,30 @@
+-- What a replay writes and counts as its run goes on.
+use Rattle.std.specs.Prelude.{◌≡◌, ℕ, ◌+◌, ◌^◌, List, flat_map}
+use Rattle.course.specs.«record».declared.marks.Mark.{Mark}
+use Rattle.course.specs.Runs.{happenings}
+use Rattle.course.specs.Summaries.{CanCount, summary_of}
+use Rattle.course.specs.Telling.{told_text}
+use Rattle.course.specs.Texts.{mark_line}
+use Rattle.course.specs.declared.summaries.Summary.{Summary}
+use Rattle.course.specs.declared.told.Told.{Told}
+use Rattle.scenario.specs.Reading.{Script}
+
+-- the lines of the marks of an event with this number
+abbrev pub mark_lines : ℕ → ℕ → List Mark → List ℕ
+mark_lines number p = flat_map (mark_line number p)
+
+-- the text of what is told after so many events
+abbrev pub text_next : Summary → Told → List ℕ
+text_next summary told = told_text summary.events told
+
+-- these three numbers
+abbrev pub numbers : (events taken refused : ℕ) → Summary
+numbers events taken refused = record { events = events; taken = taken; refused = refused }
+
+-- the numbers of a scenario's run
+abbrev pub IsRunSummary : Script → Summary → Type 0
+IsRunSummary said summary = summary ≡ summary_of said.setup (happenings said)
+
+-- a line takes the room of 2^32 events at most
+abbrev pub TakesRoomOfLine : Summary → Summary → Type 0
+TakesRoomOfLine old new = (more : ℕ) → CanCount old (more + 2 ^ 32) → CanCount new more
