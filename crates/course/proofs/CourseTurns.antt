@@ -2,7 +2,6 @@
 use Rattle.std.proofs.Common.{◌≡◌, ℕ, zero, suc, arith, ◌-◌, ◌<◌, ◌≤◌, Bool, true, false, nat_lt, cond, length, List, ◌∷◌, IfOk, Result, Ok, Err, Option, None, Some, refl, ap, sym, subst, ◌∙◌, inl, inr}
 use Rattle.std.proofs.lemmas.Bool.Decides.{nat_tests}
 use Rattle.std.specs.declared.alloc.AllocError.{AllocError}
-use Rattle.plain_store.specs.Store.{Contents}
 use Rattle.plain_store.specs.declared.setups.Setup.{Setup}
 use Rattle.record.specs.declared.events.Event.{Event}
 use Rattle.record.specs.declared.history.Taken.{Taken}
@@ -25,7 +24,6 @@ use Rattle.course.specs.Courses.{CourseState, Follows, Makes, course}
 use Rattle.course.specs.Happenings.{Tries, Lacks, Looks, tried}
 use Rattle.course.specs.Runs.{Run, has_step, is_there, past_in}
 use Rattle.course.specs.Telling.{TellsOf}
-use Rattle.course.specs.Texts.{newest_store, store_text}
 use Rattle.course.specs.Turns.{Turn, ends, go_turn, happens, next_turn, on_turn, turn_of}
 use Rattle.course.specs.declared.told.Accepted.{Accepted}
 use Rattle.course.specs.declared.told.Told.{Told}

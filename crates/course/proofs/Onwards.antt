@@ -16,7 +16,7 @@ use Rattle.course.specs.Texts.{text_of}
 use Rattle.course.specs.Writing.{Counts, WritesPart}
 use Rattle.course.specs.declared.summaries.Summary.{Summary}
 use Rattle.course.proofs.Grows.{TextGrows, lines_grow, text_grows}
-use Rattle.course.proofs.Written.{appends_both, appends_none, front_after, front_longer, front_whole}
+use Rattle.course.proofs.Written.{appends_both, appends_none, front_after, front_longer}
 
 -- from the start of a replay on
 pub record Onward (s : Setup) (lines rest : List Line) (course : CourseState) (summary : Summary) (old new : Option (List ℕ)) : Type 0 where

@@ -154,11 +154,6 @@ module _ {L : Type 0} (Hears : L → Setup → List Happening → List Happening
         setup = t.setup;
       }
 
-  -- the same, where the world and who hears are known by other names
-  pub comes_same : (s : Setup) (line : Line) (had : ℕ) (start : Run) (was mid mid' : L) (w w' : WorldState) (flicks : FlickState) (left : ℕ) (Next : Setup → Line → Run → Type 0) → w' ≡ w → mid' ≡ mid → ComesOn Hears s line had start was mid (course w flicks left) Next → ComesOn Hears s line had start was mid' (course w' flicks left) Next
-  comes_same s line had start was mid mid' w w' flicks left Next same is u =
-      subst (λ (a : L). ComesOn Hears s line had start was a (course w' flicks left) Next) (sym is) (subst (λ (w : WorldState). ComesOn Hears s line had start was mid (course w flicks left) Next) (sym same) u)
-
   -- Steps without a mark, and then others
   module _ (hears_on : (a b c : L) (s : Setup) (x y z : List Happening) → Hears a s x y b → Hears b s y z c → Hears a s x z c) (s : Setup) (line : Line) (had : ℕ) (start : Run) (was mid is : L) (course : CourseState) (Next : Setup → Line → Run → Type 0) (u : ComesOn Hears s line had start was mid course Next) where
     here : Next course.world.setup line u.now

@@ -20,6 +20,10 @@ pub record StepsQuietly (old : WorldState) (p : ℕ) (flick : Bool) (new : World
   pub headline : KeepsTheHeadline old p (record { access = Some access; marks = [] })
   pub setup : new.setup ≡ old.setup
 
+-- the same, with this access
+abbrev pub MakesQuietly : WorldState → ℕ → Bool → Access → WorldState → Type 0
+MakesQuietly old p flick access new = (q : StepsQuietly old p flick new) × (q.access ≡ access)
+
 -- so many of them, each by the flick that is next
 abbrev pub Walks : WorldState → FlickState → ℕ → ℕ → WorldState → FlickState → Type 0
 Walks old flicks p zero new flicks_then = (new ≡ old) × (flicks_then ≡ flicks)

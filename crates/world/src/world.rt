@@ -13,7 +13,7 @@ ghost use Rattle.world.specs.Events.{Adds, AddsEvent, AddsStep, EventKeepsHeadli
 ghost use Rattle.record.specs.Newest.{newest};
 ghost use Rattle.world.specs.Shows.{Shows};
 ghost use Rattle.process.specs.declared.told.Effect.TheVariants.{Steps};
-ghost use Rattle.world.specs.Walks.{HasOneFewerAtMost, KeepOthers, StepsQuietly, Walks, bits_within_at};
+ghost use Rattle.world.specs.Walks.{HasOneFewerAtMost, KeepOthers, MakesQuietly, Walks, bits_within_at};
 
 use crate::cores::Core;
 use flicks::Flicks;
@@ -161,15 +161,15 @@ impl World {
     }
 
     /// One step, by this flick, of a process that is within a number access as those of `run` are: as `step` makes it, and
-    /// without a mark; of it the headline holds.
+    /// without a mark; of it the headline holds. It answers its access.
     #[inline(always)]
-    pub fn make_step_within(&mut self, process: u8, flick: bool)
+    pub fn make_step_within(&mut self, process: u8, flick: bool) -> Access
         requires { 0 < bits_within_at self.old.seats process }
-        ensures quietly { StepsQuietly self.old process flick self.new }
+        ensures quietly { MakesQuietly self.old process flick result self.new }
         ensures fewer { HasOneFewerAtMost self.old.seats process self.new.seats }
         ensures others { KeepOthers self.old.seats process self.new.seats }
     {
-        let _access = self.core.make_step_told(process, flick, Pace::Single);
+        self.core.make_step_told(process, flick, Pace::Single)
     }
 
     /// There are events whose record the world shows. Nothing to do: it hands over what every other clause takes for

@@ -1,15 +1,17 @@
 //! The lines that make Steps. A Step without a mark leaves every process where it is, so that only after one with
 //! marks a line has to look again who is where.
-ghost use Rattle.std.specs.Prelude.{◌≡◌, ◌+◌, ◌<◌, ◌≤◌, ℕ, true, false, length, slice_index, IfErr, IfOk, IfSome, None, Ok};
+ghost use Rattle.std.specs.Prelude.{◌≡◌, ◌+◌, ◌<◌, ◌≤◌, ℕ, ◌∷◌, List, length, slice_index, IfErr, IfOk, IfSome, None, Ok, OnOk};
 ghost use Rattle.world.specs.flicks.Flicks.{after_flick, after_pick, flick_of, pick_of};
+ghost use Rattle.plain_store.specs.declared.setups.Setup.{Setup};
 ghost use Rattle.record.specs.Stages.{stage};
+ghost use Rattle.record.specs.declared.Event.TheVariants.{Step};
 ghost use Rattle.scenario.specs.declared.lines.Line.{Line as LineSeen};
 ghost use Rattle.scenario.specs.declared.lines.Line.TheVariants.{Go as GoLine, Wander as WanderLine};
 ghost use Rattle.world.specs.Walks.{KeepOthers, bits_within_at};
 ghost use Rattle.world.specs.process.declared.told.StepTold.TheVariants.{Nothing};
-ghost use Rattle.course.specs.Counts.{IsCounted};
 ghost use Rattle.course.specs.Courses.{Follows, course};
-ghost use Rattle.course.specs.Listening.{ComesOn, ComesTo, HearsStep, MakesStep, RunsTo, room_wanted};
+ghost use Rattle.course.specs.Happenings.{Happening, Tries};
+ghost use Rattle.course.specs.Listening.{ComesOn, ComesTo, HearsStep, MakesStep, RunsTo, StepsOn, room_wanted};
 ghost use Rattle.course.specs.Runs.{Run, has_step, is_there as is_target, movers, past_in};
 ghost use Rattle.course.specs.Steppers.{IsAlone, left_told};
 ghost use Rattle.course.specs.Telling.{told_step, with_told};
@@ -41,18 +43,20 @@ impl Course {
         ensures room { IfOk result (λ told. (more : ℕ) → L.HasRoom listener.old (more + self.old.left) → L.HasRoom listener.new (more + room_wanted told self.new.left)) }
         ensures cut { IfErr result (λ fault. (l : LineSeen) (run : Run) → Follows self.old run → IsAlone process floor self.old.world.setup l run → self.old.left ≤ turns_in l → L.Stops listener.old self.old.world.setup run.happened (rest_of self.old.world.setup l self.old.left run).happened fault listener.new) }
     {
+        let mut bits = 0;
         'steps: while floor < self.left {
             pass_by(
                 &mut self.world,
                 &mut self.flicks,
                 &mut self.left,
+                &mut bits,
                 process,
                 floor,
                 listener,
             );
             self.left -= 1;
             let flick = self.flicks.flick();
-            if let Some(told) = step(&mut self.world, process, flick, listener)? {
+            if let Some(told) = step(&mut self.world, &mut bits, process, flick, listener)? {
                 self.left = left_after(&told, self.left);
                 return Ok(Some(told));
             }
@@ -121,10 +125,11 @@ impl Course {
             let (process, flick) = next;
             self.flicks.copy_from(&ahead);
             next = drawn(&mut ahead, movers);
-            if passed(&mut self.world, &mut within, process, flick, listener) {
-                continue 'steps;
-            }
-            if let Some(told) = step(&mut self.world, process, flick, listener)? {
+            let at = usize::from(process);
+            let mut bits = within[at];
+            let told = step(&mut self.world, &mut bits, process, flick, listener)?;
+            within[at] = bits;
+            if let Some(told) = told {
                 return Ok(Some(told));
             }
         }
@@ -162,12 +167,15 @@ fn pass_by<L: Listener>(
     world: &mut World,
     flicks: &mut Flicks,
     left: &mut u32,
+    bits: &mut u16,
     process: u8,
     floor: u32,
     listener: &mut L,
 )
     requires floor { floor < left.old }
     requires room { L.HasRoom listener.old left.old }
+    requires within { bits.old ≤ bits_within_at world.old.seats process }
+    ensures within { bits.new ≤ bits_within_at world.new.seats process }
     ensures fewer { left.new ≤ left.old }
     ensures above { floor < left.new }
     ensures setup { world.new.setup ≡ world.old.setup }
@@ -179,6 +187,7 @@ fn pass_by<L: Listener>(
     }
     let made = world.run(process, flicks, *left - floor - 1);
     *left -= made;
+    *bits = 0;
     listener.pass(made);
 }
 
@@ -194,58 +203,73 @@ fn drawn(flicks: &mut Flicks, movers: &[u8]) -> (u8, bool)
     (process, flicks.flick())
 }
 
-/// A Step of a process within a number access, which has no mark and passes by the listener. It is not made, if the
-/// process is not within one, or the listener hears each Step. `within`: so many bits at least each process has before
-/// its last one, of which the Step takes one; 0 if it is not made.
+/// A Step by this flick: it is heard or passed by, if it has no mark, and else it is told. `bits`: so many bits at least the
+/// process has before the last one of its number access, of which the Step takes one.
 #[inline(always)]
-fn passed<L: Listener>(
+fn step<L: Listener>(
     world: &mut World,
-    within: &mut [u16; 256],
+    bits: &mut u16,
     process: u8,
     flick: bool,
     listener: &mut L,
-) -> bool
-    requires counted { IsCounted within.old world.old.seats }
+) -> Result<Option<Told>, Fault>
     requires room { L.HasRoom listener.old 1 }
-    ensures heard { result ≡ true → HearsStep L.Hears world.old process flick world.new listener.old listener.new }
-    ensures unmade { result ≡ false → (world.new ≡ world.old) × (listener.new ≡ listener.old) }
-    ensures unknown { result ≡ false → slice_index within.new process ≡ 0 }
-    ensures counted { IsCounted within.new world.new.seats }
-    ensures room { result ≡ true → (more : ℕ) → L.HasRoom listener.old (more + 1) → L.HasRoom listener.new more }
+    requires within { bits.old ≤ bits_within_at world.old.seats process }
+    ensures within { bits.new ≤ bits_within_at world.new.seats process }
+    ensures ok { IfOk result (λ told. MakesStep L.Hears world.old process flick told world.new listener.old listener.new) }
+    ensures room { IfOk result (λ told. (more : ℕ) → L.HasRoom listener.old (more + 1) → L.HasRoom listener.new (more + room_wanted told 0)) }
+    ensures cut { IfErr result (λ fault. HearsStep (λ was s x y is. L.Stops was s x y fault is) world.old process flick world.new listener.old listener.new) }
+    ensures setup { world.new.setup ≡ world.old.setup }
+    ensures others { KeepOthers world.old.seats process world.new.seats }
 {
-    let at = usize::from(process);
-    let bits = bits_to_pass(world, within, process, listener.hears_steps());
-    if bits == 0 {
-        within[at] = 0;
-        return false;
+    let known = bits_known(world, *bits, process);
+    if known == 0 {
+        *bits = 0;
+        return any_step(world, process, flick, listener);
     }
-    world.make_step_within(process, flick);
-    within[at] = bits - 1;
-    listener.pass(1);
-    true
+    *bits = known - 1;
+    let access = world.make_step_within(process, flick);
+    unmarked_step(
+        Stepped {
+            process,
+            flick,
+            access,
+        },
+        listener,
+    )?;
+    Ok(None)
 }
 
-/// So many bits at least a process has before the last one of its number access: the world is asked, if none is known. None,
-/// if each Step is heard.
+/// So many bits at least a process has before the last one of its number access: the world is asked, if none is known.
 #[inline(always)]
-fn bits_to_pass(world: &World, within: &[u16; 256], process: u8, hears: bool) -> u16
-    requires counted { IsCounted within.now world.now.seats }
-    ensures within { result ≤ bits_within_at world.now.seats process }
-    ensures hears { hears ≡ true → result ≡ 0 }
+fn bits_known(world: &World, known: u16, process: u8) -> u16
+    requires { known ≤ bits_within_at world.now.seats process }
+    ensures { result ≤ bits_within_at world.now.seats process }
 {
-    if hears {
-        return 0;
-    }
-    let known = within[usize::from(process)];
     if known == 0 {
         return world.bits_within(process);
     }
     known
 }
 
-/// A Step by this flick: it is heard, if it has no mark, and else it is told.
-#[inline]
-fn step<L: Listener>(
+/// A Step without a mark is heard, or passed by.
+#[inline(always)]
+fn unmarked_step<L: Listener>(made: Stepped, listener: &mut L) -> Result<(), Fault>
+    requires room { L.HasRoom listener.old 1 }
+    ensures ok { OnOk result ((s : Setup) (before : List Happening) → StepsOn s before made → L.Hears listener.old s before (Tries (Step made.process made.flick) ∷ before) listener.new) }
+    ensures room { OnOk result ((more : ℕ) → L.HasRoom listener.old (more + 1) → L.HasRoom listener.new more) }
+    ensures cut { IfErr result (λ fault. (s : Setup) (before : List Happening) → StepsOn s before made → L.Stops listener.old s before (Tries (Step made.process made.flick) ∷ before) fault listener.new) }
+{
+    if listener.hears_steps() {
+        return listener.step(made);
+    }
+    listener.pass(1);
+    Ok(())
+}
+
+/// A Step by this flick, wherever its process is: it is heard, if it has no mark, and else it is told.
+#[inline(never)]
+fn any_step<L: Listener>(
     world: &mut World,
     process: u8,
     flick: bool,

@@ -19,6 +19,7 @@ steps-init g c =
       kept = record { are = c.self.invariant.are; few = c.self.invariant.few };
       left = omega (arith, left);
       floor = omega (arith, left, c.requires.floor);
+      bits = omega arith;
       room = λ more room. g.met.L.Listener.room_less c.args.listener.now (more + i.left) (more + c.args.self.now.left) (omega (arith, left)) room;
     }
 
@@ -27,8 +28,8 @@ pass_by-requires-clause-room g c =
     let laws = g.met.L.Listener in
     laws.room_less c.steps.listener c.steps.self-inside.left (0 + c.steps.self-inside.left) (omega arith) (c.steps.invariant.room 0 (laws.room_less c.args.listener.now (0 + c.args.self.now.left) c.args.self.now.left (omega arith) c.requires.room))
 
-pub step-requires : goal.step-requires
-step-requires g c =
+pub step-requires-clause-room : goal.step-requires-clause-room
+step-requires-clause-room g c =
     let laws = g.met.L.Listener in
     let left : ℕ = c.pass_by.new.left in
     laws.room_less c.pass_by.new.listener 1 (0 + left) (omega (arith, c.pass_by.ensures.above))
@@ -55,6 +56,7 @@ steps-preserved g c =
       kept = record { are = c.steps.invariant.kept.are ∙ ap (λ s. s.processes) (sym setup); few = c.steps.invariant.kept.few };
       left = omega (arith, c.pass_by.ensures.fewer, c.steps.invariant.left);
       floor = omega (arith, c.pass_by.ensures.above);
+      bits = c.step.ensures.within;
       room = λ more room.
           let wants = rw c.in_default.is at c.in_ok-told.ensures.room in
           laws.room_less c.step.new.listener (more + (left - 1)) (more + (left - 1) + 0) (omega arith) (wants (more + (left - 1)) (laws.room_less c.pass_by.new.listener (more + (left - 1) + 1) (more + left) (omega (arith, c.pass_by.ensures.above)) (c.pass_by.ensures.room more (c.steps.invariant.room more room))));

@@ -1,15 +1,15 @@
-use Rattle.std.proofs.Common.{Some, None, ◌≡◌, ◌<◌, ◌≤◌, ◌+◌, ◌-◌, ◌∙◌, ℕ, List, ap, arith, length, sym, subst, slice_index}
+use Rattle.std.proofs.Common.{Some, None, ◌≡◌, ◌<◌, ◌≤◌, ◌+◌, ◌-◌, ◌∙◌, ℕ, List, ap, arith, length, set, sym, subst, slice_index}
 use Rattle.scenario.specs.declared.lines.Line.TheVariants.{Wander as WanderLine}
 use Rattle.world.specs.flicks.Flicks.{FlickState, after_flick, after_pick, flick_of, pick_of}
-use Rattle.world.specs.Shows.{WorldState}
+use Rattle.course.specs.Counts.{IsCounted}
 use Rattle.course.specs.Courses.{CourseState, Follows, Makes, course}
 use Rattle.course.specs.Listening.{ComesTo}
 use Rattle.course.specs.Runs.{Run, movers, past_in}
 use Rattle.course.specs.Turns.{rest_of, turn_of}
-use Rattle.course.proofs.Counted.{counted_still, none_known}
+use Rattle.course.proofs.Counted.{counted_put, none_known}
 use Rattle.course.proofs.Movers.{none_left, some_left}
 use Rattle.course.proofs.Played.{on_fault}
-use Rattle.course.proofs.Runnings.{at_once, comes_end, comes_same, comes_start, comes_stop, comes_then, comes_to}
+use Rattle.course.proofs.Runnings.{at_once, comes_end, comes_start, comes_stop, comes_then, comes_to}
 use Rattle.course.proofs.Wanders.{ArePicked, picked_on, picked_stops, picked_told, wander_ends}
 use Rattle.course.proofs.turns.Course.run_random.Goals as goal
 
@@ -45,69 +45,34 @@ drawn-next-requires g c = subst (λ (l : List ℕ). 0 < length l) (sym c.as_slic
 pub drawn-next-requires-in-steps : goal.drawn-next-requires-in-steps
 drawn-next-requires-in-steps g c = subst (λ (l : List ℕ). 0 < length l) (sym c.as_slice-movers.ensures) (some_left c.movers-movers.result.items (sym c.is_empty.ensures ∙ c.if-is_empty.false))
 
-pub passed-requires-clause-room : goal.passed-requires-clause-room
-passed-requires-clause-room g c =
+pub step-requires-clause-room : goal.step-requires-clause-room
+step-requires-clause-room g c =
     let laws = g.met.L.Listener in
     laws.room_less c.steps.listener 1 (0 + c.steps.self-inside.left) (omega (arith, c.steps-test.true)) (c.steps.invariant.room 0 (laws.room_less c.args.listener.now (0 + c.args.self.now.left) c.args.self.now.left (omega arith) c.requires))
 
-pub step-requires : goal.step-requires
-step-requires g c =
-    let laws = g.met.L.Listener in
-    subst (λ a. g.L.Listener.HasRoom a 1) (sym (c.passed.ensures.unmade c.if-passed.false).1)
-    (laws.room_less c.steps.listener 1 (0 + c.steps.self-inside.left) (omega (arith, c.steps-test.true)) (c.steps.invariant.room 0 (laws.room_less c.args.listener.now (0 + c.args.self.now.left) c.args.self.now.left (omega arith) c.requires)))
-
--- a Step within a number access
-pub steps-preserved-then-passed : goal.steps-preserved-then-passed
-steps-preserved-then-passed g c =
-    let laws = g.met.L.Listener in
-    let Hears = g.L.Listener.Hears in
-    let i = c.steps.self-inside in
-    let heard = c.passed.ensures.heard c.if-passed.true in
-    let same : c.steps.ahead ≡ c.copy_from.new.self = sym c.copy_from.ensures in
-    let ps = c.as_slice-movers.result.now in
-    let some : 0 < length ps = subst (λ (l : List ℕ). 0 < length l) (sym c.as_slice-movers.ensures) (some_left c.movers-movers.result.items (sym c.is_empty.ensures ∙ c.if-is_empty.false)) in
-    record {
-      on = λ steps run follows. comes_then Hears laws.hears_on c.args.self.now.world.setup (WanderLine steps) c.args.self.now.left run c.args.listener.now c.steps.listener c.passed.new.listener (course i.world i.flicks i.left) (ArePicked ps) (c.steps.invariant.on steps run follows)
-          (course c.passed.new.world c.copy_from.new.self (i.left - 1)) (ArePicked ps)
-          (λ run follows are. picked_on i.world c.passed.new.world steps i.left c.steps.next.0 ps c.steps.next.1 run i.flicks c.copy_from.new.self (λ none. omega (arith, none, c.steps-test.true)) some c.steps.invariant.process c.steps.invariant.flick (c.copy_from.ensures ∙ c.steps.invariant.ahead)
-          follows are Hears c.steps.listener c.passed.new.listener heard);
-      kept = record { are = c.steps.invariant.kept.are ∙ ap (λ s. s.processes) (sym heard.step.setup); few = c.steps.invariant.kept.few };
-      left = omega (arith, c.steps-test.true, c.steps.invariant.left);
-      process = c.drawn-next-in-steps.ensures.process ∙ ap (λ (f : FlickState). slice_index ps (pick_of (length ps) f)) same;
-      flick = c.drawn-next-in-steps.ensures.flick ∙ ap (λ (f : FlickState). flick_of (after_pick f)) same;
-      ahead = c.drawn-next-in-steps.ensures.after ∙ ap (λ (f : FlickState). after_flick (after_pick f)) same;
-      counted = c.passed.ensures.counted;
-      room = λ more room. c.passed.ensures.room c.if-passed.true (more + (i.left - 1)) (laws.room_less c.steps.listener (more + (i.left - 1) + 1) (more + i.left) (omega (arith, c.steps-test.true)) (c.steps.invariant.room more room));
-    }
-
--- any other
 pub steps-preserved : goal.steps-preserved
 steps-preserved g c =
     let laws = g.met.L.Listener in
     let Hears = g.L.Listener.Hears in
     let i = c.steps.self-inside in
-    let w = c.passed.new.world in
-    let unmade = c.passed.ensures.unmade c.if-passed.false in
     let heard = rw c.in_default.is at c.in_ok-told.ensures.ok in
     let same : c.steps.ahead ≡ c.copy_from.new.self = sym c.copy_from.ensures in
     let ps = c.as_slice-movers.result.now in
     let some : 0 < length ps = subst (λ (l : List ℕ). 0 < length l) (sym c.as_slice-movers.ensures) (some_left c.movers-movers.result.items (sym c.is_empty.ensures ∙ c.if-is_empty.false)) in
     record {
       on = λ steps run follows.
-          let u = comes_same Hears c.args.self.now.world.setup (WanderLine steps) c.args.self.now.left run c.args.listener.now c.steps.listener c.passed.new.listener i.world w i.flicks i.left (ArePicked ps) unmade.0 unmade.1 (c.steps.invariant.on steps run follows) in
-          comes_then Hears laws.hears_on c.args.self.now.world.setup (WanderLine steps) c.args.self.now.left run c.args.listener.now c.passed.new.listener c.step.new.listener (course w i.flicks i.left) (ArePicked ps) u (course c.step.new.world c.copy_from.new.self (i.left - 1)) (ArePicked ps)
-          (λ run follows are. picked_on w c.step.new.world steps i.left c.steps.next.0 ps c.steps.next.1 run i.flicks c.copy_from.new.self (λ none. omega (arith, none, c.steps-test.true)) some c.steps.invariant.process c.steps.invariant.flick (c.copy_from.ensures ∙ c.steps.invariant.ahead)
-          follows are Hears c.passed.new.listener c.step.new.listener heard);
-      kept = record { are = c.steps.invariant.kept.are ∙ ap (λ s. s.processes) (sym (c.step.ensures.setup ∙ ap (λ (w : WorldState). w.setup) unmade.0)); few = c.steps.invariant.kept.few };
+          comes_then Hears laws.hears_on c.args.self.now.world.setup (WanderLine steps) c.args.self.now.left run c.args.listener.now c.steps.listener c.step.new.listener (course i.world i.flicks i.left) (ArePicked ps) (c.steps.invariant.on steps run follows) (course c.step.new.world c.copy_from.new.self (i.left - 1)) (ArePicked ps)
+          (λ run follows are. picked_on i.world c.step.new.world steps i.left c.steps.next.0 ps c.steps.next.1 run i.flicks c.copy_from.new.self (λ none. omega (arith, none, c.steps-test.true)) some c.steps.invariant.process c.steps.invariant.flick (c.copy_from.ensures ∙ c.steps.invariant.ahead)
+          follows are Hears c.steps.listener c.step.new.listener heard);
+      kept = record { are = c.steps.invariant.kept.are ∙ ap (λ s. s.processes) (sym c.step.ensures.setup); few = c.steps.invariant.kept.few };
       left = omega (arith, c.steps-test.true, c.steps.invariant.left);
       process = c.drawn-next-in-steps.ensures.process ∙ ap (λ (f : FlickState). slice_index ps (pick_of (length ps) f)) same;
       flick = c.drawn-next-in-steps.ensures.flick ∙ ap (λ (f : FlickState). flick_of (after_pick f)) same;
       ahead = c.drawn-next-in-steps.ensures.after ∙ ap (λ (f : FlickState). after_flick (after_pick f)) same;
-      counted = counted_still c.passed.new.within c.steps.next.0 w.seats c.step.new.world.seats c.passed.ensures.counted (c.passed.ensures.unknown c.if-passed.false) c.step.ensures.others;
+      counted = subst (λ at. IsCounted (set c.steps.within at c.step.new.bits) c.step.new.world.seats) (sym c.from-at.ensures) (counted_put c.steps.within c.steps.next.0 c.step.new.bits i.world.seats c.step.new.world.seats c.steps.invariant.counted c.step.ensures.within c.step.ensures.others);
       room = λ more room.
-          let has = subst (λ a. g.L.Listener.HasRoom a (more + i.left)) (sym unmade.1) (c.steps.invariant.room more room) in
           let wants = rw c.in_default.is at c.in_ok-told.ensures.room in
-          laws.room_less c.step.new.listener (more + (i.left - 1)) (more + (i.left - 1) + 0) (omega arith) (wants (more + (i.left - 1)) (laws.room_less c.passed.new.listener (more + (i.left - 1) + 1) (more + i.left) (omega (arith, c.steps-test.true)) has));
+          laws.room_less c.step.new.listener (more + (i.left - 1)) (more + (i.left - 1) + 0) (omega arith) (wants (more + (i.left - 1)) (laws.room_less c.steps.listener (more + (i.left - 1) + 1) (more + i.left) (omega (arith, c.steps-test.true)) (c.steps.invariant.room more room)));
     }
 
 pub returns-in_err-told-clause-cut : goal.returns-in_err-told-clause-cut
@@ -118,16 +83,13 @@ returns-in_err-told-clause-cut g c =
     let s = c.args.self.now.world.setup in
     let had : ℕ = c.args.self.now.left in
     let i = c.steps.self-inside in
-    let w = c.passed.new.world in
-    let unmade = c.passed.ensures.unmade c.if-passed.false in
     let ps = c.as_slice-movers.result.now in
     let some : 0 < length ps = subst (λ (l : List ℕ). 0 < length l) (sym c.as_slice-movers.ensures) (some_left c.movers-movers.result.items (sym c.is_empty.ensures ∙ c.if-is_empty.false)) in
     on_fault c.from_residual.result c.in_err-told.field-0.0 (λ fault. (steps : ℕ) (run : Run) → Follows c.args.self.now run → had ≤ steps → Stops c.args.listener.now s run.happened (rest_of s (WanderLine steps) had run).happened fault c.step.new.listener) c.from_residual.ensures.1
     (λ steps run follows few.
-    let u = comes_same Hears s (WanderLine steps) had run c.args.listener.now c.steps.listener c.passed.new.listener i.world w i.flicks i.left (ArePicked ps) unmade.0 unmade.1 (c.steps.invariant.on steps run follows) in
-    comes_stop Hears laws.hears_on s (WanderLine steps) had run c.args.listener.now c.passed.new.listener c.step.new.listener (course w i.flicks i.left) (ArePicked ps) u Stops laws.stops_on c.in_err-told.field-0.0 few
-    (λ run follows are few. picked_stops w c.step.new.world steps i.left c.steps.next.0 ps c.steps.next.1 run i.flicks c.copy_from.new.self (λ none. omega (arith, none, c.steps-test.true)) some c.steps.invariant.process c.steps.invariant.flick (c.copy_from.ensures ∙ c.steps.invariant.ahead)
-    follows are Stops c.passed.new.listener c.step.new.listener c.in_err-told.field-0.0 laws.stops_before c.in_err-told.ensures.cut few))
+    comes_stop Hears laws.hears_on s (WanderLine steps) had run c.args.listener.now c.steps.listener c.step.new.listener (course i.world i.flicks i.left) (ArePicked ps) (c.steps.invariant.on steps run follows) Stops laws.stops_on c.in_err-told.field-0.0 few
+    (λ run follows are few. picked_stops i.world c.step.new.world steps i.left c.steps.next.0 ps c.steps.next.1 run i.flicks c.copy_from.new.self (λ none. omega (arith, none, c.steps-test.true)) some c.steps.invariant.process c.steps.invariant.flick (c.copy_from.ensures ∙ c.steps.invariant.ahead)
+    follows are Stops c.steps.listener c.step.new.listener c.in_err-told.field-0.0 laws.stops_before c.in_err-told.ensures.cut few))
 
 pub returns-in-Some-clause-ok : goal.returns-in-Some-clause-ok
 returns-in-Some-clause-ok g c = λ steps run follows.
@@ -136,17 +98,14 @@ returns-in-Some-clause-ok g c = λ steps run follows.
     let s = c.args.self.now.world.setup in
     let had : ℕ = c.args.self.now.left in
     let i = c.steps.self-inside in
-    let w = c.passed.new.world in
-    let unmade = c.passed.ensures.unmade c.if-passed.false in
     let both = rw c.in-Some.is at c.in_ok-told.ensures.ok in
     let ps = c.as_slice-movers.result.now in
     let some : 0 < length ps = subst (λ (l : List ℕ). 0 < length l) (sym c.as_slice-movers.ensures) (some_left c.movers-movers.result.items (sym c.is_empty.ensures ∙ c.if-is_empty.false)) in
-    let u = comes_same Hears s (WanderLine steps) had run c.args.listener.now c.steps.listener c.passed.new.listener i.world w i.flicks i.left (ArePicked ps) unmade.0 unmade.1 (c.steps.invariant.on steps run follows) in
     let new : CourseState = course c.step.new.world c.copy_from.new.self (i.left - 1) in
-    comes_to Hears laws.hears_on s (WanderLine steps) had run c.args.listener.now c.passed.new.listener c.step.new.listener (course w i.flicks i.left) (ArePicked ps) u new (Some c.in-Some.told)
-    (λ run follows are. subst (λ b. ComesTo Hears w.setup (WanderLine steps) i.left run c.passed.new.listener b (Some c.in-Some.told) new) (sym both.1)
-    (picked_told w c.step.new.world steps i.left c.steps.next.0 ps c.steps.next.1 run i.flicks c.copy_from.new.self (λ none. omega (arith, none, c.steps-test.true)) some c.steps.invariant.process c.steps.invariant.flick (c.copy_from.ensures ∙ c.steps.invariant.ahead)
-    follows are Hears c.passed.new.listener c.in-Some.told laws.hears_nothing both.0))
+    comes_to Hears laws.hears_on s (WanderLine steps) had run c.args.listener.now c.steps.listener c.step.new.listener (course i.world i.flicks i.left) (ArePicked ps) (c.steps.invariant.on steps run follows) new (Some c.in-Some.told)
+    (λ run follows are. subst (λ b. ComesTo Hears i.world.setup (WanderLine steps) i.left run c.steps.listener b (Some c.in-Some.told) new) (sym both.1)
+    (picked_told i.world c.step.new.world steps i.left c.steps.next.0 ps c.steps.next.1 run i.flicks c.copy_from.new.self (λ none. omega (arith, none, c.steps-test.true)) some c.steps.invariant.process c.steps.invariant.flick (c.copy_from.ensures ∙ c.steps.invariant.ahead)
+    follows are Hears c.steps.listener c.in-Some.told laws.hears_nothing both.0))
 
 pub returns-clause-ok : goal.returns-clause-ok
 returns-clause-ok g c = λ steps run follows.

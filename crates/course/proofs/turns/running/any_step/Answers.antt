@@ -1,0 +1,44 @@
+use Rattle.std.proofs.Common.{◌+◌, arith, length, refl}
+use Rattle.course.specs.Listening.{HearsStep}
+use Rattle.course.proofs.Played.{on_fault}
+use Rattle.course.proofs.StepsTold.{step_quiet, step_setup, step_told}
+use Rattle.course.proofs.turns.running.any_step.Goals as goal
+
+pub returns-in_default-clause-ok : goal.returns-in_default-clause-ok
+returns-in_default-clause-ok g c =
+    let w = c.args.world.now in
+    let s = c.step-stepped in
+    (step_told w s.new.self c.args.process c.args.flick s.new.told s.result s.ensures.accepted s.ensures.shows s.ensures.setup (length c.history.result.now) c.history.result.now c.told_of.result c.history.ensures refl s.ensures.refused s.ensures.unchanged c.told_of.ensures, refl)
+
+pub returns-in_default-clause-setup : goal.returns-in_default-clause-setup
+returns-in_default-clause-setup g c = step_setup c.args.world.now c.step-stepped.new.self c.step-stepped.result c.step-stepped.ensures.setup c.step-stepped.ensures.unchanged
+
+pub returns-clause-setup : goal.returns-clause-setup
+returns-clause-setup g c = step_setup c.args.world.now c.step-stepped.new.self c.step-stepped.result c.step-stepped.ensures.setup c.step-stepped.ensures.unchanged
+
+pub returns-clause-ok : goal.returns-clause-ok
+returns-clause-ok g c =
+    let w = c.args.world.now in
+    let s = c.step-stepped in
+    let made = c.in-Some.ensures in
+    record {
+      step = step_quiet w s.new.self c.args.process c.args.flick s.new.told s.result s.ensures.accepted s.ensures.shows s.ensures.setup c.in-Some.access made.0 made.1 s.ensures.headline;
+      hears = c.in_ok-step.ensures.ok;
+    }
+
+pub returns-clause-room : goal.returns-clause-room
+returns-clause-room g c = λ more room. g.met.L.Listener.room_less c.step.new.self (more + 0) more (omega arith) (c.in_ok-step.ensures.room more room)
+
+pub returns-in_err-step-clause-setup : goal.returns-in_err-step-clause-setup
+returns-in_err-step-clause-setup g c = step_setup c.args.world.now c.step-stepped.new.self c.step-stepped.result c.step-stepped.ensures.setup c.step-stepped.ensures.unchanged
+
+pub returns-in_err-step-clause-cut : goal.returns-in_err-step-clause-cut
+returns-in_err-step-clause-cut g c =
+    let w = c.args.world.now in
+    let s = c.step-stepped in
+    let made = c.in-Some.ensures in
+    on_fault c.from_residual.result c.in_err-step.field-0.0 (λ fault. HearsStep (λ was s x y is. g.L.Listener.Stops was s x y fault is) w c.args.process c.args.flick s.new.self c.args.listener.now c.step.new.self) c.from_residual.ensures.1
+    (record {
+      step = step_quiet w s.new.self c.args.process c.args.flick s.new.told s.result s.ensures.accepted s.ensures.shows s.ensures.setup c.in-Some.access made.0 made.1 s.ensures.headline;
+      hears = c.in_err-step.ensures.cut;
+    })
