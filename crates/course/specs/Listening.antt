@@ -1,5 +1,5 @@
 -- Who hears a run: what is told to it, and what it has heard once a line has made its turns.
-use Rattle.std.specs.Prelude.{◌≡◌, ◌+◌, ℕ, zero, suc, Bool, List, [], ◌∷◌, Option, None, Some, Ok}
+use Rattle.std.specs.Prelude.{◌≡◌, ◌+◌, ◌≤◌, ℕ, zero, suc, Bool, List, [], ◌∷◌, Option, None, Some, Ok}
 use Rattle.plain_store.specs.declared.setups.Setup.{Setup}
 use Rattle.plain_store.specs.Setups.{checked}
 use Rattle.record.specs.declared.events.Event.{Event}
@@ -9,6 +9,7 @@ use Rattle.record.specs.Given.{AreGiven}
 use Rattle.record.specs.Histories.{history}
 use Rattle.record.specs.Records.{entry_of, past_of}
 use Rattle.scenario.specs.declared.lines.Line.{Line}
+use Rattle.scenario.specs.files.declared.faults.Fault.{Fault}
 use Rattle.world.specs.Events.{GoesOn}
 use Rattle.world.specs.Shows.{Shows, WorldState}
 use Rattle.world.specs.Walks.{StepsQuietly}
@@ -17,7 +18,7 @@ use Rattle.course.specs.Happenings.{Happening, Tries, past_after, tried}
 use Rattle.course.specs.Runs.{Run, past_in, run_after}
 use Rattle.course.specs.Steppers.{IsAlone}
 use Rattle.course.specs.Telling.{Tells, TellsOf}
-use Rattle.course.specs.Turns.{turn_of}
+use Rattle.course.specs.Turns.{rest_of, turn_of, turns_in}
 use Rattle.course.specs.declared.told.Stepped.{Stepped}
 use Rattle.course.specs.declared.told.Told.{Told}
 
@@ -38,6 +39,39 @@ pub record StepsOn (s : Setup) (before : List Happening) (made : Stepped) : Type
 abbrev pub PassQuietly : Setup → ℕ → List Happening → List Happening → Type 0
 PassQuietly s zero before after = after ≡ before
 PassQuietly s (suc n) before after = (this : Happening) × IsQuiet s (past_after s before) (Some this) × PassQuietly s n (this ∷ before) after
+
+-- room that a listener wants for what is told and the turns left after it
+abbrev pub room_wanted : Option Told → ℕ → ℕ
+room_wanted None left = left
+room_wanted (Some told) left = left + 1
+
+-- what is told of a turn is heard, once these commands are taken
+abbrev pub HearsTold : {L : Type 0} → (L → Setup → List Happening → List Happening → L → Type 0) → Told → List Taken → L → L → Type 0
+HearsTold Hears told taken was is = (s : Setup) (before : List Happening) (this : Happening) → Happens s before this told taken → Hears was s before (this ∷ before) is
+
+-- a Step without a mark is heard
+abbrev pub HearsUnmarked : {L : Type 0} → (L → Setup → List Happening → List Happening → L → Type 0) → Stepped → L → L → Type 0
+HearsUnmarked Hears made was is = (s : Setup) (before : List Happening) → StepsOn s before made → Hears was s before (Tries (Step made.process made.flick) ∷ before) is
+
+-- so many Steps without a mark are heard of
+abbrev pub HearsPassing : {L : Type 0} → (L → Setup → List Happening → List Happening → L → Type 0) → ℕ → L → L → Type 0
+HearsPassing Hears steps was is = (s : Setup) (before after : List Happening) → PassQuietly s steps before after → Hears was s before after is
+
+-- who stops by this fault has heard a front of what it would have heard
+abbrev pub StopsBy : {L : Type 0} → (L → Setup → List Happening → List Happening → Fault → L → Type 0) → Fault → L → Setup → List Happening → List Happening → L → Type 0
+StopsBy Stops fault was s before after is = Stops was s before after fault is
+
+-- room for so many things was taken
+abbrev pub TakesRoom : {L : Type 0} → (L → ℕ → Type 0) → L → ℕ → L → Type 0
+TakesRoom HasRoom was things is = (more : ℕ) → HasRoom was (more + things) → HasRoom is more
+
+-- of room for so many turns there is left what those after this, and what is told, want
+abbrev pub LeavesRoom : {L : Type 0} → (L → ℕ → Type 0) → L → ℕ → L → ℕ → Option Told → Type 0
+LeavesRoom HasRoom was turns is left told = (more : ℕ) → HasRoom was (more + turns) → HasRoom is (more + room_wanted told left)
+
+-- so it is in each run that the course shows
+abbrev pub InItsRun : CourseState → (Run → Type 0) → Type 0
+InItsRun course Holds = (run : Run) → Follows course run → Holds run
 
 -- a line has made all its turns in a run, and was heard
 pub record Plays {L : Type 0} (Hears : L → Setup → List Happening → List Happening → L → Type 0) (s : Setup) (line : Line) (run : Run) (course : CourseState) (was is : L) : Type 0 where
@@ -88,7 +122,28 @@ abbrev pub RunsTo : {L : Type 0} (Hears : L → Setup → List Happening → Lis
 RunsTo Hears s line had run was is p floor (Some answer) course = ComesTo Hears s line had run was is (Some answer) course
 RunsTo Hears s line had run was is p floor None course = ComesOn Hears s line had run was is course (IsAlone p floor)
 
--- room that a listener wants for what is told and the turns left after it
-abbrev pub room_wanted : Option Told → ℕ → ℕ
-room_wanted None left = left
-room_wanted (Some told) left = left + 1
+-- the turns of a line up to one that tells are made, in each run that the course shows
+abbrev pub Comes : {L : Type 0} → (L → Setup → List Happening → List Happening → L → Type 0) → CourseState → Line → CourseState → L → L → Option Told → Type 0
+Comes Hears old line new was is told = InItsRun old (λ run. ComesTo Hears old.world.setup line old.left run was is told new)
+
+-- a listener stops amid the turns that a line has left, or amid all of them
+abbrev pub StopsAmid : {L : Type 0} → (L → Setup → List Happening → List Happening → Fault → L → Type 0) → CourseState → Line → L → L → Fault → Type 0
+StopsAmid Stops old line was is fault = InItsRun old (λ run. Stops was old.world.setup run.happened (rest_of old.world.setup line old.left run).happened fault is)
+
+abbrev pub StopsLine : {L : Type 0} → (L → Setup → List Happening → List Happening → Fault → L → Type 0) → CourseState → Line → L → L → Fault → Type 0
+StopsLine Stops old line was is fault = InItsRun old (λ run. Stops was old.world.setup run.happened (run_after old.world.setup line run).happened fault is)
+
+-- one process makes the Steps of a line, in each run that the course shows, or a listener stops amid them
+abbrev pub RunsAlone : {L : Type 0} → (L → Setup → List Happening → List Happening → L → Type 0) → CourseState → ℕ → ℕ → CourseState → L → L → Option Told → Type 0
+RunsAlone Hears old p floor new was is told = (line : Line) → InItsRun old (λ run. IsAlone p floor old.world.setup line run → RunsTo Hears old.world.setup line old.left run was is p floor told new)
+
+abbrev pub StopsAlone : {L : Type 0} → (L → Setup → List Happening → List Happening → Fault → L → Type 0) → CourseState → ℕ → ℕ → L → L → Fault → Type 0
+StopsAlone Stops old p floor was is fault = (line : Line) → InItsRun old (λ run. IsAlone p floor old.world.setup line run → old.left ≤ turns_in line → Stops was old.world.setup run.happened (rest_of old.world.setup line old.left run).happened fault is)
+
+-- it passes Steps by
+abbrev pub PassesAlone : {L : Type 0} → (L → Setup → List Happening → List Happening → L → Type 0) → CourseState → ℕ → ℕ → CourseState → L → L → Type 0
+PassesAlone Hears old p floor new was is = (line : Line) → InItsRun old (λ run. IsAlone p floor old.world.setup line run → ComesOn Hears old.world.setup line old.left run was is new (IsAlone p floor))
+
+-- all turns of a line are made, in each run that the course shows
+abbrev pub PlaysLine : {L : Type 0} → (L → Setup → List Happening → List Happening → L → Type 0) → CourseState → Line → CourseState → L → L → Type 0
+PlaysLine Hears old line new was is = InItsRun old (λ run. Plays Hears old.world.setup line run new was is)

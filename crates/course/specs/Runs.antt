@@ -5,7 +5,9 @@ use Rattle.record.specs.declared.events.Event.{Event}
 use Rattle.record.specs.declared.events.Event.TheVariants as event
 use Rattle.record.specs.declared.stages.Stage.{Stage}
 use Rattle.record.specs.declared.stages.Stage.TheVariants.{Idle, Doorway, Waiting, Settling, Down}
+use Rattle.record.specs.declared.history.Taken.{Taken}
 use Rattle.record.specs.Entries.{Past}
+use Rattle.record.specs.Histories.{history}
 use Rattle.record.specs.Records.{refused}
 use Rattle.record.specs.Registers.{processes}
 use Rattle.record.specs.Stages.{stage}
@@ -29,6 +31,10 @@ run_at_start = record { happened = []; flicks = constant_flicks false }
 -- the record so far
 abbrev pub past_in : Setup → Run → Past
 past_in s run = past_after s run.happened
+
+-- the commands taken so far
+abbrev pub taken_in : Setup → Run → List Taken
+taken_in s run = history s (past_in s run)
 
 -- one thing more
 abbrev pub with_happening : Happening → Run → Run

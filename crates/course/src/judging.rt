@@ -54,7 +54,9 @@ impl Audit {
     /// Hears what a turn tells, if it is an entry.
     #[inline(never)]
     fn hear_told(&mut self, told: &Told)
-        ensures { (s : Given) (before : List Happening) (this : Happening) (taken : List Seen) → Happens s before this told.now taken → Audits s (past_after s before) self.old → Audits s (past_after s (this ∷ before)) self.new }
+        ensures { (s : Given) (before : List Happening) (this : Happening) (taken : List Seen) →
+            Happens s before this told.now taken → Audits s (past_after s before) self.old →
+            Audits s (past_after s (this ∷ before)) self.new }
     {
         let _nested: NestedTypes = None;
         if let Told::Accepted(made) = told {
@@ -65,7 +67,9 @@ impl Audit {
 
     /// Hears an entry, unless one before has broken a law.
     fn hear(&mut self, process: u8, access: &Option<Access>, marks: &[Mark])
-        ensures { (s : Given) (past : Past) → KeepsAll s past (record { process = process; access = access.now; marks = marks.now }) → Audits s past self.old → Audits s (record { process = process; access = access.now; marks = marks.now } ∷ past) self.new }
+        ensures { (s : Given) (past : Past) →
+            let e = record { process = process; access = access.now; marks = marks.now } in
+            KeepsAll s past e → Audits s past self.old → Audits s (e ∷ past) self.new }
     {
         let _nested: NestedTypes = None;
         if !self.is_good() {
@@ -78,7 +82,9 @@ impl Audit {
     /// Hears an entry with this access and no mark, unless one before has broken a law.
     #[inline]
     fn hear_access(&mut self, process: u8, access: Access)
-        ensures { (s : Given) (past : Past) → KeepsAll s past (record { process = process; access = Some access; marks = [] }) → Audits s past self.old → Audits s (record { process = process; access = Some access; marks = [] } ∷ past) self.new }
+        ensures { (s : Given) (past : Past) →
+            let e = record { process = process; access = Some access; marks = [] } in
+            KeepsAll s past e → Audits s past self.old → Audits s (e ∷ past) self.new }
     {
         let _nested: NestedTypes = None;
         if !self.is_good() {

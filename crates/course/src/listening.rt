@@ -5,7 +5,7 @@ ghost use Rattle.record.specs.declared.events.Event.TheVariants.{Step};
 ghost use Rattle.scenario.specs.files.declared.faults.Fault.{Fault as WhyEnded};
 ghost use Rattle.scenario.specs.files.declared.faults.Fault.TheVariants.{Memory};
 ghost use Rattle.course.specs.Happenings.{Happening, Tries};
-ghost use Rattle.course.specs.Listening.{Happens, PassQuietly, StepsOn};
+ghost use Rattle.course.specs.Listening.{HearsPassing, HearsTold, HearsUnmarked, StopsBy, TakesRoom};
 
 use crate::told::{Stepped, Told};
 use record::Taken;
@@ -33,22 +33,24 @@ pub trait Listener {
     /// Hears what a turn tells, once these commands are taken.
     fn hear(&mut self, told: &Told, taken: &[Taken]) -> Result<(), Fault>
         requires { HasRoom self.old 1 }
-        ensures ok { OnOk result ((s : Setup) (before : List Happening) (this : Happening) → Happens s before this told.now taken.now → Hears self.old s before (this ∷ before) self.new) }
-        ensures room { OnOk result ((more : ℕ) → HasRoom self.old (more + 1) → HasRoom self.new more) }
-        ensures cut { IfErr result (λ fault. (s : Setup) (before : List Happening) (this : Happening) → Happens s before this told.now taken.now → Stops self.old s before (this ∷ before) fault self.new) };
+        ensures ok { OnOk result (HearsTold Hears told.now taken.now self.old self.new) }
+        ensures room { OnOk result (TakesRoom HasRoom self.old 1 self.new) }
+        ensures cut { IfErr result (λ fault.
+            HearsTold (StopsBy Stops fault) told.now taken.now self.old self.new) };
 
     /// Hears a Step without a mark.
     fn step(&mut self, made: Stepped) -> Result<(), Fault>
         requires { HasRoom self.old 1 }
-        ensures ok { OnOk result ((s : Setup) (before : List Happening) → StepsOn s before made → Hears self.old s before (Tries (Step made.process made.flick) ∷ before) self.new) }
-        ensures room { OnOk result ((more : ℕ) → HasRoom self.old (more + 1) → HasRoom self.new more) }
-        ensures cut { IfErr result (λ fault. (s : Setup) (before : List Happening) → StepsOn s before made → Stops self.old s before (Tries (Step made.process made.flick) ∷ before) fault self.new) };
+        ensures ok { OnOk result (HearsUnmarked Hears made self.old self.new) }
+        ensures room { OnOk result (TakesRoom HasRoom self.old 1 self.new) }
+        ensures cut { IfErr result (λ fault.
+            HearsUnmarked (StopsBy Stops fault) made self.old self.new) };
 
     /// So many Steps without a mark are passed by.
     fn pass(&mut self, steps: u32)
         requires { HasRoom self.old steps }
-        ensures ok { hears_steps self.old ≡ false → (s : Setup) (before after : List Happening) → PassQuietly s steps before after → Hears self.old s before after self.new }
-        ensures room { (more : ℕ) → HasRoom self.old (more + steps) → HasRoom self.new more };
+        ensures ok { hears_steps self.old ≡ false → HearsPassing Hears steps self.old self.new }
+        ensures room { TakesRoom HasRoom self.old steps self.new };
 
     ghost room_less: { (a : Self) (n k : ℕ) → n ≤ k → HasRoom a k → HasRoom a n };
 

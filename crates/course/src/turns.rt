@@ -10,8 +10,8 @@ ghost use Rattle.world.specs.flicks.Flicks.{constant_flicks};
 ghost use Rattle.world.specs.Shows.{Shows};
 ghost use Rattle.course.specs.Courses.{Follows, Makes, CourseState};
 ghost use Rattle.course.specs.Happenings.{Tries};
-ghost use Rattle.course.specs.Listening.{room_wanted};
-ghost use Rattle.course.specs.Runs.{Run, is_there as is_target, past_in, run_at_start};
+ghost use Rattle.course.specs.Listening.{InItsRun, room_wanted};
+ghost use Rattle.course.specs.Runs.{Run, is_there as is_target, run_at_start, taken_in};
 ghost use Rattle.course.specs.Texts.{newest_store};
 ghost use Rattle.course.specs.Turns.{happens, makes_steps, turn_of, turns_in as turns_of};
 
@@ -68,14 +68,14 @@ impl Course {
 
     /// How many commands were taken.
     pub fn taken(&self) -> u64
-        ensures { (run : Run) → Follows self.now run → result ≡ length (history self.now.world.setup (past_in self.now.world.setup run)) }
+        ensures { InItsRun self.now (λ run. result ≡ length (taken_in self.now.world.setup run)) }
     {
         self.world.history().len() as u64
     }
 
     /// The commands taken, in their order.
     pub fn history(&self) -> &[Taken]
-        ensures { (run : Run) → Follows self.now run → result.now ≡ history self.now.world.setup (past_in self.now.world.setup run) }
+        ensures { InItsRun self.now (λ run. result.now ≡ taken_in self.now.world.setup run) }
     {
         self.world.history()
     }
@@ -93,7 +93,8 @@ impl Course {
         requires few { self.old.left ≤ turns_of line.now }
         requires still { makes_steps line.now ≡ false }
         ensures left { IfOk result (λ told. room_wanted told self.new.left ≤ self.old.left) }
-        ensures made { IfOk result (λ told. (run : Run) → Follows self.old run → Makes self.old run (turn_of self.old.world.setup line.now self.old.left run) told self.new) }
+        ensures made { IfOk result (λ told. InItsRun self.old (λ run.
+            Makes self.old run (turn_of self.old.world.setup line.now self.old.left run) told self.new)) }
     {
         let _nested: NestedTypes = None;
         if self.left == 0 {
@@ -125,7 +126,8 @@ impl Course {
         requires some_left { 0 < self.old.left }
         requires given { is_event event ≡ true }
         ensures left { self.new.left ≡ self.old.left - 1 }
-        ensures made { IfOk result (λ told. (run : Run) → Follows self.old run → Makes self.old run (happens (Tries event) (self.old.left - 1) run) told self.new) }
+        ensures made { IfOk result (λ told. InItsRun self.old (λ run.
+            Makes self.old run (happens (Tries event) (self.old.left - 1) run) told self.new)) }
     {
         self.left -= 1;
         let place = self.world.history().len() as u64;
@@ -146,7 +148,8 @@ impl Course {
 
     /// The store after the history; none while somebody is inside.
     fn newest(&self) -> Option<Image>
-        ensures { (events : List Happening) → Shows self.now.world events → result ≡ newest_store self.now.world.setup (past_of self.now.world.setup events) }
+        ensures { (events : List Happening) → Shows self.now.world events →
+            result ≡ newest_store self.now.world.setup (past_of self.now.world.setup events) }
     {
         let newest = self.world.newest();
         if let Some(store) = &newest {
@@ -158,7 +161,8 @@ impl Course {
 
 /// Tells that an event of this process was refused, unless it was so for want of memory.
 fn refused(process: u8, refusal: Refusal) -> Result<Option<Told>, AllocError>
-    ensures { IfOk result (λ told. (told ≡ Some (Told.Refused process refusal)) × (refusal ≡ Memory → ⊥)) }
+    ensures { IfOk result (λ told.
+        (told ≡ Some (Told.Refused process refusal)) × (refusal ≡ Memory → ⊥)) }
 {
     match refusal {
         Refusal::Memory => Err(AllocError),

@@ -1,7 +1,7 @@
 //! A line is played: its turns are made, one after the other, and a listener hears what they tell.
 ghost use Rattle.std.specs.Prelude.{◌≡◌, ◌+◌, ◌^◌, ◌≤◌, ℕ, IfErr, IfOk, OnOk};
 ghost use Rattle.course.specs.Courses.{Follows};
-ghost use Rattle.course.specs.Listening.{ComesTo, Plays, room_wanted};
+ghost use Rattle.course.specs.Listening.{Comes, LeavesRoom, PlaysLine, StopsAmid, StopsLine, TakesRoom, room_wanted};
 ghost use Rattle.course.specs.Runs.{Run, run_after};
 ghost use Rattle.course.specs.Turns.{makes_steps as has_steps, rest_of, turns_in as turns_of};
 
@@ -15,10 +15,11 @@ impl Course {
     /// turn.
     pub fn play<L: Listener>(&mut self, line: &Line, listener: &mut L) -> Result<(), Fault>
         requires { L.HasRoom listener.old (2 ^ 32) }
-        ensures ok { OnOk result ((run : Run) → Follows self.old run → Plays L.Hears self.old.world.setup line.now run self.new listener.old listener.new) }
+        ensures ok { OnOk result
+            (PlaysLine L.Hears self.old line.now self.new listener.old listener.new) }
         ensures runs { (run : Run) × Follows self.old run }
-        ensures room { OnOk result ((more : ℕ) → L.HasRoom listener.old (more + 2 ^ 32) → L.HasRoom listener.new more) }
-        ensures cut { IfErr result (λ fault. (run : Run) → Follows self.old run → L.Stops listener.old self.old.world.setup run.happened (run_after self.old.world.setup line.now run).happened fault listener.new) }
+        ensures room { OnOk result (TakesRoom L.HasRoom listener.old (2 ^ 32) listener.new) }
+        ensures cut { IfErr result (StopsLine L.Stops self.old line.now listener.old listener.new) }
     {
         self.shows_a_run();
         self.begin(line);
@@ -44,9 +45,11 @@ impl Course {
         requires few { self.old.left ≤ turns_of line.now }
         requires room { L.HasRoom listener.old self.old.left }
         ensures left { IfOk result (λ told. room_wanted told self.new.left ≤ self.old.left) }
-        ensures ok { IfOk result (λ told. (run : Run) → Follows self.old run → ComesTo L.Hears self.old.world.setup line.now self.old.left run listener.old listener.new told self.new) }
-        ensures room { IfOk result (λ told. (more : ℕ) → L.HasRoom listener.old (more + self.old.left) → L.HasRoom listener.new (more + room_wanted told self.new.left)) }
-        ensures cut { IfErr result (λ fault. (run : Run) → Follows self.old run → L.Stops listener.old self.old.world.setup run.happened (rest_of self.old.world.setup line.now self.old.left run).happened fault listener.new) }
+        ensures ok { IfOk result
+            (Comes L.Hears self.old line.now self.new listener.old listener.new) }
+        ensures room { IfOk result
+            (LeavesRoom L.HasRoom listener.old self.old.left listener.new self.new.left) }
+        ensures cut { IfErr result (StopsAmid L.Stops self.old line.now listener.old listener.new) }
     {
         if !makes_steps(line) {
             return Ok(self.make(line)?);

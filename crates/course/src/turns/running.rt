@@ -11,7 +11,7 @@ ghost use Rattle.world.specs.Walks.{KeepOthers, bits_within_at};
 ghost use Rattle.world.specs.process.declared.told.StepTold.TheVariants.{Nothing};
 ghost use Rattle.course.specs.Courses.{Follows, course};
 ghost use Rattle.course.specs.Happenings.{Happening, Tries};
-ghost use Rattle.course.specs.Listening.{ComesOn, ComesTo, HearsStep, MakesStep, RunsTo, StepsOn, room_wanted};
+ghost use Rattle.course.specs.Listening.{Comes, HearsStep, HearsUnmarked, InItsRun, LeavesRoom, MakesStep, PassesAlone, RunsAlone, StopsAlone, StopsAmid, StopsBy, TakesRoom, room_wanted};
 ghost use Rattle.course.specs.Runs.{Run, has_step, is_there as is_target, movers, past_in};
 ghost use Rattle.course.specs.Steppers.{IsAlone, left_told};
 ghost use Rattle.course.specs.Telling.{told_step, with_told};
@@ -39,9 +39,12 @@ impl Course {
         requires room { L.HasRoom listener.old self.old.left }
         ensures left { IfOk result (λ told. room_wanted told self.new.left ≤ self.old.left) }
         ensures ended { IfOk result (λ told. told ≡ None → self.new.left ≡ floor) }
-        ensures ok { IfOk result (λ told. (l : LineSeen) (run : Run) → Follows self.old run → IsAlone process floor self.old.world.setup l run → RunsTo L.Hears self.old.world.setup l self.old.left run listener.old listener.new process floor told self.new) }
-        ensures room { IfOk result (λ told. (more : ℕ) → L.HasRoom listener.old (more + self.old.left) → L.HasRoom listener.new (more + room_wanted told self.new.left)) }
-        ensures cut { IfErr result (λ fault. (l : LineSeen) (run : Run) → Follows self.old run → IsAlone process floor self.old.world.setup l run → self.old.left ≤ turns_in l → L.Stops listener.old self.old.world.setup run.happened (rest_of self.old.world.setup l self.old.left run).happened fault listener.new) }
+        ensures ok { IfOk result
+            (RunsAlone L.Hears self.old process floor self.new listener.old listener.new) }
+        ensures room { IfOk result
+            (LeavesRoom L.HasRoom listener.old self.old.left listener.new self.new.left) }
+        ensures cut { IfErr result
+            (StopsAlone L.Stops self.old process floor listener.old listener.new) }
     {
         let mut bits = 0;
         'steps: while floor < self.left {
@@ -74,9 +77,12 @@ impl Course {
         requires few { self.old.left ≤ turns_in (GoLine process target) }
         requires room { L.HasRoom listener.old self.old.left }
         ensures left { IfOk result (λ told. room_wanted told self.new.left ≤ self.old.left) }
-        ensures ok { IfOk result (λ told. (run : Run) → Follows self.old run → ComesTo L.Hears self.old.world.setup (GoLine process target) self.old.left run listener.old listener.new told self.new) }
-        ensures room { IfOk result (λ told. (more : ℕ) → L.HasRoom listener.old (more + self.old.left) → L.HasRoom listener.new (more + room_wanted told self.new.left)) }
-        ensures cut { IfErr result (λ fault. (run : Run) → Follows self.old run → L.Stops listener.old self.old.world.setup run.happened (rest_of self.old.world.setup (GoLine process target) self.old.left run).happened fault listener.new) }
+        ensures ok { IfOk result (Comes L.Hears self.old (GoLine process target) self.new
+            listener.old listener.new) }
+        ensures room { IfOk result
+            (LeavesRoom L.HasRoom listener.old self.old.left listener.new self.new.left) }
+        ensures cut { IfErr result (StopsAmid L.Stops self.old (GoLine process target)
+            listener.old listener.new) }
     {
         if self.left == 0 {
             return Ok(None);
@@ -107,9 +113,12 @@ impl Course {
     ) -> Result<Option<Told>, Fault>
         requires { L.HasRoom listener.old self.old.left }
         ensures left { IfOk result (λ told. room_wanted told self.new.left ≤ self.old.left) }
-        ensures ok { IfOk result (λ told. (steps : ℕ) (run : Run) → Follows self.old run → ComesTo L.Hears self.old.world.setup (WanderLine steps) self.old.left run listener.old listener.new told self.new) }
-        ensures room { IfOk result (λ told. (more : ℕ) → L.HasRoom listener.old (more + self.old.left) → L.HasRoom listener.new (more + room_wanted told self.new.left)) }
-        ensures cut { IfErr result (λ fault. (steps : ℕ) (run : Run) → Follows self.old run → self.old.left ≤ steps → L.Stops listener.old self.old.world.setup run.happened (rest_of self.old.world.setup (WanderLine steps) self.old.left run).happened fault listener.new) }
+        ensures ok { IfOk result (λ told. (steps : ℕ) →
+            Comes L.Hears self.old (WanderLine steps) self.new listener.old listener.new told) }
+        ensures room { IfOk result
+            (LeavesRoom L.HasRoom listener.old self.old.left listener.new self.new.left) }
+        ensures cut { IfErr result (λ fault. (steps : ℕ) → self.old.left ≤ steps →
+            StopsAmid L.Stops self.old (WanderLine steps) listener.old listener.new fault) }
     {
         let movers = self.movers();
         if movers.is_empty() {
@@ -138,7 +147,8 @@ impl Course {
 
     /// The processes with a Step to make, ascending. They take no memory.
     fn movers(&self) -> SmallVec<u8, 16>
-        ensures { (run : Run) → Follows self.now run → result.items ≡ movers self.now.world.setup (past_in self.now.world.setup run) }
+        ensures { InItsRun self.now (λ run.
+            result.items ≡ movers self.now.world.setup (past_in self.now.world.setup run)) }
     {
         let mut movers = SmallVec::new(self.alloc);
         for process in 0..self.processes {
@@ -151,7 +161,8 @@ impl Course {
 
     /// Whether a process runs, or its memory unit settles.
     fn has_step(&self, process: u8) -> bool
-        ensures { (run : Run) → Follows self.now run → process < self.now.world.setup.processes → result ≡ has_step (stage process (past_in self.now.world.setup run)) }
+        ensures { InItsRun self.now (λ run. process < self.now.world.setup.processes →
+            result ≡ has_step (stage process (past_in self.now.world.setup run))) }
     {
         match self.world.stage(process) {
             Some(stage) => has_step_in(stage),
@@ -179,8 +190,9 @@ fn pass_by<L: Listener>(
     ensures fewer { left.new ≤ left.old }
     ensures above { floor < left.new }
     ensures setup { world.new.setup ≡ world.old.setup }
-    ensures on { (l : LineSeen) (run : Run) → Follows (course world.old flicks.old left.old) run → IsAlone process floor world.old.setup l run → ComesOn L.Hears world.old.setup l left.old run listener.old listener.new (course world.new flicks.new left.new) (IsAlone process floor) }
-    ensures room { (more : ℕ) → L.HasRoom listener.old (more + left.old) → L.HasRoom listener.new (more + left.new) }
+    ensures on { PassesAlone L.Hears (course world.old flicks.old left.old) process floor
+        (course world.new flicks.new left.new) listener.old listener.new }
+    ensures room { LeavesRoom L.HasRoom listener.old left.old listener.new left.new None }
 {
     if listener.hears_steps() {
         return;
@@ -216,9 +228,11 @@ fn step<L: Listener>(
     requires room { L.HasRoom listener.old 1 }
     requires within { bits.old ≤ bits_within_at world.old.seats process }
     ensures within { bits.new ≤ bits_within_at world.new.seats process }
-    ensures ok { IfOk result (λ told. MakesStep L.Hears world.old process flick told world.new listener.old listener.new) }
-    ensures room { IfOk result (λ told. (more : ℕ) → L.HasRoom listener.old (more + 1) → L.HasRoom listener.new (more + room_wanted told 0)) }
-    ensures cut { IfErr result (λ fault. HearsStep (λ was s x y is. L.Stops was s x y fault is) world.old process flick world.new listener.old listener.new) }
+    ensures ok { IfOk result (λ told.
+        MakesStep L.Hears world.old process flick told world.new listener.old listener.new) }
+    ensures room { IfOk result (LeavesRoom L.HasRoom listener.old 1 listener.new 0) }
+    ensures cut { IfErr result (λ fault.
+        HearsStep (StopsBy L.Stops fault) world.old process flick world.new listener.old listener.new) }
     ensures setup { world.new.setup ≡ world.old.setup }
     ensures others { KeepOthers world.old.seats process world.new.seats }
 {
@@ -256,9 +270,10 @@ fn bits_known(world: &World, known: u16, process: u8) -> u16
 #[inline(always)]
 fn unmarked_step<L: Listener>(made: Stepped, listener: &mut L) -> Result<(), Fault>
     requires room { L.HasRoom listener.old 1 }
-    ensures ok { OnOk result ((s : Setup) (before : List Happening) → StepsOn s before made → L.Hears listener.old s before (Tries (Step made.process made.flick) ∷ before) listener.new) }
-    ensures room { OnOk result ((more : ℕ) → L.HasRoom listener.old (more + 1) → L.HasRoom listener.new more) }
-    ensures cut { IfErr result (λ fault. (s : Setup) (before : List Happening) → StepsOn s before made → L.Stops listener.old s before (Tries (Step made.process made.flick) ∷ before) fault listener.new) }
+    ensures ok { OnOk result (HearsUnmarked L.Hears made listener.old listener.new) }
+    ensures room { OnOk result (TakesRoom L.HasRoom listener.old 1 listener.new) }
+    ensures cut { IfErr result (λ fault.
+        HearsUnmarked (StopsBy L.Stops fault) made listener.old listener.new) }
 {
     if listener.hears_steps() {
         return listener.step(made);
@@ -276,9 +291,11 @@ fn any_step<L: Listener>(
     listener: &mut L,
 ) -> Result<Option<Told>, Fault>
     requires { L.HasRoom listener.old 1 }
-    ensures ok { IfOk result (λ told. MakesStep L.Hears world.old process flick told world.new listener.old listener.new) }
-    ensures room { IfOk result (λ told. (more : ℕ) → L.HasRoom listener.old (more + 1) → L.HasRoom listener.new (more + room_wanted told 0)) }
-    ensures cut { IfErr result (λ fault. HearsStep (λ was s x y is. L.Stops was s x y fault is) world.old process flick world.new listener.old listener.new) }
+    ensures ok { IfOk result (λ told.
+        MakesStep L.Hears world.old process flick told world.new listener.old listener.new) }
+    ensures room { IfOk result (LeavesRoom L.HasRoom listener.old 1 listener.new 0) }
+    ensures cut { IfErr result (λ fault.
+        HearsStep (StopsBy L.Stops fault) world.old process flick world.new listener.old listener.new) }
     ensures setup { world.new.setup ≡ world.old.setup }
     ensures others { KeepOthers world.old.seats process world.new.seats }
 {
