@@ -92,7 +92,8 @@ impl Course {
 
     /// Where a process stands; none, if there is no such process.
     pub fn stage(&self, process: u8) -> Option<Stage>
-        ensures { (run : Run) → Follows self.now run → result ≡ stage_in self.now.world.setup (past_in self.now.world.setup run) process }
+        ensures { (run : Run) → Follows self.now run
+            → result ≡ stage_in self.now.world.setup (past_in self.now.world.setup run) process }
     {
         self.world.stage(process)
     }

@@ -65,7 +65,8 @@ fn state_text<L: Onlooker>(
     scenario: &Scenario,
     onlooker: &mut L,
 ) -> Result<Vec<u8>, AllocError>
-    ensures { IfOk result (λ text. (made : List ℕ) × (text.items ≡ stated events made (script scenario.now))) }
+    ensures { IfOk result (λ text. (made : List ℕ)
+        × (text.items ≡ stated events made (script scenario.now))) }
 {
     let mut part = PartOfRun::new(alloc, &scenario.setup, events)?;
     let mut newest = None;

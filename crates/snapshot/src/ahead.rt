@@ -30,7 +30,9 @@ pub(crate) fn next_entry(
 ) -> Option<Entry>
     requires { twin.old.setup ≡ core.now.setup }
     ensures setup { twin.new.setup ≡ core.now.setup }
-    ensures entry { (history : List Seen) (events : List Happening) → length history ≡ taken → Shows (with_history core.now history) events → result ≡ entry_of core.now.setup (past_of core.now.setup events) (Step process flick) }
+    ensures entry { (history : List Seen) (events : List Happening) → length history ≡ taken
+        → Shows (with_history core.now history) events
+        → result ≡ entry_of core.now.setup (past_of core.now.setup events) (Step process flick) }
 {
     let _nested: NestedTypes = None;
     twin.copy_from(core);
@@ -55,7 +57,8 @@ pub(crate) fn push_next(
     second: &Option<Entry>,
     text: &mut Vec<u8>,
 ) -> Result<(), AllocError>
-    ensures { OnOk result (text.new.items ≡ text.old.items ++ lines_of_two process (words_added first.now) (words_added second.now)) }
+    ensures { OnOk result (text.new.items ≡ text.old.items
+        ++ lines_of_two process (words_added first.now) (words_added second.now)) }
 {
     let words = words_added(alloc, first)?;
     let others = words_added(alloc, second)?;
@@ -120,7 +123,8 @@ pub(crate) fn push_newest(
     entry: &Entry,
     text: &mut Vec<u8>,
 ) -> Result<(), AllocError>
-    ensures { OnOk result (text.new.items ≡ text.old.items ++ (codes "last " ++ entry_line entry.now)) }
+    ensures { OnOk result (text.new.items ≡ text.old.items ++ (codes "last "
+        ++ entry_line entry.now)) }
 {
     text.extend_from_slice(b"last ")?;
     print_entry(alloc, entry, text)
@@ -138,7 +142,10 @@ pub(crate) fn watch_ahead(
     requires twin { twin.old.setup ≡ core.now.setup }
     ensures twin { twin.new.setup ≡ core.now.setup }
     ensures setup { IfOk result (λ ahead. ahead.setup ≡ watch.now.setup) }
-    ensures heard { IfOk result (λ heard. (history : List Seen) (events : List Happening) → Shows (with_history core.now history) events → HasHeard watch.now (past_of core.now.setup events) → HasHeard heard (ahead core.now.setup (past_of core.now.setup events) process steps)) }
+    ensures heard { IfOk result (λ heard. (history : List Seen) (events : List Happening)
+        → Shows (with_history core.now history) events
+        → HasHeard watch.now (past_of core.now.setup events)
+        → HasHeard heard (ahead core.now.setup (past_of core.now.setup events) process steps)) }
 {
     twin.copy_from(core);
     let mut ahead = watch.twin(alloc)?;
@@ -153,7 +160,11 @@ pub(crate) fn watch_ahead(
 fn hear_step(twin: &mut Core, watch: &mut Watch, process: u8)
     ensures twin { twin.new.setup ≡ twin.old.setup }
     ensures setup { watch.new.setup ≡ watch.old.setup }
-    ensures goes { (history : List Seen) (events : List Happening) → Shows (with_history twin.old history) events → HasHeard watch.old (past_of twin.old.setup events) → StepsAhead twin.new watch.new (with_event twin.old.setup (Step process false) (past_of twin.old.setup events)) }
+    ensures goes { (history : List Seen) (events : List Happening)
+        → Shows (with_history twin.old history) events
+        → HasHeard watch.old (past_of twin.old.setup events)
+        → StepsAhead twin.new watch.new (with_event twin.old.setup (Step process false)
+        (past_of twin.old.setup events)) }
 {
     let mut told = StepTold::Nothing;
     if let Ok(access) = twin.step(process, false, &mut told) {

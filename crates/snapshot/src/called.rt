@@ -29,7 +29,8 @@ pub(crate) fn push_value_line(
     value: &[u8],
     text: &mut Vec<u8>,
 ) -> Result<(), AllocError>
-    ensures { OnOk result (text.new.items ≡ text.old.items ++ process_line process (words.now ++ value.now)) }
+    ensures { OnOk result (text.new.items ≡ text.old.items ++ process_line process (words.now
+        ++ value.now)) }
 {
     let head = format!(in alloc; "process {process} {words}")?;
     text.extend_from_slice(head.as_bytes())?;
@@ -44,7 +45,8 @@ pub(crate) fn push_line_if(
     words: &Option<String>,
     text: &mut Vec<u8>,
 ) -> Result<(), AllocError>
-    ensures { OnOk result (text.new.items ≡ text.old.items ++ line_if process (option_map string_bytes words.now)) }
+    ensures { OnOk result (text.new.items ≡ text.old.items
+        ++ line_if process (option_map string_bytes words.now)) }
 {
     match words {
         None => Ok(()),
@@ -60,7 +62,8 @@ pub(crate) fn push_open(
     call: &Option<Called>,
     text: &mut Vec<u8>,
 ) -> Result<(), AllocError>
-    ensures { OnOk result (text.new.items ≡ text.old.items ++ open_lines process history.now call.now) }
+    ensures { OnOk result (text.new.items ≡ text.old.items
+        ++ open_lines process history.now call.now) }
 {
     match call {
         None => Ok(()),
@@ -76,7 +79,8 @@ fn push_call(
     called: &Called,
     text: &mut Vec<u8>,
 ) -> Result<(), AllocError>
-    ensures { OnOk result (text.new.items ≡ text.old.items ++ call_lines process history.now called.now) }
+    ensures { OnOk result (text.new.items ≡ text.old.items
+        ++ call_lines process history.now called.now) }
 {
     let marks = &called.marks;
     let words = call_words(alloc, called)?;
@@ -138,7 +142,8 @@ fn taken_words(
     place: Option<u64>,
     at: Option<u64>,
 ) -> Result<Option<String>, AllocError>
-    ensures { IfOk result (λ words. option_map string_bytes words ≡ taken_words history.now place at) }
+    ensures { IfOk result (λ words. option_map string_bytes words
+        ≡ taken_words history.now place at) }
 {
     let _nested: NestedTypes = None;
     let Some(place) = place else {

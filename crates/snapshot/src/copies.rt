@@ -40,7 +40,9 @@ impl RegisterCopies<'_> {
         requires reader { reader < self.now.setup.now.processes }
         requires bit { bit < width self.now.setup.now self.now.field }
         requires few { bit < 65536 }
-        ensures { (past : Past) → HasHeard self.now.watch.now past → result ≡ bit_held self.now.setup.now past (copy_of self.now.owner self.now.field reader bit) }
+        ensures { (past : Past) → HasHeard self.now.watch.now past
+            → result ≡ bit_held self.now.setup.now past
+            (copy_of self.now.owner self.now.field reader bit) }
     {
         self.watch.holds(&copy_of(self.owner, self.field, reader, bit))
     }
@@ -51,7 +53,9 @@ impl RegisterCopies<'_> {
         requires setup { self.now.watch.now.setup ≡ self.now.setup.now }
         requires owner { self.now.owner < self.now.setup.now.processes }
         requires reader { reader < self.now.setup.now.processes }
-        ensures { IfOk result (λ text. (past : Past) → HasHeard self.now.watch.now past → text.items ≡ copy_text self.now.setup.now past self.now.owner self.now.field reader) }
+        ensures { IfOk result (λ text. (past : Past) → HasHeard self.now.watch.now past
+            → text.items ≡ copy_text self.now.setup.now past self.now.owner self.now.field reader)
+            }
     {
         let width = width(self.setup, self.field);
         let mut read = new_read(self.alloc, width)?;
@@ -76,7 +80,9 @@ impl RegisterCopies<'_> {
         requires unheard { HasHeard opening.now [] }
         requires owner { self.now.owner < self.now.setup.now.processes }
         requires reader { reader < self.now.setup.now.processes }
-        ensures { (past : Past) → HasHeard self.now.watch.now past → result ≡ is_copy_changed self.now.setup.now past self.now.owner self.now.field reader }
+        ensures { (past : Past) → HasHeard self.now.watch.now past
+            → result ≡ is_copy_changed self.now.setup.now past self.now.owner self.now.field
+            reader }
     {
         let mut changed = false;
         for bit in 0..width(self.setup, self.field) {
@@ -94,7 +100,9 @@ impl RegisterCopies<'_> {
         requires opening { opening.now.setup ≡ self.now.setup.now }
         requires unheard { HasHeard opening.now [] }
         requires owner { self.now.owner < self.now.setup.now.processes }
-        ensures { (past : Past) → HasHeard self.now.watch.now past → result ≡ list_any (is_copy_changed self.now.setup.now past self.now.owner self.now.field) (processes self.now.setup.now) }
+        ensures { (past : Past) → HasHeard self.now.watch.now past
+            → result ≡ list_any (is_copy_changed self.now.setup.now past self.now.owner
+            self.now.field) (processes self.now.setup.now) }
     {
         let mut changed = false;
         for reader in 0..self.setup.processes {
@@ -111,7 +119,9 @@ impl RegisterCopies<'_> {
         requires owner { self.now.owner < self.now.setup.now.processes }
         requires one { one < self.now.setup.now.processes }
         requires other { other < self.now.setup.now.processes }
-        ensures { IfOk result (λ same. (past : Past) → HasHeard self.now.watch.now past → same ≡ have_one_text (copy_text self.now.setup.now past self.now.owner self.now.field) one other) }
+        ensures { IfOk result (λ same. (past : Past) → HasHeard self.now.watch.now past
+            → same ≡ have_one_text (copy_text self.now.setup.now past self.now.owner
+            self.now.field) one other) }
     {
         let text = self.text(one)?;
         let second = self.text(other)?;
@@ -213,7 +223,8 @@ fn shown(
 /// The number that bytes make.
 fn number_shown(alloc: Global, bytes: &[u8]) -> Result<Vec<u8>, AllocError>
     requires { length bytes.now ≤ 8 }
-    ensures { IfOk result (λ text. (bits : List Bool) → IsBytesOf bits bytes.now → text.items ≡ decimal (number_of_bits bits)) }
+    ensures { IfOk result (λ text. (bits : List Bool) → IsBytesOf bits bytes.now
+        → text.items ≡ decimal (number_of_bits bits)) }
 {
     numbers_are_their_bits();
     let number = number_of(bytes);
@@ -227,7 +238,9 @@ fn number_shown(alloc: Global, bytes: &[u8]) -> Result<Vec<u8>, AllocError>
 fn image_shown(alloc: Global, setup: &Setup, bytes: &[u8]) -> Result<Vec<u8>, AllocError>
     requires good { checked setup.now ≡ Ok tt }
     requires length { length bytes.now ≡ image_bytes setup.now }
-    ensures { IfOk result (λ text. (bits : List Bool) → length bits ≡ 8 * image_bytes setup.now → IsBytesOf bits bytes.now → text.items ≡ image_text setup.now (bytes_of_bits (image_bytes setup.now) bits)) }
+    ensures { IfOk result (λ text. (bits : List Bool) → length bits ≡ 8 * image_bytes setup.now
+        → IsBytesOf bits bytes.now → text.items
+        ≡ image_text setup.now (bytes_of_bits (image_bytes setup.now) bits)) }
 {
     bytes_go_by_their_bits();
     image_text(alloc, setup, bytes)

@@ -35,7 +35,8 @@ pub(crate) fn ticket_at(
     next: &Access,
     called: &Called,
 ) -> Result<Option<String>, AllocError>
-    ensures { IfOk result (λ words. option_map string_bytes words ≡ ticket_at process stage next.now called.now) }
+    ensures { IfOk result (λ words. option_map string_bytes words
+        ≡ ticket_at process stage next.now called.now) }
 {
     match stage {
         Stage::Doorway => doorway_ticket(alloc, process, next, called),
@@ -51,7 +52,8 @@ fn doorway_ticket(
     next: &Access,
     called: &Called,
 ) -> Result<Option<String>, AllocError>
-    ensures { IfOk result (λ words. option_map string_bytes words ≡ doorway_ticket process next.now called.now) }
+    ensures { IfOk result (λ words. option_map string_bytes words
+        ≡ doorway_ticket process next.now called.now) }
 {
     let _nested: NestedTypes = None;
     let accesses = &called.accesses;
@@ -96,7 +98,8 @@ pub(crate) fn waits_at(
     stage: Stage,
     called: &Called,
 ) -> Result<Option<String>, AllocError>
-    ensures { IfOk result (λ words. option_map string_bytes words ≡ waits_at process stage called.now) }
+    ensures { IfOk result (λ words. option_map string_bytes words
+        ≡ waits_at process stage called.now) }
 {
     let _nested: NestedTypes = None;
     match stage {
@@ -117,7 +120,8 @@ fn waits_by(
     ticket: Option<u32>,
     newest: Option<FinishedRead>,
 ) -> Result<Option<String>, AllocError>
-    ensures { IfOk result (λ words. option_map string_bytes words ≡ waits_by process ticket newest) }
+    ensures { IfOk result (λ words. option_map string_bytes words
+        ≡ waits_by process ticket newest) }
 {
     let Some(ticket) = ticket else {
         return Ok(None);
@@ -191,7 +195,8 @@ pub(crate) fn reads_words(
     call: &Option<Called>,
 ) -> Result<String, AllocError>
     requires { checked setup.now ≡ Ok tt }
-    ensures { IfOk result (λ words. string_bytes words ≡ reads_words setup.now access.now call.now) }
+    ensures { IfOk result (λ words. string_bytes words
+        ≡ reads_words setup.now access.now call.now) }
 {
     let made = 2 * u64::from(access.bit) + one_if(matches!(access.how, Move::EndRead(_)));
     let all = 2 * width(setup, access.field) as u64;
@@ -279,7 +284,8 @@ pub(crate) fn opened_words(
     access: &Access,
     overlapped: bool,
 ) -> Result<Option<String>, AllocError>
-    ensures { IfOk result (λ words. option_map string_bytes words ≡ opened_words access.now (open_how access.now.how overlapped)) }
+    ensures { IfOk result (λ words. option_map string_bytes words
+        ≡ opened_words access.now (open_how access.now.how overlapped)) }
 {
     let Some(how) = open_how(access.how, overlapped) else {
         return Ok(None);

@@ -51,7 +51,11 @@ impl Known<'_> {
         requires watch { self.now.watch.now.setup ≡ self.now.setup.now }
         requires twin { twin.old.setup ≡ self.now.setup.now }
         ensures twin { twin.new.setup ≡ self.now.setup.now }
-        ensures lines { OnOk result ((past : Past) → Knows self.now past → IsThere self.now.setup.now next.now → text.new.items ≡ text.old.items ++ doing_with self.now.setup.now past self.now.process self.now.stage self.now.call.now self.now.sight.now next.now) }
+        ensures lines { OnOk result ((past : Past) → Knows self.now past
+            → IsThere self.now.setup.now next.now
+            → text.new.items ≡ text.old.items
+            ++ doing_with self.now.setup.now past self.now.process self.now.stage
+            self.now.call.now self.now.sight.now next.now) }
     {
         let failed = failed_words(self.alloc, self.stage, self.sight.failed)?;
         push_line_if(self.alloc, self.process, &failed, text)?;
@@ -63,7 +67,8 @@ impl Known<'_> {
 
     /// Writes its ticket, and for whom it waits.
     fn push_ticket(&self, next: &Access, text: &mut Vec<u8>) -> Result<(), AllocError>
-        ensures { OnOk result (text.new.items ≡ text.old.items ++ ticket_lines self.now.process self.now.stage next.now self.now.call.now) }
+        ensures { OnOk result (text.new.items ≡ text.old.items
+            ++ ticket_lines self.now.process self.now.stage next.now self.now.call.now) }
     {
         let _nested: NestedTypes = None;
         let Some(called) = self.call else {
@@ -87,7 +92,11 @@ impl Known<'_> {
         requires watch { self.now.watch.now.setup ≡ self.now.setup.now }
         requires twin { twin.old.setup ≡ self.now.setup.now }
         ensures twin { twin.new.setup ≡ self.now.setup.now }
-        ensures lines { OnOk result ((past : Past) → Knows self.now past → IsThere self.now.setup.now next.now → text.new.items ≡ text.old.items ++ busy_lines self.now.setup.now past self.now.process next.now self.now.call.now self.now.sight.now.torn) }
+        ensures lines { OnOk result ((past : Past) → Knows self.now past
+            → IsThere self.now.setup.now next.now
+            → text.new.items ≡ text.old.items
+            ++ busy_lines self.now.setup.now past self.now.process next.now self.now.call.now
+            self.now.sight.now.torn) }
     {
         if let Some(torn) = &self.sight.torn {
             return self.push_settling(torn, text);
@@ -101,7 +110,9 @@ impl Known<'_> {
 
     /// Writes what its unit settles.
     fn push_settling(&self, torn: &TornWrite, text: &mut Vec<u8>) -> Result<(), AllocError>
-        ensures { OnOk result (text.new.items ≡ text.old.items ++ (process_line self.now.process (settles_words self.now.setup.now torn.now) ++ process_line self.now.process (torn_words torn.now))) }
+        ensures { OnOk result (text.new.items ≡ text.old.items
+            ++ (process_line self.now.process (settles_words self.now.setup.now torn.now)
+            ++ process_line self.now.process (torn_words torn.now))) }
     {
         let settles = settles_words(self.alloc, self.setup, torn)?;
         push_line(self.alloc, self.process, &settles, text)?;
@@ -121,7 +132,11 @@ impl Known<'_> {
         requires watch { self.now.watch.now.setup ≡ self.now.setup.now }
         requires twin { twin.old.setup ≡ self.now.setup.now }
         ensures twin { twin.new.setup ≡ self.now.setup.now }
-        ensures lines { OnOk result ((past : Past) → Knows self.now past → IsThere self.now.setup.now next.now → text.new.items ≡ text.old.items ++ process_line self.now.process (writes_words self.now.setup.now past self.now.process next.now)) }
+        ensures lines { OnOk result ((past : Past) → Knows self.now past
+            → IsThere self.now.setup.now next.now
+            → text.new.items ≡ text.old.items
+            ++ process_line self.now.process (writes_words self.now.setup.now past
+            self.now.process next.now)) }
     {
         if next.owner >= self.setup.processes {
             return Ok(());
@@ -151,7 +166,8 @@ impl Known<'_> {
 
     /// Which of its accesses is open, if one is.
     fn open_words(&self) -> Result<Option<String>, AllocError>
-        ensures { IfOk result (λ words. (past : Past) → Knows self.now past → option_map string_bytes words ≡ open_words past self.now.sight.now.newest) }
+        ensures { IfOk result (λ words. (past : Past) → Knows self.now past
+            → option_map string_bytes words ≡ open_words past self.now.sight.now.newest) }
     {
         let Some(access) = self.sight.newest else {
             return Ok(None);
@@ -167,7 +183,8 @@ fn value_words(
     made: u64,
     all: u64,
 ) -> Result<String, AllocError>
-    ensures { IfOk result (λ words. string_bytes words ≡ codes "writes " ++ (progress_words access.now made all ++ codes " value ")) }
+    ensures { IfOk result (λ words. string_bytes words ≡ codes "writes "
+        ++ (progress_words access.now made all ++ codes " value ")) }
 {
     let progress = progress_words(alloc, access, made, all)?;
     format!(in alloc; "writes {progress} value ")
@@ -175,7 +192,9 @@ fn value_words(
 
 /// Whether a write has overlapped the read that an access begins.
 fn is_overlapped(watch: &Watch, access: &Access) -> bool
-    ensures { (past : Past) → HasHeard watch.now past → IsThere watch.now.setup access.now → begins_read (moves_of access.now past) ≡ true → result ≡ is_overlapped (moves_of access.now past) }
+    ensures { (past : Past) → HasHeard watch.now past → IsThere watch.now.setup access.now
+        → begins_read (moves_of access.now past) ≡ true
+        → result ≡ is_overlapped (moves_of access.now past) }
 {
     let ended = Access {
         how: Move::EndRead(false),

@@ -35,7 +35,8 @@ pub(crate) fn push_registers(
 ) -> Result<(), AllocError>
     requires good { checked setup.now ≡ Ok tt }
     requires setup { watch.now.setup ≡ setup.now }
-    ensures { OnOk result ((past : Past) → HasHeard watch.now past → text.new.items ≡ text.old.items ++ register_lines setup.now past) }
+    ensures { OnOk result ((past : Past) → HasHeard watch.now past
+        → text.new.items ≡ text.old.items ++ register_lines setup.now past) }
 {
     let opening = Watch::new(alloc, setup)?;
     for owner in 0..setup.processes {
@@ -58,7 +59,9 @@ fn push_owned(
     requires opening { opening.now.setup ≡ setup.now }
     requires unheard { HasHeard opening.now [] }
     requires owner { owner < setup.now.processes }
-    ensures { OnOk result ((past : Past) → HasHeard watch.now past → text.new.items ≡ text.old.items ++ flat_map (lines_of_register setup.now past owner) fields) }
+    ensures { OnOk result ((past : Past) → HasHeard watch.now past
+        → text.new.items ≡ text.old.items ++ flat_map
+        (lines_of_register setup.now past owner) fields) }
 {
     for field in &FIELDS {
         let copies = RegisterCopies {
@@ -84,7 +87,9 @@ fn push_register(
     requires opening { opening.now.setup ≡ copies.now.setup.now }
     requires unheard { HasHeard opening.now [] }
     requires owner { copies.now.owner < copies.now.setup.now.processes }
-    ensures { OnOk result ((past : Past) → HasHeard copies.now.watch.now past → text.new.items ≡ text.old.items ++ lines_of_register copies.now.setup.now past copies.now.owner copies.now.field) }
+    ensures { OnOk result ((past : Past) → HasHeard copies.now.watch.now past
+        → text.new.items ≡ text.old.items ++ lines_of_register copies.now.setup.now past
+        copies.now.owner copies.now.field) }
 {
     if !copies.are_changed(opening) {
         return Ok(());
@@ -109,7 +114,9 @@ fn have_all_one_text(copies: &RegisterCopies<'_>) -> Result<bool, AllocError>
     requires good { checked copies.now.setup.now ≡ Ok tt }
     requires setup { copies.now.watch.now.setup ≡ copies.now.setup.now }
     requires owner { copies.now.owner < copies.now.setup.now.processes }
-    ensures { IfOk result (λ all. (past : Past) → HasHeard copies.now.watch.now past → all ≡ list_all (λ r. have_one_text (copy_text copies.now.setup.now past copies.now.owner copies.now.field) r 0) (range_with_len 0 copies.now.setup.now.processes)) }
+    ensures { IfOk result (λ all. (past : Past) → HasHeard copies.now.watch.now past
+        → all ≡ list_all (λ r. have_one_text (copy_text copies.now.setup.now past copies.now.owner
+        copies.now.field) r 0) (range_with_len 0 copies.now.setup.now.processes)) }
 {
     let mut all = true;
     for reader in 0..copies.setup.processes {
@@ -128,7 +135,10 @@ fn push_one_text(
     requires good { checked copies.now.setup.now ≡ Ok tt }
     requires setup { copies.now.watch.now.setup ≡ copies.now.setup.now }
     requires owner { copies.now.owner < copies.now.setup.now.processes }
-    ensures { OnOk result ((past : Past) → HasHeard copies.now.watch.now past → text.new.items ≡ text.old.items ++ (name.now ++ (codes " " ++ (copy_text copies.now.setup.now past copies.now.owner copies.now.field 0 ++ codes "\n")))) }
+    ensures { OnOk result ((past : Past) → HasHeard copies.now.watch.now past
+        → text.new.items ≡ text.old.items ++ (name.now ++ (codes " "
+        ++ (copy_text copies.now.setup.now past copies.now.owner copies.now.field 0
+        ++ codes "\n")))) }
 {
     let copy = copies.text(0)?;
     text.extend_from_slice(name.as_bytes())?;
@@ -142,7 +152,10 @@ fn push_texts(copies: &RegisterCopies<'_>, name: &str, text: &mut Vec<u8>) -> Re
     requires good { checked copies.now.setup.now ≡ Ok tt }
     requires setup { copies.now.watch.now.setup ≡ copies.now.setup.now }
     requires owner { copies.now.owner < copies.now.setup.now.processes }
-    ensures { OnOk result ((past : Past) → HasHeard copies.now.watch.now past → text.new.items ≡ text.old.items ++ flat_map (line_of_first name.now (copy_text copies.now.setup.now past copies.now.owner copies.now.field) copies.now.setup.now.processes) (range_with_len 0 copies.now.setup.now.processes)) }
+    ensures { OnOk result ((past : Past) → HasHeard copies.now.watch.now past
+        → text.new.items ≡ text.old.items ++ flat_map (line_of_first name.now
+        (copy_text copies.now.setup.now past copies.now.owner copies.now.field)
+        copies.now.setup.now.processes) (range_with_len 0 copies.now.setup.now.processes)) }
 {
     for reader in 0..copies.setup.processes {
         push_if_first(copies, name, reader, text)?;
@@ -161,7 +174,10 @@ fn push_if_first(
     requires setup { copies.now.watch.now.setup ≡ copies.now.setup.now }
     requires owner { copies.now.owner < copies.now.setup.now.processes }
     requires reader { reader < copies.now.setup.now.processes }
-    ensures { OnOk result ((past : Past) → HasHeard copies.now.watch.now past → text.new.items ≡ text.old.items ++ line_of_first name.now (copy_text copies.now.setup.now past copies.now.owner copies.now.field) copies.now.setup.now.processes reader) }
+    ensures { OnOk result ((past : Past) → HasHeard copies.now.watch.now past
+        → text.new.items ≡ text.old.items ++ line_of_first name.now
+        (copy_text copies.now.setup.now past copies.now.owner copies.now.field)
+        copies.now.setup.now.processes reader) }
 {
     if has_earlier(copies, reader)? {
         return Ok(());
@@ -182,7 +198,9 @@ fn has_earlier(copies: &RegisterCopies<'_>, reader: u8) -> Result<bool, AllocErr
     requires setup { copies.now.watch.now.setup ≡ copies.now.setup.now }
     requires owner { copies.now.owner < copies.now.setup.now.processes }
     requires reader { reader < copies.now.setup.now.processes }
-    ensures { IfOk result (λ has. (past : Past) → HasHeard copies.now.watch.now past → has ≡ list_any (λ q. have_one_text (copy_text copies.now.setup.now past copies.now.owner copies.now.field) q reader) (range_with_len 0 reader)) }
+    ensures { IfOk result (λ has. (past : Past) → HasHeard copies.now.watch.now past
+        → has ≡ list_any (λ q. have_one_text (copy_text copies.now.setup.now past copies.now.owner
+        copies.now.field) q reader) (range_with_len 0 reader)) }
 {
     let mut has = false;
     for earlier in 0..reader {
@@ -202,7 +220,10 @@ fn push_readers(
     requires setup { copies.now.watch.now.setup ≡ copies.now.setup.now }
     requires owner { copies.now.owner < copies.now.setup.now.processes }
     requires reader { reader < copies.now.setup.now.processes }
-    ensures { OnOk result ((past : Past) → HasHeard copies.now.watch.now past → text.new.items ≡ text.old.items ++ flat_map (reader_if (copy_text copies.now.setup.now past copies.now.owner copies.now.field) reader) (range_with_len 0 copies.now.setup.now.processes)) }
+    ensures { OnOk result ((past : Past) → HasHeard copies.now.watch.now past
+        → text.new.items ≡ text.old.items ++ flat_map (reader_if
+        (copy_text copies.now.setup.now past copies.now.owner copies.now.field) reader)
+        (range_with_len 0 copies.now.setup.now.processes)) }
 {
     for other in 0..copies.setup.processes {
         let same = copies.have_one_text(other, reader)?;

@@ -56,7 +56,8 @@ impl Sight {
     /// One more entry, with this number, where each bit has so many copies.
     #[inline]
     pub fn hear(&mut self, copies: u8, number: u64, access: &Option<Access>, marks: &[Mark])
-        ensures { ((t : Torn) → self.old.torn ≡ Some t → t.made < 2 ^ 64 - 1) → self.new ≡ seen copies number access.now marks.now self.old }
+        ensures { ((t : Torn) → self.old.torn ≡ Some t → t.made < 2 ^ 64 - 1)
+            → self.new ≡ seen copies number access.now marks.now self.old }
     {
         let _nested: NestedTypes = None;
         let fails = has_failed(marks);
@@ -177,7 +178,8 @@ fn settling_on(
     access: &Option<Access>,
     torn: &Option<TornWrite>,
 ) -> Option<TornWrite>
-    ensures { ((t : Torn) → torn.now ≡ Some t → t.made < 2 ^ 64 - 1) → result ≡ settling_on marks.now access.now torn.now }
+    ensures { ((t : Torn) → torn.now ≡ Some t → t.made < 2 ^ 64 - 1)
+        → result ≡ settling_on marks.now access.now torn.now }
 {
     if has_settled(marks) {
         return None;

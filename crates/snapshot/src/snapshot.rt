@@ -66,7 +66,9 @@ impl Snapshot {
         requires { self.old.table.entries < 2 ^ 64 - 1 }
         ensures setup { self.new.setup ≡ self.old.setup }
         ensures count { self.new.table.entries ≡ self.old.table.entries + 1 }
-        ensures heard { (past : Past) (e : Noted) → e.process ≡ process → e.access ≡ access.now → e.marks ≡ marks.now → HasHeard self.old past → ComesInTurn self.old.setup past e → HasHeard self.new (e ∷ past) }
+        ensures heard { (past : Past) (e : Noted) → e.process ≡ process → e.access ≡ access.now
+            → e.marks ≡ marks.now → HasHeard self.old past → ComesInTurn self.old.setup past e
+            → HasHeard self.new (e ∷ past) }
     {
         let _nested: NestedTypes = None;
         let number = self.table.entries();
@@ -87,7 +89,8 @@ impl Snapshot {
 
     /// Writes the line of the newest entry behind the text.
     pub fn print_newest(alloc: Global, entry: &Entry, text: &mut Vec<u8>) -> Result<(), AllocError>
-        ensures { OnOk result ((past : Past) → text.new.items ≡ text.old.items ++ newest_line (entry.now ∷ past)) }
+        ensures { OnOk result ((past : Past) → text.new.items ≡ text.old.items
+            ++ newest_line (entry.now ∷ past)) }
     {
         push_newest(alloc, entry, text)
     }
@@ -102,7 +105,8 @@ impl Snapshot {
         text: &mut Vec<u8>,
     ) -> Result<(), AllocError>
         requires { core.now.setup ≡ self.now.setup }
-        ensures lines { OnOk result ((past : Past) → Stands self.now core.now history.now past → text.new.items ≡ text.old.items ++ state_lines self.now.setup past) }
+        ensures lines { OnOk result ((past : Past) → Stands self.now core.now history.now past
+            → text.new.items ≡ text.old.items ++ state_lines self.now.setup past) }
     {
         self.push_processes(alloc, core, history, text)?;
         push_registers(alloc, &self.setup, self.table.watch(), text)?;
@@ -118,7 +122,9 @@ impl Snapshot {
         text: &mut Vec<u8>,
     ) -> Result<(), AllocError>
         requires { core.now.setup ≡ self.now.setup }
-        ensures { OnOk result ((past : Past) → Stands self.now core.now history.now past → text.new.items ≡ text.old.items ++ flat_map (process_lines self.now.setup past) (processes self.now.setup)) }
+        ensures { OnOk result ((past : Past) → Stands self.now core.now history.now past
+            → text.new.items ≡ text.old.items
+            ++ flat_map (process_lines self.now.setup past) (processes self.now.setup)) }
     {
         let mut twin = Core::new(alloc, &self.setup)?;
         for process in 0..self.setup.processes {
@@ -141,7 +147,8 @@ impl Snapshot {
         requires twin { twin.old.setup ≡ self.now.setup }
         requires process { process < self.now.setup.processes }
         ensures twin { twin.new.setup ≡ self.now.setup }
-        ensures lines { OnOk result ((past : Past) → Stands self.now core.now history.now past → text.new.items ≡ text.old.items ++ process_lines self.now.setup past process) }
+        ensures lines { OnOk result ((past : Past) → Stands self.now core.now history.now past
+            → text.new.items ≡ text.old.items ++ process_lines self.now.setup past process) }
     {
         let Some(stage) = core.stage(process) else {
             return Ok(());
@@ -167,7 +174,8 @@ impl Snapshot {
         requires twin { twin.old.setup ≡ self.now.setup }
         requires process { process < self.now.setup.processes }
         ensures twin { twin.new.setup ≡ self.now.setup }
-        ensures lines { OnOk result ((past : Past) → Stands self.now core.now history.now past → text.new.items ≡ text.old.items ++ running_lines self.now.setup past process stage) }
+        ensures lines { OnOk result ((past : Past) → Stands self.now core.now history.now past
+            → text.new.items ≡ text.old.items ++ running_lines self.now.setup past process stage) }
     {
         let taken = history.len() as u64;
         let first = next_entry(alloc, twin, core, taken, process, false);
@@ -195,7 +203,11 @@ impl Snapshot {
         requires twin { twin.old.setup ≡ self.now.setup }
         requires process { process < self.now.setup.processes }
         ensures twin { twin.new.setup ≡ self.now.setup }
-        ensures lines { OnOk result ((history : List Seen) (past : Past) → Stands self.now core.now history past → call.now ≡ open_call self.now.setup process past → next.now ≡ entry_of self.now.setup past (Step process false) → text.new.items ≡ text.old.items ++ doing_lines self.now.setup past process stage) }
+        ensures lines { OnOk result ((history : List Seen) (past : Past)
+            → Stands self.now core.now history past
+            → call.now ≡ open_call self.now.setup process past
+            → next.now ≡ entry_of self.now.setup past (Step process false)
+            → text.new.items ≡ text.old.items ++ doing_lines self.now.setup past process stage) }
     {
         let Some(next) = access_in(next) else {
             return Ok(());

@@ -17,7 +17,8 @@ pub(crate) fn push_store<S: Store>(
     store: &S,
     text: &mut Vec<u8>,
 ) -> Result<(), AllocError>
-    ensures { OnOk result (text.new.items ≡ text.old.items ++ store_text callers (S.contents store.now)) }
+    ensures { OnOk result (text.new.items ≡ text.old.items
+        ++ store_text callers (S.contents store.now)) }
 {
     let words = store_words(alloc, store)?;
     text.extend_from_slice(words.as_bytes())?;
@@ -48,7 +49,8 @@ fn push_numbers<S: Store>(
     store: &S,
     text: &mut Vec<u8>,
 ) -> Result<(), AllocError>
-    ensures { OnOk result (text.new.items ≡ text.old.items ++ flat_map number_word (numbers_of callers (S.contents store.now).numbers)) }
+    ensures { OnOk result (text.new.items ≡ text.old.items
+        ++ flat_map number_word (numbers_of callers (S.contents store.now).numbers)) }
 {
     for process in 0..callers {
         let number = store.last(process);
