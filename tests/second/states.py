@@ -9,6 +9,7 @@ from second.calls import first_with
 from second.judge import Judge, entry_of
 from second.programs import Setup, image_of, pairs_in
 from second.runs import Run
+from second.scenario_files import NAME, is_value
 from second.store import SLOT, Store
 
 FIELDS = ["choosing", "ticket", "commit", "stamp0", "stamp1", "image0", "image1"]
@@ -119,7 +120,8 @@ class State:
         try:
             pairs = list(pairs_in(image[at : at + SLOT] for at in range(0, end, SLOT)))
             store = Store(self.setup.slots, pairs, numbers)
-            is_image = image_of(store) == number and len(store.pairs) == len(pairs)
+            are_pairs = all(NAME.fullmatch(name.encode("latin1")) and is_value(value.encode("latin1")) for name, value in pairs)
+            is_image = are_pairs and image_of(store) == number and len(store.pairs) == len(pairs)
         except (ValueError, OverflowError):
             is_image = False
         return shown_store(store) if is_image else "no-image"

@@ -25,7 +25,7 @@ use Rattle.record.proofs.Width.{is_good}
 use Rattle.scenario.specs.declared.lines.Line.{Line}
 use Rattle.scenario.specs.declared.lines.Line.TheVariants as line
 use Rattle.scenario.specs.declared.lines.Target.{Target}
-use Rattle.world.specs.flicks.Flicks.{pick_of}
+use Rattle.course.specs.world.flicks.Flicks.{pick_of}
 use Rattle.course.specs.Happenings.{Happening, Tries, Lacks, Tires, Looks, past_after, tried}
 use Rattle.course.specs.Runs.{Run, after_pick_in, goes, has_step, is_there, may_step, movers, next_step, past_in, pick_among, picked, run_after, run_at_start, runs, stepped, steps, wanders, with_happening}
 use Rattle.course.proofs.Grows.{Grows, line_grows, rest_grows}
@@ -169,15 +169,16 @@ goes_few s p target zero run = by (is_there target (stage p (past_in s run)))
     by : (b : Bool) → length (past_in s (elim b as (λ _. Run) [ true ↦ run | false ↦ with_happening (Tires p) run ])) ≤ length (past_in s run) + 0
     by true = omega arith
     by false = omega arith
-goes_few s p target (suc n) run = by (is_there target (stage p (past_in s run))) (may_step s p run)
+goes_few s p target (suc n) run = by (is_there target (stage p (past_in s run))) (may_step s p run) (goes_few s p target n (stepped p run))
   where
     one : length (past_in s (stepped p run)) ≤ length (past_in s run) + 1
     one = happening_few s run.happened (Tries (next_step p run))
 
-    by : (b c : Bool) → length (past_in s (elim b as (λ _. Run) [ true ↦ run | false ↦ elim c as (λ _. Run) [ true ↦ goes s p target n (stepped p run) | false ↦ stepped p run ] ])) ≤ length (past_in s run) + suc n
-    by true c = omega arith
-    by false true = let rest = goes_few s p target n (stepped p run) in omega (arith, rest, one)
-    by false false = omega (arith, one)
+    by : (b c : Bool) → length (past_in s (goes s p target n (stepped p run))) ≤ length (past_in s (stepped p run)) + n →
+        length (past_in s (elim b as (λ _. Run) [ true ↦ run | false ↦ elim c as (λ _. Run) [ true ↦ goes s p target n (stepped p run) | false ↦ stepped p run ] ])) ≤ length (past_in s run) + suc n
+    by true c rest = omega arith
+    by false true rest = omega (arith, rest, one)
+    by false false rest = omega (arith, one)
 
 -- one that is not long
 go_part : (s : Setup) (most : ℕ) (p : ℕ) (target : Target) (run : Run) → 0 < most → 65536 ≤ most → Part s most run (run_after s (line.Go p target) run) (run_after s (line.Go p target) run)
@@ -205,9 +206,9 @@ line_part s good (line.Wander n) most run some short =
     by false = refl
 line_part s good (line.Go p target) most run some short = go_part s most p target run some (by (nat_lt most 65536) refl short)
   where
-    by : (b : Bool) → nat_lt most 65536 ≡ b → cond b (Some (p, target)) None ≡ None → 65536 ≤ most
-    by true is no = absurd (cc)
-    by false is no = grind (arith, nat_tests)
+    by : (b : Bool) → nat_lt most 65536 ≡ b → cond {A = Option (ℕ × Target)} b (Some (p, target)) None ≡ None → 65536 ≤ most
+    by true is none = absurd (cc)
+    by false is none = grind (arith, nat_tests)
 line_part s good (line.Call p command) most run some short = part_one s most run _ some
 line_part s good (line.Fail p) most run some short = part_one s most run _ some
 line_part s good (line.Withdraw p) most run some short = part_one s most run _ some
@@ -297,8 +298,10 @@ along_all s lines whole part is u = first_is s whole part u ∙ ap (λ (r : Run)
 pub long_is : (most : ℕ) (l : Line) (p : ℕ) (target : Target) → long_go most l ≡ Some (p, target) → (l ≡ line.Go p target) × (most < 65536)
 long_is most (line.Go q aim) p target is = by (nat_lt most 65536) refl is
   where
-    by : (b : Bool) → nat_lt most 65536 ≡ b → cond b (Some (q, aim)) None ≡ Some (p, target) → (line.Go q aim ≡ line.Go p target) × (most < 65536)
-    by true less is = ((cc), grind (arith, nat_tests))
+    by : (b : Bool) → nat_lt most 65536 ≡ b → cond {A = Option (ℕ × Target)} b (Some (q, aim)) None ≡ Some (p, target) → (line.Go q aim ≡ line.Go p target) × (most < 65536)
+    by true less is =
+        let pair : ◌≡◌ {A = ℕ × Target} (q, aim) (p, target) = (cc) in
+        ((λ i. line.Go (pair i).0 (pair i).1), grind (arith, nat_tests))
     by false less is = absurd (cc)
 long_is most (line.Step q n) p target is = absurd (cc)
 long_is most (line.Wander n) p target is = absurd (cc)

@@ -5,7 +5,7 @@ use Rattle.record.specs.declared.stages.Stage.{Stage}
 use Rattle.record.specs.Stages.{stage}
 use Rattle.scenario.specs.declared.lines.Line.TheVariants as line
 use Rattle.scenario.specs.declared.lines.Target.{Target}
-use Rattle.world.specs.Events.{stage_in}
+use Rattle.course.specs.world.Events.{stage_in}
 use Rattle.course.specs.Courses.{Follows}
 use Rattle.course.specs.Happenings.{Lacks, Tires}
 use Rattle.course.specs.Runs.{Run, goes, is_there, may_step, past_in, run_after, stepped, steps, with_happening}

@@ -5,8 +5,8 @@ use Rattle.record.specs.declared.events.Event.{Event}
 use Rattle.record.specs.declared.history.Taken.{Taken}
 use Rattle.record.specs.Histories.{history}
 use Rattle.record.specs.Records.{past_of}
-use Rattle.world.specs.Cores.{CoreState, with_history}
-use Rattle.world.specs.Shows.{Shows, WorldState}
+use Rattle.course.specs.world.Cores.{CoreState, with_history}
+use Rattle.course.specs.world.Shows.{Shows, WorldState}
 use Rattle.course.specs.Happenings.{tried}
 use Rattle.course.specs.Runs.{Run, past_in}
 use Rattle.snapshot.specs.States.{Stands}

@@ -48,7 +48,9 @@ impl Heard {
         let _nested: NestedTypes = None;
         match told {
             Told::Accepted(made) => self.hear_event(*made),
-            Told::Refused { .. } | Told::Tired(_) | Told::Shown(_) => {}
+            Told::Refused { .. } => {}
+            Told::Tired(_) => {}
+            Told::Shown(_) => {}
         }
     }
 
@@ -84,11 +86,11 @@ impl Heard {
         let events = self.snapshot.entries();
         let head = format!(in self.alloc; "events {events}\n")?;
         text.extend_from_slice(head.as_bytes())?;
-        self.print_newest(text)
+        self.print_entry(text)
     }
 
     /// Writes the entry of the newest event, if there is one.
-    fn print_newest(&self, text: &mut Vec<u8>) -> Result<(), AllocError>
+    fn print_entry(&self, text: &mut Vec<u8>) -> Result<(), AllocError>
         ensures { OnOk result (WritesSeen newest_line self.now text.old.items text.new.items) }
     {
         let _nested: NestedTypes = None;

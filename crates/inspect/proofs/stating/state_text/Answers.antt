@@ -33,7 +33,7 @@ loop-line-preserved g c =
     record {
       most = c.make_line.ensures.most ∙ c.loop-line.invariant.most;
       entries = omega (arith, c.in_ok-make_line.ensures.entries, c.loop-line.invariant.entries);
-      along = (run_after s here was.0, subst (λ (rest : List Line). runs s rest was.0 ≡ runs s lines run_at_start) next was.1.0, c.in_ok-make_line.ensures.along s was.0 was.1.1);
+      along = (run_after s here was.0, subst (λ (rest : List Line). runs s rest was.0 ≡ runs s lines run_at_start) next was.1, c.in_ok-make_line.ensures.along s was.0 was.2);
     }
 
 pub returns : goal.returns
@@ -41,16 +41,16 @@ returns g c =
     let s : Setup = c.args.scenario.now.setup in
     let lines : List Line = c.args.scenario.now.lines.items in
     let was = c.loop-line.invariant.along in
-    let u : ComesAlong s was.0 c.loop-line.part = was.1.1 in
-    let ended : runs s [] was.0 ≡ runs s lines run_at_start = subst (λ (rest : List Line). runs s rest was.0 ≡ runs s lines run_at_start) (drop_all c.loop-line.line-index lines (omega arith)) was.1.0 in
+    let u : ComesAlong s was.0 c.loop-line.part = was.2 in
+    let ended : runs s [] was.0 ≡ runs s lines run_at_start = subst (λ (rest : List Line). runs s rest was.0 ≡ runs s lines run_at_start) (drop_all c.loop-line.line-index lines (omega arith)) was.1 in
     let past : past_in s u.now ≡ first_of c.args.events (past_after s (runs s lines run_at_start).happened) = along_all s lines was.0 c.loop-line.part ended u ∙ ap (λ n. first_of n (past_after s (runs s lines run_at_start).happened)) c.loop-line.invariant.most in
     let head = c.in_ok-print_head.ensures s (past_in s u.now) u.at.seen in
     let made = c.in_ok-push_made.ensures in
     let print = c.in_ok-print.ensures s u.now u.at in
-    (made.0, print ∙ ap (λ l. l ++ state_lines s (past_in s u.now)) (made.1 ∙ ap (λ l. l ++ made.0) (head ∙ ap (λ l. l ++ head_lines (past_in s u.now)) c.new-text.ensures))
+    (made.0, print ∙ ap (λ l. l ++ state_lines s (past_in s u.now)) (made.1 ∙ ap (λ l. l ++ made.0) (head ∙ ap (λ l. l ++ head_lines (past_in s u.now)) c.new-text.ensures.items))
     ∙ append_assoc (head_lines (past_in s u.now)) made.0 (state_lines s (past_in s u.now)) ∙ ap (state_after made.0 s) past)
 
 pub print-requires : goal.print-requires
 print-requires g c =
-    let u = c.loop-line.invariant.along.1.1 in
+    let u = c.loop-line.invariant.along.2 in
     u.at.setup ∙ sym u.at.seen.setup

@@ -3,8 +3,8 @@ use Rattle.snapshot.proofs.Stand.{ok_then}
 use Rattle.inspect.proofs.Along.{along_part, along_whole}
 use Rattle.inspect.proofs.part_of_run.PartOfRun.make_line.Goals as goal
 
-pub returns-then-room-clause-along : goal.returns-then-room-clause-along
-returns-then-room-clause-along c = λ s whole u.
+pub returns-then-room-eq0-clause-along : goal.returns-then-room-eq0-clause-along
+returns-then-room-eq0-clause-along c = λ s whole u.
     let many : c.args.self.now.most ≤ c.args.self.now.heard.snapshot.table.entries = omega arith in
     along_whole s c.args.line.now whole c.args.self.now many u
 

@@ -1,5 +1,5 @@
 use Rattle.std.proofs.Common.{◌++◌, ap, ◌∙◌}
-use Rattle.world.specs.Shows.{WorldState}
+use Rattle.course.specs.world.Shows.{WorldState}
 use Rattle.course.specs.Runs.{past_in}
 use Rattle.snapshot.specs.States.{state_lines}
 use Rattle.snapshot.proofs.Stand.{ok_then}
@@ -12,4 +12,4 @@ print-requires c = ap (λ (w : WorldState). w.setup) c.core.ensures ∙ c.requir
 pub returns : goal.returns
 returns c = ok_then c.print.result (λ writes s run at.
     writes (past_in s run) (stands_at s run c.args.self.now c.core.result.now c.history.result.now at c.core.ensures (c.history.ensures run at.follows))
-    ∙ ap (λ s. c.args.text.now.items ++ state_lines s (past_in s run)) at.seen.setup) c.print.ensures
+    ∙ ap (λ t. c.args.text.now.items ++ state_lines t (past_in s run)) at.seen.setup) c.print.ensures.lines
