@@ -5,15 +5,13 @@ ghost use Rattle.std.specs.Prelude.{◌≡◌, ◌-◌, ◌<◌, ◌^◌, IfOk};
 
 use command_line::{
     Engine, Fault, FromRead, Intake, IntoWrite, Invocation, LineFault, Output, Request, Sink,
-    Source, Terminals, USAGE_STATUS, Uninterrupted, WatchedInput, Watcher, all_words, ended,
+    Source, Terminals, USAGE_STATUS, Uninterrupted, WatchedInput, Watcher, all_words, exit_status,
     read_words,
 };
 use drawer::progress::Onlooker;
 use drawer::{Reads, draw, draw_svg};
 use engines::{replay, run_audit, run_bits, run_judge, run_plain, run_record, run_sweep};
-use inspect::{
-    FileKind, KeptFile, KeptInput, events_said, explanation, run_calls, run_state,
-};
+use inspect::{FileKind, KeptFile, KeptInput, events_said, explanation, run_calls, run_state};
 use race::{RunFault, run_fault_status, run_race};
 use record_drawer::{Opened, draw_record, draw_record_svg, judge_any_lock};
 use std::alloc::Global;
@@ -208,21 +206,23 @@ fn run_engine<T: AllocGlobal + Threads + Wait + Sync, R: Source, W: Sink, L: Onl
     let alloc = rt.alloc();
     let reads = wanted.reads;
     let ran = match wanted.engine {
-        Engine::Plain => ended(run_plain(alloc, input, output)),
-        Engine::Bits => ended(run_bits(alloc, input, output)),
-        Engine::Replay => ended(replay(alloc, input, output, onlooker)),
+        Engine::Plain => exit_status(run_plain(alloc, input, output)),
+        Engine::Bits => exit_status(run_bits(alloc, input, output)),
+        Engine::Replay => exit_status(replay(alloc, input, output, onlooker)),
         Engine::Audit => run_audit(alloc, input, output, onlooker),
         Engine::Sweep => run_sweep(alloc, input, output, onlooker),
-        Engine::Record => ended(run_record(alloc, input, output, onlooker)),
-        Engine::State => ended(run_state(alloc, wanted.at, input, output, onlooker)),
-        Engine::Calls => ended(run_calls(alloc, input, output, onlooker)),
+        Engine::Record => exit_status(run_record(alloc, input, output, onlooker)),
+        Engine::State => exit_status(run_state(alloc, wanted.at, input, output, onlooker)),
+        Engine::Calls => exit_status(run_calls(alloc, input, output, onlooker)),
         Engine::Judge if wanted.any_lock => judge_any_lock(alloc, input, output, wanted.why),
         Engine::Judge => run_judge(alloc, input, output, wanted.why),
         Engine::Race => return run_race(rt, alloc, input, output),
-        Engine::Draw if wanted.is_record => ended(draw_record(alloc, reads, input, output)),
-        Engine::DrawSvg if wanted.is_record => ended(draw_record_svg(alloc, reads, input, output)),
-        Engine::Draw => ended(draw(alloc, reads, input, output, onlooker)),
-        Engine::DrawSvg => ended(draw_svg(alloc, reads, input, output, onlooker)),
+        Engine::Draw if wanted.is_record => exit_status(draw_record(alloc, reads, input, output)),
+        Engine::DrawSvg if wanted.is_record => exit_status(draw_record_svg(
+            alloc, reads, input, output,
+        )),
+        Engine::Draw => exit_status(draw(alloc, reads, input, output, onlooker)),
+        Engine::DrawSvg => exit_status(draw_svg(alloc, reads, input, output, onlooker)),
     };
     Ok(ran?)
 }

@@ -12,7 +12,7 @@ mod terminal;
 mod words;
 
 pub use commands::{CommandEntry, Engine, Intake};
-pub use files::{Fault, FromRead, IntoWrite, LineFault, Sink, Source, ended};
+pub use files::{Fault, FromRead, IntoWrite, LineFault, Sink, Source, exit_status};
 pub use notices::{Notice, USAGE_STATUS};
 pub use pages::HelpPage;
 pub use progress::{WatchedInput, Watcher};

@@ -3,8 +3,8 @@
 //! together the text of `replay`. Where it is asked, a picture shows the reads that writes overlapped too.
 //!
 //! ```rust
-//! Engine::Draw => ended(draw(alloc, reads, input, output, onlooker)),
-//! Engine::DrawSvg => ended(draw_svg(alloc, reads, input, output, onlooker)),
+//! Engine::Draw => exit_status(draw(alloc, reads, input, output, onlooker)),
+//! Engine::DrawSvg => exit_status(draw_svg(alloc, reads, input, output, onlooker)),
 //! ```
 #![tactic(auto)]
 

@@ -15,5 +15,5 @@ mod words;
 pub use faults::{Fault, FaultKind, LineFault};
 pub use key_words::meaning_of;
 pub use reading::{FromLines, keep_line, read_any_line, read_file};
-pub use statuses::{DONE, Ending, ended, fault_status};
+pub use statuses::{DONE, Ending, exit_status, fault_status};
 pub use streams::{Failed, FromRead, INPUT_LIMIT, IntoWrite, Sink, Source, read_input, write_all};

@@ -30,7 +30,7 @@ impl Ending for () {
 }
 
 /// The exit status that an engine's end stands for, where it has met no fault.
-pub fn ended<E: Ending + Drop>(ran: Result<E, Fault>) -> Result<u8, Fault>
+pub fn exit_status<E: Ending + Drop>(ran: Result<E, Fault>) -> Result<u8, Fault>
     ensures { MatchResult ran (λ end. result ≡ Ok (E.status_of_end end)) (λ e. result ≡ Err e) }
 {
     match ran {

@@ -2,8 +2,8 @@
 //! good or bad, and of any lock; what it says is drawn. The engines that judge records are passed on.
 //!
 //! ```rust
-//! Engine::Draw if wanted.is_record => ended(draw_record(alloc, reads, input, output)),
-//! Engine::DrawSvg if wanted.is_record => ended(draw_record_svg(alloc, reads, input, output)),
+//! Engine::Draw if wanted.is_record => exit_status(draw_record(alloc, reads, input, output)),
+//! Engine::DrawSvg if wanted.is_record => exit_status(draw_record_svg(alloc, reads, input, output)),
 //! ```
 #![tactic(auto)]
 
