@@ -23,7 +23,7 @@ pub mod statements;
 pub use bit_files::{BitLine, read_bits};
 pub use files::{
     DONE, Ending, Failed, Fault, FaultKind, FromRead, INPUT_LIMIT, IntoWrite, LineFault, Sink,
-    Source, ended, fault_status, progress, read_input, write_all,
+    Source, exit_status, fault_status, progress, read_input, write_all,
 };
 pub use flicks::Flick;
 pub use laws::cut_texts_have_the_fault_of_the_whole;
