@@ -11,7 +11,7 @@ use Rattle.record.specs.Moves.{field_number, moves_of}
 use Rattle.record.specs.Registers.{opening_bit, width}
 use Rattle.laws.specs.Held.{IsThere}
 use Rattle.read_law.specs.declared.look.Look.{Look}
-use Rattle.read_law.specs.Looks.{TellsOverlap, look_of}
+use Rattle.read_law.specs.Looks.{TellsOverlap, held, look_of}
 use Rattle.read_law.specs.Safe.{TellsSafe}
 
 -- for each register of each process the looks of its bits
@@ -90,6 +90,14 @@ TellsEnd w a told = (past : Past) → HasHeard w past → TellsOverlap told (mov
 -- the same, if the access is there
 abbrev pub TellsEndThere : WatchState → Access → Bool → Type 0
 TellsEndThere w a told = (past : Past) → HasHeard w past → IsThere w.setup a → TellsOverlap told (moves_of a past) a.how
+
+-- the answer is what was last written to the bit of an access; none while a write of it is open
+abbrev pub TellsHeld : WatchState → Access → Option Bool → Type 0
+TellsHeld w a told = (past : Past) → HasHeard w past → told ≡ held (opening_bit w.setup a) (moves_of a past)
+
+-- the same, if the access is there
+abbrev pub TellsHeldThere : WatchState → Access → Option Bool → Type 0
+TellsHeldThere w a told = (past : Past) → HasHeard w past → IsThere w.setup a → told ≡ held (opening_bit w.setup a) (moves_of a past)
 
 -- the bits of register n look as they open
 pub record IsOpened (s : Setup) (n : ℕ) (register : List Look) : Type 0 where

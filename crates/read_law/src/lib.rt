@@ -9,4 +9,5 @@ mod places;
 mod watch;
 
 pub use looking::is_unsafe;
+pub use places::width;
 pub use watch::Watch;

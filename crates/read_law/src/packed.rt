@@ -108,6 +108,18 @@ impl Looks {
         Ok(Looks { bytes, len })
     }
 
+    /// The same looks.
+    pub fn twin(&self, alloc: Global) -> Result<Looks, AllocError>
+        ensures { IfOk result (λ looks. looks ≡ self.now) }
+    {
+        let mut bytes = Vec::new(alloc);
+        bytes.extend_from_slice(self.bytes.as_slice())?;
+        Ok(Looks {
+            bytes,
+            len: self.len,
+        })
+    }
+
     /// How many there are.
     #[inline]
     pub fn len(&self) -> usize

@@ -14,7 +14,7 @@ pub(crate) const FIELDS: usize = 7;
 
 /// The bits of a register.
 #[inline]
-pub(crate) fn width(setup: &Setup, field: Field) -> usize
+pub fn width(setup: &Setup, field: Field) -> usize
     requires { checked setup.now ≡ Ok tt }
     ensures width { result ≡ width setup.now field }
     ensures most { result ≤ 1728 }

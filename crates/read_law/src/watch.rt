@@ -4,7 +4,7 @@ ghost use Rattle.store_image.specs.Image.{image_of};
 ghost use Rattle.record.specs.Registers.{width};
 ghost use Rattle.laws.specs.Held.{IsThere};
 ghost use Rattle.read_law.specs.Safe.{TellsSafe};
-ghost use Rattle.read_law.specs.Watching.{HasHeard, HearsOn, IfAllThere, IfThere, IsOpened, OfHeard, OpenAs, PassesStray, TellsBehind, TellsEnd, TellsEndThere, TellsThere};
+ghost use Rattle.read_law.specs.Watching.{HasHeard, HearsOn, IfAllThere, IfThere, IsOpened, OfHeard, OpenAs, PassesStray, TellsBehind, TellsEnd, TellsEndThere, TellsHeld, TellsHeldThere, TellsThere};
 
 use crate::look::Look;
 use crate::opening::bit_of;
@@ -54,6 +54,20 @@ impl Watch {
         })
     }
 
+    /// One that has heard the same.
+    pub fn twin(&self, alloc: Global) -> Result<Watch, AllocError>
+        ensures { IfOk result (λ w. w ≡ self.now) }
+    {
+        let mut registers = Vec::new(alloc);
+        for looks in &self.registers {
+            registers.push(looks.twin(alloc)?)?;
+        }
+        Ok(Watch {
+            setup: self.setup,
+            registers,
+        })
+    }
+
     /// One more entry, whatever it is: whether it keeps the law, after the entries heard before. It takes no memory.
     ///
     /// An access of a bit that is not there leaves no trace, and its entry is said to keep the law. So it does, if no
@@ -93,6 +107,28 @@ impl Watch {
         ensures stray { (IsThere self.now.setup access.now → ⊥) → result ≡ false }
     {
         is_there(&self.setup, access) && self.overlaps_there(access)
+    }
+
+    /// What was last written to the bit of an access, or settled there; none while a write of it is open. Of a bit that is not
+    /// there nothing is told.
+    pub fn holds(&self, access: &Access) -> Option<bool>
+        ensures { TellsHeldThere self.now access.now result }
+    {
+        if !is_there(&self.setup, access) {
+            return None;
+        }
+        self.holds_there(access)
+    }
+
+    /// The same of a bit that there is.
+    #[inline]
+    fn holds_there(&self, access: &Access) -> Option<bool>
+        requires { IsThere self.now.setup access.now }
+        ensures { TellsHeld self.now access.now result }
+    {
+        let place = copy_of(&self.setup, access);
+        let look = self.registers[register_of(access)].get(place);
+        look.held()
     }
 
     /// The same of a bit that there is.
