@@ -20,15 +20,15 @@ use Rattle.calls.proofs.InCall.{calls-few, count-few}
 use Rattle.calls.proofs.Steps.{standing-heard, standing-other}
 
 -- a look into a list that was set
-slice_get-set_same : (xs : List CallStanding) (i : ℕ) (x : CallStanding) → i < length xs → slice_get (slice_set xs i x) i ≡ Some x
-slice_get-set_same xs i x within =
-    slice_get-get_or (slice_set xs i x) i x (subst (λ n. i < n) (sym (length-set xs i x)) within) ∙ ap Some (get_or-set_same xs i x x within)
+pub slice_get-set_same : {A : Type 0} (xs : List A) (i : ℕ) (x : A) → i < length xs → slice_get (slice_set xs i x) i ≡ Some x
+slice_get-set_same {A} xs i x within =
+    slice_get-get_or {X = A} (slice_set xs i x) i x (subst (λ n. i < n) (sym (length-set {A = A} xs i x)) within) ∙ ap Some (get_or-set_same {A = A} xs i x x within)
 
-slice_get-set_other : (xs : List CallStanding) (i j : ℕ) (x : CallStanding) → j ≢ i → slice_get (slice_set xs i x) j ≡ slice_get xs j
-slice_get-set_other xs i j x apart = elim (cases_lt j (length xs)) [
-  | inl within ↦ slice_get-get_or (slice_set xs i x) j x (subst (λ n. j < n) (sym (length-set xs i x)) within)
-      ∙ ap Some (get_or-set_other xs i j x x apart) ∙ sym (slice_get-get_or xs j x within)
-  | inr past ↦ slice_get_past (slice_set xs i x) j (subst (λ n. n ≤ j) (sym (length-set xs i x)) past) ∙ sym (slice_get_past xs j past)
+pub slice_get-set_other : {A : Type 0} (xs : List A) (i j : ℕ) (x : A) → j ≢ i → slice_get (slice_set xs i x) j ≡ slice_get xs j
+slice_get-set_other {A} xs i j x apart = elim (cases_lt j (length xs)) [
+  | inl within ↦ slice_get-get_or {X = A} (slice_set xs i x) j x (subst (λ n. j < n) (sym (length-set {A = A} xs i x)) within)
+      ∙ ap Some (get_or-set_other {A = A} xs i j x x apart) ∙ sym (slice_get-get_or {X = A} xs j x within)
+  | inr past ↦ slice_get_past {X = A} (slice_set xs i x) j (subst (λ n. n ≤ j) (sym (length-set {A = A} xs i x)) past) ∙ sym (slice_get_past {X = A} xs j past)
 ]
 
 -- at the start each process is at rest

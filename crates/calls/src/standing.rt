@@ -5,11 +5,12 @@ ghost use Rattle.record.specs.Calls.{called_in as command_in};
 ghost use Rattle.record.specs.Doorways.{first_of as first};
 ghost use Rattle.record.specs.Program.{is_below as below};
 ghost use Rattle.record.specs.Registers.{width};
-ghost use Rattle.calls.specs.Columns.{answer_after, ends_number, holds_up as holds, is_read as begins_read, is_write as begins_write, more_if as one_more_if, number_after as after, tells_waiting, with_bit as bit_with};
+ghost use Rattle.calls.specs.Columns.{answer_after, begins_ticket, ends_number, ends_raising, holds_up as holds, is_read as begins_read, is_write as begins_write, is_write_end, more_if as one_more_if, newest_after, number_after as after, tells_waiting, with_bit as bit_with};
 ghost use Rattle.calls.specs.Stepping.{AreFew, accessed, heard, at_rest, begun, marked_all, marked_on, no_accesses, no_marks, with_access, with_mark};
 
-use crate::called::{Accesses, Called, Marked};
+use crate::called::{Accesses, Called, Marked, FinishedRead};
 use plain_store::{Command, NestedTypes, Setup};
+use read_law::width;
 use record::{Access, Field, Mark, Move};
 
 /// What is kept of a process: its last call, and whether that goes on.
@@ -148,6 +149,10 @@ impl Accesses {
             overlapped: 0,
             number: 0,
             waited_for: None,
+            raised: false,
+            takes: false,
+            greatest: 0,
+            newest: None,
         }
     }
 
@@ -174,6 +179,12 @@ impl Accesses {
         if tells_waiting(setup, process, marks, access, self.number) {
             self.waited_for = Some(access.owner);
         }
+        self.raised = self.raised || ends_raising(setup, access);
+        self.takes = self.takes || begins_ticket(access);
+        if ends_number(setup, access) {
+            self.greatest = self.greatest.max(self.number);
+        }
+        self.newest = newest_after(setup, self.number, access, self.newest);
     }
 }
 
@@ -307,26 +318,82 @@ fn tells_waiting(setup: &Setup, process: u8, marks: &Marked, access: &Access, nu
     let Some(ticket) = marks.ticket else {
         return false;
     };
-    marks.wait_end.is_none() && holds_up(setup, process, ticket, access, number)
+    marks.wait_end.is_none()
+        && ends_number(setup, access)
+        && holds_up(process, ticket, access.owner, access.field, number)
 }
 
-/// Whether an access ends the read of a number that holds up a process with this ticket.
-fn holds_up(setup: &Setup, process: u8, ticket: u32, access: &Access, number: u64) -> bool
-    requires { checked setup.now ≡ Ok tt }
-    ensures { result ≡ (ends_number (width setup.now access.now.field) access.now.bit access.now.how && holds process ticket access.now.owner access.now.field number) }
+/// Whether a number that was read of a register of this owner holds up a process with this ticket.
+pub fn holds_up(process: u8, ticket: u32, owner: u8, field: Field, number: u64) -> bool
+    ensures { result ≡ holds process ticket owner field number }
 {
-    if !matches!(access.how, Move::EndRead(_)) {
-        return false;
-    }
-    match access.field {
-        Field::Choosing => access.bit == 0 && number == 1,
-        Field::Ticket => {
-            u32::from(access.bit) + 1 == u32::from(setup.ticket_bits)
-                && number > 0
-                && is_below(number, access.owner, u64::from(ticket), process)
-        }
+    match field {
+        Field::Choosing => number == 1,
+        Field::Ticket => number > 0 && is_below(number, owner, u64::from(ticket), process),
         _ => false,
     }
+}
+
+/// Whether an access ends the read of a number.
+#[inline]
+fn ends_number(setup: &Setup, access: &Access) -> bool
+    requires { checked setup.now ≡ Ok tt }
+    ensures { result ≡ ends_number (width setup.now access.now.field) access.now.bit access.now.how }
+{
+    match access.how {
+        Move::EndRead(_) => usize::from(access.bit) + 1 == width(setup, access.field),
+        _ => false,
+    }
+}
+
+/// Whether a choosing bit is written on its last copy.
+#[inline]
+fn ends_raising(setup: &Setup, access: &Access) -> bool
+    ensures { result ≡ ends_raising setup.now access.now }
+{
+    ends_write(access.how)
+        && u32::from(access.reader) + 1 == u32::from(setup.processes)
+        && matches!(access.field, Field::Choosing)
+}
+
+/// Whether a ticket begins to be written.
+#[inline]
+fn begins_ticket(access: &Access) -> bool
+    ensures { result ≡ begins_ticket access.now }
+{
+    is_write(access.how) && matches!(access.field, Field::Ticket)
+}
+
+/// Whether a move ends a write.
+#[inline]
+fn ends_write(how: Move) -> bool
+    ensures { result ≡ is_write_end how }
+{
+    matches!(how, Move::EndWrite)
+}
+
+/// The number that is read last, once an access is made with which this number is read.
+#[inline]
+fn newest_after(
+    setup: &Setup,
+    number: u64,
+    access: &Access,
+    found: Option<FinishedRead>,
+) -> Option<FinishedRead>
+    requires { checked setup.now ≡ Ok tt }
+    ensures { result ≡ newest_after setup.now number access.now found }
+{
+    if ends_write(access.how) {
+        return None;
+    }
+    if !ends_number(setup, access) {
+        return found;
+    }
+    Some(FinishedRead {
+        owner: access.owner,
+        field: access.field,
+        number,
+    })
 }
 
 /// Whether one ticket, with its process, is below another.

@@ -1,6 +1,7 @@
 ghost use Rattle.std.specs.Prelude.{◌≡◌, ◌+◌, ◌-◌, ◌^◌, ◌<◌, ◌∷◌, [], IfOk, Ok, Some, None, slice_get};
 ghost use Rattle.plain_store.specs.Setups.{checked};
-ghost use Rattle.record.specs.Entries.{Entry as Noted, Past};
+ghost use Rattle.record.specs.Calls.{calls_in};
+ghost use Rattle.record.specs.Entries.{Entry as Noted, Past, own};
 ghost use Rattle.read_law.specs.Watching.{HasHeard as HasWatched};
 ghost use Rattle.calls.specs.Columns.{ends_overlapped_read, is_read_end};
 ghost use Rattle.calls.specs.declared.standing.CallStanding.{CallStanding as Stood};
@@ -111,6 +112,22 @@ impl CallTable {
         ensures { result ≡ self.now.entries - 1 }
     {
         self.entries.saturating_sub(1)
+    }
+
+    /// The watch that has heard its entries.
+    pub fn watch(&self) -> &Watch
+        ensures watch { result.now ≡ self.now.watch }
+        ensures setup { result.now.setup ≡ self.now.setup }
+    {
+        &self.watch
+    }
+
+    /// How many calls a process has made.
+    pub fn calls(&self, process: u8) -> u64
+        requires { process < self.now.setup.processes }
+        ensures { (past : Past) → HasHeard self.now past → result ≡ calls_in (own process past) }
+    {
+        self.standings[usize::from(process)].last.call
     }
 
     /// The call of a process, if it has not ended.
