@@ -187,6 +187,13 @@ impl World {
         let _kept = &self.core;
     }
 
+    /// What it keeps but for the history.
+    pub fn core(&self) -> &Core
+        ensures { with_history result.now self.now.history ≡ self.now }
+    {
+        &self.core
+    }
+
     /// Where a process stands; none, if there is no such process.
     pub fn stage(&self, process: u8) -> Option<Stage>
         ensures { (events : List Happening) → Shows self.now events → result ≡ stage_in self.now.setup (past_of self.now.setup events) process }
