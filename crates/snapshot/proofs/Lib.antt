@@ -1,0 +1,5 @@
+pub mod Ranges
+pub mod Images
+pub mod Seeing
+pub mod Opened
+pub mod Stand

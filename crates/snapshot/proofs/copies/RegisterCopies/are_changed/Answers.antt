@@ -1,0 +1,9 @@
+use Rattle.std.proofs.Common.{◌≡◌, ◌||◌, sym, ◌∙◌}
+use Rattle.snapshot.specs.Copies.{is_copy_changed}
+use Rattle.snapshot.proofs.Ranges.{any_next}
+use Rattle.snapshot.proofs.copies.RegisterCopies.are_changed.Goals as goal
+
+pub loop-reader-preserved : goal.loop-reader-preserved
+loop-reader-preserved c = λ past heard.
+    let k = c.args.self.now in
+    (λ i. c.loop-reader.invariant past heard i || c.is_copy_changed-is_changed.ensures past heard i) ∙ sym (any_next (is_copy_changed k.setup.now past k.owner k.field) c.loop-reader.reader)

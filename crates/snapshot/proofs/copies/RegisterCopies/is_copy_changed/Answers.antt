@@ -1,0 +1,27 @@
+use Rattle.std.proofs.Common.{◌≡◌, ◌<◌, ◌||◌, ℕ, Bool, [], sym, ap, subst, ◌∙◌, arith}
+use Rattle.std.specs.List.{list_any, range_with_len}
+use Rattle.plain_store.specs.declared.setups.Setup.{Setup}
+use Rattle.record.specs.declared.access.Access.{Access}
+use Rattle.record.specs.Registers.{opening_bit, width}
+use Rattle.calls.specs.read_law.laws.Held.{IsThere}
+use Rattle.snapshot.specs.Copies.{copy_of, has_changed, is_changed, is_one}
+use Rattle.snapshot.proofs.Ranges.{any_next}
+use Rattle.snapshot.proofs.copies.RegisterCopies.is_copy_changed.Goals as goal
+
+pub loop-bit-preserved : goal.loop-bit-preserved
+loop-bit-preserved c = λ past heard.
+    let k = c.args.self.now in
+    let s = k.setup.now in
+    let at : Access = copy_of k.owner k.field c.args.reader c.loop-bit.bit in
+    let within : c.loop-bit.bit < width s k.field = subst (λ n. c.loop-bit.bit < n) c.width-bit-end.ensures.width c.loop-bit-test.true in
+    let there : IsThere s at = record { owner = c.requires.owner; reader = c.requires.reader; bit = within } in
+    let here : IsThere c.args.opening.now.setup c.copy_of.result = subst (λ (a : Access). IsThere c.args.opening.now.setup a) (sym c.copy_of.ensures) (subst (λ (s : Setup). IsThere s at) (sym c.requires.opening) there) in
+    let opens : c.is_one.result ≡ opening_bit s at = c.is_one.ensures ∙ ap is_one (c.holds-before.ensures [] c.requires.unheard here) ∙ (λ i. opening_bit (c.requires.opening i) (c.copy_of.ensures i)) in
+    let is : c.has_changed-is_changed.result ≡ is_changed s past at = c.has_changed-is_changed.ensures ∙ (λ i. has_changed (opens i) (c.bit.ensures past heard i)) in
+    (λ i. c.loop-bit.invariant past heard i || is i) ∙ sym (any_next (λ n. is_changed s past (copy_of k.owner k.field c.args.reader n)) c.loop-bit.bit)
+
+pub returns : goal.returns
+returns c = λ past heard.
+    let k = c.args.self.now in
+    let all : c.loop-bit.bit ≡ width k.setup.now k.field = omega (arith, c.loop-bit-test.false, c.loop-bit.auto.bit-end, c.width-bit-end.ensures.width) in
+    c.loop-bit.invariant past heard ∙ ap (λ m. list_any (λ n. is_changed k.setup.now past (copy_of k.owner k.field c.args.reader n)) (range_with_len 0 m)) all

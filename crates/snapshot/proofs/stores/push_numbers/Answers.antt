@@ -1,0 +1,11 @@
+use Rattle.std.proofs.Common.{◌≡◌, ◌++◌, ℕ, List, ap, sym, ◌∙◌}
+use Rattle.plain_store.specs.Store.{number_of}
+use Rattle.snapshot.specs.Stores.{number_word}
+use Rattle.snapshot.proofs.Ranges.{words_more}
+use Rattle.snapshot.proofs.stores.push_numbers.Goals as goal
+
+pub loop-process-preserved : goal.loop-process-preserved
+loop-process-preserved g c =
+    let numbers : List ℕ = (g.S.Store.contents c.args.store.now).numbers in
+    let word : c.as_bytes.result.now ≡ number_word (number_of numbers c.loop-process.process) = c.as_bytes.ensures.value ∙ c.in_ok-word.ensures.ok ∙ ap number_word c.last-number.ensures in
+    c.in_ok-extend_from_slice.ensures.items ∙ (λ i. c.loop-process.invariant i ++ word i) ∙ sym (words_more c.args.text.now.items number_word (number_of numbers) c.loop-process.process)

@@ -1,0 +1,173 @@
+//! What a process would do next: tried on a twin of the run's core.
+ghost use Rattle.std.specs.Prelude.{◌≡◌, ◌+◌, ◌++◌, codes, drop, false, length, IfOk, List, OnOk};
+ghost use Rattle.record.specs.declared.Event.{Event as Happening};
+ghost use Rattle.record.specs.declared.Event.TheVariants.{Step};
+ghost use Rattle.record.specs.declared.history.Taken.{Taken as Seen};
+ghost use Rattle.record.specs.Records.{entry_of, past_of, with_event};
+ghost use Rattle.record_file.specs.Printing.{entry_line};
+ghost use Rattle.world.specs.Cores.{with_history};
+ghost use Rattle.world.specs.Shows.{Shows};
+ghost use Rattle.calls.specs.read_law.Watching.{HasHeard};
+ghost use Rattle.snapshot.specs.Doing.{ahead};
+ghost use Rattle.snapshot.specs.Processes.{behind_process, lines_of_two, next_line, words_added};
+ghost use Rattle.snapshot.specs.Steps.{StepsAhead};
+
+use calls::Watch;
+use plain_store::NestedTypes;
+use record::{Act, Entry, Event};
+use record_file::print_entry;
+use std::alloc::{AllocError, Global};
+use world::{Core, Effect, StepTold};
+
+/// The entry that a Step of a process adds with this flick, tried on a twin of a run's core, where so many commands were taken.
+pub(crate) fn next_entry(
+    alloc: Global,
+    twin: &mut Core,
+    core: &Core,
+    taken: u64,
+    process: u8,
+    flick: bool,
+) -> Option<Entry>
+    requires { twin.old.setup ≡ core.now.setup }
+    ensures setup { twin.new.setup ≡ core.now.setup }
+    ensures entry { (history : List Seen) (events : List Happening) → length history ≡ taken
+        → Shows (with_history core.now history) events
+        → result ≡ entry_of core.now.setup (past_of core.now.setup events) (Step process flick) }
+{
+    let _nested: NestedTypes = None;
+    twin.copy_from(core);
+    let mut effect = Effect::Steps(StepTold::Nothing);
+    match twin.event(&Event::Step(process, flick), &mut effect) {
+        Ok(access) => Some(Entry {
+            process,
+            act: Act {
+                access,
+                marks: effect.marks(alloc, taken),
+            },
+        }),
+        Err(_) => None,
+    }
+}
+
+/// Writes what a Step of a process adds with either flick, where so many commands were taken.
+pub(crate) fn push_next(
+    alloc: Global,
+    process: u8,
+    first: &Option<Entry>,
+    second: &Option<Entry>,
+    text: &mut Vec<u8>,
+) -> Result<(), AllocError>
+    ensures { OnOk result (text.new.items ≡ text.old.items
+        ++ lines_of_two process (words_added first.now) (words_added second.now)) }
+{
+    let words = words_added(alloc, first)?;
+    let others = words_added(alloc, second)?;
+    push_next_line(alloc, process, words.as_slice(), text)?;
+    if words.as_slice() == others.as_slice() {
+        return Ok(());
+    }
+    push_next_line(alloc, process, others.as_slice(), text)
+}
+
+/// Writes a line of what comes next.
+fn push_next_line(
+    alloc: Global,
+    process: u8,
+    words: &[u8],
+    text: &mut Vec<u8>,
+) -> Result<(), AllocError>
+    ensures { OnOk result (text.new.items ≡ text.old.items ++ next_line process words.now) }
+{
+    let head = format!(in alloc; "process {process} next ")?;
+    text.extend_from_slice(head.as_bytes())?;
+    text.extend_from_slice(words)
+}
+
+/// What `record` writes of an entry behind its process, if there is one.
+fn words_added(alloc: Global, entry: &Option<Entry>) -> Result<Vec<u8>, AllocError>
+    ensures { IfOk result (λ words. words.items ≡ words_added entry.now) }
+{
+    match entry {
+        None => Ok(Vec::new(alloc)),
+        Some(entry) => behind_process(alloc, entry),
+    }
+}
+
+/// What `record` writes of an entry behind its process.
+fn behind_process(alloc: Global, entry: &Entry) -> Result<Vec<u8>, AllocError>
+    ensures { IfOk result (λ words. words.items ≡ behind_process entry.now) }
+{
+    let process = entry.process;
+    let digits = format!(in alloc; "{process}")?;
+    let mut line = Vec::new(alloc);
+    print_entry(alloc, entry, &mut line)?;
+    let mut words = Vec::new(alloc);
+    words.extend_from_slice(behind(line.as_slice(), digits.len()))?;
+    Ok(words)
+}
+
+/// What stands in a line behind so many bytes, and one more.
+#[tactic(auto, using(std::proofs::lemmas::List::take_rest, std::proofs::lemmas::List::drop_all))]
+fn behind(line: &[u8], bytes: usize) -> &[u8]
+    ensures { result.now ≡ drop (bytes + 1) line.now }
+{
+    if line.len() <= bytes {
+        return &[];
+    }
+    &line[bytes + 1..]
+}
+
+/// Writes the line of the newest entry.
+pub(crate) fn push_newest(
+    alloc: Global,
+    entry: &Entry,
+    text: &mut Vec<u8>,
+) -> Result<(), AllocError>
+    ensures { OnOk result (text.new.items ≡ text.old.items ++ (codes "last "
+        ++ entry_line entry.now)) }
+{
+    text.extend_from_slice(b"last ")?;
+    print_entry(alloc, entry, text)
+}
+
+/// Makes so many Steps of a process on a twin of a run's core, and gives a watch that has heard these too.
+pub(crate) fn watch_ahead(
+    alloc: Global,
+    twin: &mut Core,
+    core: &Core,
+    watch: &Watch,
+    process: u8,
+    steps: u64,
+) -> Result<Watch, AllocError>
+    requires twin { twin.old.setup ≡ core.now.setup }
+    ensures twin { twin.new.setup ≡ core.now.setup }
+    ensures setup { IfOk result (λ ahead. ahead.setup ≡ watch.now.setup) }
+    ensures heard { IfOk result (λ heard. (history : List Seen) (events : List Happening)
+        → Shows (with_history core.now history) events
+        → HasHeard watch.now (past_of core.now.setup events)
+        → HasHeard heard (ahead core.now.setup (past_of core.now.setup events) process steps)) }
+{
+    twin.copy_from(core);
+    let mut ahead = watch.twin(alloc)?;
+    for step in 0..steps {
+        let _made = step;
+        hear_step(twin, &mut ahead, process);
+    }
+    Ok(ahead)
+}
+
+/// Makes a Step of a process, if it is not refused, and lets a watch hear it.
+fn hear_step(twin: &mut Core, watch: &mut Watch, process: u8)
+    ensures twin { twin.new.setup ≡ twin.old.setup }
+    ensures setup { watch.new.setup ≡ watch.old.setup }
+    ensures goes { (history : List Seen) (events : List Happening)
+        → Shows (with_history twin.old history) events
+        → HasHeard watch.old (past_of twin.old.setup events)
+        → StepsAhead twin.new watch.new (with_event twin.old.setup (Step process false)
+        (past_of twin.old.setup events)) }
+{
+    let mut told = StepTold::Nothing;
+    if let Ok(access) = twin.step(process, false, &mut told) {
+        let _kept = watch.hear_access(access);
+    }
+}

@@ -1,0 +1,162 @@
+//! The lines of the call of a process.
+ghost use Rattle.std.specs.Prelude.{◌≡◌, ◌++◌, IfOk, OnOk, option_map};
+ghost use Rattle.std.specs.String.{string_bytes};
+ghost use Rattle.snapshot.specs.Lines.{at_words, call_lines, call_words, line_if, open_lines, process_line, span_words, taken_words};
+
+use calls::Called;
+use plain_store::NestedTypes;
+use record::Taken;
+use std::alloc::{AllocError, Global};
+
+/// Writes a line of a process.
+pub(crate) fn push_line(
+    alloc: Global,
+    process: u8,
+    words: &str,
+    text: &mut Vec<u8>,
+) -> Result<(), AllocError>
+    ensures { OnOk result (text.new.items ≡ text.old.items ++ process_line process words.now) }
+{
+    let line = format!(in alloc; "process {process} {words}\n")?;
+    text.extend_from_slice(line.as_bytes())
+}
+
+/// Writes a line of a process that ends with this value.
+pub(crate) fn push_value_line(
+    alloc: Global,
+    process: u8,
+    words: &str,
+    value: &[u8],
+    text: &mut Vec<u8>,
+) -> Result<(), AllocError>
+    ensures { OnOk result (text.new.items ≡ text.old.items ++ process_line process (words.now
+        ++ value.now)) }
+{
+    let head = format!(in alloc; "process {process} {words}")?;
+    text.extend_from_slice(head.as_bytes())?;
+    text.extend_from_slice(value)?;
+    text.extend_from_slice(b"\n")
+}
+
+/// Writes a line of a process, if there are words for it.
+pub(crate) fn push_line_if(
+    alloc: Global,
+    process: u8,
+    words: &Option<String>,
+    text: &mut Vec<u8>,
+) -> Result<(), AllocError>
+    ensures { OnOk result (text.new.items ≡ text.old.items
+        ++ line_if process (option_map string_bytes words.now)) }
+{
+    match words {
+        None => Ok(()),
+        Some(words) => push_line(alloc, process, words, text),
+    }
+}
+
+/// Writes the lines of the call of a process, if it has one.
+pub(crate) fn push_open(
+    alloc: Global,
+    process: u8,
+    history: &[Taken],
+    call: &Option<Called>,
+    text: &mut Vec<u8>,
+) -> Result<(), AllocError>
+    ensures { OnOk result (text.new.items ≡ text.old.items
+        ++ open_lines process history.now call.now) }
+{
+    match call {
+        None => Ok(()),
+        Some(called) => push_call(alloc, process, history, called, text),
+    }
+}
+
+/// Writes the lines of a call of a process.
+fn push_call(
+    alloc: Global,
+    process: u8,
+    history: &[Taken],
+    called: &Called,
+    text: &mut Vec<u8>,
+) -> Result<(), AllocError>
+    ensures { OnOk result (text.new.items ≡ text.old.items
+        ++ call_lines process history.now called.now) }
+{
+    let marks = &called.marks;
+    let words = call_words(alloc, called)?;
+    push_line(alloc, process, &words, text)?;
+    let doorway = span_words(alloc, "doorway", called.accesses.doorway, marks.door_end)?;
+    push_line_if(alloc, process, &doorway, text)?;
+    let inside = span_words(alloc, "inside", marks.entered, marks.left)?;
+    push_line_if(alloc, process, &inside, text)?;
+    let taken = taken_words(alloc, history, marks.place, marks.taken)?;
+    push_line_if(alloc, process, &taken, text)?;
+    let withdrew = at_words(alloc, "withdrew", marks.withdrew)?;
+    push_line_if(alloc, process, &withdrew, text)
+}
+
+/// Which call it is, its command, and the event with which it began.
+fn call_words(alloc: Global, called: &Called) -> Result<String, AllocError>
+    ensures { IfOk result (λ words. string_bytes words ≡ call_words called.now) }
+{
+    let _nested: NestedTypes = None;
+    let call = called.call;
+    let command = called.command;
+    let at = called.called;
+    format!(in alloc; "call {call} {command} at {at}")
+}
+
+/// From which event something goes on, and up to which, if it has begun.
+fn span_words(
+    alloc: Global,
+    what: &str,
+    from: Option<u64>,
+    to: Option<u64>,
+) -> Result<Option<String>, AllocError>
+    ensures { IfOk result (λ words. option_map string_bytes words ≡ span_words what.now from to) }
+{
+    let Some(from) = from else {
+        return Ok(None);
+    };
+    let words = match to {
+        None => format!(in alloc; "{what} from {from}")?,
+        Some(to) => format!(in alloc; "{what} from {from} to {to}")?,
+    };
+    Ok(Some(words))
+}
+
+/// With which event something has happened, if it has.
+fn at_words(alloc: Global, what: &str, at: Option<u64>) -> Result<Option<String>, AllocError>
+    ensures { IfOk result (λ words. option_map string_bytes words ≡ at_words what.now at) }
+{
+    match at {
+        None => Ok(None),
+        Some(at) => Ok(Some(format!(in alloc; "{what} at {at}")?)),
+    }
+}
+
+/// The place at which a command is taken, the reply there, and the event, if it is taken.
+fn taken_words(
+    alloc: Global,
+    history: &[Taken],
+    place: Option<u64>,
+    at: Option<u64>,
+) -> Result<Option<String>, AllocError>
+    ensures { IfOk result (λ words. option_map string_bytes words
+        ≡ taken_words history.now place at) }
+{
+    let _nested: NestedTypes = None;
+    let Some(place) = place else {
+        return Ok(None);
+    };
+    let Some(at) = at else {
+        return Ok(None);
+    };
+    match history.get(place as usize) {
+        None => Ok(None),
+        Some(taken) => {
+            let reply = taken.reply;
+            Ok(Some(format!(in alloc; "taken {place} {reply} at {at}")?))
+        }
+    }
+}

@@ -1,0 +1,273 @@
+//! The copies of a register as text.
+ghost use Rattle.std.specs.Prelude.{◌≡◌, ◌<◌, ◌≤◌, ◌*◌, ◌++◌, ◌∷◌, [], Bool, false, IfOk, List, Ok, OnOk, codes, is_none, length};
+ghost use Rattle.std.specs.Fmt.{decimal};
+ghost use Rattle.std.specs.List.{list_any};
+ghost use Rattle.plain_store.specs.Setups.{callers_of, checked};
+ghost use Rattle.plain_store.specs.Store.{empty_store};
+ghost use Rattle.record.specs.Entries.{Past};
+ghost use Rattle.record.specs.Registers.{bytes_of_bits, image_bytes, processes, width};
+ghost use Rattle.record.specs.store_image.Image.{IsStore};
+ghost use Rattle.safe_number.specs.Bytes.{IsBytesOf, number_of_bits};
+ghost use Rattle.safe_number.specs.Runs.{new_read};
+ghost use Rattle.calls.specs.read_law.Watching.{HasHeard};
+ghost use Rattle.snapshot.specs.Copies.{bit_held, copy_of, copy_text, has_changed, have_one_text, image_text, is_copy_changed, is_one, shown};
+
+use crate::stores::push_store;
+use calls::{Watch, width};
+use plain_store::Setup;
+use record::{Access, Field, Move, bytes_go_by_their_bits};
+use safe_number::{ReadRun, number_of, numbers_are_their_bits};
+use std::alloc::{AllocError, Global};
+use world::Image;
+
+/// The copies of a register, one for each reader, as a watch knows them.
+#[derive(Clone, Copy)]
+pub(crate) struct RegisterCopies<'a> {
+    pub alloc: Global,
+    pub setup: &'a Setup,
+    pub watch: &'a Watch,
+    pub owner: u8,
+    pub field: Field,
+}
+
+impl RegisterCopies<'_> {
+    /// What the copy for a reader of a bit holds; none while a write of it is open.
+    #[inline]
+    fn bit(&self, reader: u8, bit: usize) -> Option<bool>
+        requires good { checked self.now.setup.now ≡ Ok tt }
+        requires setup { self.now.watch.now.setup ≡ self.now.setup.now }
+        requires owner { self.now.owner < self.now.setup.now.processes }
+        requires reader { reader < self.now.setup.now.processes }
+        requires bit { bit < width self.now.setup.now self.now.field }
+        requires few { bit < 65536 }
+        ensures { (past : Past) → HasHeard self.now.watch.now past
+            → result ≡ bit_held self.now.setup.now past
+            (copy_of self.now.owner self.now.field reader bit) }
+    {
+        self.watch.holds(&copy_of(self.owner, self.field, reader, bit))
+    }
+
+    /// The copy for a reader as text.
+    pub fn text(&self, reader: u8) -> Result<Vec<u8>, AllocError>
+        requires good { checked self.now.setup.now ≡ Ok tt }
+        requires setup { self.now.watch.now.setup ≡ self.now.setup.now }
+        requires owner { self.now.owner < self.now.setup.now.processes }
+        requires reader { reader < self.now.setup.now.processes }
+        ensures { IfOk result (λ text. (past : Past) → HasHeard self.now.watch.now past
+            → text.items ≡ copy_text self.now.setup.now past self.now.owner self.now.field reader)
+            }
+    {
+        let width = width(self.setup, self.field);
+        let mut read = new_read(self.alloc, width)?;
+        let mut flickers = false;
+        for bit in 0..width {
+            let held = self.bit(reader, bit);
+            let is_open = is_open(held);
+            flickers = flickers | is_open;
+            add_bit(&mut read, is_one(held));
+        }
+        if flickers {
+            return flickering(self.alloc);
+        }
+        shown(self.alloc, self.setup, self.field, &read)
+    }
+
+    /// Whether a bit of the copy for a reader is not as in this watch, which has heard nothing.
+    pub fn is_copy_changed(&self, opening: &Watch, reader: u8) -> bool
+        requires good { checked self.now.setup.now ≡ Ok tt }
+        requires setup { self.now.watch.now.setup ≡ self.now.setup.now }
+        requires opening { opening.now.setup ≡ self.now.setup.now }
+        requires unheard { HasHeard opening.now [] }
+        requires owner { self.now.owner < self.now.setup.now.processes }
+        requires reader { reader < self.now.setup.now.processes }
+        ensures { (past : Past) → HasHeard self.now.watch.now past
+            → result ≡ is_copy_changed self.now.setup.now past self.now.owner self.now.field
+            reader }
+    {
+        let mut changed = false;
+        for bit in 0..width(self.setup, self.field) {
+            let before = opening.holds(&copy_of(self.owner, self.field, reader, bit));
+            let is_changed = has_changed(is_one(before), self.bit(reader, bit));
+            changed = changed | is_changed;
+        }
+        changed
+    }
+
+    /// Whether a copy is changed.
+    pub fn are_changed(&self, opening: &Watch) -> bool
+        requires good { checked self.now.setup.now ≡ Ok tt }
+        requires setup { self.now.watch.now.setup ≡ self.now.setup.now }
+        requires opening { opening.now.setup ≡ self.now.setup.now }
+        requires unheard { HasHeard opening.now [] }
+        requires owner { self.now.owner < self.now.setup.now.processes }
+        ensures { (past : Past) → HasHeard self.now.watch.now past
+            → result ≡ list_any (is_copy_changed self.now.setup.now past self.now.owner
+            self.now.field) (processes self.now.setup.now) }
+    {
+        let mut changed = false;
+        for reader in 0..self.setup.processes {
+            let is_changed = self.is_copy_changed(opening, reader);
+            changed = changed | is_changed;
+        }
+        changed
+    }
+
+    /// Whether the copies for two readers have one text.
+    pub fn have_one_text(&self, one: u8, other: u8) -> Result<bool, AllocError>
+        requires good { checked self.now.setup.now ≡ Ok tt }
+        requires setup { self.now.watch.now.setup ≡ self.now.setup.now }
+        requires owner { self.now.owner < self.now.setup.now.processes }
+        requires one { one < self.now.setup.now.processes }
+        requires other { other < self.now.setup.now.processes }
+        ensures { IfOk result (λ same. (past : Past) → HasHeard self.now.watch.now past
+            → same ≡ have_one_text (copy_text self.now.setup.now past self.now.owner
+            self.now.field) one other) }
+    {
+        let text = self.text(one)?;
+        let second = self.text(other)?;
+        Ok(text.as_slice() == second.as_slice())
+    }
+}
+
+/// The copy for a reader of a bit.
+#[inline]
+fn copy_of(owner: u8, field: Field, reader: u8, bit: usize) -> Access
+    requires { bit < 65536 }
+    ensures { result ≡ copy_of owner field reader bit }
+{
+    Access {
+        owner,
+        field,
+        bit: bit as u16,
+        reader,
+        how: Move::BeginRead,
+    }
+}
+
+/// Whether none is held, since a write of the bit is open.
+#[inline]
+fn is_open(held: Option<bool>) -> bool
+    ensures { result ≡ is_none held }
+{
+    matches!(held, None)
+}
+
+/// The bit, where one is held.
+#[inline]
+fn is_one(held: Option<bool>) -> bool
+    ensures { result ≡ is_one held }
+{
+    matches!(held, Some(true))
+}
+
+/// Whether a bit is not held, or not as it opened.
+#[inline]
+fn has_changed(opening: bool, held: Option<bool>) -> bool
+    ensures { result ≡ has_changed opening held }
+{
+    match held {
+        None => true,
+        Some(true) => !opening,
+        Some(false) => opening,
+    }
+}
+
+/// Room for the bits of a register of this width.
+fn new_read(alloc: Global, width: usize) -> Result<ReadRun, AllocError>
+    requires { width ≤ 1728 }
+    ensures { IfOk result (λ read. read ≡ new_read width width) }
+{
+    match ReadRun::new(alloc, width as u16) {
+        Ok(read) => Ok(read),
+        Err(_) => Err(AllocError),
+    }
+}
+
+/// One more bit is read.
+#[inline]
+fn add_bit(read: &mut ReadRun, value: bool)
+    requires begun { read.old.begun ≡ false }
+    requires going { length read.old.bits < read.old.width }
+    ensures { read.new ≡ record read.old { bits = read.old.bits ++ value ∷ [] } }
+{
+    read.advance(false);
+    read.advance(value);
+}
+
+/// The text of a copy of which a bit is being written.
+fn flickering(alloc: Global) -> Result<Vec<u8>, AllocError>
+    ensures { IfOk result (λ text. text.items ≡ codes "flickers") }
+{
+    let mut text = Vec::new(alloc);
+    text.extend_from_slice(b"flickers")?;
+    Ok(text)
+}
+
+/// What the bits of such a register say: a number, or the store whose image they are.
+fn shown(
+    alloc: Global,
+    setup: &Setup,
+    field: Field,
+    read: &ReadRun,
+) -> Result<Vec<u8>, AllocError>
+    requires good { checked setup.now ≡ Ok tt }
+    requires whole { length read.now.bits ≡ width setup.now field }
+    ensures { IfOk result (λ text. text.items ≡ shown setup.now field read.now.bits) }
+{
+    match field {
+        Field::Image0 | Field::Image1 => image_shown(alloc, setup, read.bytes()),
+        _ => number_shown(alloc, read.bytes()),
+    }
+}
+
+/// The number that bytes make.
+fn number_shown(alloc: Global, bytes: &[u8]) -> Result<Vec<u8>, AllocError>
+    requires { length bytes.now ≤ 8 }
+    ensures { IfOk result (λ text. (bits : List Bool) → IsBytesOf bits bytes.now
+        → text.items ≡ decimal (number_of_bits bits)) }
+{
+    numbers_are_their_bits();
+    let number = number_of(bytes);
+    let digits = format!(in alloc; "{number}")?;
+    let mut text = Vec::new(alloc);
+    text.extend_from_slice(digits.as_bytes())?;
+    Ok(text)
+}
+
+/// The store whose image bytes are, if they are one.
+fn image_shown(alloc: Global, setup: &Setup, bytes: &[u8]) -> Result<Vec<u8>, AllocError>
+    requires good { checked setup.now ≡ Ok tt }
+    requires length { length bytes.now ≡ image_bytes setup.now }
+    ensures { IfOk result (λ text. (bits : List Bool) → length bits ≡ 8 * image_bytes setup.now
+        → IsBytesOf bits bytes.now → text.items
+        ≡ image_text setup.now (bytes_of_bits (image_bytes setup.now) bits)) }
+{
+    bytes_go_by_their_bits();
+    image_text(alloc, setup, bytes)
+}
+
+/// The same of the bytes alone.
+fn image_text(alloc: Global, setup: &Setup, bytes: &[u8]) -> Result<Vec<u8>, AllocError>
+    requires good { checked setup.now ≡ Ok tt }
+    requires length { length bytes.now ≡ image_bytes setup.now }
+    ensures { IfOk result (λ text. text.items ≡ image_text setup.now bytes.now) }
+{
+    let callers = setup.callers();
+    let mut text = Vec::new(alloc);
+    match Image::read(bytes, callers) {
+        Ok(store) => push_store(alloc, callers, &store, &mut text)?,
+        Err(_) => push_no_image(setup, &mut text)?,
+    }
+    Ok(text)
+}
+
+/// Writes that bytes are no image. That the empty store, which stands for such bytes, has an image of its own is known of it.
+fn push_no_image(setup: &Setup, text: &mut Vec<u8>) -> Result<(), AllocError>
+    requires { checked setup.now ≡ Ok tt }
+    ensures text { OnOk result (text.new.items ≡ text.old.items ++ codes "no-image") }
+    ensures empty { IsStore (empty_store setup.now.slots (callers_of setup.now)) }
+{
+    let empty = Image::empty(setup.slots, setup.callers());
+    let _bytes = empty.bytes();
+    text.extend_from_slice(b"no-image")
+}

@@ -1,0 +1,264 @@
+//! The lines of registers.
+ghost use Rattle.std.specs.Prelude.{◌≡◌, ◌<◌, ◌≤◌, ◌++◌, [], IfOk, Ok, OnOk, codes, cond, flat_map};
+ghost use Rattle.std.specs.List.{list_all, list_any, range_with_len};
+ghost use Rattle.std.specs.String.{string_bytes};
+ghost use Rattle.plain_store.specs.Setups.{checked};
+ghost use Rattle.record.specs.Entries.{Past};
+ghost use Rattle.record_file.specs.Printing.{field_word};
+ghost use Rattle.calls.specs.read_law.Watching.{HasHeard};
+ghost use Rattle.snapshot.specs.Copies.{copy_text, fields, have_one_text, line_of_first, lines_of_register, reader_if, register_lines, register_words};
+ghost use Rattle.snapshot.specs.Stores.{number_word};
+
+use crate::copies::RegisterCopies;
+use calls::Watch;
+use plain_store::Setup;
+use record::Field;
+use std::alloc::{AllocError, Global};
+
+/// The kinds of registers, in their order.
+const FIELDS: [Field; 7] = [
+    Field::Choosing,
+    Field::Ticket,
+    Field::Commit,
+    Field::Stamp0,
+    Field::Stamp1,
+    Field::Image0,
+    Field::Image1,
+];
+
+/// Writes the lines of the registers of which a copy is not as it opened, or is being written.
+pub(crate) fn push_registers(
+    alloc: Global,
+    setup: &Setup,
+    watch: &Watch,
+    text: &mut Vec<u8>,
+) -> Result<(), AllocError>
+    requires good { checked setup.now ≡ Ok tt }
+    requires setup { watch.now.setup ≡ setup.now }
+    ensures { OnOk result ((past : Past) → HasHeard watch.now past
+        → text.new.items ≡ text.old.items ++ register_lines setup.now past) }
+{
+    let opening = Watch::new(alloc, setup)?;
+    for owner in 0..setup.processes {
+        push_owned(alloc, setup, watch, &opening, owner, text)?;
+    }
+    Ok(())
+}
+
+/// Writes those of a process.
+fn push_owned(
+    alloc: Global,
+    setup: &Setup,
+    watch: &Watch,
+    opening: &Watch,
+    owner: u8,
+    text: &mut Vec<u8>,
+) -> Result<(), AllocError>
+    requires good { checked setup.now ≡ Ok tt }
+    requires setup { watch.now.setup ≡ setup.now }
+    requires opening { opening.now.setup ≡ setup.now }
+    requires unheard { HasHeard opening.now [] }
+    requires owner { owner < setup.now.processes }
+    ensures { OnOk result ((past : Past) → HasHeard watch.now past
+        → text.new.items ≡ text.old.items ++ flat_map
+        (lines_of_register setup.now past owner) fields) }
+{
+    for field in &FIELDS {
+        let copies = RegisterCopies {
+            alloc,
+            setup,
+            watch,
+            owner,
+            field: *field,
+        };
+        push_register(&copies, opening, text)?;
+    }
+    Ok(())
+}
+
+/// Writes the lines of a register, if a copy is not as it opened, or is being written.
+fn push_register(
+    copies: &RegisterCopies<'_>,
+    opening: &Watch,
+    text: &mut Vec<u8>,
+) -> Result<(), AllocError>
+    requires good { checked copies.now.setup.now ≡ Ok tt }
+    requires setup { copies.now.watch.now.setup ≡ copies.now.setup.now }
+    requires opening { opening.now.setup ≡ copies.now.setup.now }
+    requires unheard { HasHeard opening.now [] }
+    requires owner { copies.now.owner < copies.now.setup.now.processes }
+    ensures { OnOk result ((past : Past) → HasHeard copies.now.watch.now past
+        → text.new.items ≡ text.old.items ++ lines_of_register copies.now.setup.now past
+        copies.now.owner copies.now.field) }
+{
+    if !copies.are_changed(opening) {
+        return Ok(());
+    }
+    let name = register_words(copies.alloc, copies.owner, copies.field)?;
+    if have_all_one_text(copies)? {
+        return push_one_text(copies, &name, text);
+    }
+    push_texts(copies, &name, text)
+}
+
+/// The name of a register behind the word.
+fn register_words(alloc: Global, owner: u8, field: Field) -> Result<String, AllocError>
+    ensures { IfOk result (λ words. string_bytes words ≡ register_words owner field) }
+{
+    let word = field_word(field);
+    format!(in alloc; "register {owner}.{word}")
+}
+
+/// Whether all copies have one text.
+fn have_all_one_text(copies: &RegisterCopies<'_>) -> Result<bool, AllocError>
+    requires good { checked copies.now.setup.now ≡ Ok tt }
+    requires setup { copies.now.watch.now.setup ≡ copies.now.setup.now }
+    requires owner { copies.now.owner < copies.now.setup.now.processes }
+    ensures { IfOk result (λ all. (past : Past) → HasHeard copies.now.watch.now past
+        → all ≡ list_all (λ r. have_one_text (copy_text copies.now.setup.now past copies.now.owner
+        copies.now.field) r 0) (range_with_len 0 copies.now.setup.now.processes)) }
+{
+    let mut all = true;
+    for reader in 0..copies.setup.processes {
+        let same = copies.have_one_text(reader, 0)?;
+        all = all & same;
+    }
+    Ok(all)
+}
+
+/// Writes the line of copies that all have one text.
+fn push_one_text(
+    copies: &RegisterCopies<'_>,
+    name: &str,
+    text: &mut Vec<u8>,
+) -> Result<(), AllocError>
+    requires good { checked copies.now.setup.now ≡ Ok tt }
+    requires setup { copies.now.watch.now.setup ≡ copies.now.setup.now }
+    requires owner { copies.now.owner < copies.now.setup.now.processes }
+    ensures { OnOk result ((past : Past) → HasHeard copies.now.watch.now past
+        → text.new.items ≡ text.old.items ++ (name.now ++ (codes " "
+        ++ (copy_text copies.now.setup.now past copies.now.owner copies.now.field 0
+        ++ codes "\n")))) }
+{
+    let copy = copies.text(0)?;
+    text.extend_from_slice(name.as_bytes())?;
+    text.extend_from_slice(b" ")?;
+    text.extend_from_slice(copy.as_slice())?;
+    text.extend_from_slice(b"\n")
+}
+
+/// Writes a line for each text, in the order of its first reader.
+fn push_texts(copies: &RegisterCopies<'_>, name: &str, text: &mut Vec<u8>) -> Result<(), AllocError>
+    requires good { checked copies.now.setup.now ≡ Ok tt }
+    requires setup { copies.now.watch.now.setup ≡ copies.now.setup.now }
+    requires owner { copies.now.owner < copies.now.setup.now.processes }
+    ensures { OnOk result ((past : Past) → HasHeard copies.now.watch.now past
+        → text.new.items ≡ text.old.items ++ flat_map (line_of_first name.now
+        (copy_text copies.now.setup.now past copies.now.owner copies.now.field)
+        copies.now.setup.now.processes) (range_with_len 0 copies.now.setup.now.processes)) }
+{
+    for reader in 0..copies.setup.processes {
+        push_if_first(copies, name, reader, text)?;
+    }
+    Ok(())
+}
+
+/// Writes the line of the text of a reader's copy, if it is the first with this text.
+fn push_if_first(
+    copies: &RegisterCopies<'_>,
+    name: &str,
+    reader: u8,
+    text: &mut Vec<u8>,
+) -> Result<(), AllocError>
+    requires good { checked copies.now.setup.now ≡ Ok tt }
+    requires setup { copies.now.watch.now.setup ≡ copies.now.setup.now }
+    requires owner { copies.now.owner < copies.now.setup.now.processes }
+    requires reader { reader < copies.now.setup.now.processes }
+    ensures { OnOk result ((past : Past) → HasHeard copies.now.watch.now past
+        → text.new.items ≡ text.old.items ++ line_of_first name.now
+        (copy_text copies.now.setup.now past copies.now.owner copies.now.field)
+        copies.now.setup.now.processes reader) }
+{
+    if has_earlier(copies, reader)? {
+        return Ok(());
+    }
+    let copy = copies.text(reader)?;
+    text.extend_from_slice(name.as_bytes())?;
+    text.extend_from_slice(b" readers")?;
+    push_readers(copies, reader, text)?;
+    text.extend_from_slice(b" ")?;
+    text.extend_from_slice(copy.as_slice())?;
+    text.extend_from_slice(b"\n")?;
+    Ok(())
+}
+
+/// Whether an earlier reader's copy has the text of this one's.
+fn has_earlier(copies: &RegisterCopies<'_>, reader: u8) -> Result<bool, AllocError>
+    requires good { checked copies.now.setup.now ≡ Ok tt }
+    requires setup { copies.now.watch.now.setup ≡ copies.now.setup.now }
+    requires owner { copies.now.owner < copies.now.setup.now.processes }
+    requires reader { reader < copies.now.setup.now.processes }
+    ensures { IfOk result (λ has. (past : Past) → HasHeard copies.now.watch.now past
+        → has ≡ list_any (λ q. have_one_text (copy_text copies.now.setup.now past copies.now.owner
+        copies.now.field) q reader) (range_with_len 0 reader)) }
+{
+    let mut has = false;
+    for earlier in 0..reader {
+        let same = copies.have_one_text(earlier, reader)?;
+        has = has | same;
+    }
+    Ok(has)
+}
+
+/// Writes the readers whose copies have the text of this one's.
+fn push_readers(
+    copies: &RegisterCopies<'_>,
+    reader: u8,
+    text: &mut Vec<u8>,
+) -> Result<(), AllocError>
+    requires good { checked copies.now.setup.now ≡ Ok tt }
+    requires setup { copies.now.watch.now.setup ≡ copies.now.setup.now }
+    requires owner { copies.now.owner < copies.now.setup.now.processes }
+    requires reader { reader < copies.now.setup.now.processes }
+    ensures { OnOk result ((past : Past) → HasHeard copies.now.watch.now past
+        → text.new.items ≡ text.old.items ++ flat_map (reader_if
+        (copy_text copies.now.setup.now past copies.now.owner copies.now.field) reader)
+        (range_with_len 0 copies.now.setup.now.processes)) }
+{
+    for other in 0..copies.setup.processes {
+        let same = copies.have_one_text(other, reader)?;
+        push_reader_if(copies.alloc, same, other, text)?;
+    }
+    Ok(())
+}
+
+/// Writes the word of a reader, if it is to stand there.
+fn push_reader_if(
+    alloc: Global,
+    stands: bool,
+    reader: u8,
+    text: &mut Vec<u8>,
+) -> Result<(), AllocError>
+    ensures { OnOk result (text.new.items ≡ text.old.items ++ cond stands (number_word reader) []) }
+{
+    if !stands {
+        return Ok(());
+    }
+    let word = format!(in alloc; " {reader}")?;
+    text.extend_from_slice(word.as_bytes())
+}
+
+/// The word of a register's kind.
+pub(crate) fn field_word(field: Field) -> &'static str
+    ensures { result.now ≡ field_word field }
+{
+    match field {
+        Field::Choosing => "choosing",
+        Field::Ticket => "ticket",
+        Field::Commit => "commit",
+        Field::Stamp0 => "stamp0",
+        Field::Stamp1 => "stamp1",
+        Field::Image0 => "image0",
+        Field::Image1 => "image1",
+    }
+}
