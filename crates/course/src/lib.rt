@@ -20,5 +20,5 @@ pub use record::{Access, Entry, Event, Mark, Record, Refusal, Taken, refusal_lin
 pub use store_line::{newest_line, newest_words};
 pub use summaries::Summary;
 pub use told::{Accepted, Stepped, Told};
-pub use turns::Course;
+pub use turns::{Course, is_there};
 pub use world::World;

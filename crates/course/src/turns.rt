@@ -7,6 +7,8 @@ ghost use Rattle.record.specs.Given.{is_event};
 ghost use Rattle.record.specs.Histories.{history};
 ghost use Rattle.record.specs.Records.{past_of};
 ghost use Rattle.world.specs.flicks.Flicks.{constant_flicks};
+ghost use Rattle.world.specs.Cores.{with_history};
+ghost use Rattle.world.specs.Events.{stage_in};
 ghost use Rattle.world.specs.Shows.{Shows};
 ghost use Rattle.course.specs.Courses.{Follows, Makes, CourseState};
 ghost use Rattle.course.specs.Happenings.{Tries};
@@ -20,11 +22,12 @@ mod running;
 
 use crate::told::{Accepted, Told};
 use plain_store::{NestedTypes, Setup};
-use record::{Event, Refusal, Taken};
+use record::{Event, Refusal, Stage, Taken};
+pub use running::is_there;
 use scenario::Line;
 use std::alloc::{AllocError, Global};
 use std::marker::Model;
-use world::{Effect, Flicks, Image, World};
+use world::{Core, Effect, Flicks, Image, World};
 
 /// The Steps that a `go` makes at most.
 const GO_LIMIT: u32 = 65_536;
@@ -78,6 +81,21 @@ impl Course {
         ensures { (run : Run) → Follows self.now run → result.now ≡ history self.now.world.setup (past_in self.now.world.setup run) }
     {
         self.world.history()
+    }
+
+    /// What its world keeps but for the history.
+    pub fn core(&self) -> &Core
+        ensures { with_history result.now self.now.world.history ≡ self.now.world }
+    {
+        self.world.core()
+    }
+
+    /// Where a process stands; none, if there is no such process.
+    pub fn stage(&self, process: u8) -> Option<Stage>
+        ensures { (run : Run) → Follows self.now run
+            → result ≡ stage_in self.now.world.setup (past_in self.now.world.setup run) process }
+    {
+        self.world.stage(process)
     }
 
     /// A line begins.

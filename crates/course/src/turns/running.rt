@@ -280,7 +280,7 @@ fn has_step_in(stage: Stage) -> bool
 }
 
 /// Whether a process in this stage is where it is to go.
-fn is_there(target: Target, stage: Stage) -> bool
+pub fn is_there(target: Target, stage: Stage) -> bool
     ensures { result ≡ is_target target stage }
 {
     match target {
