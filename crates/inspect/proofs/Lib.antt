@@ -1,3 +1,7 @@
+pub mod Along
 pub mod Fronts
+pub mod Going
 pub mod Ranges
+pub mod Seeing
+pub mod Standing
 pub mod Tabling

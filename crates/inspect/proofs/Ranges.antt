@@ -1,21 +1,7 @@
 -- The lines of processes, one after the other.
-use Rattle.std.proofs.Common.{◌≡◌, ℕ, zero, suc, ◌+◌, List, [], ◌∷◌, ◌++◌, flat_map, ap, sym, ◌∙◌, arith, append-nil, append_assoc}
-use Rattle.std.proofs.lemmas.Grind.{flat_map-append}
+use Rattle.std.proofs.Common.{◌≡◌, ℕ, zero, suc, ◌+◌, List, [], ◌++◌, flat_map, ap, sym, ◌∙◌, arith, append-nil, append_assoc}
 use Rattle.std.specs.List.{range_with_len}
-
-range_more : (a n : ℕ) → range_with_len a (suc n) ≡ range_with_len a n ++ (a + n) ∷ []
-range_more a zero = let same : a ≡ a + 0 = omega arith in ap (λ k. k ∷ []) same
-range_more a (suc n) =
-    let same : a + 1 + n ≡ a + suc n = omega arith in
-    ap (λ l. a ∷ l) (range_more (a + 1) n ∙ ap (λ k. range_with_len (a + 1) n ++ k ∷ []) same)
-
--- one process more
-pub lines_more : (f : ℕ → List ℕ) (k : ℕ) → flat_map f (range_with_len 0 (k + 1)) ≡ flat_map f (range_with_len 0 k) ++ f k
-lines_more f k =
-    let next : k + 1 ≡ suc k = omega arith in
-    let here : 0 + k ≡ k = omega arith in
-    ap (λ n. flat_map f (range_with_len 0 n)) next ∙ ap (flat_map f) (range_more 0 k) ∙ flat_map-append f (range_with_len 0 k) ((0 + k) ∷ [])
-    ∙ ap (λ l. flat_map f (range_with_len 0 k) ++ l) (append-nil (f (0 + k)) ∙ ap f here)
+use Rattle.snapshot.proofs.Ranges.{lines_more}
 
 -- those up to one are a front of all
 pub lines_front : (f : ℕ → List ℕ) (k n : ℕ) → (more : List ℕ) × (flat_map f (range_with_len 0 (k + n)) ≡ flat_map f (range_with_len 0 k) ++ more)

@@ -12,9 +12,9 @@ use Rattle.record.specs.declared.marks.Mark.{Mark}
 use Rattle.record.specs.Entries.{Entry, Past}
 use Rattle.record.specs.Records.{entry_of, past_of, process_of}
 use Rattle.scenario.specs.declared.lines.Line.{Line}
-use Rattle.calls.specs.Columns.{called, is_calling}
-use Rattle.calls.specs.Hearing.{ComesInTurn, HasHeard, TableState, ended_call}
-use Rattle.calls.specs.Lines.{ended_lines, header, line_of, open_lines, table_text}
+use Rattle.snapshot.specs.calls.Columns.{called, is_calling}
+use Rattle.snapshot.specs.calls.Hearing.{ComesInTurn, HasHeard, TableState, ended_call}
+use Rattle.snapshot.specs.calls.Lines.{ended_lines, header, line_of, open_lines, table_text}
 use Rattle.course.specs.Courses.{CourseState, Follows}
 use Rattle.course.specs.Happenings.{Happening, Tries, Lacks, Tires, Looks, past_after, tried}
 use Rattle.course.specs.Listening.{Happens, StepsOn}
@@ -48,7 +48,7 @@ event_added : (s : Setup) (before : List Happening) (event : Event) (e : Entry) 
 event_added s before event e adds = ap (λ (o : Option Entry). elim o as (λ _. Past) [ None ↦ past_after s before | Some e ↦ e ∷ past_after s before ]) adds
 
 -- the past with what is told is the past after what happens
-past_told : (s : Setup) (before : List Happening) (this : Happening) (answer : Told) → TellsOf s (past_after s before) this answer → past_after s (this ∷ before) ≡ past_with (past_after s before) answer
+pub past_told : (s : Setup) (before : List Happening) (this : Happening) (answer : Told) → TellsOf s (past_after s before) this answer → past_after s (this ∷ before) ≡ past_with (past_after s before) answer
 past_told s before (Tries event) (told.Accepted made) tells = event_added s before event (entry_made made) tells.1
 past_told s before (Tries event) (told.Refused p r) tells = past_kept s (tried before) event r tells.1
 past_told s before (Tries event) (told.Tired p) tells = absurd tells
@@ -67,7 +67,7 @@ past_told s before Looks (told.Refused q r) tells = absurd tells
 past_told s before Looks (told.Tired q) tells = absurd tells
 
 -- and an entry that is told comes in its turn
-in_turn : (s : Setup) → checked s ≡ Ok tt → (before : List Happening) (this : Happening) (answer : Told) → TellsOf s (past_after s before) this answer → IsInTurn s (past_after s before) answer
+pub in_turn : (s : Setup) → checked s ≡ Ok tt → (before : List Happening) (this : Happening) (answer : Told) → TellsOf s (past_after s before) this answer → IsInTurn s (past_after s before) answer
 in_turn s good before (Tries event) (told.Accepted made) tells = entry_in_turn s good (tried before) event (entry_made made) (ap process_of tells.0) tells.1
 in_turn s good before (Tries event) (told.Refused p r) tells = tt
 in_turn s good before (Tries event) (told.Tired p) tells = tt

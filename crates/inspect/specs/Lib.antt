@@ -1,2 +1,3 @@
-pub use Rattle.calls.specs as calls
+pub use Rattle.snapshot.specs as snapshot
+pub mod States
 pub mod Tables

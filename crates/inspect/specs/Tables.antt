@@ -17,8 +17,8 @@ use Rattle.course.specs.Telling.{entry_made}
 use Rattle.course.specs.Writing.{Writes, WritesPart}
 use Rattle.course.specs.declared.told.Told.{Told}
 use Rattle.course.specs.declared.told.Told.TheVariants as told
-use Rattle.calls.specs.Hearing.{ComesInTurn, HasHeard, TableState, ended_call}
-use Rattle.calls.specs.Lines.{ended_lines, line_of, table_text}
+use Rattle.snapshot.specs.calls.Hearing.{ComesInTurn, HasHeard, TableState, ended_call}
+use Rattle.snapshot.specs.calls.Lines.{ended_lines, line_of, table_text}
 
 -- the table of the calls of a scenario's run
 abbrev pub tabled : Script → List ℕ

@@ -7,12 +7,12 @@ ghost use Rattle.scenario.specs.files.Streams.{ReadsFront, WritesFront};
 ghost use Rattle.scenario.specs.Reads.{script};
 ghost use Rattle.course.specs.Replays.{ended};
 ghost use Rattle.course.specs.Writing.{IsWriteFault, failed_write};
-ghost use Rattle.calls.specs.Hearing.{HasHeard, open_call};
-ghost use Rattle.calls.specs.Lines.{header, line_of, open_lines};
+ghost use Rattle.snapshot.specs.calls.Hearing.{HasHeard, open_call};
+ghost use Rattle.snapshot.specs.calls.Lines.{header, line_of, open_lines};
 ghost use Rattle.inspect.specs.Tables.{CutsTable, TablesLine, calls_text, tabled};
 
 use crate::hearing::{Tabler, write_if};
-use calls::{CallTable, HEADER};
+use snapshot::calls::{CallTable, HEADER};
 use course::Course;
 use fault_place::progress::{LinePlace, Onlooker};
 use plain_store::Setup;

@@ -6,11 +6,11 @@ ghost use Rattle.record.specs.Entries.{Entry as Noted, Past};
 ghost use Rattle.scenario.specs.files.Streams.{WritesFront};
 ghost use Rattle.course.specs.Takings.{Took, TookPart, part_before, part_on, part_unheard, took_none, took_on};
 ghost use Rattle.course.specs.Writing.{IsWriteFault, failed_write};
-ghost use Rattle.calls.specs.Hearing.{ComesInTurn, HasHeard, ended_call};
-ghost use Rattle.calls.specs.Lines.{call_line, line_of};
+ghost use Rattle.snapshot.specs.calls.Hearing.{ComesInTurn, HasHeard, ended_call};
+ghost use Rattle.snapshot.specs.calls.Lines.{call_line, line_of};
 ghost use Rattle.inspect.specs.Tables.{CutsTold, HasTabled, Tells, fewer, lines_after, lines_longer};
 
-use calls::{CallTable, Called, print_call};
+use snapshot::calls::{CallTable, Called, print_call};
 use course::{Listener, Stepped, Taken, Told};
 use record::{Access, Mark};
 use scenario::{Fault, Sink, write_all};

@@ -1,5 +1,5 @@
 use Rattle.std.proofs.Common.{◌≡◌, ◌+◌, ◌-◌, ◌^◌, ◌≤◌, ◌∙◌, ap, arith, subst, sym}
-use Rattle.calls.specs.Hearing.{TableState}
+use Rattle.snapshot.specs.calls.Hearing.{TableState}
 use Rattle.course.proofs.Endings.{failures_by, if_err, ok_with, on_err_if}
 use Rattle.course.proofs.Written.{ok_then}
 use Rattle.course.specs.Runs.{run_after}

@@ -3,10 +3,11 @@ use Rattle.std.specs.Io.KnownBytes.{Appends}
 use Rattle.std.specs.List.{range_with_len}
 use Rattle.plain_store.specs.declared.setups.Setup.{Setup}
 use Rattle.scenario.specs.files.Streams.{WritesFront}
-use Rattle.calls.specs.Hearing.{open_call}
-use Rattle.calls.specs.Lines.{line_of, open_lines}
+use Rattle.snapshot.specs.calls.Hearing.{open_call}
+use Rattle.snapshot.specs.calls.Lines.{line_of, open_lines}
 use Rattle.course.proofs.Written.{appends_both, appends_none, failed_same, front_after, front_all, front_longer}
-use Rattle.inspect.proofs.Ranges.{lines_front, lines_more}
+use Rattle.inspect.proofs.Ranges.{lines_front}
+use Rattle.snapshot.proofs.Ranges.{lines_more}
 use Rattle.inspect.proofs.calling.write_open.Goals as goal
 
 pub loop-process-init : goal.loop-process-init

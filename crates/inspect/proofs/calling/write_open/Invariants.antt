@@ -2,8 +2,8 @@ use Rattle.std.proofs.Common.{◌≡◌, ◌-◌, flat_map, length}
 use Rattle.std.specs.Io.KnownBytes.{Appends}
 use Rattle.std.specs.List.{range_with_len}
 use Rattle.record.specs.Entries.{Past}
-use Rattle.calls.specs.Hearing.{HasHeard, open_call}
-use Rattle.calls.specs.Lines.{line_of}
+use Rattle.snapshot.specs.calls.Hearing.{HasHeard, open_call}
+use Rattle.snapshot.specs.calls.Lines.{line_of}
 use Rattle.inspect.proofs.calling.write_open.Given as goal
 
 -- the lines of the calls of those below the present process were written

@@ -1,8 +1,8 @@
 use Rattle.std.proofs.Common.{◌≡◌, ◌-◌, length, subst, ap, ◌∙◌}
 use Rattle.std.specs.Io.KnownBytes.{Appends}
 use Rattle.scenario.specs.files.Streams.{WritesFront}
-use Rattle.calls.specs.Hearing.{open_call}
-use Rattle.calls.specs.Lines.{line_of}
+use Rattle.snapshot.specs.calls.Hearing.{open_call}
+use Rattle.snapshot.specs.calls.Lines.{line_of}
 use Rattle.course.proofs.Written.{ok_then}
 use Rattle.inspect.proofs.calling.write_open_call.Goals as goal
 
