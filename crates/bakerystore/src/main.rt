@@ -5,12 +5,15 @@ ghost use Rattle.std.specs.Prelude.{◌≡◌, ◌-◌, ◌<◌, ◌^◌, IfOk};
 
 use command_line::{
     Engine, Fault, FromRead, Intake, IntoWrite, Invocation, LineFault, Output, Request, Sink,
-    Source, Terminals, Uninterrupted, WatchedInput, Watcher, all_words, ended, read_words,
+    Source, Terminals, USAGE_STATUS, Uninterrupted, WatchedInput, Watcher, all_words, ended,
+    read_words,
 };
 use drawer::progress::Onlooker;
 use drawer::{Reads, draw, draw_svg};
 use engines::{replay, run_audit, run_bits, run_judge, run_plain, run_record, run_sweep};
-use inspect::{FileKind, KeptFile, KeptInput, explanation, run_calls};
+use inspect::{
+    FileKind, KeptFile, KeptInput, events_said, explanation, run_calls, run_state,
+};
 use race::{RunFault, run_fault_status, run_race};
 use record_drawer::{Opened, draw_record, draw_record_svg, judge_any_lock};
 use std::alloc::Global;
@@ -26,6 +29,9 @@ use std::time::Clock;
 /// What is told at a terminal where there are no words.
 const NO_WORDS: &str =
     "reads a scenario from this terminal, up to its end (how to get help: bakerystore --help)";
+
+/// What is told where `--at` of `state` is missing, or no such number.
+const NO_AT: &str = "state wants --at, and a number below 2^64 or `end` behind it";
 
 fn main(rt: HostRuntime) -> ExitCode {
     let terminals = Terminals {
@@ -61,11 +67,15 @@ fn run<T: Files + Input + Print + Eprint + Clock + AllocGlobal + Threads + Wait 
     request: &Request<'_>,
     terminals: Terminals,
 ) -> Result<u8, RunFault> {
+    let Some(at) = events_asked(request) else {
+        let _ = eprintln!(rt; "{NO_AT}");
+        return Ok(USAGE_STATUS);
+    };
     if request.file == "-" {
-        return run_on(rt, request, terminals, rt.reader());
+        return run_on(rt, request, at, terminals, rt.reader());
     }
     match File::open(rt, request.file) {
-        Ok(file) => run_on(rt, request, terminals, file),
+        Ok(file) => run_on(rt, request, at, terminals, file),
         Err(error) if error.kind() == ErrorKind::OutOfMemory => Err(Fault::Memory.into()),
         Err(_) => Err(Fault::Read.into()),
     }
@@ -75,6 +85,7 @@ fn run<T: Files + Input + Print + Eprint + Clock + AllocGlobal + Threads + Wait 
 fn run_on<T: Print + Eprint + Clock + AllocGlobal + Threads + Wait + Sync, R: Read + Drop>(
     rt: &T,
     request: &Request<'_>,
+    at: u64,
     terminals: Terminals,
     reader: R,
 ) -> Result<u8, RunFault> {
@@ -86,7 +97,7 @@ fn run_on<T: Print + Eprint + Clock + AllocGlobal + Threads + Wait + Sync, R: Re
     };
     let shows = terminals.error && !terminals.output && !request.quiet;
     let source = opened(rt.alloc(), request.command.engine, FromRead::new(reader))?;
-    let wanted = wanted_by(request, source.is_record());
+    let wanted = wanted_by(request, source.is_record(), at);
     let from_input = request.command.intake == Intake::Streamed || wanted.is_record;
     let explains = terminals.error || request.explain;
     let watched = WatchedInput::new(source, rt, shows && from_input);
@@ -144,6 +155,8 @@ struct Wanted {
     why: bool,
     /// Whether the file is a record, where the engine takes scenarios too.
     is_record: bool,
+    /// After how many events the state is told.
+    at: u64,
 }
 
 /// Opens a source: an engine that draws takes scenarios and records, and the file tells which it is.
@@ -157,8 +170,16 @@ fn opened<R: Source + Drop>(alloc: Global, engine: Engine, source: R) -> Result<
     }
 }
 
+/// After how many events a request asks for the state, if it does; none, if `--at` is missing there, or no such number.
+fn events_asked(request: &Request<'_>) -> Option<u64> {
+    match request.command.engine {
+        Engine::State => events_said(request.at?),
+        _ => Some(0),
+    }
+}
+
 /// What a request asks of its engine.
-fn wanted_by(request: &Request<'_>, is_record: bool) -> Wanted {
+fn wanted_by(request: &Request<'_>, is_record: bool, at: u64) -> Wanted {
     Wanted {
         engine: request.command.engine,
         reads: if request.reads {
@@ -169,6 +190,7 @@ fn wanted_by(request: &Request<'_>, is_record: bool) -> Wanted {
         any_lock: request.any_lock,
         why: request.why,
         is_record,
+        at,
     }
 }
 
@@ -192,6 +214,7 @@ fn run_engine<T: AllocGlobal + Threads + Wait + Sync, R: Source, W: Sink, L: Onl
         Engine::Audit => run_audit(alloc, input, output, onlooker),
         Engine::Sweep => run_sweep(alloc, input, output, onlooker),
         Engine::Record => ended(run_record(alloc, input, output, onlooker)),
+        Engine::State => ended(run_state(alloc, wanted.at, input, output, onlooker)),
         Engine::Calls => ended(run_calls(alloc, input, output, onlooker)),
         Engine::Judge if wanted.any_lock => judge_any_lock(alloc, input, output, wanted.why),
         Engine::Judge => run_judge(alloc, input, output, wanted.why),

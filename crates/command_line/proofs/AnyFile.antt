@@ -15,11 +15,11 @@ no_hyphen true e = sym e
 -- each command in the order of the table, and of each the six lines of `RunsFile`
 empty_path : (own : Text) → EachRunsFile own [] commands
 unfolding clap_on_literals command_named
-empty_path own = ((refl, refl, refl, refl, refl, refl), ((refl, refl, refl, refl, refl, refl), ((refl, refl, refl, refl, refl, refl), ((refl, refl, refl, refl, refl, refl), ((refl, refl, refl, refl, refl, refl), ((refl, refl, refl, refl, refl, refl), ((refl, refl, refl, refl, refl, refl), ((refl, refl, refl, refl, refl, refl), ((refl, refl, refl, refl, refl, refl), ((refl, refl, refl, refl, refl, refl), ((refl, refl, refl, refl, refl, refl), tt)))))))))))
+empty_path own = ((refl, refl, refl, refl, refl, refl), ((refl, refl, refl, refl, refl, refl), ((refl, refl, refl, refl, refl, refl), ((refl, refl, refl, refl, refl, refl), ((refl, refl, refl, refl, refl, refl), ((refl, refl, refl, refl, refl, refl), ((refl, refl, refl, refl, refl, refl), ((refl, refl, refl, refl, refl, refl), ((refl, refl, refl, refl, refl, refl), ((refl, refl, refl, refl, refl, refl), ((refl, refl, refl, refl, refl, refl), ((refl, refl, refl, refl, refl, refl), tt))))))))))))
 
 some_file : (own : Text) (x : ℕ) (rest : List ℕ) → (x == 45) ≡ false → EachRunsFile own (x ∷ rest) commands
 unfolding clap_on_literals command_named
-some_file own x rest e = (rw e (rw (no_flags x rest e) (refl, refl, refl, refl, refl, refl)), (rw e (rw (no_flags x rest e) (refl, refl, refl, refl, refl, refl)), (rw e (rw (no_flags x rest e) (refl, refl, refl, refl, refl, refl)), (rw e (rw (no_flags x rest e) (refl, refl, refl, refl, refl, refl)), (rw e (rw (no_flags x rest e) (refl, refl, refl, refl, refl, refl)), (rw e (rw (no_flags x rest e) (refl, refl, refl, refl, refl, refl)), (rw e (rw (no_flags x rest e) (refl, refl, refl, refl, refl, refl)), (rw e (rw (no_flags x rest e) (refl, refl, refl, refl, refl, refl)), (rw e (rw (no_flags x rest e) (refl, refl, refl, refl, refl, refl)), (rw e (rw (no_flags x rest e) (refl, refl, refl, refl, refl, refl)), (rw e (rw (no_flags x rest e) (refl, refl, refl, refl, refl, refl)), tt)))))))))))
+some_file own x rest e = (rw e (rw (no_flags x rest e) (refl, refl, refl, refl, refl, refl)), (rw e (rw (no_flags x rest e) (refl, refl, refl, refl, refl, refl)), (rw e (rw (no_flags x rest e) (refl, refl, refl, refl, refl, refl)), (rw e (rw (no_flags x rest e) (refl, refl, refl, refl, refl, refl)), (rw e (rw (no_flags x rest e) (refl, refl, refl, refl, refl, refl)), (rw e (rw (no_flags x rest e) (refl, refl, refl, refl, refl, refl)), (rw e (rw (no_flags x rest e) (refl, refl, refl, refl, refl, refl)), (rw e (rw (no_flags x rest e) (refl, refl, refl, refl, refl, refl)), (rw e (rw (no_flags x rest e) (refl, refl, refl, refl, refl, refl)), (rw e (rw (no_flags x rest e) (refl, refl, refl, refl, refl, refl)), (rw e (rw (no_flags x rest e) (refl, refl, refl, refl, refl, refl)), (rw e (rw (no_flags x rest e) (refl, refl, refl, refl, refl, refl)), tt))))))))))))
 
 pub runs_each_file : RunsEachFile
 runs_each_file own [] e = empty_path own

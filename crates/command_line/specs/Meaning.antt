@@ -22,6 +22,10 @@ use Rattle.command_line.specs.declared.pages.HelpPage.TheVariants.{Words, Run as
 abbrev pub flag_rule : Text → Rule
 flag_rule name = record (new_rule name) { long = Some name; action = Some SetTrue }
 
+-- an option of a command: `at` has a value
+abbrev pub option_rule : Text → Rule
+option_rule name = if bytes_eq name (codes "at") then record (new_rule name) { long = Some name } else flag_rule name
+
 abbrev pub file_rule : Rule
 file_rule = record (new_rule (codes "FILE")) { required = true }
 
@@ -30,6 +34,9 @@ page_rule = new_rule (codes "PAGE")
 
 abbrev pub with_flag : App → Text → App
 with_flag a name = with_rule a (flag_rule name)
+
+abbrev pub with_option : App → Text → App
+with_option a name = with_rule a (option_rule name)
 
 -- the program without its commands
 abbrev pub bare_app : App
@@ -72,7 +79,7 @@ plain_app name = with_flag (with_flag (with_rule (new_app name) file_rule) (code
 
 -- the command line of a command that runs a file
 abbrev pub command_app : Listed → App
-command_app c = fold with_flag (plain_app c.name) c.options
+command_app c = fold with_option (plain_app c.name) c.options
 
 abbrev pub with_command : App → Listed → App
 with_command a c = with_subcommand a (command_app c).top
@@ -95,6 +102,7 @@ pub record Running : Type 0 where
   pub reads : Bool
   pub any_lock : Bool
   pub why : Bool
+  pub at : Option Text
   pub explain : Bool
   pub quiet : Bool
 
@@ -119,6 +127,7 @@ asked_by (Run r) = runs (record {
   reads = r.reads;
   any_lock = r.any_lock;
   why = r.why;
+  at = option_map (λ t. t.now) r.at;
   explain = r.explain;
   quiet = r.quiet;
 })
@@ -150,6 +159,7 @@ asked_of_file quiet command own file = runs (record {
   reads = has_flag (codes "reads") own;
   any_lock = has_flag (codes "any-lock") own;
   why = has_flag (codes "why") own;
+  at = first_of (codes "at") own;
   explain = has_flag (codes "explain") own;
   quiet = quiet || has_flag (codes "quiet") own;
 })
@@ -194,6 +204,7 @@ running c file = record {
   reads = false;
   any_lock = false;
   why = false;
+  at = None;
   explain = false;
   quiet = false;
 }

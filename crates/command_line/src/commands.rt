@@ -3,7 +3,9 @@ ghost use Rattle.std.specs.Prelude.{◌≡◌, find, map, option_map};
 ghost use Rattle.std.specs.Str.{bytes_eq};
 ghost use Rattle.command_line.specs.Meaning.{command_named, listed, says};
 
-use crate::help::{AUDIT, BITS, CALLS, DRAW, DRAW_SVG, JUDGE, PLAIN, RACE, RECORD, REPLAY, SWEEP};
+use crate::help::{
+    AUDIT, BITS, CALLS, DRAW, DRAW_SVG, JUDGE, PLAIN, RACE, RECORD, REPLAY, STATE, SWEEP,
+};
 use std::fmt::{self, Display, Formatter};
 
 /// What runs a file.
@@ -23,6 +25,8 @@ pub enum Engine {
     Race,
     /// The record of a scenario's run, entry by entry.
     Record,
+    /// The state after the first events of a scenario's run.
+    State,
     /// What became of each call of a scenario's run.
     Calls,
     /// The verdict on the record that a record file says.
@@ -51,7 +55,7 @@ pub struct CommandEntry {
     pub engine: Engine,
     /// How it takes the file.
     pub intake: Intake,
-    /// Its options, beside `--quiet` and `--explain`, which all have.
+    /// Its options, beside `--quiet` and `--explain`, which all have; `at` has a value.
     pub options: &'static [&'static str],
     /// What it is, in a line of the page of all words.
     pub about: &'static str,
@@ -74,7 +78,7 @@ pub type CommandRow = (
 
 /// The commands, in the order in which the page of all words lists them. This is all that words, pages and the program
 /// know of them.
-pub const COMMANDS: [(&str, Engine, Intake, &[&str], &str, &str, &str); 11] = [
+pub const COMMANDS: [(&str, Engine, Intake, &[&str], &str, &str, &str); 12] = [
     (
         "plain",
         Engine::Plain,
@@ -137,6 +141,15 @@ pub const COMMANDS: [(&str, Engine, Intake, &[&str], &str, &str, &str); 11] = [
         "the record of a scenario's run, entry by entry",
         "examples/failed-read.bakery",
         RECORD,
+    ),
+    (
+        "state",
+        Engine::State,
+        Intake::Whole,
+        &["at"],
+        "the state after the first events of that run",
+        "--at 820 examples/torn-commit.bakery",
+        STATE,
     ),
     (
         "calls",

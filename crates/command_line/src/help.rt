@@ -24,6 +24,7 @@ pub const MORE_WORDS: &str = r"
 Options:
 
   --reads   of draw and draw-svg: shows the reads too that writes overlapped
+  --at N    of state: after how many events; `end` is after all
   --any-lock, --why   of judge: takes the record of any lock; gives its reasons
   --explain   tells of a fault the line, the word, and what was expected there. So
             does a run without it where standard error is a terminal
@@ -121,7 +122,7 @@ event, the process, and one of these. The entries of `record` have the same word
                  or `withdrawn`
   fail           it halts, and its memory unit takes over
   settled B      its unit settles the bit that it was writing at B, 0 or 1. Which bit
-                 that is stands in the entry of `record` with this number
+                 that is tells `state --at` with the number of this line (`torn`)
   down           its unit has cleared its ticket and its choosing bit
   withdraw       it gives up waiting
   restart        it is back
@@ -199,6 +200,31 @@ The lines of a record: docs/RECORDS.md
   slots 1
   0 : call read a
   0 0.choosing.0.0 write 1
+";
+
+/// The page of `state`.
+pub const STATE: &str = r"
+Makes the first events of a scenario's run, as many as --at says (`end`: all), and
+prints the state after them: who stands where, in which call and with which ticket,
+for whom he waits, what he reads or writes, and `next`, what his next step adds, by
+either flick; the registers that are not as they opened; and the history. The lines
+of a scenario: bakerystore help replay
+
+  $ printf 'bakery 2\ncall 0 read a\nstep 0 1\n' | bakerystore state --at end -
+  events 2
+  last 0 0.choosing.0.0 write 1
+  line 3 made 1 step 0 1
+  process 0 doorway
+  process 0 call 1 read a at 0
+  process 0 doorway from 1
+  process 0 writes 0.choosing 1 of 4 value 1
+  process 0 open 0.choosing.0.0 write 1
+  process 0 next 0.choosing.0.0 end
+  process 1 idle
+  register 0.choosing readers 0 flickers
+  register 0.choosing readers 1 0
+  history 0
+  store empty
 ";
 
 /// The page of `calls`.

@@ -3,7 +3,7 @@ ghost use Rattle.std.specs.Prelude.{◌≡◌, IfErr, IfOk, [], false, fold, map
 ghost use Rattle.clap.specs.declared.builder.command.Command.TheViews.{out-Command};
 ghost use Rattle.clap.specs.Words.{HasKind, app_of, fault_of, found_of, kind_of, matches_of, subcommand_of, rows_of, rule_of, subcommand_rows_of, takes, with_subcommand};
 ghost use Rattle.std.specs.String.{string_bytes};
-ghost use Rattle.command_line.specs.Meaning.{bakery, bare_app, command_app, flag_rule, help_app, plain_app, says, with_flag, with_row};
+ghost use Rattle.command_line.specs.Meaning.{bakery, bare_app, command_app, flag_rule, help_app, option_rule, plain_app, says, with_option, with_row};
 
 use crate::commands::{COMMANDS, CommandEntry, CommandRow};
 use crate::help::VERSION;
@@ -113,12 +113,12 @@ fn with_options<'a>(
 ) -> Result<Command<'a>, AllocError>
     requires local { (out-Command command).has_globals ≡ false }
     ensures shape { IfOk result (λ c. app_of c
-        ≡ fold (λ a name. with_flag a name.now) (app_of command.entry) names.now) }
+        ≡ fold (λ a name. with_option a name.now) (app_of command.entry) names.now) }
     ensures local { IfOk result (λ c. (out-Command c).has_globals ≡ false) }
 {
     let mut command = command;
     for name in names {
-        command = command.arg(flag(alloc, name))?;
+        command = command.arg(option(alloc, name))?;
     }
     Ok(command)
 }
@@ -132,6 +132,18 @@ fn help<'a>(alloc: Global) -> Result<Command<'a>, AllocError>
         .override_help("help")
         .arg(Arg::new(alloc, "PAGE"))?
         .arg(flag(alloc, "quiet"))
+}
+
+/// An option of a command: `at` has a value.
+fn option<'a>(alloc: Global, name: &'a str) -> Arg<'a>
+    ensures rule { rule_of result ≡ option_rule name.now }
+    ensures local { result.global ≡ false }
+{
+    if name == "at" {
+        Arg::new(alloc, name).long(name)
+    } else {
+        flag(alloc, name)
+    }
 }
 
 /// An option without a value.

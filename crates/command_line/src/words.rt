@@ -26,6 +26,8 @@ pub struct Request<'a> {
     pub any_lock: bool,
     /// Whether a bad verdict has reasons.
     pub why: bool,
+    /// After how many events the state is told, as the words have it.
+    pub at: Option<&'a str>,
     /// Whether the place of a fault is told, and what was expected there.
     pub explain: bool,
     /// Whether nothing is to be shown of how far the run is.
@@ -123,6 +125,7 @@ fn asked_of_none<'a>(quiet: bool) -> Option<Invocation<'a>>
         reads: false,
         any_lock: false,
         why: false,
+        at: None,
         explain: false,
         quiet,
     }))
@@ -168,6 +171,7 @@ fn request_of<'a>(
         reads: is_set(own, "reads"),
         any_lock: is_set(own, "any-lock"),
         why: is_set(own, "why"),
+        at: text_of(own, "at"),
         explain: is_set(own, "explain"),
         quiet: quiet | is_set(own, "quiet"),
     }
