@@ -24,7 +24,7 @@ from lib.places import PROGRAM, TOP
 
 INSPECT = TOP / "examples" / "inspect"
 COMMANDS = {
-    "scenario": ["plain", "replay", "audit", "sweep", "race", "record", "calls", "draw", "draw-svg"],
+    "scenario": ["plain", "replay", "audit", "sweep", "race", "record", "state --at end", "calls", "draw", "draw-svg"],
     "bits": ["bits"],
     "record": ["judge"],
 }
@@ -82,9 +82,9 @@ def try_block(counter, kind, text, told):
     is_record = re.match(rb"record [12]\n", text)
     for command in [it for it in COMMANDS[kind] if not (is_record and it.startswith("draw"))]:
         name = f"{command} {text[:60]}"
-        counter.compare(f"{name}, explained", ran([command, "--explain", "-"], text), (b"", told, 1))
-        counter.compare(f"{name}, not explained", ran([command, "-"], text), (b"", first, 1))
-    counter.compare(f"{name}, at a terminal", at_a_terminal([command, "-"], text), (b"", told, 1))
+        counter.compare(f"{name}, explained", ran([*command.split(), "--explain", "-"], text), (b"", told, 1))
+        counter.compare(f"{name}, not explained", ran([*command.split(), "-"], text), (b"", first, 1))
+    counter.compare(f"{name}, at a terminal", at_a_terminal([*command.split(), "-"], text), (b"", told, 1))
 
 
 def without_words(counter):

@@ -24,6 +24,7 @@ RUNS = [
     (["replay", *FILES], [["replay", file] for file in FILES]),
     (["--quiet", "audit", *FILES[2:0:-1]], [["--quiet", "audit", file] for file in FILES[2:0:-1]]),
     (["plain", "-", FILES[0]], [["plain", "-"], ["plain", FILES[0]]]),
+    (["state", "--at", "9", *FILES[:2]], [["state", "--at", "9", file] for file in FILES[:2]]),
     (["plain", "--", FILES[0], "-"], [["plain", "--", FILES[0]], ["plain", "--", "-"]]),
     *((words, [words]) for words in ([], ["--version"], ["help", "replay"], ["replay"], ["rplay", "-"], ["record", FILES[0]])),
 ]

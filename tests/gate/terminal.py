@@ -26,7 +26,7 @@ from lib.places import PROGRAM, TOP
 from lib.preloading import built
 
 # in the order of the page
-COMMANDS = ["plain", "bits", "replay", "audit", "sweep", "race", "record", "calls", "judge", "draw", "draw-svg"]
+COMMANDS = ["plain", "bits", "replay", "audit", "sweep", "race", "record", "state", "calls", "judge", "draw", "draw-svg"]
 KINDS = ["too-long", "not-first", "unknown", "words", "number", "bad-name", "bad-value", "bad-setup", "memory"]
 MARKS = ["call", "wait", "enter", "taken", "leave", "answer", "fail", "settled", "down", "withdraw", "restart"]
 REFUSALS = ["no-process", "busy", "is-down", "not-running", "not-waiting", "already-failed", "not-down", "calls-full"]
@@ -372,7 +372,8 @@ def failed_writes(counter, interrupter):
         counter.compare(f"write {failing} to a terminal fails", (ran, terminal.text()), (Ran(1, None, "write fault\n"), "".join(lines[: failing - 1])))
         # the fault is told by a write of its own
         counter.compare(f"writes made where write {failing} fails", writes, failing + 1)
-    for asked, given in [*(([command, "-"], SCENARIO) for command in COMMANDS if command not in ("bits", "judge")), (["judge", "-"], RECORD), (["--help"], "")]:
+    of_scenarios = [[command, *["--at=end"] * (command == "state"), "-"] for command in COMMANDS if command not in ("bits", "judge")]
+    for asked, given in [*((asked, SCENARIO) for asked in of_scenarios), (["judge", "-"], RECORD), (["--help"], "")]:
         ran, *_ = interrupter.run(asked, given, failing=1)
         counter.compare(f"the one write of {asked} fails", ran, Ran(1, "", "write fault\n"))
     whole = run(["draw", "-"], scenario).output

@@ -68,7 +68,7 @@ class Spoiler:
 
 def spoiled_calls(spoiler, command, text, most):
     """Each call of a run, with what becomes of it: the run's commands, the most bytes of its calls, and the call."""
-    _, reads, outputs, errors, _ = spoiler.run([command, "-"], text, MOST=most)
+    _, reads, outputs, errors, _ = spoiler.run([*command.split(), "-"], text, MOST=most)
     for stream, calls in enumerate([reads, outputs, errors]):
         for call in range(1, calls + 1):
             for how in HOWS:
@@ -92,7 +92,7 @@ def is_as_it_must(ran, whole, cut, most, stream, call, how):
 @functools.cache
 def plainly(command, text):
     """A run without any of this."""
-    return runner().run([command, "-"], text)
+    return runner().run([*command.split(), "-"], text)
 
 
 def spoil(spoiler, job):
@@ -100,7 +100,7 @@ def spoil(spoiler, job):
     command, text, most, stream, call, how = job
     whole = plainly(command, text)
     cut = plainly(command, text[: most * (call - 1)] if most else b"" if call == 1 else text)
-    ran, *_ = spoiler.run([command, "-"], text, MOST=most, STREAM=stream, CALL=call, HOW=how)
+    ran, *_ = spoiler.run([*command.split(), "-"], text, MOST=most, STREAM=stream, CALL=call, HOW=how)
     what = f"each {STREAMS[stream]} in turn {HOWS[how]}"
     if is_as_it_must(ran, whole, cut, most, stream, call, how):
         return what, f"`{command}`", None
@@ -148,28 +148,28 @@ def closed_streams(examples):
     """Streams that are closed, full, or without a reader."""
     for command in COMMANDS:
         good, faulty = good_file(command, examples), faulty_file(command, examples)
-        whole, told = run([command, good]), run([command, faulty])
+        whole, told = run([*command.split(), good]), run([*command.split(), faulty])
         tries = Tries("standard input is closed")
-        ran = run([command, "-"], preexec_fn=closed(0))
+        ran = run([*command.split(), "-"], preexec_fn=closed(0))
         tries.compare(command, ran, ran == READ_FAULT)
-        ran = run([command, good], preexec_fn=closed(0))
+        ran = run([*command.split(), good], preexec_fn=closed(0))
         tries.compare(command, ran, ran == whole)
         yield from tries.found
         tries = Tries("standard output is closed")
-        ran = run([command, good], preexec_fn=closed(1))
+        ran = run([*command.split(), good], preexec_fn=closed(1))
         tries.compare(command, ran, (ran.status, ran.errors) == WRITE_FAULT)
         yield from tries.found
         tries = Tries("standard error is closed")
-        ran = run([command, faulty], preexec_fn=closed(2))
+        ran = run([*command.split(), faulty], preexec_fn=closed(2))
         tries.compare(command, ran, ran == (told.status, told.output, b""))
-        ran = run([command, good], preexec_fn=closed(2))
+        ran = run([*command.split(), good], preexec_fn=closed(2))
         tries.compare(command, ran, ran == whole)
         yield from tries.found
         tries = Tries("a stream is full")
         with open("/dev/full", "wb") as full:
-            ran = run([command, good], stdout=full)
+            ran = run([*command.split(), good], stdout=full)
             tries.compare(command, ran, (ran.status, ran.errors) == WRITE_FAULT)
-            ran = run([command, faulty], stderr=full)
+            ran = run([*command.split(), faulty], stderr=full)
             tries.compare(command, ran, (ran.status, ran.output) == (told.status, told.output))
         yield from tries.found
         yield from gone_readers(command, good)
@@ -180,7 +180,7 @@ def gone_readers(command, good):
     tries = Tries("a pipe whose reader has gone")
     ours, end = os.pipe()
     os.close(ours)
-    ran = run([command, good], stdout=end)
+    ran = run([*command.split(), good], stdout=end)
     os.close(end)
     tries.compare(command, ran, (ran.status, ran.errors) == WRITE_FAULT)
     yield from tries.found
@@ -189,7 +189,7 @@ def gone_readers(command, good):
     tries = Tries("a pipe whose reader goes after ten bytes")
     # (more than a pipe holds)
     text = b"bakery 1\nprocesses 1\n" + b"call 0 write a c:5\ngo 0 idle\n" * 2000
-    with subprocess.Popen([PROGRAM, command, "-"], **PIPES) as going:
+    with subprocess.Popen([PROGRAM, *command.split(), "-"], **PIPES) as going:
         going.stdin.write(text)
         going.stdin.close()
         front = os.read(going.stdout.fileno(), 10)
@@ -208,7 +208,7 @@ def peak_of(process):
 def fed(command, text, seconds):
     """A run whose input gives this text and goes on without an end, for so many seconds, if it does not end before: whether it
     has ended, how it ends when the input does, and its memory."""
-    with subprocess.Popen([PROGRAM, command, "-"], **PIPES) as going:
+    with subprocess.Popen([PROGRAM, *command.split(), "-"], **PIPES) as going:
         with contextlib.suppress(BrokenPipeError):
             going.stdin.write(text)
             going.stdin.flush()
@@ -251,13 +251,13 @@ def unreadable(examples, folder):
     for command in COMMANDS:
         tries = Tries("a file that cannot be read")
         for word in words:
-            ran = run([command, "--", word], cwd=folder)
+            ran = run([*command.split(), "--", word], cwd=folder)
             tries.compare(command, (word, ran), ran == READ_FAULT)
         with open("/proc/self/mem", "rb") as memory:
-            ran = run([command, "-"], stdin=memory)
+            ran = run([*command.split(), "-"], stdin=memory)
             tries.compare(command, ran, ran == READ_FAULT)
         listing = os.open(folder, os.O_RDONLY)
-        ran = run([command, "-"], stdin=listing)
+        ran = run([*command.split(), "-"], stdin=listing)
         os.close(listing)
         tries.compare(command, ran, ran == READ_FAULT)
         ran = forbidden(command, good_file(command, examples), folder)
@@ -275,20 +275,20 @@ def forbidden(command, good, folder):
         program.chmod(0o755)
         file.write_bytes(good.read_bytes())
         file.chmod(0)
-    ran = subprocess.run([program, command, file], capture_output=True, user=NOBODY if os.geteuid() == 0 else None)
+    ran = subprocess.run([program, *command.split(), file], capture_output=True, user=NOBODY if os.geteuid() == 0 else None)
     return Ran(ran.returncode, ran.stdout, ran.stderr)
 
 
 def names(command, good, folder):
     """A name that is not UTF-8 is refused as a word, and the file can be read as standard input."""
     tries = Tries("a name that is not UTF-8")
-    whole, name = run([command, good]), os.fsencode(folder) + b"/\xff"
+    whole, name = run([*command.split(), good]), os.fsencode(folder) + b"/\xff"
     with open(name, "wb") as file:
         file.write(good.read_bytes())
-    ran = run([command, name])
+    ran = run([*command.split(), name])
     tries.compare(command, ran, (ran.status, ran.output) == (2, b"") and ran.errors.startswith(b"error: a word is not UTF-8"))
     with open(name, "rb") as file:
-        ran = run([command, "-"], stdin=file)
+        ran = run([*command.split(), "-"], stdin=file)
     tries.compare(command, ran, ran == whole)
     yield from tries.found
 

@@ -97,10 +97,10 @@ def file_row(refuser, examples, command, file):
     """Each growth of a command on a file."""
     name = str(file.relative_to(examples))
     try:
-        subprocess.run([PROGRAM, command, file], capture_output=True, timeout=SECONDS)
+        subprocess.run([PROGRAM, *command.split(), file], capture_output=True, timeout=SECONDS)
     except subprocess.TimeoutExpired:
         return Row(f"`{command}`, where a run takes longer than {SECONDS} s", name, 0, [])
-    _, met, tried, wrong = refused(refuser, [PROGRAM, command, file], is_lost)
+    _, met, tried, wrong = refused(refuser, [PROGRAM, *command.split(), file], is_lost)
     return Row(*named(f"`{command}`", name, met), tried, wrong or met_none(tried))
 
 

@@ -75,7 +75,7 @@ def tries(job):
     """Tries a text by a command, and by those others; each with what was done, and what is wrong, or None."""
     (how, text), command, others = job
     want, said = wanted(command, text)
-    ran = runner().run([command, "-"], text)
+    ran = runner().run([*command.split(), "-"], text)
     found = [(f"{how}, by `plain`, `bits` or `judge`", f"`{command}`", unlike(text, ran, want))]
     if said is None:
         for other in others:

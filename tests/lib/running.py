@@ -17,7 +17,7 @@ from lib.places import PROGRAM, TESTS
 CORES = len(os.sched_getaffinity(0))
 SECONDS = 300
 CHUNK = 50
-SCENARIO_COMMANDS = ["plain", "replay", "audit", "sweep", "race", "record", "calls", "draw", "draw-svg"]
+SCENARIO_COMMANDS = ["plain", "replay", "audit", "sweep", "race", "record", "state --at end", "calls", "draw", "draw-svg"]
 COMMANDS = [*SCENARIO_COMMANDS, "bits", "judge"]
 # the files of each command in examples/worked/ and beside it
 FILES = {
