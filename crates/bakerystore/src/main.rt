@@ -11,7 +11,9 @@ use command_line::{
 use drawer::progress::Onlooker;
 use drawer::{Reads, draw, draw_svg};
 use engines::{replay, run_audit, run_bits, run_judge, run_plain, run_record, run_sweep};
-use inspect::{FileKind, KeptFile, KeptInput, events_said, explanation, run_calls, run_state};
+use inspect::{
+    FileKind, KeptFile, KeptInput, events_said, explanation, run_calls, run_state,
+};
 use race::{RunFault, run_fault_status, run_race};
 use record_drawer::{Opened, draw_record, draw_record_svg, judge_any_lock};
 use std::alloc::Global;
@@ -218,9 +220,7 @@ fn run_engine<T: AllocGlobal + Threads + Wait + Sync, R: Source, W: Sink, L: Onl
         Engine::Judge => run_judge(alloc, input, output, wanted.why),
         Engine::Race => return run_race(rt, alloc, input, output),
         Engine::Draw if wanted.is_record => exit_status(draw_record(alloc, reads, input, output)),
-        Engine::DrawSvg if wanted.is_record => exit_status(draw_record_svg(
-            alloc, reads, input, output,
-        )),
+        Engine::DrawSvg if wanted.is_record => exit_status(draw_record_svg(alloc, reads, input, output)),
         Engine::Draw => exit_status(draw(alloc, reads, input, output, onlooker)),
         Engine::DrawSvg => exit_status(draw_svg(alloc, reads, input, output, onlooker)),
     };
