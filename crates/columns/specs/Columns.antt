@@ -15,7 +15,7 @@ use Rattle.columns.specs.declared.state.State.{State}
 use Rattle.columns.specs.declared.told.TakenChange.{TakenChange}
 use Rattle.columns.specs.declared.told.RunLine.{RunLine}
 use Rattle.columns.specs.declared.told.Saying.{Saying}
-use Rattle.columns.specs.declared.told.Saying.TheVariants.{Ended, Marked, Refused, Shown, Tired}
+use Rattle.columns.specs.declared.told.Saying.TheVariants.{Ended, Judged, Marked, Refused, Shown, Tired}
 
 -- words in one row: whether they stand out, their bytes, and how many characters they are
 pub record Wording : Type 0 where
@@ -87,6 +87,7 @@ rows_told in_lane (Marked p mark change) = rows_marked mark
 rows_told in_lane (Refused p refusal) = verb (cond in_lane (codes "refused") (decimal p ++ codes " refused")) ∷ rest (refusal_text refusal) ∷ []
 rows_told in_lane (Tired p) = verb (codes "turns") ∷ []
 rows_told in_lane (Shown words) = verb (codes "show") ∷ row_shortened words.items ∷ []
+rows_told in_lane (Judged p words) = verb (codes "judge") ∷ row_shortened words.items ∷ []
 rows_told in_lane (Ended events taken refused) = verb (codes "end events " ++ decimal events) ∷ rest (codes "taken " ++ decimal taken ++ codes " refused " ++ decimal refused) ∷ []
 
 -- the row of a line that shares its column

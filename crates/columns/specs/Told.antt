@@ -8,7 +8,7 @@ use Rattle.columns.specs.declared.columns.Column.{Column}
 use Rattle.columns.specs.declared.told.TakenChange.{TakenChange}
 use Rattle.columns.specs.declared.told.RunLine.{RunLine}
 use Rattle.columns.specs.declared.told.Saying.{Saying}
-use Rattle.columns.specs.declared.told.Saying.TheVariants.{Marked, Refused, Tired, Shown, Ended}
+use Rattle.columns.specs.declared.told.Saying.TheVariants.{Marked, Refused, Tired, Shown, Judged, Ended}
 
 -- what a line says, where so many events were accepted before it
 abbrev pub saying_text : ℕ → Saying → List ℕ
@@ -16,6 +16,7 @@ saying_text at (Marked p mark change) = decimal at ++ codes " " ++ decimal p ++ 
 saying_text at (Refused p refusal) = codes "- " ++ decimal p ++ codes " refused " ++ refusal_text refusal
 saying_text at (Tired p) = codes "- " ++ decimal p ++ codes " turns"
 saying_text at (Shown words) = codes "show " ++ words.items
+saying_text at (Judged p words) = codes "judge " ++ words.items
 saying_text at (Ended events taken refused) = codes "end events " ++ decimal events ++ codes " taken " ++ decimal taken ++ codes " refused " ++ decimal refused
 
 -- a line, without its end
@@ -36,6 +37,7 @@ process_told (Marked p mark change) = Some p
 process_told (Refused p refusal) = Some p
 process_told (Tired p) = Some p
 process_told (Shown words) = None
+process_told (Judged p words) = p
 process_told (Ended events taken refused) = None
 
 -- the mark that is told

@@ -261,7 +261,8 @@ fn rows_alone(alloc: Global, line: &RunLine, in_lane: bool) -> Result<Vec<TextRo
             refusal.to_string(alloc)?,
         ),
         Saying::Tired(_) => one_row(alloc, String::from_str(alloc, "turns")?),
-        Saying::Shown(words) => shown_rows(alloc, words.as_slice()),
+        Saying::Shown(words) => named_rows(alloc, "show", words.as_slice()),
+        Saying::Judged { words, .. } => named_rows(alloc, "judge", words.as_slice()),
         Saying::Ended {
             events,
             taken,
@@ -292,12 +293,12 @@ fn counts(alloc: Global, taken: u64, refused: u64) -> Result<String, AllocError>
     format!(in alloc; "taken {taken} refused {refused}")
 }
 
-/// The rows of the newest store.
-fn shown_rows(alloc: Global, words: &[u8]) -> Result<Vec<TextRow>, AllocError>
-    ensures { IfOk result (λ rows. map wording rows.items ≡ verb (codes "show") ∷ row_shortened words.now ∷ []) }
+/// A name that stands out, and below it words, as far as they are drawn.
+fn named_rows(alloc: Global, name: &str, words: &[u8]) -> Result<Vec<TextRow>, AllocError>
+    ensures { IfOk result (λ rows. map wording rows.items ≡ verb name.now ∷ row_shortened words.now ∷ []) }
 {
     let mut rows = Vec::new(alloc);
-    rows.push(TextRow::new(true, String::from_str(alloc, "show")?))?;
+    rows.push(TextRow::new(true, String::from_str(alloc, name)?))?;
     rows.push(cut_row(alloc, words)?)?;
     Ok(rows)
 }

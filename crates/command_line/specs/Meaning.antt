@@ -93,6 +93,7 @@ pub record Running : Type 0 where
   pub engine : Engine
   pub file : Text
   pub reads : Bool
+  pub judge : Bool
   pub any_lock : Bool
   pub why : Bool
   pub explain : Bool
@@ -117,6 +118,7 @@ asked_by (Run r) = runs (record {
   engine = r.command.engine;
   file = r.file.now;
   reads = r.reads;
+  judge = r.judge;
   any_lock = r.any_lock;
   why = r.why;
   explain = r.explain;
@@ -148,6 +150,7 @@ asked_of_file quiet command own file = runs (record {
   engine = command.engine;
   file = file;
   reads = has_flag (codes "reads") own;
+  judge = has_flag (codes "judge") own;
   any_lock = has_flag (codes "any-lock") own;
   why = has_flag (codes "why") own;
   explain = has_flag (codes "explain") own;
@@ -192,6 +195,7 @@ running c file = record {
   engine = c.engine;
   file = file;
   reads = false;
+  judge = false;
   any_lock = false;
   why = false;
   explain = false;

@@ -11,10 +11,11 @@ mod changes;
 mod drawing;
 mod engines;
 mod held;
+mod judged;
 mod opened;
 mod sheet;
 mod writing;
 
-pub use any_judge::judge_any_lock;
-pub use engines::{draw_record, draw_record_svg};
+pub use any_judge::{Explaining, ExplainingAnyLock, Judging, judge_any_lock};
+pub use engines::{draw_judged_record, draw_judged_record_svg, draw_record, draw_record_svg};
 pub use opened::Opened;
