@@ -51,9 +51,10 @@ waiting_says : (s : Setup) (p : ℕ) (before : List (ℕ × Mark)) (marks : List
 waiting_says s p before [] reads = refl
 waiting_says s p before (m ∷ marks) reads = refl
 
-waiting_none : (marks : List Mark) (mark : Mark) (reads : List OverlappedRead) → [] ≡ waiting (marks ++ mark ∷ []) reads
-waiting_none [] mark reads = refl
-waiting_none (m ∷ marks) mark reads = refl
+-- and none waits behind a line
+pub waiting_none : {A : Type 0} (lines : List A) (line : A) (reads : List OverlappedRead) → [] ≡ waiting (lines ++ line ∷ []) reads
+waiting_none [] line reads = refl
+waiting_none (first ∷ lines) line reads = refl
 
 module _ (marks : List Mark) (k : ℕ) (mark : Mark) (within : k < length marks) (is : mark ≡ get_or marks k mark) where
   -- the marks up to the next one

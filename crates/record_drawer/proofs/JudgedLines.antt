@@ -10,12 +10,7 @@ use Rattle.record_drawer.specs.Drawings.{DrawsOn, kept}
 use Rattle.record_drawer.specs.Items.{Says, judged_with, lines_given, say_judged, waiting}
 use Rattle.record_drawer.specs.declared.drawing.RecordDrawing.{RecordDrawing}
 use Rattle.record_drawer.proofs.Drawn.{draws_on_both, draws_on_none}
-use Rattle.record_drawer.proofs.Giving.{lines_more}
-
--- no read waits behind a line
-waiting_none : (lines : List Says) (line : Says) (reads : List OverlappedRead) → [] ≡ waiting (lines ++ line ∷ []) reads
-waiting_none [] line reads = refl
-waiting_none (first ∷ lines) line reads = refl
+use Rattle.record_drawer.proofs.Giving.{lines_more, waiting_none}
 
 module _ (bad : Option ℕ) (all : List (List ℕ)) (old : RecordDrawing) (a : Option (List ℕ)) where
   -- these lines are drawn, and those are to come

@@ -90,9 +90,14 @@ leaves_none (form.Picture top) old new same = subst (λ n. Keeps old n) (sym sam
 pub of_record_then : (P Q : Setup → List Entry → List ℕ → Type 0) (text : List ℕ) → ((s : Setup) (entries : List Entry) (numbers : List ℕ) → P s entries numbers → Q s entries numbers) → IsOfRecord P text → IsOfRecord Q text
 of_record_then P Q text then is = record { said = is.said; says = is.says; holds = then is.said.setup is.said.entries (numbers_of text) is.holds }
 
-pub judged_then : (Keeps : Setup → List Entry → Type 0) (Tells : Setup → List Entry → List ℕ → List ℕ → ℕ → Type 0) (status : ℕ) (P Q : Said → List ℕ → Type 0) → ((said : Said) (told : List ℕ) → P said told → Q said told) → (s : Setup) (entries : List Entry) (numbers : List ℕ) →
+judged_then : (Keeps : Setup → List Entry → Type 0) (Tells : Setup → List Entry → List ℕ → List ℕ → ℕ → Type 0) (status : ℕ) (P Q : Said → List ℕ → Type 0) → ((said : Said) (told : List ℕ) → P said told → Q said told) → (s : Setup) (entries : List Entry) (numbers : List ℕ) →
     IsJudged Keeps Tells status P s entries numbers → IsJudged Keeps Tells status Q s entries numbers
 judged_then Keeps Tells status P Q then s entries numbers is = record { told = is.told; tells = is.tells; shown = is.shown; shows = is.shows; is = then (record { setup = s; entries = is.shown }) is.told is.is }
+
+pub judged_all : (Keeps : Setup → List Entry → Type 0) (Tells : Setup → List Entry → List ℕ → List ℕ → ℕ → Type 0) (status : ℕ) (P Q : Said → List ℕ → Type 0) → ((said : Said) (told : List ℕ) → P said told → Q said told) → (o : Option (List ℕ)) →
+    IfSome o (IsOfRecord (IsJudged Keeps Tells status P)) → IfSome o (IsOfRecord (IsJudged Keeps Tells status Q))
+judged_all Keeps Tells status P Q then o is =
+    if_some o (IsOfRecord (IsJudged Keeps Tells status P)) (IsOfRecord (IsJudged Keeps Tells status Q)) (λ text. of_record_then (IsJudged Keeps Tells status P) (IsJudged Keeps Tells status Q) text (judged_then Keeps Tells status P Q then)) is
 
 -- Drawing ends with a fault.
 module _ {A : Type 0} (draws : A → List ℕ → Option (List ℕ) → Option (List ℕ) → Type 0) (f : Form) (r : Result A Fault) (old new : Streams) where

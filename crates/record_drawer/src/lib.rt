@@ -1,5 +1,6 @@
 //! The pictures of records: what an entry after the other says, as a page for a browser and as one picture. A record may be
-//! good or bad, and of any lock; what it says is drawn. The engines that judge records are passed on.
+//! good or bad, and of any lock; what it says is drawn. Where a judge hears it too, its picture ends with the first entry
+//! that breaks a law, and with what he tells. The engines that judge records are passed on.
 //!
 //! ```rust
 //! Engine::Draw if wanted.is_record => ended(draw_record(alloc, reads, input, output)),
