@@ -1,5 +1,5 @@
 -- A record file that a judge hears, and that is drawn up to the first entry that breaks a law.
-use Rattle.std.proofs.Common.{◌≡◌, ℕ, ◌+◌, ◌≤◌, nat_lt, Bool, true, false, if◌then◌else◌, List, [], ◌∷◌, ◌++◌, length, reverse, Option, Some, None, Result, Ok, Err, IfSome, IsSome, refl, ap, sym, subst, ◌∙◌, append-nil, append_assoc, arith}
+use Rattle.std.proofs.Common.{◌≡◌, ℕ, ◌+◌, ◌≤◌, nat_lt, Bool, true, false, if◌then◌else◌, List, [], ◌∷◌, ◌++◌, length, reverse, Option, Some, None, Result, Ok, Err, IfSome, IsErrAnd, IsSome, refl, ap, sym, subst, ◌∙◌, append-nil, append_assoc, arith}
 use Rattle.std.proofs.lemmas.List.{length-reverse, reverse-append}
 use Rattle.std.specs.Option.{option_to_list}
 use Rattle.plain_store.specs.declared.setups.Setup.{Setup}
@@ -8,6 +8,7 @@ use Rattle.files.specs.Files.{words_read}
 use Rattle.files.specs.SourceLines.{Given, LineState, TakesNext, coming, unless_ended}
 use Rattle.files.specs.Words.{words_of}
 use Rattle.files.specs.Reads.{UnlessMemory}
+use Rattle.files.specs.Streams.{failed_reading}
 use Rattle.files.specs.declared.faults.Fault.{Fault}
 use Rattle.files.specs.declared.faults.Fault.TheVariants as fault
 use Rattle.files.specs.declared.faults.FaultKind.{FaultKind}
@@ -26,7 +27,7 @@ use Rattle.any_judge.proofs.trial.Lines.{Left, later_left}
 use Rattle.companions.specs.picture.declared.page.Form.{Form}
 use Rattle.companions.specs.picture.declared.reads.Reads.{Reads as Mode}
 use Rattle.record_drawer.specs.Sheets.{All, DrawsBandsOf, EndsAt, GoesOn, IsDrawFault, IsJudged, LineStops, Shows, Stands, UpTo, entries_of}
-use Rattle.record_drawer.specs.Writing.{IsWriteFault}
+use Rattle.record_drawer.specs.Writing.{IsWriteFault, failed_write}
 use Rattle.record_drawer.specs.declared.sheet.DrawnEntry.{DrawnEntry}
 use Rattle.record_drawer.specs.declared.sheet.Sheet.{Sheet}
 use Rattle.record_drawer.proofs.Ends.{drawn_count}
@@ -116,10 +117,10 @@ module _ {H : Type 0} (HasHeard : H → Setup → List Entry → List ℕ → Ty
       subst (λ s. Keeps s entries) (sym stays.3 ∙ ap (λ (p : Progress). p.head.setup) same) (good i q.head.setup entries numbers heard.1 found)
 
   -- the first entry that breaks a law was drawn
-  stops : (t : Sheet) (before : Option Progress) (entries : List Entry) (o : Option Entry) (first then : Option (List ℕ)) (p : Progress) → before ≡ Some p → p.ended ≡ true → Keeps p.head.setup entries → (Keeps p.head.setup (entries ++ option_to_list o) → ⊥) → Stands t (Some p) (reverse (entries ++ option_to_list o)) first then →
-      HasStopped Keeps t before (entries ++ option_to_list o) first then
-  stops t before entries None first then p is ended keeps breaks stands = absurd (breaks (subst (λ (l : List Entry). Keeps p.head.setup l) (sym (append-nil entries)) keeps))
-  stops t before entries (Some e) first then p is ended keeps breaks stands = record {
+  stops : (t : Sheet) (before : Option Progress) (entries : List Entry) (o : Option Entry) (first after : Option (List ℕ)) (p : Progress) → before ≡ Some p → p.ended ≡ true → Keeps p.head.setup entries → (Keeps p.head.setup (entries ++ option_to_list o) → ⊥) → Stands t (Some p) (reverse (entries ++ option_to_list o)) first after →
+      HasStopped Keeps t before (entries ++ option_to_list o) first after
+  stops t before entries None first after p is ended keeps breaks stands = absurd (breaks (subst (λ (l : List Entry). Keeps p.head.setup l) (sym (append-nil entries)) keeps))
+  stops t before entries (Some e) first after p is ended keeps breaks stands = record {
     last = p;
     read = is;
     ended = ended;
@@ -134,31 +135,31 @@ module _ {H : Type 0} (HasHeard : H → Setup → List Entry → List ℕ → Ty
     breaks = breaks;
   }
 
-  stops_at : (t : Sheet) (before now : Option Progress) (entries : List Entry) (first then : Option (List ℕ)) (p : Progress) → before ≡ Some p → p.ended ≡ true → Keeps p.head.setup entries → (Keeps p.head.setup (entries ++ entry_in now) → ⊥) → Stands t (Some p) (reverse (entries ++ entry_in now)) first then →
-      HasStopped Keeps t before (entries ++ entry_in now) first then
-  stops_at t before None entries first then p is ended keeps breaks stands = stops t before entries None first then p is ended keeps breaks stands
-  stops_at t before (Some q) entries first then p is ended keeps breaks stands = stops t before entries q.entry first then p is ended keeps breaks stands
+  stops_at : (t : Sheet) (before now : Option Progress) (entries : List Entry) (first after : Option (List ℕ)) (p : Progress) → before ≡ Some p → p.ended ≡ true → Keeps p.head.setup entries → (Keeps p.head.setup (entries ++ entry_in now) → ⊥) → Stands t (Some p) (reverse (entries ++ entry_in now)) first after →
+      HasStopped Keeps t before (entries ++ entry_in now) first after
+  stops_at t before None entries first after p is ended keeps breaks stands = stops t before entries None first after p is ended keeps breaks stands
+  stops_at t before (Some q) entries first after p is ended keeps breaks stands = stops t before entries q.entry first after p is ended keeps breaks stands
 
   -- a line that was heard and drawn
-  pub shown_on : (n : ℕ) (line : List ℕ) (j j' : Option H) (t t' : Sheet) (before reader : Option Progress) (entries : List Entry) (numbers : List ℕ) (first now then : Option (List ℕ)) → IsShown Keeps finds_good true j t before entries first now → HearsAt HasHeard j before entries numbers →
-      (on : HearsOn HasHeard n line before reader j' entries numbers) → GoesOn (line_read line before) t' (reverse entries) first then → (b : Bool) → b ≡ good_in finds_good j' → IsShown Keeps finds_good b j' t' (cleared on.now) (entries ++ entry_in on.now) first then
-  shown_on n line j j' t t' before reader entries numbers first now then shown heard on drawn b is = by b j' on.stands.heard is
+  pub shown_on : (n : ℕ) (line : List ℕ) (j j' : Option H) (t t' : Sheet) (before reader : Option Progress) (entries : List Entry) (numbers : List ℕ) (first now after : Option (List ℕ)) → IsShown Keeps finds_good true j t before entries first now → HearsAt HasHeard j before entries numbers →
+      (on : HearsOn HasHeard n line before reader j' entries numbers) → GoesOn (line_read line before) t' (reverse entries) first after → (b : Bool) → b ≡ good_in finds_good j' → IsShown Keeps finds_good b j' t' (cleared on.now) (entries ++ entry_in on.now) first after
+  shown_on n line j j' t t' before reader entries numbers first now after shown heard on drawn b is = by b j' on.stands.heard is
     where
       same : drawn.now ≡ on.now
       same = let both : (let r : Result (Option Progress) FaultKind = Ok drawn.now in r) ≡ Ok on.now = sym drawn.says ∙ on.says in cc
 
-      stands : Stands t' (cleared on.now) (reverse (entries ++ entry_in on.now)) first then
-      stands = subst (λ (l : List Entry). Stands t' (cleared on.now) l first then) (newest_first entries on.now)
-          (subst (λ (o : Option Progress). Stands t' (cleared o) (entry_in o ++ reverse entries) first then) same drawn.stands)
+      stands : Stands t' (cleared on.now) (reverse (entries ++ entry_in on.now)) first after
+      stands = subst (λ (l : List Entry). Stands t' (cleared on.now) l first after) (newest_first entries on.now)
+          (subst (λ (o : Option Progress). Stands t' (cleared o) (entry_in o ++ reverse entries) first after) same drawn.stands)
 
-      found : (h : H) (o : Option Progress) → cleared on.now ≡ o → HearsAt HasHeard (Some h) o (entries ++ entry_in on.now) (numbers ++ number_in n line) → finds_good h ≡ false → HasStopped Keeps t' (cleared on.now) (entries ++ entry_in on.now) first then
+      found : (h : H) (o : Option Progress) → cleared on.now ≡ o → HearsAt HasHeard (Some h) o (entries ++ entry_in on.now) (numbers ++ number_in n line) → finds_good h ≡ false → HasStopped Keeps t' (cleared on.now) (entries ++ entry_in on.now) first after
       found h None is heard' broken = absurd heard'
       found h (Some p) is heard' broken =
-          stops_at t' (cleared on.now) on.now entries first then p is heard'.0 (kept_before line j before on.now entries numbers p on.says shown.0 heard is)
+          stops_at t' (cleared on.now) on.now entries first after p is heard'.0 (kept_before line j before on.now entries numbers p on.says shown.0 heard is)
           (bad h p.head.setup (entries ++ entry_in on.now) (numbers ++ number_in n line) heard'.1 broken)
-          (subst (λ (o : Option Progress). Stands t' o (reverse (entries ++ entry_in on.now)) first then) is stands)
+          (subst (λ (o : Option Progress). Stands t' o (reverse (entries ++ entry_in on.now)) first after) is stands)
 
-      by : (b : Bool) (j' : Option H) → HearsAt HasHeard j' (cleared on.now) (entries ++ entry_in on.now) (numbers ++ number_in n line) → b ≡ good_in finds_good j' → IsShown Keeps finds_good b j' t' (cleared on.now) (entries ++ entry_in on.now) first then
+      by : (b : Bool) (j' : Option H) → HearsAt HasHeard j' (cleared on.now) (entries ++ entry_in on.now) (numbers ++ number_in n line) → b ≡ good_in finds_good j' → IsShown Keeps finds_good b j' t' (cleared on.now) (entries ++ entry_in on.now) first after
       by true j' heard' is = (sym is, stands)
       by false None heard' is = absurd (cc)
       by false (Some h) heard' is = found h (cleared on.now) refl heard' (sym is)
@@ -195,11 +196,11 @@ module _ {H : Type 0} (HasHeard : H → Setup → List Entry → List ℕ → Ty
       nobody (Some h) heard = absurd heard
 
   -- a line more, which is shown
-  pub judged_shown : (to_come mid rest : Option (List ℕ)) (l l' : LineState) (reader reader' : Option Progress) (j j' : Option H) (t t' : Sheet) (first now then : Option (List ℕ)) (b : Bool) (u : Judged HasHeard Keeps finds_good to_come mid l.taken reader j true t first now) → TakesNext l l' mid rest →
-      HearsOn HasHeard l'.taken l'.line u.onwards.before reader' j' u.onwards.entries u.onwards.numbers → GoesOn (line_read l'.line u.onwards.before) t' (reverse u.onwards.entries) first then → b ≡ good_in finds_good j' → Judged HasHeard Keeps finds_good to_come rest l'.taken reader' j' b t' first then
-  judged_shown to_come mid rest l l' reader reader' j j' t t' first now then b u takes on drawn is = record {
+  pub judged_shown : (to_come mid rest : Option (List ℕ)) (l l' : LineState) (reader reader' : Option Progress) (j j' : Option H) (t t' : Sheet) (first now after : Option (List ℕ)) (b : Bool) (u : Judged HasHeard Keeps finds_good to_come mid l.taken reader j true t first now) → TakesNext l l' mid rest →
+      HearsOn HasHeard l'.taken l'.line u.onwards.before reader' j' u.onwards.entries u.onwards.numbers → GoesOn (line_read l'.line u.onwards.before) t' (reverse u.onwards.entries) first after → b ≡ good_in finds_good j' → Judged HasHeard Keeps finds_good to_come rest l'.taken reader' j' b t' first after
+  judged_shown to_come mid rest l l' reader reader' j j' t t' first now after b u takes on drawn is = record {
     onwards = onwards_on HasHeard to_come mid rest l l' reader reader' j j' u.onwards takes on;
-    shown = shown_on l'.taken l'.line j j' t t' u.onwards.before reader' u.onwards.entries u.onwards.numbers first now then u.shown u.onwards.stands.heard on drawn b is;
+    shown = shown_on l'.taken l'.line j j' t t' u.onwards.before reader' u.onwards.entries u.onwards.numbers first now after u.shown u.onwards.stands.heard on drawn b is;
   }
 
   -- or one that is heard alone
@@ -213,11 +214,11 @@ module _ {H : Type 0} (HasHeard : H → Setup → List Entry → List ℕ → Ty
   -- The end.
 
   -- what is shown, and what the judge tells
-  pub judged_bands : (Tells : Setup → List Entry → List ℕ → List ℕ → ℕ → Type 0) (shows : Bool) (j : Option H) (t : Sheet) (before : Option Progress) (entries : List Entry) (numbers : List ℕ) (first now then : Option (List ℕ)) (p : Progress) (drawn : DrawnEntry) (told : List ℕ) (status : ℕ) →
+  pub judged_bands : (Tells : Setup → List Entry → List ℕ → List ℕ → ℕ → Type 0) (shows : Bool) (j : Option H) (t : Sheet) (before : Option Progress) (entries : List Entry) (numbers : List ℕ) (first now after : Option (List ℕ)) (p : Progress) (drawn : DrawnEntry) (told : List ℕ) (status : ℕ) →
       before ≡ Some p → HearsAt HasHeard j before entries numbers → IsShown Keeps finds_good shows j t before entries first now → Tells p.head.setup entries numbers told status →
-      ((p : Progress) (past : Past) (first : Option (List ℕ)) → t.reader ≡ Some p → Stands t (Some p) past first now → (drawn.setup ≡ p.head.setup) × EndsAt t.reads t.form p.head.setup past told drawn.height first then) →
-      IsJudged Keeps Tells status (DrawsBandsOf t.reads t.form drawn first then) p.head.setup entries numbers
-  judged_bands Tells true j t before entries numbers first now then p drawn told status is heard shown tells ends =
+      ((p : Progress) (past : Past) (first : Option (List ℕ)) → t.reader ≡ Some p → Stands t (Some p) past first now → (drawn.setup ≡ p.head.setup) × EndsAt t.reads t.form p.head.setup past told drawn.height first after) →
+      IsJudged Keeps Tells status (DrawsBandsOf t.reads t.form drawn first after) p.head.setup entries numbers
+  judged_bands Tells true j t before entries numbers first now after p drawn told status is heard shown tells ends =
       let both = ends p (reverse entries) first (shown.1.reader ∙ is) (subst (λ (o : Option Progress). Stands t o (reverse entries) first now) is shown.1) in
       record {
         told = told;
@@ -226,7 +227,7 @@ module _ {H : Type 0} (HasHeard : H → Setup → List Entry → List ℕ → Ty
         shows = All refl (keeps_at j p entries numbers (subst (λ (o : Option Progress). HearsAt HasHeard j o entries numbers) is heard) shown.0);
         is = record { setup = both.0; ends = both.1 };
       }
-  judged_bands Tells false j t before entries numbers first now then p drawn told status is heard shown tells ends =
+  judged_bands Tells false j t before entries numbers first now after p drawn told status is heard shown tells ends =
       let q : Progress = shown.drawn in
       let entries' : List Entry = shown.front ++ shown.entry ∷ [] in
       let both = ends q (reverse entries') first shown.stands.reader shown.stands in
@@ -234,7 +235,7 @@ module _ {H : Type 0} (HasHeard : H → Setup → List Entry → List ℕ → Ty
       let two : Some last ≡ Some p = sym shown.read ∙ is in
       let same : last ≡ p = cc in
       let setup : q.head.setup ≡ p.head.setup = shown.setup ∙ ap (λ (p : Progress). p.head.setup) same in
-      subst (λ (s : Setup). IsJudged Keeps Tells status (DrawsBandsOf t.reads t.form drawn first then) s entries numbers) setup (record {
+      subst (λ (s : Setup). IsJudged Keeps Tells status (DrawsBandsOf t.reads t.form drawn first after) s entries numbers) setup (record {
         told = told;
         tells = subst (λ (s : Setup). Tells s entries numbers told status) (sym setup) tells;
         shown = entries';
@@ -245,12 +246,12 @@ module _ {H : Type 0} (HasHeard : H → Setup → List Entry → List ℕ → Ty
   -- where what is drawn does not end well
   pub read_fault : (to_come mid rest : Option (List ℕ)) (l l' : LineState) (reader : Option Progress) (j : Option H) (u : Onwards HasHeard to_come mid l.taken reader j) (t : Sheet) (e : Fault) → t.reader ≡ u.before → TakesNext l l' mid rest →
       LineStops e l'.taken (λ kind. (before : Option Progress) → t.reader ≡ before → line_read l'.line before ≡ Err kind) → IsDrawFault e to_come
-  read_fault to_come mid rest l l' reader j u t fault.Read same takes stops = tt
-  read_fault to_come mid rest l l' reader j u t fault.Write same takes stops = tt
-  read_fault to_come mid rest l l' reader j u t fault.Memory same takes stops = tt
-  read_fault to_come mid rest l l' reader j u t (fault.Line f) same takes stops =
-      subst (λ (n : ℕ). IfSome to_come (λ text. UnlessMemory f.kind (record_of text ≡ Err (record { line = n; kind = f.kind })))) (sym stops.0)
-      (onwards_fault HasHeard to_come mid rest l l' reader j f.kind u takes (unless_then f.kind (λ (is : (before : Option Progress) → t.reader ≡ before → line_read l'.line before ≡ Err f.kind). is u.before same) stops.1))
+  read_fault to_come mid rest l l' reader j u t fault.Read same takes why = tt
+  read_fault to_come mid rest l l' reader j u t fault.Write same takes why = tt
+  read_fault to_come mid rest l l' reader j u t fault.Memory same takes why = tt
+  read_fault to_come mid rest l l' reader j u t (fault.Line f) same takes why =
+      subst (λ (n : ℕ). IfSome to_come (λ text. UnlessMemory f.kind (record_of text ≡ Err (record { line = n; kind = f.kind })))) (sym why.0)
+      (onwards_fault HasHeard to_come mid rest l l' reader j f.kind u takes (unless_then f.kind (λ (is : (before : Option Progress) → t.reader ≡ before → line_read l'.line before ≡ Err f.kind). is u.before same) why.1))
 
 -- faults of the input, and of writing
 pub input_fault : (e : Fault) (to_come : Option (List ℕ)) → IsInputFault e to_come → IsDrawFault e to_come
@@ -264,3 +265,34 @@ writing_fault fault.Write to_come is = tt
 writing_fault fault.Memory to_come is = tt
 writing_fault fault.Read to_come is = absurd is
 writing_fault (fault.Line f) to_come is = absurd is
+
+-- the one are no failed writes, and the other no failed reads
+pub input_wrote : {A : Type 0} (r : Result A Fault) (e : Fault) (to_come : Option (List ℕ)) → IsErrAnd r (λ x. x ≡ e) → IsInputFault e to_come → failed_write r ≡ 0
+input_wrote (Ok done) e to_come same is = absurd same
+input_wrote {A} (Err x) e to_come same is = by x (subst (λ (f : Fault). IsInputFault f to_come) (sym same) is)
+  where
+    by : (x : Fault) → IsInputFault x to_come → failed_write {A = A} (Err x) ≡ 0
+    by fault.Read is = refl
+    by fault.Memory is = refl
+    by fault.Write is = absurd is
+    by (fault.Line f) is = refl
+
+pub line_read_none : {A : Type 0} (r : Result A Fault) (e : Fault) (n : ℕ) (P : FaultKind → Type 0) → IsErrAnd r (λ x. x ≡ e) → LineStops e n P → failed_reading r ≡ 0
+line_read_none (Ok done) e n P same is = absurd same
+line_read_none {A} (Err x) e n P same is = by x (subst (λ (f : Fault). LineStops f n P) (sym same) is)
+  where
+    by : (x : Fault) → LineStops x n P → failed_reading {A = A} (Err x) ≡ 0
+    by fault.Read is = absurd is
+    by fault.Memory is = refl
+    by fault.Write is = refl
+    by (fault.Line f) is = refl
+
+pub writing_read_none : {A : Type 0} (r : Result A Fault) (e : Fault) → IsErrAnd r (λ x. x ≡ e) → IsWriteFault e → failed_reading r ≡ 0
+writing_read_none (Ok done) e same is = absurd same
+writing_read_none {A} (Err x) e same is = by x (subst IsWriteFault (sym same) is)
+  where
+    by : (x : Fault) → IsWriteFault x → failed_reading {A = A} (Err x) ≡ 0
+    by fault.Read is = absurd is
+    by fault.Memory is = refl
+    by fault.Write is = refl
+    by (fault.Line f) is = absurd is

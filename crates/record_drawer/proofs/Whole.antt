@@ -109,8 +109,8 @@ module _ {A : Type 0} (draws : A → List ℕ → Option (List ℕ) → Option (
       by (Err told) is = subst (λ e. DrewAs draws f (Err e) old new) (sym is) drew
 
   -- of the input, or before anything was written of one picture
-  pub drew_fault : {B : Type 0} (e : Fault) → IsErrAnd r (λ told. told ≡ e) → IsDrawFault e old.to_come → new.read_failures ≡ old.read_failures + failed_reading {A = B} (Err e) → new.write_failures ≡ old.write_failures + failed_write {A = B} (Err e) → LeavesNone f old.taken new.taken → DrewAs draws f r old new
-  drew_fault e is why reading writing leaves = by_fault e is (by e why reading writing)
+  pub drew_fault : (B : Type 0) (e : Fault) → IsErrAnd r (λ told. told ≡ e) → IsDrawFault e old.to_come → new.read_failures ≡ old.read_failures + failed_reading {A = B} (Err e) → new.write_failures ≡ old.write_failures + failed_write {A = B} (Err e) → LeavesNone f old.taken new.taken → DrewAs draws f r old new
+  drew_fault B e is why reading writing leaves = by_fault e is (by e why reading writing)
     where
       by : (e : Fault) → IsDrawFault e old.to_come → new.read_failures ≡ old.read_failures + failed_reading {A = B} (Err e) → new.write_failures ≡ old.write_failures + failed_write {A = B} (Err e) → DrewAs draws f (Err e) old new
       by (fault.Line l) why reading writing = (why, leaves)
@@ -119,8 +119,8 @@ module _ {A : Type 0} (draws : A → List ℕ → Option (List ℕ) → Option (
       by fault.Memory why reading writing = tt
 
   -- where bytes were held
-  pub drew_held : {B : Type 0} (e g : Fault) → IsErrAnd r (λ told. told ≡ e) → e ≡ without_write g → IsDrawFault g old.to_come → new.read_failures ≡ old.read_failures + failed_reading {A = B} (Err g) → LeavesNone f old.taken new.taken → DrewAs draws f r old new
-  drew_held e g is same why reading leaves = by_fault e is (subst (λ e. DrewAs draws f (Err e) old new) (sym same) (by g why reading))
+  pub drew_held : (B : Type 0) (e g : Fault) → IsErrAnd r (λ told. told ≡ e) → e ≡ without_write g → IsDrawFault g old.to_come → new.read_failures ≡ old.read_failures + failed_reading {A = B} (Err g) → LeavesNone f old.taken new.taken → DrewAs draws f r old new
+  drew_held B e g is same why reading leaves = by_fault e is (subst (λ e. DrewAs draws f (Err e) old new) (sym same) (by g why reading))
     where
       by : (g : Fault) → IsDrawFault g old.to_come → new.read_failures ≡ old.read_failures + failed_reading {A = B} (Err g) → DrewAs draws f (Err (without_write g)) old new
       by (fault.Line l) why reading = (why, leaves)
@@ -129,8 +129,8 @@ module _ {A : Type 0} (draws : A → List ℕ → Option (List ℕ) → Option (
       by fault.Memory why reading = tt
 
   -- amid writing
-  pub drew_cut : {B : Type 0} (e : Fault) → IsErrAnd r (λ told. told ≡ e) → IsWriteFault e → new.write_failures ≡ old.write_failures + failed_write {A = B} (Err e) → DrewAs draws f r old new
-  drew_cut e is why writing = by_fault e is (by e why writing)
+  pub drew_cut : (B : Type 0) (e : Fault) → IsErrAnd r (λ told. told ≡ e) → IsWriteFault e → new.write_failures ≡ old.write_failures + failed_write {A = B} (Err e) → DrewAs draws f r old new
+  drew_cut B e is why writing = by_fault e is (by e why writing)
     where
       by : (e : Fault) → IsWriteFault e → new.write_failures ≡ old.write_failures + failed_write {A = B} (Err e) → DrewAs draws f (Err e) old new
       by fault.Write why writing = omega (arith, writing)

@@ -14,6 +14,6 @@ returns-in-Ok g c =
     let drawn = subst (λ (was : List ℕ). IfSome all (IsOfRecord (IsJudged g.H.Judging.Keeps g.H.Hearer.Tells c.in-Ok.status (bands was bytes)))) c.new-bands.ensures.bytes c.in-Ok.ensures.drawn in
     (
       judged_all g.H.Judging.Keeps g.H.Hearer.Tells c.in-Ok.status (bands [] bytes) (λ said told. DrawsSaid reads (form.Picture 34) said told (g.W.Sink.taken c.args.output.now) (g.W.Sink.taken c.write_picture.new.output))
-      (λ said told held. c.in_ok-write_picture.ensures.ok said told (subst (λ (now : List ℕ). bands [] now said told) (sym c.bytes.ensures) held)) all drawn,
+      (λ said told held. c.in_ok-write_picture-in-Ok.ensures.ok said told (subst (λ (now : List ℕ). bands [] now said told) (sym c.bytes.ensures) held)) all drawn,
       c.in-Ok.ensures.end,
     )
