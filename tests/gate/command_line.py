@@ -69,6 +69,9 @@ CASES = [
     (["draw-svg", "-"], "bakery 1\nprocesses 0\n", (1, "", "line 2: bad-setup\n")),
     (["draw", "--reads", "-"], "bakery 1\nprocesses 0\n", (1, "", "line 2: bad-setup\n")),
     (["draw-svg", ".", "--reads"], SCENARIO, (1, "", "read fault\n")),
+    (["draw", "-", "--any-lock"], SCENARIO, (1, "", "line 1: not-first\n")),
+    (["draw-svg", "--judge", "-"], SCENARIO, (1, "", "line 1: not-first\n")),
+    (["draw-svg", "--judge", "--any-lock", "-"], "record 1\n0 : enter\n0 : frob\n", (1, "", "line 3: unknown\n")),
 ]
 
 

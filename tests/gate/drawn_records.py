@@ -6,8 +6,10 @@ list of the scenario's lines, with the number of the line that made a mark; and 
 of `turns` and of `show`, and how many events were refused. Where it has none of these, the bands are the same to the byte.
 
 Each record of examples/other-locks is drawn, good or bad. A parser of XML reads the picture, and one of HTML the page; the
-titles of their marks are the marks of the record, which are read here once more from its words. A record with a fault has the
-same fault, told alike with its place, in `draw`, `draw-svg` and `judge`, of which the page alone may have begun.
+titles of their marks are the marks of the record, which are read here once more from its words. With `--judge`, and with
+`--any-lock`, they are those up to the first bad entry, and then the lines that `judge` prints with `--why`, each in the lane of the
+process that it names, or else of the bad entry; and the status is that of `judge`. A record with a fault has the same fault, told
+alike with its place, in `draw`, `draw-svg` and `judge`, of which the page alone may have begun.
 """
 
 import pathlib
@@ -28,6 +30,8 @@ UNSAID = re.compile(r"- \d+ (refused|turns)|show ")
 LIST = re.compile(r"<details open>.*?</details>\n", re.DOTALL)
 BY_LINE = re.compile(r' data-l="\d+"')
 END = re.compile(r"(end events \d+ taken \d+ refused )\d+")
+# what asks for a verdict in a picture, and alone
+JUDGES = [(["--judge"], ["--why"]), (["--any-lock"], ["--any-lock", "--why"])]
 # what spoils a record: where a line is put, and that line
 SPOILS = [(0, b"bakery 3"), (1, b"slots 9999"), (-1, b"0 0.ticket.0"), (-1, b"x"), (-1, b"#" * 129), (-1, b"slots 2")]
 
@@ -73,15 +77,23 @@ def run_faults(scenario, record, command, *options):
         yield "other bands"
 
 
-def lines_of(record):
-    """The lines that a picture of a record has, by the record's words: a line for each mark, and a last one."""
+def entries_of(record):
+    """The words of each entry of a record."""
     said = [line.split() for line in record.decode().splitlines()]
-    entries = [words for words in said if words and words[0][0].isdigit()]
-    taken = 0
+    return [words for words in said if words and words[0][0].isdigit()]
+
+
+def lines_of(record, told=()):
+    """The lines that a picture of a record has, by the record's words: a line for each mark, and a last one. Before that stands what
+    a judge tells; if it tells of a bad entry, that is the last one."""
+    entries, taken = entries_of(record), 0
+    if told and told[0].startswith("bad "):
+        entries = entries[: int(told[0].split()[1]) + 1]
     for number, words in enumerate(entries):
         for mark in " ".join(words).split(" : ")[1:]:
             taken += mark.startswith("taken ")
             yield f"{number} {words[0]} {mark}"
+    yield from (f"judge {line}" for line in told)
     yield f"end events {len(entries)} taken {taken} refused 0"
 
 
@@ -106,6 +118,51 @@ def record_faults(record):
         yield from read_faults(heard(written(record, "draw", "--reads")), reads)
 
 
+def lanes_of(root):
+    """The process of each lane that a picture has, by how far below its top it is."""
+    named = [(text, re.fullmatch(r"P(\d+)", text.text)) for text in root.iter(SVG + "text") if text.get("class") == "lane"]
+    return {int(text.get("y")) - 4: int(name[1]) for text, name in named if name}
+
+
+def lanes_told(root):
+    """The lanes of the lines of a judge, each as the number of its process; none for a line in the lane of the history."""
+    lanes = lanes_of(root)
+    for mark in root.iter(SVG + "g"):
+        if mark.get("class") == "m" and title(mark).startswith("judge "):
+            signs = [path.get("d") for path in mark.iter(SVG + "path") if path.get("class") == "no-sign"]
+            yield lanes.get(int(re.match(r"M\d+ (\d+)l", signs[0])[1]) + 8) if signs else None
+
+
+def lanes_wanted(record, told):
+    """The lanes in which such lines are to stand: those of processes that are there."""
+    heading = re.search(rb"^processes (\d+)", record, re.M)
+    processes = int(heading[1]) if heading else 2
+    spelled = [line.split() for line in told]
+    bad = next((int(words[1]) for words in spelled if words[0] == "is"), None)
+    for words in spelled:
+        process = int(words[1]) if words[0] in ("inside", "waits") else bad
+        yield process if process is not None and process < processes else None
+
+
+def judged_faults(record):
+    """What is wrong with the pictures of a record that show the verdict on it."""
+    for options, judging in JUDGES:
+        status, printed, _ = run(record, "judge", *judging)
+        told = printed.decode().splitlines()
+        wanted = list(lines_of(record, told))
+        for command in ("draw", "draw-svg"):
+            ended, picture, errors = run(record, command, *options)
+            if (ended, errors) != (status, b""):
+                yield f"{command} {options} ends with {ended}, {errors!r}, judge with {status}"
+            elif [group.title[0] for group in heard(picture.decode()) if group.style == "m"] != wanted:
+                yield f"{command} {options} has other lines"
+        root = tree.fromstring(picture)
+        if list(lanes_told(root)) != list(lanes_wanted(record, told)):
+            yield f"{options} has lines in other lanes"
+        if stray_words(root):
+            yield f"{options}: words stand outside: {stray_words(root)[:3]}"
+
+
 def spoiled(record):
     """The record with a line more at each of some places."""
     lines = record.splitlines()
@@ -116,7 +173,7 @@ def spoiled(record):
 
 def spoil_faults(file, *options):
     """What is wrong with the ends of drawing a file that is no record."""
-    judged = run(file, "judge", *options)
+    judged = run(file, "judge", *(option for option in options if option != "--judge"))
     for command in ("draw", "draw-svg"):
         status, output, errors = run(file, command, *options)
         if (status, errors) != (judged[0], judged[2]):
@@ -139,13 +196,14 @@ def main():
         record = file.read_bytes()
         if run(record, "judge", "--any-lock")[0] == 1:
             continue
-        faults = list(record_faults(record))
+        faults = [*record_faults(record), *judged_faults(record)]
         counter.count(not faults, f"{file.parent.name}: {faults[:5]}")
     record = (OTHER_LOCKS / "one-bit-good" / "record").read_bytes()
     for file in spoiled(record):
         # what begins as a scenario is explained as one
         explained = spoil_faults(file, "--explain") if file.startswith(b"record") else []
-        faults = [*spoil_faults(file), *explained]
+        judged = [fault for options, _ in JUDGES for fault in spoil_faults(file, *options)]
+        faults = [*spoil_faults(file), *explained, *judged]
         counter.count(not faults, f"{file[-200:]!r}: {faults}")
     counter.end()
 

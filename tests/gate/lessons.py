@@ -5,7 +5,7 @@ A lesson of lessons/README.md names its file behind `File: `, and the words that
 `python3` runs a lock, by the writer of examples/other-locks/. A block without a language quotes lines of the run, in their order.
 The lesson on races quotes texts beside one another in its block of `text`: they are those of all orders of the calls, and each race
 prints one of them. A lesson whose file is replayed, or is the record of another lock, or prints one, shows its picture, which is the
-one that the program draws. The commands of the `console` blocks are followed by readme.py.
+one that the program draws; that of a record ends with the verdict on it. The commands of the `console` blocks are followed by readme.py.
 """
 
 import os
@@ -54,8 +54,8 @@ def ran(words, file):
 
 
 def status_of(printed):
-    """The status with which a run ends well that prints this: that of a verdict, if it is one."""
-    return 3 if printed.startswith("bad ") else 0
+    """The status with which a run ends well that prints this: that of a verdict, if it is one, or shows one."""
+    return 3 if printed.startswith("bad ") or "<title>judge bad " in printed else 0
 
 
 def fault_of_text(printed, stem, text):
@@ -69,18 +69,21 @@ def fault_of_text(printed, stem, text):
 
 
 def drawn(file, stem, words):
-    """The file of the picture that a lesson shows: its own, or the record that it prints; none, if it shows no picture."""
+    """What draws the picture that a lesson shows, and the picture's file: the lesson's own, or the record that it prints; none, if
+    it shows no picture."""
     if words == "python3":
-        return f"expected/{stem}.txt"
-    return file if words == "replay" or "--any-lock" in words else None
+        return "draw-svg --any-lock", f"expected/{stem}.txt"
+    if "--any-lock" in words:
+        return "draw-svg --any-lock", file
+    return ("draw-svg", file) if words == "replay" else None
 
 
-def fault_of_picture(file, stem, text):
+def fault_of_picture(words, file, stem, text):
     """What is wrong with the picture of a run or of a record."""
     if text.count(f"](pictures/{stem}.svg)") != 1:
         return "does not show its picture"
-    if ran("draw-svg", file) != (LESSONS / "pictures" / f"{stem}.svg").read_text():
-        return f"shows another picture than is drawn: bakerystore draw-svg lessons/{file} > lessons/pictures/{stem}.svg"
+    if ran(words, file) != (LESSONS / "pictures" / f"{stem}.svg").read_text():
+        return f"shows another picture than is drawn: bakerystore {words} lessons/{file} > lessons/pictures/{stem}.svg"
     return None
 
 
@@ -105,7 +108,7 @@ def fault_of(text):
     if words == "race":
         return fault_of_race(file, text)
     fault, shown = fault_of_text(ran(words, file), stem, text), drawn(file, stem, words)
-    return fault_of_picture(shown, stem, text) if fault is None and shown else fault
+    return fault_of_picture(*shown, stem, text) if fault is None and shown else fault
 
 
 def words_of(found):

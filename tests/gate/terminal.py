@@ -55,6 +55,8 @@ REFUSED = [
     (["draw", "--reads", "--reads", "-"], "the argument '--reads' cannot be used multiple times", "", "draw [OPTIONS] <FILE>"),
     (["judge", "--why", "-", "--why"], "the argument '--why' cannot be used multiple times", "", "judge [OPTIONS] <FILE>"),
     (["judge", "--any-lock", "--any-lock", "-"], "the argument '--any-lock' cannot be used multiple times", "", "judge [OPTIONS] <FILE>"),
+    (["draw-svg", "--judge", "-", "--judge"], "the argument '--judge' cannot be used multiple times", "", "draw-svg [OPTIONS] <FILE>"),
+    (["draw", "--why", "-"], "unexpected argument '--why' found", "to pass '--why' as a value, use '-- --why'", "draw [OPTIONS] <FILE>"),
     (["audit", "--why", "-"], "unexpected argument '--why' found", "to pass '--why' as a value, use '-- --why'", "audit [OPTIONS] <FILE>"),
     (["--quiet", "audit"], "the following required arguments were not provided:\n  <FILE>", "", "audit <FILE>"),
     (["plain", "a file", "-"], "unexpected argument '-' found", "", "plain [OPTIONS] <FILE>"),

@@ -5,4 +5,5 @@ pub use Rattle.record_file.specs as record_file
 pub mod Judgements
 pub mod ReasonLines
 pub mod Explanations
+pub mod KeepingLaws
 pub mod Good

@@ -1,6 +1,7 @@
 //! A judge who tells the reasons of a bad verdict too.
-ghost use Rattle.std.specs.Prelude.{◌≡◌, ◌&&◌, not, OnOk};
+ghost use Rattle.std.specs.Prelude.{◌≡◌, ◌&&◌, not, refl, OnOk};
 ghost use Rattle.any_judge.specs.Explanations.{Explains, ExplainsIf, HasExplained, TellsReasons, is_good};
+ghost use Rattle.any_judge.specs.KeepingLaws.{KeepsLaws, found_bad, found_good};
 
 use crate::reason_lines::reason_lines;
 use crate::verdicts::{status_of, verdict_line};
@@ -8,13 +9,13 @@ use any_lock::{AnyLockVerdict, Judge};
 use plain_store::Setup;
 use record::{Access, Entry};
 use std::alloc::{AllocError, Global};
-use trial::{Hearer, Telling, step_entry};
+use trial::{Hearer, Judging, Telling, step_entry};
 
 /// A judge, and the lines of the reasons once his verdict is bad.
 #[derive(Drop)]
-pub(crate) struct ExplainingAnyLock {
-    pub judge: Judge,
-    pub reasons: Vec<u8>,
+pub struct ExplainingAnyLock {
+    pub(crate) judge: Judge,
+    pub(crate) reasons: Vec<u8>,
 }
 
 impl Hearer for ExplainingAnyLock {
@@ -71,6 +72,22 @@ impl Hearer for ExplainingAnyLock {
     }
 
     ghost counts = { λ e s entries numbers explained. explained.judged.count };
+}
+
+impl Judging for ExplainingAnyLock {
+    ghost Keeps = { KeepsLaws };
+
+    ghost finds_good = { λ e. is_good e.judge.verdict };
+
+    fn is_good(&self) -> bool {
+        is_good(&self.judge)
+    }
+
+    ghost begins = { λ s. refl };
+
+    ghost good = { λ e s entries numbers heard good. found_good s entries e.judge.verdict heard.judged.verdict good };
+
+    ghost bad = { λ e s entries numbers heard bad keeps. found_bad s entries e.judge.verdict heard.judged.verdict bad keeps };
 }
 
 /// Whether the verdict of a judge is good.

@@ -11,4 +11,7 @@ mod verdicts;
 
 pub use any_lock::{AnyLockLaw, AnyLockVerdict, Judge, Judged};
 pub use common_laws::good_records_keep_laws_of_any_lock;
+pub use explaining::ExplainingAnyLock;
+pub use judge::Explaining;
 pub use judging::judge_any_lock;
+pub use trial::{Hearer, Judging, Trial};

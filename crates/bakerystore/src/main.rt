@@ -11,11 +11,12 @@ use command_line::{
 use drawer::progress::Onlooker;
 use drawer::{Reads, draw, draw_svg};
 use engines::{replay, run_audit, run_bits, run_judge, run_plain, run_record, run_sweep};
-use inspect::{
-    FileKind, KeptFile, KeptInput, events_said, explanation, run_calls, run_state,
-};
+use inspect::{FileKind, KeptFile, KeptInput, events_said, explanation, run_calls, run_state};
 use race::{RunFault, run_fault_status, run_race};
-use record_drawer::{Opened, draw_record, draw_record_svg, judge_any_lock};
+use record_drawer::{
+    Explaining, ExplainingAnyLock, Judging, Opened, draw_judged_record, draw_judged_record_svg,
+    draw_record, draw_record_svg, judge_any_lock,
+};
 use std::alloc::Global;
 use std::env::Env;
 use std::fs::{File, Files};
@@ -151,6 +152,7 @@ fn file_kind(wanted: Wanted) -> FileKind {
 struct Wanted {
     engine: Engine,
     reads: Reads,
+    judge: bool,
     any_lock: bool,
     why: bool,
     /// Whether the file is a record, where the engine takes scenarios too.
@@ -187,9 +189,10 @@ fn wanted_by(request: &Request<'_>, is_record: bool, at: u64) -> Wanted {
         } else {
             Reads::Hidden
         },
+        judge: request.judge,
         any_lock: request.any_lock,
         why: request.why,
-        is_record,
+        is_record: is_record | request.judge | request.any_lock,
         at,
     }
 }
@@ -219,12 +222,37 @@ fn run_engine<T: AllocGlobal + Threads + Wait + Sync, R: Source, W: Sink, L: Onl
         Engine::Judge if wanted.any_lock => judge_any_lock(alloc, input, output, wanted.why),
         Engine::Judge => run_judge(alloc, input, output, wanted.why),
         Engine::Race => return run_race(rt, alloc, input, output),
+        Engine::Draw | Engine::DrawSvg if wanted.any_lock => {
+            draw_judged::<ExplainingAnyLock, R, W>(alloc, wanted, input, output)
+        }
+        Engine::Draw | Engine::DrawSvg if wanted.judge => {
+            draw_judged::<Explaining, R, W>(alloc, wanted, input, output)
+        }
         Engine::Draw if wanted.is_record => exit_status(draw_record(alloc, reads, input, output)),
-        Engine::DrawSvg if wanted.is_record => exit_status(draw_record_svg(alloc, reads, input, output)),
+        Engine::DrawSvg if wanted.is_record => exit_status(draw_record_svg(
+            alloc, reads, input, output,
+        )),
         Engine::Draw => exit_status(draw(alloc, reads, input, output, onlooker)),
         Engine::DrawSvg => exit_status(draw_svg(alloc, reads, input, output, onlooker)),
     };
     Ok(ran?)
+}
+
+/// Draws a record that is judged; answers the judge's exit status.
+fn draw_judged<H: Judging, R: Source, W: Sink>(
+    alloc: Global,
+    wanted: Wanted,
+    input: &mut R,
+    output: &mut W,
+) -> Result<u8, Fault>
+    requires reads { R.failures input.old < 2 ^ 64 - 1 }
+    requires writes { W.failures output.old < 2 ^ 64 - 1 }
+{
+    if wanted.engine == Engine::Draw {
+        draw_judged_record::<H, R, W>(alloc, wanted.reads, input, output)
+    } else {
+        draw_judged_record_svg::<H, R, W>(alloc, wanted.reads, input, output)
+    }
 }
 
 /// Tells a fault on standard error, and answers the exit status.

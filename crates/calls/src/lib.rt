@@ -7,8 +7,8 @@ mod printed;
 mod standing;
 mod table;
 
-pub use called::{Accesses, Called, Marked, FinishedRead};
-pub use read_law::{Watch, width};
+pub use called::{Accesses, Called, FinishedRead, Marked};
 pub use printed::{HEADER, print_call};
+pub use read_law::{Watch, width};
 pub use standing::holds_up;
 pub use table::CallTable;

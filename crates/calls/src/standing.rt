@@ -8,7 +8,7 @@ ghost use Rattle.record.specs.Registers.{width};
 ghost use Rattle.calls.specs.Columns.{answer_after, begins_ticket, ends_number, ends_raising, holds_up as holds, is_read as begins_read, is_write as begins_write, is_write_end, more_if as one_more_if, newest_after, number_after as after, tells_waiting, with_bit as bit_with};
 ghost use Rattle.calls.specs.Stepping.{AreFew, accessed, heard, at_rest, begun, marked_all, marked_on, no_accesses, no_marks, with_access, with_mark};
 
-use crate::called::{Accesses, Called, Marked, FinishedRead};
+use crate::called::{Accesses, Called, FinishedRead, Marked};
 use plain_store::{Command, NestedTypes, Setup};
 use read_law::width;
 use record::{Access, Field, Mark, Move};

@@ -10,7 +10,7 @@ use Rattle.record.specs.Entries.{Past}
 use Rattle.record.specs.Stages.{stage, stage_after}
 use Rattle.columns.specs.Stages.{StagesAreTheRecords, marks_in, marks_said, nothing_told, stage_among, stages_marked, stages_told}
 use Rattle.columns.specs.declared.told.Saying.{Saying}
-use Rattle.columns.specs.declared.told.Saying.TheVariants.{Marked, Refused, Tired, Shown, Ended}
+use Rattle.columns.specs.declared.told.Saying.TheVariants.{Marked, Refused, Tired, Shown, Judged, Ended}
 
 -- the stage of a process after a mark of one
 abbrev pub stage_told : ℕ → Stage → ℕ × Mark → Stage
@@ -29,6 +29,7 @@ told_length processes stages (Marked q mark change) = go (nat_lt q processes)
 told_length processes stages (Refused q refusal) = refl
 told_length processes stages (Tired q) = refl
 told_length processes stages (Shown words) = refl
+told_length processes stages (Judged q words) = refl
 told_length processes stages (Ended events taken refused) = refl
 
 -- the stage of a process after a mark of one
@@ -51,6 +52,7 @@ line_stage processes stages (Marked q mark change) p is within = go (nat_lt q pr
 line_stage processes stages (Refused q refusal) p is within = refl
 line_stage processes stages (Tired q) p is within = refl
 line_stage processes stages (Shown words) p is within = refl
+line_stage processes stages (Judged q words) p is within = refl
 line_stage processes stages (Ended events taken refused) p is within = refl
 
 -- and after all lines

@@ -16,7 +16,7 @@ use Rattle.columns.specs.declared.state.State.{State}
 use Rattle.columns.specs.declared.told.TakenChange.{TakenChange}
 use Rattle.columns.specs.declared.told.RunLine.{RunLine}
 use Rattle.columns.specs.declared.told.Saying.{Saying}
-use Rattle.columns.specs.declared.told.Saying.TheVariants.{Ended, Marked, Refused, Shown, Tired}
+use Rattle.columns.specs.declared.told.Saying.TheVariants.{Ended, Judged, Marked, Refused, Shown, Tired}
 
 -- words in one row: whether they stand out, their bytes, and how many characters they are
 pub record Wording : Type 0 where
@@ -87,9 +87,9 @@ shortened words = cond (nat_le (length words) 44) words (take 43 words ++ 226 �
 abbrev pub row_shortened : List ℕ → Wording
 row_shortened words = record { is_verb = false; text = shortened words; characters = min (length words) 44 }
 
--- the rows of the newest store
-abbrev pub rows_shown : List ℕ → List Wording
-rows_shown words = verb (codes "show") ∷ row_shortened words ∷ []
+-- the rows of words below a name
+abbrev pub rows_named : List ℕ → List ℕ → List Wording
+rows_named name words = verb name ∷ row_shortened words ∷ []
 
 -- what stands out of a refusal, in the lane of its process or in that of the history
 abbrev pub verb_refused : Bool → ℕ → List ℕ
@@ -111,7 +111,8 @@ abbrev pub rows_told : Bool → Saying → List Wording
 rows_told in_lane (Marked p mark change) = rows_marked mark
 rows_told in_lane (Refused p refusal) = verb_and_rest (verb_refused in_lane p) (refusal_text refusal)
 rows_told in_lane (Tired p) = verb (codes "turns") ∷ []
-rows_told in_lane (Shown words) = rows_shown words.items
+rows_told in_lane (Shown words) = rows_named (codes "show") words.items
+rows_told in_lane (Judged p words) = rows_named (codes "judge") words.items
 rows_told in_lane (Ended events taken refused) = verb_and_rest (codes "end events " ++ decimal events) (counts_text taken refused)
 
 -- the row of a line that shares its column

@@ -9,7 +9,7 @@ use Rattle.columns.specs.declared.columns.Column.{Column}
 use Rattle.columns.specs.declared.told.TakenChange.{TakenChange}
 use Rattle.columns.specs.declared.told.RunLine.{RunLine}
 use Rattle.columns.specs.declared.told.Saying.{Saying}
-use Rattle.columns.specs.declared.told.Saying.TheVariants.{Marked, Refused, Tired, Shown, Ended}
+use Rattle.columns.specs.declared.told.Saying.TheVariants.{Marked, Refused, Tired, Shown, Judged, Ended}
 
 -- what a line says of a mark, of a refusal, of a process that has made all its steps, and of the end
 abbrev pub marked_text : ℕ → ℕ → Mark → List ℕ
@@ -30,6 +30,7 @@ saying_text at (Marked p mark change) = marked_text at p mark
 saying_text at (Refused p refusal) = refused_text p refusal
 saying_text at (Tired p) = tired_text p
 saying_text at (Shown words) = codes "show " ++ words.items
+saying_text at (Judged p words) = codes "judge " ++ words.items
 saying_text at (Ended events taken refused) = ended_text events taken refused
 
 -- a line, without its end
@@ -50,6 +51,7 @@ process_told (Marked p mark change) = Some p
 process_told (Refused p refusal) = Some p
 process_told (Tired p) = Some p
 process_told (Shown words) = None
+process_told (Judged p words) = p
 process_told (Ended events taken refused) = None
 
 -- the mark that is told

@@ -1,6 +1,6 @@
 //! Columns: an event with its marks, a line without an event, or a read that a write overlapped.
 ghost use Rattle.std.specs.Prelude.{◌≡◌, ◌++◌, [], ◌∷◌, true, false, filter_map, IfOk, OnOk, map, option_copied, string_bytes};
-ghost use Rattle.columns.specs.Columns.{GivesRows, alone, column_of_read, counts_text, digits_of, joined, joins, knot_width, lane_among, longest_row, pair_of, row_if_marked, row_shared, row_shortened, rows_marked, rows_shown, rows_told, seen, settles_and_takes_in, shortened, taken_in, verb, verb_and_rest, verb_refused, width_below_of, width_of, worded, wording, wordings};
+ghost use Rattle.columns.specs.Columns.{GivesRows, alone, column_of_read, counts_text, digits_of, joined, joins, knot_width, lane_among, longest_row, pair_of, row_if_marked, row_shared, row_shortened, rows_marked, rows_named, rows_told, seen, settles_and_takes_in, shortened, taken_in, verb, verb_and_rest, verb_refused, width_below_of, width_of, worded, wording, wordings};
 ghost use Rattle.columns.specs.Told.{change_told, text_of, told_in};
 
 use crate::measures::{CHARACTER, DIGIT, LONGEST, PAD, room};
@@ -260,7 +260,8 @@ fn rows_alone(alloc: Global, line: &RunLine, in_lane: bool) -> Result<Vec<TextRo
             refusal.to_string(alloc)?,
         ),
         Saying::Tired(_) => one_row(alloc, String::from_str(alloc, "turns")?),
-        Saying::Shown(words) => shown_rows(alloc, words.as_slice()),
+        Saying::Shown(words) => named_rows(alloc, "show", words.as_slice()),
+        Saying::Judged { words, .. } => named_rows(alloc, "judge", words.as_slice()),
         Saying::Ended {
             events,
             taken,
@@ -291,12 +292,12 @@ fn counts(alloc: Global, taken: u64, refused: u64) -> Result<String, AllocError>
     format!(in alloc; "taken {taken} refused {refused}")
 }
 
-/// The rows of the newest store.
-fn shown_rows(alloc: Global, words: &[u8]) -> Result<Vec<TextRow>, AllocError>
-    ensures { GivesRows result (rows_shown words.now) }
+/// A name that stands out, and below it words, as far as they are drawn.
+fn named_rows(alloc: Global, name: &str, words: &[u8]) -> Result<Vec<TextRow>, AllocError>
+    ensures { GivesRows result (rows_named name.now words.now) }
 {
     let mut rows = Vec::new(alloc);
-    rows.push(TextRow::new(true, String::from_str(alloc, "show")?))?;
+    rows.push(TextRow::new(true, String::from_str(alloc, name)?))?;
     rows.push(cut_row(alloc, words)?)?;
     Ok(rows)
 }

@@ -33,6 +33,11 @@ pub enum Saying {
     Tired(u8),
     /// The newest store: the words behind `show`.
     Shown(Vec<u8>),
+    /// What a judge tells of the entries so far, line by line, and the process in whose lane that stands.
+    Judged {
+        process: Option<u8>,
+        words: Vec<u8>,
+    },
     /// The run has ended, with these numbers.
     Ended {
         events: u64,
@@ -60,6 +65,7 @@ impl RunLine {
             Saying::Marked { process, .. } => Some(*process),
             Saying::Refused { process, .. } => Some(*process),
             Saying::Tired(process) => Some(*process),
+            Saying::Judged { process, .. } => *process,
             Saying::Shown(_) | Saying::Ended { .. } => None,
         }
     }
@@ -124,7 +130,8 @@ impl RunLine {
             }
             Saying::Refused { process, refusal } => refused(alloc, *process, refusal)?.into_bytes(),
             Saying::Tired(process) => tired(alloc, *process)?.into_bytes(),
-            Saying::Shown(words) => shown(alloc, words.as_slice())?,
+            Saying::Shown(words) => named(alloc, b"show ", words.as_slice())?,
+            Saying::Judged { words, .. } => named(alloc, b"judge ", words.as_slice())?,
             Saying::Ended {
                 events,
                 taken,
@@ -155,11 +162,11 @@ fn tired(alloc: Global, process: u8) -> Result<String, AllocError>
     format!(in alloc; "- {process} turns")
 }
 
-fn shown(alloc: Global, words: &[u8]) -> Result<Vec<u8>, AllocError>
-    ensures { IfOk result (λ text. text.items ≡ codes "show " ++ words.now) }
+fn named(alloc: Global, name: &[u8], words: &[u8]) -> Result<Vec<u8>, AllocError>
+    ensures { IfOk result (λ text. text.items ≡ name.now ++ words.now) }
 {
     let mut text = Vec::new(alloc);
-    text.extend_from_slice(b"show ")?;
+    text.extend_from_slice(name)?;
     text.extend_from_slice(words)?;
     Ok(text)
 }

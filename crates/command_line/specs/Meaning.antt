@@ -100,6 +100,7 @@ pub record Running : Type 0 where
   pub engine : Engine
   pub file : Text
   pub reads : Bool
+  pub judge : Bool
   pub any_lock : Bool
   pub why : Bool
   pub at : Option Text
@@ -125,6 +126,7 @@ asked_by (Run r) = runs (record {
   engine = r.command.engine;
   file = r.file.now;
   reads = r.reads;
+  judge = r.judge;
   any_lock = r.any_lock;
   why = r.why;
   at = option_map (λ t. t.now) r.at;
@@ -157,6 +159,7 @@ asked_of_file quiet command own file = runs (record {
   engine = command.engine;
   file = file;
   reads = has_flag (codes "reads") own;
+  judge = has_flag (codes "judge") own;
   any_lock = has_flag (codes "any-lock") own;
   why = has_flag (codes "why") own;
   at = first_of (codes "at") own;
@@ -202,6 +205,7 @@ running c file = record {
   engine = c.engine;
   file = file;
   reads = false;
+  judge = false;
   any_lock = false;
   why = false;
   at = None;

@@ -25,7 +25,9 @@ Options:
 
   --reads   of draw and draw-svg: shows the reads too that writes overlapped
   --at N    of state: after how many events; `end` is after all
-  --any-lock, --why   of judge: takes the record of any lock; gives its reasons
+  --judge   of draw and draw-svg: shows the verdict on a record, and its reasons
+  --any-lock   of judge, draw and draw-svg: judges the record of any lock
+  --why     of judge: gives the reasons of a bad verdict
   --explain   tells of a fault the line, the word, and what was expected there. So
             does a run without it where standard error is a terminal
   --quiet   shows no progress. Else, where standard error is a terminal and standard
@@ -283,6 +285,9 @@ is doing, above the one history; the lines that replay prints can be read off it
 With --reads it shows the reads too that writes overlapped: from when to when, whose
 bit, and what each gave; of those between two lines of the run the first three.
 FILE may be a record too, good or bad, and of any lock: its first word tells which.
+With --judge, or --any-lock, it is a record, and its picture ends with the first bad
+entry; behind it stands what judge --why, or judge --any-lock --why, prints, each
+line in the lane of the process that it names. The status is that of judge.
 What a picture shows: docs/PICTURE.md
 The lines of a scenario: bakerystore help replay
 
@@ -295,8 +300,7 @@ The lines of a scenario: bakerystore help replay
 /// The page of `draw-svg`.
 pub const DRAW_SVG: &str = r"
 Writes the picture of the run of a scenario, or of a record, as one picture, without
-a page round it. With --reads it shows the reads too that writes overlapped, as draw
-does.
+a page round it. With --reads, --judge and --any-lock it shows what draw shows.
 What a picture shows: docs/PICTURE.md
 The lines of a scenario: bakerystore help replay
 

@@ -22,6 +22,8 @@ pub struct Request<'a> {
     pub file: &'a str,
     /// Whether the picture shows the reads that writes overlapped.
     pub reads: bool,
+    /// Whether the picture of a record ends with the verdict on it.
+    pub judge: bool,
     /// Whether a record of any lock is judged, by its bits, calls and critical section.
     pub any_lock: bool,
     /// Whether a bad verdict has reasons.
@@ -123,6 +125,7 @@ fn asked_of_none<'a>(quiet: bool) -> Option<Invocation<'a>>
         command: command_named("plain")?,
         file: "-",
         reads: false,
+        judge: false,
         any_lock: false,
         why: false,
         at: None,
@@ -169,6 +172,7 @@ fn request_of<'a>(
         command,
         file,
         reads: is_set(own, "reads"),
+        judge: is_set(own, "judge"),
         any_lock: is_set(own, "any-lock"),
         why: is_set(own, "why"),
         at: text_of(own, "at"),

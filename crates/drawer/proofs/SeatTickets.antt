@@ -12,7 +12,7 @@ use Rattle.companions.specs.picture.columns.States.{at_first, is_in_doorway, no_
 use Rattle.companions.specs.picture.columns.declared.seats.KnownProcess.{KnownProcess}
 use Rattle.companions.specs.picture.columns.declared.state.State.{State}
 use Rattle.companions.specs.picture.columns.declared.told.Saying.{Saying}
-use Rattle.companions.specs.picture.columns.declared.told.Saying.TheVariants.{Marked, Refused, Tired, Shown, Ended}
+use Rattle.companions.specs.picture.columns.declared.told.Saying.TheVariants.{Marked, Refused, Tired, Shown, Judged, Ended}
 use Rattle.drawer.proofs.TicketsShown.{shown_after, shown_told}
 
 -- Of one mark.
@@ -97,6 +97,7 @@ line_leads state (Marked q m change) = go (nat_lt q state.processes) refl
 line_leads state (Refused q refusal) = record { processes = refl; seats = refl; stages = refl; tickets = λ p is_process within. refl }
 line_leads state (Tired q) = record { processes = refl; seats = refl; stages = refl; tickets = λ p is_process within. refl }
 line_leads state (Shown words) = record { processes = refl; seats = refl; stages = refl; tickets = λ p is_process within. refl }
+line_leads state (Judged q words) = record { processes = refl; seats = refl; stages = refl; tickets = λ p is_process within. refl }
 line_leads state (Ended events taken refused) = record { processes = refl; seats = refl; stages = refl; tickets = λ p is_process within. refl }
 
 -- Of all lines.

@@ -20,7 +20,7 @@ use Rattle.companions.specs.picture.Bandings.{Item, Reads, Tells}
 use Rattle.companions.specs.picture.columns.declared.reads.OverlappedRead.{OverlappedRead}
 use Rattle.companions.specs.picture.declared.reads.Reads.{Reads as Mode}
 use Rattle.companions.specs.picture.columns.declared.told.Saying.{Saying}
-use Rattle.companions.specs.picture.columns.declared.told.Saying.TheVariants.{Marked, Refused, Tired, Shown, Ended}
+use Rattle.companions.specs.picture.columns.declared.told.Saying.TheVariants.{Marked, Refused, Tired, Shown, Judged, Ended}
 use Rattle.companions.specs.StoreChanges.{Changed, changed}
 use Rattle.drawer.specs.Changes.{change_of}
 use Rattle.companions.specs.Overlaps.{overlapped_by, shown_of}
@@ -31,6 +31,7 @@ pub data Says : Type 0 where
   SaysRefusal : ℕ → Refusal → Says  -- an event of the process was refused
   SaysTired : ℕ → Says  -- the process has made all the Steps of a `go`
   SaysStore : List ℕ → Says  -- the newest store, by these words
+  SaysJudged : Option ℕ → List ℕ → Says  -- what a judge tells, which no run says
   SaysEnd : Summary → Says  -- the run has ended
 
 -- an item
@@ -43,6 +44,7 @@ says_of (Marked p mark change) = SaysMark p mark (option_map changed change)
 says_of (Refused p refusal) = SaysRefusal p refusal
 says_of (Tired p) = SaysTired p
 says_of (Shown words) = SaysStore words.items
+says_of (Judged p words) = SaysJudged p words.items
 says_of (Ended events taken refused) = SaysEnd (record { events = events; taken = taken; refused = refused })
 
 -- the items that a picture is told, of which the newest stands first; they stand in their order

@@ -12,11 +12,11 @@ ghost use Rattle.snapshot.specs.calls.Lines.{header, line_of, open_lines};
 ghost use Rattle.inspect.specs.Tables.{CutsTable, TablesLine, calls_text, tabled};
 
 use crate::hearing::{Tabler, write_if};
-use snapshot::calls::{CallTable, HEADER};
 use course::Course;
 use fault_place::progress::{LinePlace, Onlooker};
 use plain_store::Setup;
 use scenario::{Fault, Line, Scenario, Sink, Source, read_input, read_scenario, write_all};
+use snapshot::calls::{CallTable, HEADER};
 use std::alloc::Global;
 
 /// Reads a whole scenario file, and then writes the table of the calls of its run, as they end: a line of comma-separated

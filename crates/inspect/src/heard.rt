@@ -96,9 +96,7 @@ impl Heard {
         let _nested: NestedTypes = None;
         match &self.newest {
             None => Ok(()),
-            Some(made) => {
-                Snapshot::print_newest(self.alloc, &made.entry(self.alloc), text)
-            }
+            Some(made) => { Snapshot::print_newest(self.alloc, &made.entry(self.alloc), text) }
         }
     }
 }

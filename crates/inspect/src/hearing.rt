@@ -10,10 +10,10 @@ ghost use Rattle.snapshot.specs.calls.Hearing.{ComesInTurn, HasHeard, ended_call
 ghost use Rattle.snapshot.specs.calls.Lines.{call_line, line_of};
 ghost use Rattle.inspect.specs.Tables.{CutsTold, HasTabled, Tells, fewer, lines_after, lines_longer};
 
-use snapshot::calls::{CallTable, Called, print_call};
 use course::{Listener, Stepped, Taken, Told};
 use record::{Access, Mark};
 use scenario::{Fault, Sink, write_all};
+use snapshot::calls::{CallTable, Called, print_call};
 use std::alloc::Global;
 
 /// Tables the calls of a run as it hears them.

@@ -19,6 +19,11 @@ pub record JudgeState : Type 0 where
   pub verdict : Verdict
   pub entries : ℕ
 
+-- a verdict is good
+abbrev pub is_good : Verdict → Bool
+is_good Good = true
+is_good (Bad k l) = false
+
 -- both have heard these entries of a record with this setup
 pub record BothHeard (j : JudgeState) (s : Setup) (past : Past) : Type 0 where
   pub watched : j.watch.setup ≡ s

@@ -7,3 +7,4 @@ pub mod Following
 pub mod Explanations
 pub mod Judgements
 pub mod Mays
+pub mod KeepingLaws

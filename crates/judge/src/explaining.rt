@@ -19,10 +19,10 @@ use trial::{Hearer, Telling, step_entry};
 
 /// A judge, what goes along with the entries so far, and the lines of the reasons once the verdict is bad.
 #[derive(Drop)]
-pub(crate) struct Explaining {
-    pub judge: RecordJudge,
-    pub follower: Follower,
-    pub reasons: Vec<u8>,
+pub struct Explaining {
+    pub(crate) judge: RecordJudge,
+    pub(crate) follower: Follower,
+    pub(crate) reasons: Vec<u8>,
 }
 
 impl Hearer for Explaining {

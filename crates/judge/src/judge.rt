@@ -3,7 +3,7 @@ ghost use Rattle.plain_store.specs.Setups.{checked};
 ghost use Rattle.auditor.specs.Verdicts.{IsVerdict};
 ghost use Rattle.auditor.specs.declared.verdicts.Verdict.TheVariants.{Good};
 ghost use Rattle.record_file.specs.Printing.{step_entry};
-ghost use Rattle.judge.specs.Judging.{BothHearOneMore, HasJudged, IsNextVerdict, JudgesOneMore, OfJudged, found as verdict_found};
+ghost use Rattle.judge.specs.Judging.{BothHearOneMore, HasJudged, IsNextVerdict, JudgesOneMore, OfJudged, found as verdict_found, is_good};
 
 use auditor::{Audited, Auditor, Law, Verdict, Watch};
 use plain_store::Setup;
@@ -92,6 +92,14 @@ impl RecordJudge {
         let is_safe = self.watch.hear_access(access);
         let law = self.auditor.hear_access(process, access);
         found(self.entries, is_safe, law)
+    }
+
+    /// Whether the verdict so far is good.
+    #[inline]
+    pub fn is_good(&self) -> bool
+        ensures { result ≡ is_good self.now.verdict }
+    {
+        matches!(self.verdict, Verdict::Good)
     }
 
     /// The verdict on the entries so far, and how many there are.

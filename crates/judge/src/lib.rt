@@ -7,6 +7,7 @@
 #![tactic(auto)]
 
 mod explaining;
+mod finding;
 mod follower;
 mod hearing;
 mod judge;
@@ -18,6 +19,7 @@ pub use auditor::{
     Audited, Auditor, Law, Verdict, Watch, audit, good_records_are_of_events,
     records_have_one_verdict, records_of_events_are_good,
 };
+pub use explaining::Explaining;
 pub use judge::RecordJudge;
 pub use judging::run_judge;
 pub use laws_of_reasons::only_steps_keep_all_laws;

@@ -20,7 +20,7 @@ use Rattle.columns.specs.declared.reads.OverlappedRead.{OverlappedRead}
 use Rattle.columns.specs.declared.state.State.{State}
 use Rattle.columns.specs.declared.told.RunLine.{RunLine}
 use Rattle.columns.specs.declared.told.Saying.{Saying}
-use Rattle.columns.specs.declared.told.Saying.TheVariants.{Ended, Marked, Refused, Shown, Tired}
+use Rattle.columns.specs.declared.told.Saying.TheVariants.{Ended, Judged, Marked, Refused, Shown, Tired}
 
 -- a column is put behind the others
 abbrev pub put_page : Seen → SeenPage → SeenPage
@@ -138,6 +138,7 @@ told_processes state (Marked p mark change) = marked_processes (nat_lt p state.p
 told_processes state (Refused p refusal) = refl
 told_processes state (Tired p) = refl
 told_processes state (Shown words) = refl
+told_processes state (Judged p words) = refl
 told_processes state (Ended events taken refused) = refl
 
 pub processes_after : (n : ℕ) (items : List Item) → (state_after n items).processes ≡ n

@@ -12,7 +12,7 @@ use Rattle.columns.specs.States.{freed_by, state_marked, state_told}
 use Rattle.columns.specs.declared.state.State.{State}
 use Rattle.columns.specs.declared.told.RunLine.{RunLine}
 use Rattle.columns.specs.declared.told.Saying.{Saying}
-use Rattle.columns.specs.declared.told.Saying.TheVariants.{Ended, Marked, Refused, Shown, Tired}
+use Rattle.columns.specs.declared.told.Saying.TheVariants.{Ended, Judged, Marked, Refused, Shown, Tired}
 use Rattle.picture.proofs.Pagings.{processes_after}
 use Rattle.columns.proofs.Stages.{stages_are}
 
@@ -26,6 +26,7 @@ told_stages state (Marked p mark change) = marked_stages (nat_lt p state.process
 told_stages state (Refused p refusal) = refl
 told_stages state (Tired p) = refl
 told_stages state (Shown words) = refl
+told_stages state (Judged p words) = refl
 told_stages state (Ended events taken refused) = refl
 
 -- and after all

@@ -7,7 +7,7 @@ use Rattle.markup.specs.Figures.{Shape, Block, Label, Pill, Ring, path_from}
 use Rattle.markup.specs.declared.figures.Point.{Point}
 use Rattle.columns.specs.Columns.{capped}
 use Rattle.columns.specs.declared.told.Saying.{Saying}
-use Rattle.columns.specs.declared.told.Saying.TheVariants.{Marked, Refused, Tired, Shown, Ended}
+use Rattle.columns.specs.declared.told.Saying.TheVariants.{Marked, Refused, Tired, Shown, Judged, Ended}
 
 -- a place so far to the left of another and above it
 abbrev pub moved_by : Point → ℕ → ℕ → Point
@@ -56,4 +56,5 @@ sign (Marked p mark change) at = mark_sign mark (is_some change) at
 sign (Refused p refusal) at = path_from (codes "no-sign") (moved_by at 6 0) (codes "a6 6 0 1 0 12 0a6 6 0 1 0 -12 0m2 4l8 -8") ∷ []
 sign (Tired p) at = path_from (codes "glass") (moved_by at 6 7) (codes "h12l-12 14h12z") ∷ []
 sign (Shown words) at = Block (codes "sign") (moved_by at 2 5) 4 10 ∷ []
+sign (Judged p words) at = cond (is_some p) (path_from (codes "no-sign") (moved_by at 0 8) (codes "l8 14h-16z")) (Block (codes "sign") (moved_by at 2 5) 4 10) ∷ []
 sign (Ended events taken refused) at = Block (codes "sign") (moved_by at 2 5) 4 10 ∷ []

@@ -18,26 +18,14 @@ use Rattle.files.specs.Lines.{IsTooLong, TakesLine}
 use Rattle.files.specs.Streams.{failed_reading}
 use Rattle.files.specs.declared.faults.LineFault.{LineFault}
 use Rattle.files.specs.SourceLines.{EndHolds, Given, GoesToNext, LineState, TakesNext, Told, coming, unless_ended}
-use Rattle.record_drawer.specs.Sheets.{DrawsAt, DrawsBandsOf, EndsAt, GoesOn, IsDrawFault, LineStops, Stands, entries_of}
+use Rattle.record_drawer.specs.Sheets.{DrawsAllBands, DrawsAt, EndsAt, GoesOn, IsDrawFault, LineStops, Stands, entries_of}
 use Rattle.record_drawer.specs.declared.drawing.RecordDrawing.{RecordDrawing}
 use Rattle.record_drawer.specs.declared.sheet.DrawnEntry.{DrawnEntry}
 use Rattle.record_drawer.specs.declared.sheet.Sheet.{Sheet}
-use Rattle.record_drawer.proofs.Lines.{few_in, long_read, reverse_in, unless_then}
-
--- One line.
-
--- the line is read, and then the rest
-line_then : (n : ℕ) (text line rest : List ℕ) (before now : Option Progress) (entries : List Entry) → TakesLine text line rest → line_read line before ≡ Ok now → rest_read n text before entries ≡ rest_read (n + 1) rest (cleared now) (entries ++ entry_in now)
-line_then n text line rest before now entries takes read =
-    ap (λ ls. lines_read n ls before entries >>= said_by (n + length ls)) takes
-    ∙ ap (λ r. (at_line n r >>= λ now. lines_read (n + 1) (lines rest) (cleared now) (entries ++ entry_in now)) >>= said_by (n + length (line ∷ lines rest))) read
-    ∙ ap (λ m. lines_read (n + 1) (lines rest) (cleared now) (entries ++ entry_in now) >>= said_by m) {y = n + 1 + length (lines rest)} (omega arith)
-
--- or it has a fault
-line_fault : (n : ℕ) (text line : List ℕ) (others : List (List ℕ)) (before : Option Progress) (entries : List Entry) (kind : FaultKind) → lines text ≡ line ∷ others → line_read line before ≡ Err kind → rest_read n text before entries ≡ Err (record { line = n; kind = kind })
-line_fault n text line others before entries kind is fault =
-    ap (λ ls. lines_read n ls before entries >>= said_by (n + length ls)) is
-    ∙ ap (λ r. (at_line n r >>= λ now. lines_read (n + 1) others (cleared now) (entries ++ entry_in now)) >>= said_by (n + length (line ∷ others))) fault
+use Rattle.any_judge.proofs.trial.Ends.{at_end, line_fault, line_then, of_input, told_on}
+use Rattle.any_judge.proofs.trial.Lines.{few_in, long_read}
+use Rattle.any_judge.proofs.trial.Trials.{unless_then}
+use Rattle.record_drawer.proofs.Lines.{reverse_in}
 
 -- All lines so far.
 
@@ -54,7 +42,7 @@ pub record Onwards (to_come rest : Option (List ℕ)) (taken : ℕ) (t : Sheet) 
   pub goes_on : Told to_come rest (GoesOnTo before (reverse past) taken)
 
 -- as many entries were drawn as were said
-drawn_count : (reads : Mode) (form : Form) (d : Option RecordDrawing) (before : Option Progress) (past : Past) (old new : Option (List ℕ)) → DrawsAt reads form d before past old new → entries_of d ≡ length past
+pub drawn_count : (reads : Mode) (form : Form) (d : Option RecordDrawing) (before : Option Progress) (past : Past) (old new : Option (List ℕ)) → DrawsAt reads form d before past old new → entries_of d ≡ length past
 drawn_count reads form None before past old new drawn = sym (ap length drawn.0)
 drawn_count reads form (Some d) None past old new drawn = absurd drawn
 drawn_count reads form (Some d) (Some p) past old new drawn = drawn.1.recalls.entries
@@ -74,17 +62,6 @@ onwards_start to_come ahead taken t old fresh open_yet none stands =
     by None = tt
     by (Some text) = ap (λ n. rest_read (n + 1) text None []) none
 
--- and no end was told
-pub none_told : (ahead : Given) (to_come : Option (List ℕ)) → ahead.ended ≡ false → EndHolds ahead to_come
-none_told ahead to_come open_yet told = let both : false ≡ true = sym open_yet ∙ told in absurd (cc)
-
--- what is told of three moments
-told_on : (a b c : Option (List ℕ)) (P Q R : List ℕ → List ℕ → Type 0) → ((x y z : List ℕ) → P x y → Q y z → R x z) → Told a b P → Told b c Q → Told a c R
-told_on None b c P Q R then first next = tt
-told_on (Some x) None c P Q R then first next = absurd first
-told_on (Some x) (Some y) None P Q R then first next = absurd next
-told_on (Some x) (Some y) (Some z) P Q R then first next = then x y z first next
-
 -- a line more
 pub onwards_on : (to_come mid rest : Option (List ℕ)) (l l' : LineState) (t t' : Sheet) (old new then : Option (List ℕ)) (u : Onwards to_come mid l.taken t old new) → TakesNext l l' mid rest → GoesOn (line_read l'.line u.before) t' u.past old then → Onwards to_come rest l'.taken t' old then
 onwards_on to_come mid rest l l' t t' old new then u takes on = record {
@@ -97,12 +74,6 @@ onwards_on to_come mid rest l l' t t' old new then u takes on = record {
 }
 
 -- The end.
-
--- a fact of the whole input, by what is left of it
-of_input : (to_come rest : Option (List ℕ)) (P : List ℕ → List ℕ → Type 0) (Q R : List ℕ → Type 0) → ((x y : List ℕ) → P x y → Q y → R x) → Told to_come rest P → IfSome rest Q → IfSome to_come R
-of_input None rest P Q R then told is = tt
-of_input (Some x) None P Q R then told is = absurd told
-of_input (Some x) (Some y) P Q R then told is = then x y told is
 
 -- a line with a fault
 pub onwards_fault : (to_come mid rest : Option (List ℕ)) (l l' : LineState) (t : Sheet) (old new : Option (List ℕ)) (e : Fault) (u : Onwards to_come mid l.taken t old new) → TakesNext l l' mid rest → LineStops e l'.taken (λ kind. (before : Option Progress) → t.reader ≡ before → line_read l'.line before ≡ Err kind) → IsDrawFault e to_come
@@ -124,11 +95,6 @@ pub onwards_long : (to_come mid : Option (List ℕ)) (taken : ℕ) (t : Sheet) (
 onwards_long to_come mid taken t old new u long =
     of_input to_come mid (GoesOnTo u.before (reverse u.past) taken) IsTooLong (λ text. record_of text ≡ Err (record { line = taken + 1; kind = TooLong })) (λ x y before is. sym before ∙ line_fault (taken + 1) y is.line is.others u.before (reverse u.past) TooLong is.is (long_read is.line u.before is.long)) u.goes_on long
 
--- nothing is left
-at_end : (mid : Option (List ℕ)) → IsAtEnd mid → IfSome mid (λ y. y ≡ [])
-at_end None is = tt
-at_end (Some y) is = is
-
 -- all lines were skipped
 pub onwards_none : (to_come mid : Option (List ℕ)) (taken : ℕ) (t : Sheet) (old new : Option (List ℕ)) (u : Onwards to_come mid taken t old new) → t.reader ≡ None → IsAtEnd mid → IfSome to_come (λ text. record_of text ≡ Err (record { line = taken + 1; kind = NotFirst }))
 onwards_none to_come mid taken t old new u none end =
@@ -136,17 +102,16 @@ onwards_none to_come mid taken t old new u none end =
 
 -- the picture of the whole
 pub onwards_drawn : (to_come mid : Option (List ℕ)) (taken : ℕ) (t : Sheet) (old new then : Option (List ℕ)) (u : Onwards to_come mid taken t old new) (p : Progress) (drawn : DrawnEntry) → t.reader ≡ Some p → IsAtEnd mid →
-    ((p : Progress) (past : Past) (first : Option (List ℕ)) → t.reader ≡ Some p → Stands t (Some p) past first new → (drawn.setup ≡ p.head.setup) × EndsAt t.reads t.form p.head.setup past drawn.height first then) →
-    IfSome to_come (λ text. DrawsBandsOf t.reads t.form text drawn old then)
+    ((p : Progress) (past : Past) (first : Option (List ℕ)) → t.reader ≡ Some p → Stands t (Some p) past first new → (drawn.setup ≡ p.head.setup) × EndsAt t.reads t.form p.head.setup past [] drawn.height first then) →
+    IfSome to_come (DrawsAllBands t.reads t.form drawn old then)
 onwards_drawn to_come mid taken t old new then u p drawn some end ends =
-    of_input to_come mid (GoesOnTo u.before (reverse u.past) taken) (λ y. y ≡ []) (λ text. DrawsBandsOf t.reads t.form text drawn old then) (λ x y before is. record {
+    of_input to_come mid (GoesOnTo u.before (reverse u.past) taken) (λ y. y ≡ []) (DrawsAllBands t.reads t.form drawn old then) (λ x y before is. record {
       said = record { setup = p.head.setup; entries = reverse u.past };
       says = sym before ∙ ap (λ (l : List ℕ). rest_read (taken + 1) l u.before (reverse u.past)) is ∙ ap (λ b. rest_read (taken + 1) [] b (reverse u.past)) (sym u.stands.reader ∙ some);
-      setup = both.0;
-      ends = subst (λ (past : Past). EndsAt t.reads t.form p.head.setup past drawn.height old then) (sym (reverse-reverse u.past)) both.1;
+      holds = record { setup = both.0; ends = subst (λ (past : Past). EndsAt t.reads t.form p.head.setup past [] drawn.height old then) (sym (reverse-reverse u.past)) both.1 };
     }) u.goes_on (at_end mid end)
   where
-    both : (drawn.setup ≡ p.head.setup) × EndsAt t.reads t.form p.head.setup u.past drawn.height old then
+    both : (drawn.setup ≡ p.head.setup) × EndsAt t.reads t.form p.head.setup u.past [] drawn.height old then
     both = ends p u.past old some (subst (λ (o : Option Progress). Stands t o u.past old new) (sym u.stands.reader ∙ some) u.stands)
 
 -- what was read, where something was

@@ -1,5 +1,5 @@
 -- What the marks of an entry give, one by one, and the reads that stand before them.
-use Rattle.std.proofs.Common.{◌≡◌, ◌<◌, ℕ, zero, suc, ◌+◌, List, [], ◌∷◌, ◌++◌, flat_map, length, get_or, map, reverse, take, refl, ap, sym, ◌∙◌, append-nil, append_assoc}
+use Rattle.std.proofs.Common.{◌≡◌, ◌<◌, ℕ, zero, suc, ◌+◌, List, [], ◌∷◌, ◌++◌, flat_map, length, get_or, map, reverse, Option, take, refl, ap, sym, ◌∙◌, append-nil, append_assoc}
 use Rattle.std.proofs.lemmas.Grind.{flat_map-append}
 use Rattle.std.proofs.lemmas.List.{map-append, take_more}
 use Rattle.plain_store.specs.declared.setups.Setup.{Setup}
@@ -11,11 +11,12 @@ use Rattle.companions.specs.picture.Standings.{sayings}
 use Rattle.companions.specs.picture.columns.Stages.{marks_in, marks_said}
 use Rattle.companions.specs.picture.columns.declared.reads.OverlappedRead.{OverlappedRead}
 use Rattle.companions.specs.picture.columns.declared.told.Saying.{Saying}
-use Rattle.companions.specs.picture.columns.declared.told.Saying.TheVariants.{Marked, Refused, Tired, Shown, Ended}
+use Rattle.companions.specs.picture.columns.declared.told.Saying.TheVariants.{Marked, Refused, Tired, Shown, Judged, Ended}
 use Rattle.companions.specs.picture.declared.reads.Reads.{Reads as Mode}
 use Rattle.companions.specs.picture.declared.reads.Reads.TheVariants.{Hidden, Shown as ReadsShown}
-use Rattle.record_drawer.specs.Items.{Gives, GivesLine, GivesRead, Says, SaysEnd, SaysMark, behind, given, given_at_end, given_by, given_of, lines_given, lines_of_past, mark_given, mark_line, marks_back, marks_given, marks_says, reads_since, record_gives, record_lines, says_marks, says_of, source_of, taken_by, text_given, texts_given, waiting}
+use Rattle.record_drawer.specs.Items.{Gives, GivesLine, GivesRead, Says, SaysEnd, SaysMark, behind, given, given_at_end, given_by, given_of, lines_given, lines_of_past, mark_given, mark_line, marks_back, marks_given, marks_says, judged_line, reads_since, record_gives, record_lines, say_judged, says_judged, says_marks, says_of, says_text, source_of, taken_by, text_given, texts_given, waiting}
 use Rattle.companions.specs.Overlaps.{overlapped_by, shown_of}
+use Rattle.record_drawer.specs.Judged.{bad_process, told_lines}
 use Rattle.record_drawer.specs.Takings.{change_of}
 
 -- one more, by what is made of each
@@ -37,7 +38,7 @@ shown_none Hidden = refl
 shown_none ReadsShown = refl
 
 -- a line more
-lines_more : (mode : Mode) (n at : ℕ) (reads : List OverlappedRead) (lines : List Says) (line : Says) → lines_given mode n at reads (lines ++ line ∷ []) ≡ lines_given mode n at reads lines ++ lines_given mode n at (waiting lines reads) (line ∷ [])
+pub lines_more : (mode : Mode) (n at : ℕ) (reads : List OverlappedRead) (lines : List Says) (line : Says) → lines_given mode n at reads (lines ++ line ∷ []) ≡ lines_given mode n at reads lines ++ lines_given mode n at (waiting lines reads) (line ∷ [])
 lines_more mode n at reads [] line = refl
 lines_more mode n at reads (first ∷ lines) line =
     let before : List Gives = map GivesRead (shown_of mode reads) in
@@ -50,9 +51,10 @@ waiting_says : (s : Setup) (p : ℕ) (before : List (ℕ × Mark)) (marks : List
 waiting_says s p before [] reads = refl
 waiting_says s p before (m ∷ marks) reads = refl
 
-waiting_none : (marks : List Mark) (mark : Mark) (reads : List OverlappedRead) → [] ≡ waiting (marks ++ mark ∷ []) reads
-waiting_none [] mark reads = refl
-waiting_none (m ∷ marks) mark reads = refl
+-- and none waits behind a line
+pub waiting_none : {A : Type 0} (lines : List A) (line : A) (reads : List OverlappedRead) → [] ≡ waiting (lines ++ line ∷ []) reads
+waiting_none [] line reads = refl
+waiting_none (first ∷ lines) line reads = refl
 
 module _ (marks : List Mark) (k : ℕ) (mark : Mark) (within : k < length marks) (is : mark ≡ get_or marks k mark) where
   -- the marks up to the next one
@@ -96,11 +98,16 @@ texts_of_past mode s n (e ∷ past) =
     flat_map-append text_given (given_by mode s n past) (given_of mode s n past e)
     ∙ (λ i. texts_of_past mode s n past i ++ (texts_of_lines mode n (length past) (reads_since s past ++ overlapped_by s past e) (says_marks s e.process (marks_back past) e.marks) ∙ texts_of_marks s n (length past) e.process (marks_back past) e.marks) i)
 
-pub texts_of_record : (mode : Mode) (said : Said) → texts_given (record_gives mode said) ≡ record_lines said
-texts_of_record mode said =
+texts_of_told : (n at : ℕ) (bad : Option ℕ) (lines : List (List ℕ)) (last : Says) → texts_given (map (GivesLine n at) (say_judged bad lines ++ last ∷ [])) ≡ map judged_line lines ++ says_text at last ∷ []
+texts_of_told n at bad [] last = refl
+texts_of_told n at bad (line ∷ lines) last = ap (λ l. judged_line line ∷ l) (texts_of_told n at bad lines last)
+
+pub texts_of_record : (mode : Mode) (said : Said) (told : List ℕ) → texts_given (record_gives mode said told) ≡ record_lines said told
+texts_of_record mode said told =
     let past : Past = reverse said.entries in
-    flat_map-append text_given (given_by mode said.setup (source_of said.setup) past) (given_at_end mode said.setup (source_of said.setup) past)
-    ∙ (λ i. texts_of_past mode said.setup (source_of said.setup) past i ++ texts_of_lines mode (source_of said.setup + 1) (length past) (reads_since said.setup past) (SaysEnd (length past) (taken_by (marks_back past)) ∷ []) i)
+    let last : Says = SaysEnd (length past) (taken_by (marks_back past)) in
+    flat_map-append text_given (given_by mode said.setup (source_of said.setup) past) (given_at_end mode said.setup (source_of said.setup) past told)
+    ∙ (λ i. texts_of_past mode said.setup (source_of said.setup) past i ++ (texts_of_lines mode (source_of said.setup + 1) (length past) (reads_since said.setup past) (says_judged told ++ last ∷ []) ∙ texts_of_told (source_of said.setup + 1) (length past) (bad_process (told_lines told)) (told_lines told) last) i)
 
 -- The marks of what it gives.
 
@@ -109,6 +116,7 @@ marks_of_saying (Marked p mark change) = refl
 marks_of_saying (Refused p refusal) = refl
 marks_of_saying (Tired p) = refl
 marks_of_saying (Shown words) = refl
+marks_of_saying (Judged p words) = refl
 marks_of_saying (Ended events taken zero) = refl
 marks_of_saying (Ended events taken (suc refused)) = refl
 
@@ -139,10 +147,15 @@ marks_of_past mode s n (e ∷ past) =
     flat_map-append mark_given (given_by mode s n past) (given_of mode s n past e)
     ∙ (λ i. marks_of_past mode s n past i ++ (marks_of_lines mode n (length past) (reads_since s past ++ overlapped_by s past e) (says_marks s e.process (marks_back past) e.marks) ∙ marks_of_marks s n (length past) e.process (marks_back past) e.marks) i)
 
-pub marks_of_record : (mode : Mode) (said : Said) (items : List Item) → given items ≡ record_gives mode said → flat_map marks_said (sayings items) ≡ marks_in (reverse said.entries)
-marks_of_record mode said items are =
+marks_of_told : (n at : ℕ) (bad : Option ℕ) (lines : List (List ℕ)) (entries taken : ℕ) → marks_given (map (GivesLine n at) (say_judged bad lines ++ SaysEnd entries taken ∷ [])) ≡ []
+marks_of_told n at bad [] entries taken = refl
+marks_of_told n at bad (line ∷ lines) entries taken = marks_of_told n at bad lines entries taken
+
+pub marks_of_record : (mode : Mode) (said : Said) (told : List ℕ) (items : List Item) → given items ≡ record_gives mode said told → flat_map marks_said (sayings items) ≡ marks_in (reverse said.entries)
+marks_of_record mode said told items are =
     let past : Past = reverse said.entries in
+    let taken : ℕ = taken_by (marks_back past) in
     sym (marks_of_items items) ∙ ap marks_given are
-    ∙ flat_map-append mark_given (given_by mode said.setup (source_of said.setup) past) (given_at_end mode said.setup (source_of said.setup) past)
-    ∙ (λ i. marks_of_past mode said.setup (source_of said.setup) past i ++ marks_of_lines mode (source_of said.setup + 1) (length past) (reads_since said.setup past) (SaysEnd (length past) (taken_by (marks_back past)) ∷ []) i)
+    ∙ flat_map-append mark_given (given_by mode said.setup (source_of said.setup) past) (given_at_end mode said.setup (source_of said.setup) past told)
+    ∙ (λ i. marks_of_past mode said.setup (source_of said.setup) past i ++ (marks_of_lines mode (source_of said.setup + 1) (length past) (reads_since said.setup past) (says_judged told ++ SaysEnd (length past) taken ∷ []) ∙ marks_of_told (source_of said.setup + 1) (length past) (bad_process (told_lines told)) (told_lines told) (length past) taken) i)
     ∙ append-nil (marks_in past)

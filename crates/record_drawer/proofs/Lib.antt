@@ -9,11 +9,14 @@ pub mod Drawn
 mod Giving
 mod Takings
 mod Hearing
+mod JudgedLines
+mod Lanes
 -- A source that was looked at
 pub mod Opening
 -- A file, line by line
 mod Lines
 mod Sheeted
+mod JudgedFile
 -- The engines
 mod Ends
 mod Whole

@@ -15,7 +15,7 @@ use Rattle.companions.specs.picture.declared.reads.Reads.{Reads as Mode}
 use Rattle.companions.specs.picture.markup.Elements.{opens_in}
 use Rattle.companions.specs.picture.markup.Titles.{lines_in}
 use Rattle.record_drawer.specs.Drawings.{DrawsOn, DrawsRest, Kept, Recalls, Writes, kept, kept_at_first, plan_of}
-use Rattle.record_drawer.specs.Items.{SaysEnd, given_at_end, given_by, given_of, lines_given, reads_since, source_of}
+use Rattle.record_drawer.specs.Items.{SaysEnd, given_at_end, given_by, given_of, lines_given, reads_since, says_judged, source_of}
 use Rattle.record_drawer.specs.Sheets.{Draws, DrawsAt, EndsAt, Heads, IsDrawn, listed}
 use Rattle.record_drawer.specs.declared.drawing.RecordDrawing.{RecordDrawing}
 use Rattle.record_drawer.proofs.Drawn.{draws_bands, draws_on_both, draws_on_none}
@@ -63,16 +63,16 @@ module _ (reads : Mode) (form : Form) (s : Setup) where
   drawn_begun (Some d) d' past old mid new none drawn begun = absurd (true≢false none)
 
   -- all
-  pub drawn_end : (past : Past) (d : RecordDrawing) (old mid new : Option (List ℕ)) (height : ℕ) → IsDrawn reads form s past d old mid → DrawsRest (kept d.page) mid new (lines_given reads d.last d.entries (reads_since s past) (SaysEnd d.entries d.taken ∷ [])) height → EndsAt reads form s past height old new
-  drawn_end past d old mid new height drawn rest = record {
+  pub drawn_end : (past : Past) (d : RecordDrawing) (told : List ℕ) (old mid new : Option (List ℕ)) (height : ℕ) → IsDrawn reads form s past d old mid → DrawsRest (kept d.page) mid new (lines_given reads d.last d.entries (reads_since s past) (says_judged told ++ SaysEnd d.entries d.taken ∷ [])) height → EndsAt reads form s past told height old new
+  drawn_end past d told old mid new height drawn rest = record {
     mid = drawn.mid;
     heads = drawn.heads;
-    bands = draws_bands (plan_of form s) (kept_at_first (plan_of form s)) (kept d.page) drawn.mid mid new (given_by reads s (source_of s) past) (given_at_end reads s (source_of s) past) height refl refl drawn.draws
+    bands = draws_bands (plan_of form s) (kept_at_first (plan_of form s)) (kept d.page) drawn.mid mid new (given_by reads s (source_of s) past) (given_at_end reads s (source_of s) past told) height refl refl drawn.draws
         (subst (λ gives. DrawsRest (kept d.page) mid new gives height) same rest);
   }
     where
-      same : lines_given reads d.last d.entries (reads_since s past) (SaysEnd d.entries d.taken ∷ []) ≡ given_at_end reads s (source_of s) past
-      same = λ i. lines_given reads (drawn.last i) (drawn.recalls.entries i) (reads_since s past) (SaysEnd (drawn.recalls.entries i) (drawn.recalls.among.taken i) ∷ [])
+      same : lines_given reads d.last d.entries (reads_since s past) (says_judged told ++ SaysEnd d.entries d.taken ∷ []) ≡ given_at_end reads s (source_of s) past told
+      same = λ i. lines_given reads (drawn.last i) (drawn.recalls.entries i) (reads_since s past) (says_judged told ++ SaysEnd (drawn.recalls.entries i) (drawn.recalls.among.taken i) ∷ [])
 
 -- a page's front
 pub heads_page : (reads : Mode) (s : Setup) (old new : Option (List ℕ)) (head : List ℕ) → head ≡ page_front s (listed s) reads → lines_in head ≡ [] → opens_in head (Some []) ≡ Some page_names → Writes old new head → Heads reads form.Page s old new

@@ -7,7 +7,11 @@ use Rattle.files.specs.Streams.{failed_reading}
 use Rattle.files.specs.declared.faults.Fault.{Fault}
 use Rattle.files.specs.declared.faults.Fault.TheVariants as fault
 use Rattle.plain_store.specs.Setups.{opening_store}
+use Rattle.plain_store.specs.declared.setups.Setup.{Setup}
+use Rattle.record.specs.Entries.{Entry}
 use Rattle.record_file.specs.RecordFiles.{Said}
+use Rattle.any_judge.specs.trial.Ends.{IsOfRecord}
+use Rattle.any_judge.specs.trial.Numbers.{numbers_of}
 use Rattle.companions.specs.picture.Bandings.{bands_told}
 use Rattle.companions.specs.picture.Pages.{page_names, picture_names}
 use Rattle.companions.specs.picture.Sheets.{page_back, picture_back, picture_front}
@@ -20,7 +24,7 @@ use Rattle.companions.proofs.picture.markup.Lines.{lines_on}
 use Rattle.companions.proofs.picture.markup.Stacks.{opens_on}
 use Rattle.record_drawer.specs.Drawings.{DrawsBands, Writes, plan_of}
 use Rattle.record_drawer.specs.Items.{record_gives, record_lines}
-use Rattle.record_drawer.specs.Sheets.{DrawsBandsOf, DrawsRecord, Drew, IsDrawFault, IsPictureOf, LeavesNone, picture_of, without_write}
+use Rattle.record_drawer.specs.Sheets.{DrawsBandsOf, DrawsRecord, DrawsSaid, Drew, DrewAs, IsDrawFault, IsJudged, IsPictureOf, LeavesNone, picture_of, without_write}
 use Rattle.companions.specs.StoreChanges.{store_words}
 use Rattle.record_drawer.specs.Writing.{IsWriteFault, failed_write}
 use Rattle.record_drawer.specs.declared.sheet.DrawnEntry.{DrawnEntry}
@@ -28,93 +32,107 @@ use Rattle.record_drawer.proofs.Drawn.{writes_both}
 use Rattle.record_drawer.proofs.Giving.{marks_of_record, texts_of_record}
 
 -- what stands before and behind tells nothing, and ends what it begins
-framed : (reads : Mode) (form : Form) (text : List ℕ) (said : Said) (a b c d : Option (List ℕ)) (head ending : List ℕ) (names : List (List ℕ)) (height : ℕ) → lines_in head ≡ [] → opens_in head (Some []) ≡ Some names → lines_in ending ≡ [] → opens_in ending (Some names) ≡ Some [] →
-    Writes a b head → (bands : DrawsBands (plan_of form said.setup) b c (record_gives reads said) height) → Writes c d ending → (let markup : List ℕ = (head ++ bands_told (plan_of form said.setup) bands.items) ++ ending in markup) ≡ picture_of reads form said.setup bands.items →
-    (let markup : List ℕ = (head ++ bands_told (plan_of form said.setup) bands.items) ++ ending in IsPictureOf reads form said markup × (opens_in markup (Some []) ≡ Some []) × (lines_in markup ≡ record_lines said) × Writes a d markup)
-framed reads form text said a b c d head ending names height no_head begin no_ending end first bands last is =
+framed : (reads : Mode) (form : Form) (said : Said) (told : List ℕ) (a b c d : Option (List ℕ)) (head ending : List ℕ) (names : List (List ℕ)) (height : ℕ) → lines_in head ≡ [] → opens_in head (Some []) ≡ Some names → lines_in ending ≡ [] → opens_in ending (Some names) ≡ Some [] →
+    Writes a b head → (bands : DrawsBands (plan_of form said.setup) b c (record_gives reads said told) height) → Writes c d ending → (let markup : List ℕ = (head ++ bands_told (plan_of form said.setup) bands.items) ++ ending in markup) ≡ picture_of reads form said.setup bands.items →
+    (let markup : List ℕ = (head ++ bands_told (plan_of form said.setup) bands.items) ++ ending in IsPictureOf reads form said told markup × (opens_in markup (Some []) ≡ Some []) × (lines_in markup ≡ record_lines said told) × Writes a d markup)
+framed reads form said told a b c d head ending names height no_head begin no_ending end first bands last is =
     let markup : List ℕ = bands_told (plan_of form said.setup) bands.items in
     let front = writes_both a b c head markup first bands.draws.writes in (
-      record { items = bands.items; are = bands.are; marks = marks_of_record reads said bands.items bands.are; is = is },
+      record { items = bands.items; are = bands.are; marks = marks_of_record reads said told bands.items bands.are; is = is },
       opens_on (head ++ markup) ending (Some []) front.rests ∙ ap (opens_in ending) (opens_on head markup (Some []) first.rests ∙ ap (opens_in markup) begin ∙ bands.draws.ended (Some names)) ∙ end,
-      lines_on (head ++ markup) ending front.rests ∙ (λ i. lines_on head markup first.rests i ++ no_ending i) ∙ append-nil (lines_in head ++ lines_in markup) ∙ ap (λ l. l ++ lines_in markup) no_head ∙ bands.draws.read_back ∙ texts_of_record reads said,
+      lines_on (head ++ markup) ending front.rests ∙ (λ i. lines_on head markup first.rests i ++ no_ending i) ∙ append-nil (lines_in head ++ lines_in markup) ∙ ap (λ l. l ++ lines_in markup) no_head ∙ bands.draws.read_back ∙ texts_of_record reads said told,
       writes_both a c d (head ++ markup) ending front last,
     )
 
 -- a page
-pub page_drawn : (reads : Mode) (text : List ℕ) (drawn : DrawnEntry) (a b c : Option (List ℕ)) (opening ending : List ℕ) → DrawsBandsOf reads form.Page text drawn a b → opening ≡ store_words (opening_store drawn.setup) → ending ≡ page_back opening → lines_in ending ≡ [] → opens_in ending (Some page_names) ≡ Some [] → Writes b c ending →
-    DrawsRecord reads form.Page text a c
-page_drawn reads text drawn a b c opening ending bands opens back no_ending end last =
+pub page_drawn : (reads : Mode) (said : Said) (told : List ℕ) (drawn : DrawnEntry) (a b c : Option (List ℕ)) (opening ending : List ℕ) → DrawsBandsOf reads form.Page drawn a b said told → opening ≡ store_words (opening_store drawn.setup) → ending ≡ page_back opening → lines_in ending ≡ [] → opens_in ending (Some page_names) ≡ Some [] → Writes b c ending →
+    DrawsSaid reads form.Page said told a c
+page_drawn reads said told drawn a b c opening ending bands opens back no_ending end last =
     let h = bands.ends.heads in
     let items = bands.ends.bands.items in
-    let is : (h.head ++ bands_told (plan_of form.Page bands.said.setup) items) ++ ending ≡ picture_of reads form.Page bands.said.setup items =
-    λ i. (h.is i ++ bands_told (plan_of form.Page bands.said.setup) items) ++ (back ∙ ap page_back (opens ∙ ap (λ s. store_words (opening_store s)) bands.setup)) i in
-    let all = framed reads form.Page text bands.said a bands.ends.mid b c h.head ending page_names drawn.height h.lines h.opens no_ending end h.writes bands.ends.bands last is in
-    record { said = bands.said; says = bands.says; markup = (h.head ++ bands_told (plan_of form.Page bands.said.setup) items) ++ ending; picture = all.0; elements = all.1; read_back = all.2; writes = all.3 }
+    let is : (h.head ++ bands_told (plan_of form.Page said.setup) items) ++ ending ≡ picture_of reads form.Page said.setup items =
+    λ i. (h.is i ++ bands_told (plan_of form.Page said.setup) items) ++ (back ∙ ap page_back (opens ∙ ap (λ s. store_words (opening_store s)) bands.setup)) i in
+    let all = framed reads form.Page said told a bands.ends.mid b c h.head ending page_names drawn.height h.lines h.opens no_ending end h.writes bands.ends.bands last is in
+    record { markup = (h.head ++ bands_told (plan_of form.Page said.setup) items) ++ ending; picture = all.0; elements = all.1; read_back = all.2; writes = all.3 }
 
 -- bytes that were held
 held_are : (bytes markup : List ℕ) → Appends (Some []) (Some bytes) markup → bytes ≡ markup
 held_are bytes markup is = is
 
 -- one picture
-pub picture_drawn : (reads : Mode) (text : List ℕ) (drawn : DrawnEntry) (bytes : List ℕ) (a b c d : Option (List ℕ)) (head ending : List ℕ) → DrawsBandsOf reads (form.Picture 34) text drawn (Some []) (Some bytes) → head ≡ picture_front drawn.setup drawn.height reads → ending ≡ picture_back drawn.height reads →
-    lines_in head ≡ [] → opens_in head (Some []) ≡ Some picture_names → lines_in ending ≡ [] → opens_in ending (Some picture_names) ≡ Some [] → Writes a b head → Appends b c bytes → Writes c d ending → DrawsRecord reads (form.Picture 34) text a d
-picture_drawn reads text drawn bytes a b c d head ending bands front back no_head begin no_ending end first mid last =
+pub picture_drawn : (reads : Mode) (said : Said) (told : List ℕ) (drawn : DrawnEntry) (bytes : List ℕ) (a b c d : Option (List ℕ)) (head ending : List ℕ) → DrawsBandsOf reads (form.Picture 34) drawn (Some []) (Some bytes) said told → head ≡ picture_front drawn.setup drawn.height reads → ending ≡ picture_back drawn.height reads →
+    lines_in head ≡ [] → opens_in head (Some []) ≡ Some picture_names → lines_in ending ≡ [] → opens_in ending (Some picture_names) ≡ Some [] → Writes a b head → Appends b c bytes → Writes c d ending → DrawsSaid reads (form.Picture 34) said told a d
+picture_drawn reads said told drawn bytes a b c d head ending bands front back no_head begin no_ending end first mid last =
     let o = bands.ends.bands in
-    let same : bytes ≡ bands_told (plan_of (form.Picture 34) bands.said.setup) o.items = held_are bytes (bands_told (plan_of (form.Picture 34) bands.said.setup) o.items) (subst (λ (m : Option (List ℕ)). Appends m (Some bytes) (bands_told (plan_of (form.Picture 34) bands.said.setup) o.items)) bands.ends.heads o.draws.writes.taken) in
-    let again : DrawsBands (plan_of (form.Picture 34) bands.said.setup) b c (record_gives reads bands.said) drawn.height = record {
+    let same : bytes ≡ bands_told (plan_of (form.Picture 34) said.setup) o.items = held_are bytes (bands_told (plan_of (form.Picture 34) said.setup) o.items) (subst (λ (m : Option (List ℕ)). Appends m (Some bytes) (bands_told (plan_of (form.Picture 34) said.setup) o.items)) bands.ends.heads o.draws.writes.taken) in
+    let again : DrawsBands (plan_of (form.Picture 34) said.setup) b c (record_gives reads said told) drawn.height = record {
       items = o.items;
       are = o.are;
       draws = record { ended = o.draws.ended; read_back = o.draws.read_back; writes = record { rests = o.draws.writes.rests; taken = subst (λ l. Appends b c l) same mid } };
       heights = o.heights;
     } in
-    let is : (head ++ bands_told (plan_of (form.Picture 34) bands.said.setup) o.items) ++ ending ≡ picture_of reads (form.Picture 34) bands.said.setup o.items =
-    λ i. ((front ∙ (λ j. picture_front (bands.setup j) (o.heights j) reads)) i ++ bands_told (plan_of (form.Picture 34) bands.said.setup) o.items) ++ (back ∙ ap (λ h. picture_back h reads) o.heights) i in
-    let all = framed reads (form.Picture 34) text bands.said a b c d head ending picture_names drawn.height no_head begin no_ending end first again last is in
-    record { said = bands.said; says = bands.says; markup = (head ++ bands_told (plan_of (form.Picture 34) bands.said.setup) o.items) ++ ending; picture = all.0; elements = all.1; read_back = all.2; writes = all.3 }
+    let is : (head ++ bands_told (plan_of (form.Picture 34) said.setup) o.items) ++ ending ≡ picture_of reads (form.Picture 34) said.setup o.items =
+    λ i. ((front ∙ (λ j. picture_front (bands.setup j) (o.heights j) reads)) i ++ bands_told (plan_of (form.Picture 34) said.setup) o.items) ++ (back ∙ ap (λ h. picture_back h reads) o.heights) i in
+    let all = framed reads (form.Picture 34) said told a b c d head ending picture_names drawn.height no_head begin no_ending end first again last is in
+    record { markup = (head ++ bands_told (plan_of (form.Picture 34) said.setup) o.items) ++ ending; picture = all.0; elements = all.1; read_back = all.2; writes = all.3 }
 
 -- what follows of the whole input, where it is told
 pub if_some : (o : Option (List ℕ)) (P Q : List ℕ → Type 0) → ((x : List ℕ) → P x → Q x) → IfSome o P → IfSome o Q
 if_some None P Q then is = tt
 if_some (Some x) P Q then is = then x is
 
--- RecordDrawing ends with a fault.
-module _ (reads : Mode) (f : Form) (r : Result (Unit {0}) Fault) (e : Fault) (old new : Streams) (is : IsErrAnd r (λ told. told ≡ e)) where
-  by_fault : Drew reads f (Err e) old new → Drew reads f r old new
-  by_fault drew = by r is
+-- nothing is left where nothing was written
+pub leaves_none : (f : Form) (old new : Option (List ℕ)) → new ≡ old → LeavesNone f old new
+leaves_none form.Page old new same = tt
+leaves_none (form.Picture top) old new same = subst (λ n. Keeps old n) (sym same) (kept old)
+
+-- what holds of a record that a text says, and of what is shown of one that is judged
+pub of_record_then : (P Q : Setup → List Entry → List ℕ → Type 0) (text : List ℕ) → ((s : Setup) (entries : List Entry) (numbers : List ℕ) → P s entries numbers → Q s entries numbers) → IsOfRecord P text → IsOfRecord Q text
+of_record_then P Q text then is = record { said = is.said; says = is.says; holds = then is.said.setup is.said.entries (numbers_of text) is.holds }
+
+judged_then : (Keeps : Setup → List Entry → Type 0) (Tells : Setup → List Entry → List ℕ → List ℕ → ℕ → Type 0) (status : ℕ) (P Q : Said → List ℕ → Type 0) → ((said : Said) (told : List ℕ) → P said told → Q said told) → (s : Setup) (entries : List Entry) (numbers : List ℕ) →
+    IsJudged Keeps Tells status P s entries numbers → IsJudged Keeps Tells status Q s entries numbers
+judged_then Keeps Tells status P Q then s entries numbers is = record { told = is.told; tells = is.tells; shown = is.shown; shows = is.shows; is = then (record { setup = s; entries = is.shown }) is.told is.is }
+
+pub judged_all : (Keeps : Setup → List Entry → Type 0) (Tells : Setup → List Entry → List ℕ → List ℕ → ℕ → Type 0) (status : ℕ) (P Q : Said → List ℕ → Type 0) → ((said : Said) (told : List ℕ) → P said told → Q said told) → (o : Option (List ℕ)) →
+    IfSome o (IsOfRecord (IsJudged Keeps Tells status P)) → IfSome o (IsOfRecord (IsJudged Keeps Tells status Q))
+judged_all Keeps Tells status P Q then o is =
+    if_some o (IsOfRecord (IsJudged Keeps Tells status P)) (IsOfRecord (IsJudged Keeps Tells status Q)) (λ text. of_record_then (IsJudged Keeps Tells status P) (IsJudged Keeps Tells status Q) text (judged_then Keeps Tells status P Q then)) is
+
+-- Drawing ends with a fault.
+module _ {A : Type 0} (draws : A → List ℕ → Option (List ℕ) → Option (List ℕ) → Type 0) (f : Form) (r : Result A Fault) (old new : Streams) where
+  by_fault : (e : Fault) → IsErrAnd r (λ told. told ≡ e) → DrewAs draws f (Err e) old new → DrewAs draws f r old new
+  by_fault e is drew = by r is
     where
-      by : (r : Result (Unit {0}) Fault) → IsErrAnd r (λ told. told ≡ e) → Drew reads f r old new
+      by : (r : Result A Fault) → IsErrAnd r (λ told. told ≡ e) → DrewAs draws f r old new
       by (Ok done) is = absurd is
-      by (Err told) is = subst (λ e. Drew reads f (Err e) old new) (sym is) drew
+      by (Err told) is = subst (λ e. DrewAs draws f (Err e) old new) (sym is) drew
 
   -- of the input, or before anything was written of one picture
-  pub drew_fault : IsDrawFault e old.to_come → new.read_failures ≡ old.read_failures + failed_reading {A = DrawnEntry} (Err e) → new.write_failures ≡ old.write_failures + failed_write {A = DrawnEntry} (Err e) → LeavesNone f old.taken new.taken → Drew reads f r old new
-  drew_fault why reading writing leaves = by_fault (by e why reading writing)
+  pub drew_fault : (B : Type 0) (e : Fault) → IsErrAnd r (λ told. told ≡ e) → IsDrawFault e old.to_come → new.read_failures ≡ old.read_failures + failed_reading {A = B} (Err e) → new.write_failures ≡ old.write_failures + failed_write {A = B} (Err e) → LeavesNone f old.taken new.taken → DrewAs draws f r old new
+  drew_fault B e is why reading writing leaves = by_fault e is (by e why reading writing)
     where
-      by : (e : Fault) → IsDrawFault e old.to_come → new.read_failures ≡ old.read_failures + failed_reading {A = DrawnEntry} (Err e) → new.write_failures ≡ old.write_failures + failed_write {A = DrawnEntry} (Err e) → Drew reads f (Err e) old new
+      by : (e : Fault) → IsDrawFault e old.to_come → new.read_failures ≡ old.read_failures + failed_reading {A = B} (Err e) → new.write_failures ≡ old.write_failures + failed_write {A = B} (Err e) → DrewAs draws f (Err e) old new
       by (fault.Line l) why reading writing = (why, leaves)
       by fault.Read why reading writing = (omega (arith, reading), leaves)
       by fault.Write why reading writing = omega (arith, writing)
       by fault.Memory why reading writing = tt
 
   -- where bytes were held
-  pub drew_held : (g : Fault) → e ≡ without_write g → IsDrawFault g old.to_come → new.read_failures ≡ old.read_failures + failed_reading {A = DrawnEntry} (Err g) → LeavesNone f old.taken new.taken → Drew reads f r old new
-  drew_held g same why reading leaves = by_fault (subst (λ e. Drew reads f (Err e) old new) (sym same) (by g why reading))
+  pub drew_held : (B : Type 0) (e g : Fault) → IsErrAnd r (λ told. told ≡ e) → e ≡ without_write g → IsDrawFault g old.to_come → new.read_failures ≡ old.read_failures + failed_reading {A = B} (Err g) → LeavesNone f old.taken new.taken → DrewAs draws f r old new
+  drew_held B e g is same why reading leaves = by_fault e is (subst (λ e. DrewAs draws f (Err e) old new) (sym same) (by g why reading))
     where
-      by : (g : Fault) → IsDrawFault g old.to_come → new.read_failures ≡ old.read_failures + failed_reading {A = DrawnEntry} (Err g) → Drew reads f (Err (without_write g)) old new
+      by : (g : Fault) → IsDrawFault g old.to_come → new.read_failures ≡ old.read_failures + failed_reading {A = B} (Err g) → DrewAs draws f (Err (without_write g)) old new
       by (fault.Line l) why reading = (why, leaves)
       by fault.Read why reading = (omega (arith, reading), leaves)
       by fault.Write why reading = tt
       by fault.Memory why reading = tt
 
-  -- for want of memory
-  pub drew_wanting : e ≡ fault.Memory → Drew reads f r old new
-  drew_wanting same = by_fault (subst (λ e. Drew reads f (Err e) old new) (sym same) tt)
-
   -- amid writing
-  pub drew_cut : IsWriteFault e → new.write_failures ≡ old.write_failures + failed_write {A = Unit {0}} (Err e) → Drew reads f r old new
-  drew_cut why writing = by_fault (by e why writing)
+  pub drew_cut : (B : Type 0) (e : Fault) → IsErrAnd r (λ told. told ≡ e) → IsWriteFault e → new.write_failures ≡ old.write_failures + failed_write {A = B} (Err e) → DrewAs draws f r old new
+  drew_cut B e is why writing = by_fault e is (by e why writing)
     where
-      by : (e : Fault) → IsWriteFault e → new.write_failures ≡ old.write_failures + failed_write {A = Unit {0}} (Err e) → Drew reads f (Err e) old new
+      by : (e : Fault) → IsWriteFault e → new.write_failures ≡ old.write_failures + failed_write {A = B} (Err e) → DrewAs draws f (Err e) old new
       by fault.Write why writing = omega (arith, writing)
       by fault.Memory why writing = tt
       by fault.Read why writing = absurd why

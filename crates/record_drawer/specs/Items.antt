@@ -13,14 +13,16 @@ use Rattle.companions.specs.picture.columns.States.{places_marked}
 use Rattle.companions.specs.picture.columns.declared.reads.OverlappedRead.{OverlappedRead}
 use Rattle.companions.specs.picture.declared.reads.Reads.{Reads as Mode}
 use Rattle.companions.specs.picture.columns.declared.told.Saying.{Saying}
-use Rattle.companions.specs.picture.columns.declared.told.Saying.TheVariants.{Marked, Refused, Tired, Shown, Ended}
+use Rattle.companions.specs.picture.columns.declared.told.Saying.TheVariants.{Marked, Refused, Tired, Shown, Judged, Ended}
 use Rattle.companions.specs.Overlaps.{overlapped_by, shown_of}
 use Rattle.companions.specs.StoreChanges.{Changed, changed}
+use Rattle.record_drawer.specs.Judged.{bad_process, lane_told, told_lines}
 use Rattle.record_drawer.specs.Takings.{change_of}
 
 -- what a line says
 pub data Says : Type 0 where
   SaysMark : ℕ → Mark → Option Changed → Says  -- an entry of the process has this mark; what its command changed
+  SaysJudged : Option ℕ → List ℕ → Says  -- a judge tells this line, which stands in the lane of that process
   SaysEnd : ℕ → ℕ → Says  -- the record has so many entries, which take so many commands
   SaysOther : List ℕ → Says  -- any other line, by its text
 
@@ -34,6 +36,7 @@ says_of (Marked p mark change) = SaysMark p mark (option_map changed change)
 says_of (Refused p refusal) = SaysOther (saying_text 0 (Refused p refusal))
 says_of (Tired p) = SaysOther (saying_text 0 (Tired p))
 says_of (Shown words) = SaysOther (saying_text 0 (Shown words))
+says_of (Judged p words) = SaysJudged p words.items
 says_of (Ended events taken zero) = SaysEnd events taken
 says_of (Ended events taken (suc refused)) = SaysOther (saying_text 0 (Ended events taken (suc refused)))
 
@@ -47,6 +50,10 @@ given (Reads read ∷ before) = given before ++ GivesRead read ∷ []
 abbrev pub mark_line : ℕ → ℕ → Mark → List ℕ
 mark_line entry p mark = decimal entry ++ codes " " ++ decimal p ++ codes " " ++ mark_text mark
 
+-- that of a line of a judge
+abbrev pub judged_line : List ℕ → List ℕ
+judged_line line = codes "judge " ++ line
+
 -- that of the last line
 abbrev pub end_line : ℕ → ℕ → List ℕ
 end_line entries taken = codes "end events " ++ decimal entries ++ codes " taken " ++ decimal taken ++ codes " refused " ++ decimal 0
@@ -54,6 +61,7 @@ end_line entries taken = codes "end events " ++ decimal entries ++ codes " taken
 -- the text of a line
 abbrev pub says_text : ℕ → Says → List ℕ
 says_text entry (SaysMark p mark change) = mark_line entry p mark
+says_text entry (SaysJudged p line) = judged_line line
 says_text entry (SaysEnd entries taken) = end_line entries taken
 says_text entry (SaysOther text) = text
 
@@ -68,6 +76,7 @@ texts_given = flat_map text_given
 -- the marks of what is given, each with its process
 abbrev pub marks_says : Says → List (ℕ × Mark)
 marks_says (SaysMark p mark change) = (p, mark) ∷ []
+marks_says (SaysJudged p line) = []
 marks_says (SaysEnd entries taken) = []
 marks_says (SaysOther text) = []
 
@@ -122,22 +131,32 @@ abbrev pub given_by : Mode → Setup → ℕ → Past → List Gives
 given_by mode s source [] = []
 given_by mode s source (e ∷ past) = given_by mode s source past ++ given_of mode s source past e
 
--- the last line
-abbrev pub given_at_end : Mode → Setup → ℕ → Past → List Gives
-given_at_end mode s source past = lines_given mode (source + 1) (length past) (reads_since s past) (SaysEnd (length past) (taken_by (marks_back past)) ∷ [])
+-- what is said of what a judge tells, line by line
+abbrev pub judged_with : Option ℕ → List ℕ → Says
+judged_with bad line = SaysJudged (lane_told bad line) line
+
+abbrev pub say_judged : Option ℕ → List (List ℕ) → List Says
+say_judged bad = map (judged_with bad)
+
+abbrev pub says_judged : List ℕ → List Says
+says_judged told = say_judged (bad_process (told_lines told)) (told_lines told)
+
+-- what a judge tells, if there is one, and the last line
+abbrev pub given_at_end : Mode → Setup → ℕ → Past → List ℕ → List Gives
+given_at_end mode s source past told = lines_given mode (source + 1) (length past) (reads_since s past) (says_judged told ++ SaysEnd (length past) (taken_by (marks_back past)) ∷ [])
 
 -- the line of the page's list that stands for all entries: it is behind the headings and the opening pairs
 abbrev pub source_of : Setup → ℕ
 source_of s = length (head_words s) + 1
 
--- what a whole record gives
-abbrev pub record_gives : Mode → Said → List Gives
-record_gives mode said = given_by mode said.setup (source_of said.setup) (reverse said.entries) ++ given_at_end mode said.setup (source_of said.setup) (reverse said.entries)
+-- what a whole record gives, and a judge who tells this of it
+abbrev pub record_gives : Mode → Said → List ℕ → List Gives
+record_gives mode said told = given_by mode said.setup (source_of said.setup) (reverse said.entries) ++ given_at_end mode said.setup (source_of said.setup) (reverse said.entries) told
 
--- the lines of a record, without their ends: one for each mark of its entries, in their order, and a last one
+-- the lines of a record, without their ends: one for each mark of its entries, in their order, those of a judge, and a last one
 abbrev pub lines_of_past : Past → List (List ℕ)
 lines_of_past [] = []
 lines_of_past (e ∷ past) = lines_of_past past ++ map (mark_line (length past) e.process) e.marks
 
-abbrev pub record_lines : Said → List (List ℕ)
-record_lines said = lines_of_past (reverse said.entries) ++ end_line (length (reverse said.entries)) (taken_by (marks_back (reverse said.entries))) ∷ []
+abbrev pub record_lines : Said → List ℕ → List (List ℕ)
+record_lines said told = lines_of_past (reverse said.entries) ++ (map judged_line (told_lines told) ++ end_line (length (reverse said.entries)) (taken_by (marks_back (reverse said.entries))) ∷ [])

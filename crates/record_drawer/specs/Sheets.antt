@@ -1,5 +1,5 @@
 -- What stands while a record is read and drawn line by line, and how that ends.
-use Rattle.std.specs.Prelude.{◌≡◌, ◌<◌, ◌+◌, ℕ, true, List, [], ◌++◌, codes, flat_map, reverse, Option, None, Some, IfSome, Result, Ok, Err}
+use Rattle.std.specs.Prelude.{◌≡◌, ◌<◌, ◌+◌, ℕ, true, List, [], ◌∷◌, ◌++◌, codes, flat_map, reverse, Option, None, Some, IfSome, Result, Ok, Err}
 use Rattle.std.specs.Io.KnownBytes.{IsAtEnd, Keeps}
 use Rattle.files.specs.Engines.{Streams}
 use Rattle.files.specs.Reads.{UnlessMemory}
@@ -8,10 +8,11 @@ use Rattle.files.specs.declared.faults.Fault.TheVariants as fault
 use Rattle.files.specs.declared.faults.FaultKind.{FaultKind}
 use Rattle.plain_store.specs.Setups.{opening_store}
 use Rattle.plain_store.specs.declared.setups.Setup.{Setup}
-use Rattle.record.specs.Entries.{Past}
+use Rattle.record.specs.Entries.{Entry, Past}
 use Rattle.record_file.specs.Printing.{head_words}
 use Rattle.record_file.specs.scenario.Printing.{printed_line}
 use Rattle.record_file.specs.RecordFiles.{Progress, Said, cleared, entry_in, record_of}
+use Rattle.any_judge.specs.trial.Ends.{IsOfRecord}
 use Rattle.companions.specs.picture.Bandings.{Item, bands_told, heights_told}
 use Rattle.companions.specs.picture.Pages.{page_names}
 use Rattle.companions.specs.picture.Sheets.{page_back, page_front, picture_back, picture_front}
@@ -39,22 +40,41 @@ picture_of reads form.Page s items = (page_front s (listed s) reads ++ bands_tol
 picture_of reads (form.Picture top) s items =
     (picture_front s (heights_told (plan_of (form.Picture top) s) items) reads ++ bands_told (plan_of (form.Picture top) s) items) ++ picture_back (heights_told (plan_of (form.Picture top) s) items) reads
 
--- Markup is the picture of a record, and nothing else: that of items which are what the record gives, one by one. So they say its marks.
-pub record IsPictureOf (reads : Mode) (form : Form) (said : Said) (markup : List ℕ) : Type 0 where
+-- Markup is the picture of a record of which a judge tells this, or nothing, if there is none; and nothing else: that of items which are what the record gives, one by one. So they say its marks.
+pub record IsPictureOf (reads : Mode) (form : Form) (said : Said) (told markup : List ℕ) : Type 0 where
   pub items : List Item
-  pub are : given items ≡ record_gives reads said
+  pub are : given items ≡ record_gives reads said told
   pub marks : flat_map marks_said (sayings items) ≡ marks_in (reverse said.entries)
   pub is : markup ≡ picture_of reads form said.setup items
 
--- A whole picture was written: it is the picture of the record that the text says, and nothing else; its tags fit, and no element is open at its end; and the titles of its marks, read back, are the marks of the record, in their order, and a last line.
-pub record DrawsRecord (reads : Mode) (form : Form) (text : List ℕ) (old new : Option (List ℕ)) : Type 0 where
-  pub said : Said
-  pub says : record_of text ≡ Ok said
+-- A whole picture was written: it is that of a record of which a judge tells this, and nothing else; its tags fit, and no element is open at its end; and the titles of its marks, read back, are the marks of the record, in their order, what the judge tells, line by line, and a last line.
+pub record DrawsSaid (reads : Mode) (form : Form) (said : Said) (told : List ℕ) (old new : Option (List ℕ)) : Type 0 where
   pub markup : List ℕ
-  pub picture : IsPictureOf reads form said markup
+  pub picture : IsPictureOf reads form said told markup
   pub elements : opens_in markup (Some []) ≡ Some []
-  pub read_back : lines_in markup ≡ record_lines said
+  pub read_back : lines_in markup ≡ record_lines said told
   pub writes : Writes old new markup
+
+-- That of the record that a text says, of which no judge tells.
+abbrev pub DrawsRecord : Mode → Form → List ℕ → Option (List ℕ) → Option (List ℕ) → Type 0
+DrawsRecord reads form text old new = IsOfRecord (λ s entries numbers. DrawsSaid reads form (record { setup = s; entries = entries }) [] old new) text
+
+-- These entries of a record are shown: all, which keep all laws; or those up to the first that breaks one.
+pub data Shows (Keeps : List Entry → Type 0) (entries shown : List Entry) : Type 0 where
+  All : shown ≡ entries → Keeps entries → Shows Keeps entries shown
+  UpTo : (before : List Entry) (e : Entry) (later : List Entry) → shown ≡ before ++ e ∷ [] → entries ≡ shown ++ later → Keeps before → (Keeps shown → ⊥) → Shows Keeps entries shown
+
+-- this holds of what is shown of a record, and of what a judge tells of the whole record, whose entries stand in the lines with these numbers
+pub record IsJudged (Keeps : Setup → List Entry → Type 0) (Tells : Setup → List Entry → List ℕ → List ℕ → ℕ → Type 0) (status : ℕ) (P : Said → List ℕ → Type 0) (s : Setup) (entries : List Entry) (numbers : List ℕ) : Type 0 where
+  pub told : List ℕ
+  pub tells : Tells s entries numbers told status
+  pub shown : List Entry
+  pub shows : Shows (Keeps s) entries shown
+  pub is : P (record { setup = s; entries = shown }) told
+
+-- The picture of the record that a text says, up to the first entry that breaks a law, and of what a judge tells of that record.
+abbrev pub DrawsJudged : (Setup → List Entry → Type 0) → (Setup → List Entry → List ℕ → List ℕ → ℕ → Type 0) → Mode → Form → ℕ → List ℕ → Option (List ℕ) → Option (List ℕ) → Type 0
+DrawsJudged Keeps Tells reads form status text old new = IsOfRecord (IsJudged Keeps Tells status (λ said told. DrawsSaid reads form said told old new)) text
 
 -- what a page has before its bands was written; one picture has it later, once its height is known
 pub record HeadsPage (reads : Mode) (s : Setup) (old new : Option (List ℕ)) : Type 0 where
@@ -111,18 +131,20 @@ abbrev pub entries_of : Option RecordDrawing → ℕ
 entries_of None = 0
 entries_of (Some d) = d.entries
 
--- all bands of these entries were written, and a page's front before them
-pub record EndsAt (reads : Mode) (form : Form) (s : Setup) (past : Past) (height : ℕ) (old new : Option (List ℕ)) : Type 0 where
+-- all bands of these entries and of what a judge tells were written, and a page's front before them
+pub record EndsAt (reads : Mode) (form : Form) (s : Setup) (past : Past) (told : List ℕ) (height : ℕ) (old new : Option (List ℕ)) : Type 0 where
   pub mid : Option (List ℕ)
   pub heads : Heads reads form s old mid
-  pub bands : DrawsBands (plan_of form s) mid new (given_by reads s (source_of s) past ++ given_at_end reads s (source_of s) past) height
+  pub bands : DrawsBands (plan_of form s) mid new (given_by reads s (source_of s) past ++ given_at_end reads s (source_of s) past told) height
 
--- all bands of the record that a text says were written, and a page's front before them
-pub record DrawsBandsOf (reads : Mode) (form : Form) (text : List ℕ) (drawn : DrawnEntry) (old new : Option (List ℕ)) : Type 0 where
-  pub said : Said
-  pub says : record_of text ≡ Ok said
+-- the same of a record
+pub record DrawsBandsOf (reads : Mode) (form : Form) (drawn : DrawnEntry) (old new : Option (List ℕ)) (said : Said) (told : List ℕ) : Type 0 where
   pub setup : drawn.setup ≡ said.setup
-  pub ends : EndsAt reads form said.setup (reverse said.entries) drawn.height old new
+  pub ends : EndsAt reads form said.setup (reverse said.entries) told drawn.height old new
+
+-- of the record that a text says, of which no judge tells
+abbrev pub DrawsAllBands : Mode → Form → DrawnEntry → Option (List ℕ) → Option (List ℕ) → List ℕ → Type 0
+DrawsAllBands reads form drawn old new = IsOfRecord (λ s entries numbers. DrawsBandsOf reads form drawn old new (record { setup = s; entries = entries }) [])
 
 -- why drawing ends early: a fault of what the input says, a call that failed, or want of memory
 abbrev pub IsDrawFault : Fault → Option (List ℕ) → Type 0
@@ -136,13 +158,20 @@ abbrev pub LeavesNone : Form → Option (List ℕ) → Option (List ℕ) → Typ
 LeavesNone form.Page old new = Unit {0}
 LeavesNone (form.Picture top) old new = Keeps old new
 
--- How drawing a record ends: with the picture of the record that the whole input says, or with its fault, which is the one that judging it has; each fault has its cause.
+-- How drawing a record ends: with a picture of what the whole input says, or with its fault, which is the one that judging it has; each fault has its cause.
+abbrev pub DrewAs : {A : Type 0} → (A → List ℕ → Option (List ℕ) → Option (List ℕ) → Type 0) → Form → Result A Fault → Streams → Streams → Type 0
+DrewAs draws form (Ok done) old new = IfSome old.to_come (λ text. draws done text old.taken new.taken) × IsAtEnd new.to_come
+DrewAs draws form (Err (fault.Line f)) old new = IfSome old.to_come (λ text. UnlessMemory f.kind (record_of text ≡ Err f)) × LeavesNone form old.taken new.taken
+DrewAs draws form (Err fault.Read) old new = (old.read_failures < new.read_failures) × LeavesNone form old.taken new.taken
+DrewAs draws form (Err fault.Write) old new = old.write_failures < new.write_failures
+DrewAs draws form (Err fault.Memory) old new = Unit {0}
+
 abbrev pub Drew : Mode → Form → Result (Unit {0}) Fault → Streams → Streams → Type 0
-Drew reads form (Ok done) old new = IfSome old.to_come (λ text. DrawsRecord reads form text old.taken new.taken) × IsAtEnd new.to_come
-Drew reads form (Err (fault.Line f)) old new = IfSome old.to_come (λ text. UnlessMemory f.kind (record_of text ≡ Err f)) × LeavesNone form old.taken new.taken
-Drew reads form (Err fault.Read) old new = (old.read_failures < new.read_failures) × LeavesNone form old.taken new.taken
-Drew reads form (Err fault.Write) old new = old.write_failures < new.write_failures
-Drew reads form (Err fault.Memory) old new = Unit {0}
+Drew reads form = DrewAs (λ done. DrawsRecord reads form) form
+
+-- The same of a record that is judged, with the status that the judge answers.
+abbrev pub DrewJudged : (Setup → List Entry → Type 0) → (Setup → List Entry → List ℕ → List ℕ → ℕ → Type 0) → Mode → Form → Result ℕ Fault → Streams → Streams → Type 0
+DrewJudged Keeps Tells reads form = DrewAs (DrawsJudged Keeps Tells reads form) form
 
 -- where bytes are held, a write that fails wants memory
 abbrev pub without_write : Fault → Fault

@@ -8,7 +8,7 @@ ghost use Rattle.record_file.specs.Printing.{head_words, step_entry};
 ghost use Rattle.companions.specs.picture.columns.declared.reads.OverlappedRead.{OverlappedRead as Ended};
 ghost use Rattle.companions.specs.picture.declared.reads.Reads.{Reads as Mode};
 ghost use Rattle.record_drawer.specs.Drawings.{DrawsOn, DrawsRest, IsAmong, Recalls, kept, kept_at_first, plan_of};
-ghost use Rattle.record_drawer.specs.Items.{GivesRead, SaysEnd, SaysMark, behind, given_of, lines_given, says_marks, says_of, says_text, source_of, waiting};
+ghost use Rattle.record_drawer.specs.Items.{GivesRead, SaysEnd, SaysJudged, SaysMark, behind, given_of, lines_given, says_judged, says_marks, says_of, says_text, source_of, waiting};
 ghost use Rattle.companions.specs.picture.columns.States.{places_marked};
 ghost use Rattle.companions.specs.picture.columns.Told.{saying_text};
 ghost use Rattle.companions.specs.Overlaps.{Overhears, shown_of};
@@ -16,7 +16,9 @@ ghost use Rattle.record_drawer.specs.Takings.{change_of};
 ghost use Rattle.record_drawer.specs.Writing.{IsWriteFault, failed_write};
 
 use crate::changes::RecordedChanges;
+use crate::judged::{bad_process, lane_of};
 use crate::writing::{write_band, write_markup};
+use bstr::ByteSlice;
 use companions::{
     Form, OverlappedRead, OverlapsHeard, Page, Reads, RunLine, Saying, hear, take_ended,
 };
@@ -233,13 +235,14 @@ impl RecordDrawing {
         write_band(&full, output)
     }
 
-    /// Draws the last line, and writes what is held back.
-    pub fn end<W: Sink>(&mut self, output: &mut W) -> Result<(), Fault>
+    /// Draws what a judge tells and the last line, and writes what is held back.
+    pub fn end<W: Sink>(&mut self, told: &[u8], output: &mut W) -> Result<(), Fault>
         requires { W.failures output.old < 2 ^ 64 - 1 }
-        ensures ok { OnOk result ((mode : Mode) (s : Given) (past : Past) (reads : List Ended) → Overhears mode s past reads self.old.overlaps → DrawsRest (kept self.old.page) (W.taken output.old) (W.taken output.new) (lines_given mode self.old.last self.old.entries reads (SaysEnd self.old.entries self.old.taken ∷ [])) self.new.page.height) }
+        ensures ok { OnOk result ((mode : Mode) (s : Given) (past : Past) (reads : List Ended) → Overhears mode s past reads self.old.overlaps → DrawsRest (kept self.old.page) (W.taken output.old) (W.taken output.new) (lines_given mode self.old.last self.old.entries reads (says_judged told.now ++ SaysEnd self.old.entries self.old.taken ∷ [])) self.new.page.height) }
         ensures fault { IfErr result IsWriteFault }
         ensures failures { W.failures output.new ≡ W.failures output.old + failed_write result }
     {
+        self.draw_judged(told, output)?;
         let ended = Saying::Ended {
             events: self.entries,
             taken: self.taken,
@@ -249,6 +252,45 @@ impl RecordDrawing {
         let (full, last) = self.page.end()?;
         write_band(&full, output)?;
         write_markup(&last, output)
+    }
+
+    /// Draws the lines that a judge tells.
+    fn draw_judged<W: Sink>(&mut self, told: &[u8], output: &mut W) -> Result<(), Fault>
+        requires { W.failures output.old < 2 ^ 64 - 1 }
+        ensures ok { OnOk result ((mode : Mode) (s : Given) (past : Past) (reads : List Ended) → Overhears mode s past reads self.old.overlaps → DrawsOn (kept self.old.page) (kept self.new.page) (W.taken output.old) (W.taken output.new) (lines_given mode self.old.last self.old.entries reads (says_judged told.now))) }
+        ensures overlaps { OnOk result ((mode : Mode) (s : Given) (past : Past) (reads : List Ended) → Overhears mode s past reads self.old.overlaps → Overhears mode s past (waiting (says_judged told.now) reads) self.new.overlaps) }
+        ensures last { self.new.last ≡ self.old.last }
+        ensures entries { self.new.entries ≡ self.old.entries }
+        ensures taken { self.new.taken ≡ self.old.taken }
+        ensures fault { IfErr result IsWriteFault }
+        ensures failures { W.failures output.new ≡ W.failures output.old + failed_write result }
+    {
+        let bad = bad_process(told);
+        for line in told.lines() {
+            self.draw_told(lane_of(bad, line), line, output)?;
+        }
+        Ok(())
+    }
+
+    /// Draws a line that a judge tells, in the lane of a process.
+    fn draw_told<W: Sink>(
+        &mut self,
+        process: Option<u8>,
+        line: &[u8],
+        output: &mut W,
+    ) -> Result<(), Fault>
+        requires { W.failures output.old < 2 ^ 64 - 1 }
+        ensures ok { OnOk result ((mode : Mode) (s : Given) (past : Past) (reads : List Ended) → Overhears mode s past reads self.old.overlaps → DrawsOn (kept self.old.page) (kept self.new.page) (W.taken output.old) (W.taken output.new) (lines_given mode self.old.last self.old.entries reads (SaysJudged process line.now ∷ []))) }
+        ensures overlaps { OnOk result ((mode : Mode) (s : Given) (past : Past) (reads : List Ended) → Overhears mode s past reads self.old.overlaps → Overhears mode s past [] self.new.overlaps) }
+        ensures last { self.new.last ≡ self.old.last }
+        ensures entries { self.new.entries ≡ self.old.entries }
+        ensures taken { self.new.taken ≡ self.old.taken }
+        ensures fault { IfErr result IsWriteFault }
+        ensures failures { W.failures output.new ≡ W.failures output.old + failed_write result }
+    {
+        let mut words = Vec::new(self.alloc);
+        words.extend_from_slice(line)?;
+        self.draw(self.last, Saying::Judged { process, words }, output)
     }
 }
 

@@ -1,17 +1,21 @@
 //! The two engines.
-ghost use Rattle.std.specs.Prelude.{◌≡◌, ◌+◌, ◌-◌, ◌^◌, ◌<◌, IfErr, IfOk, IfSome, Ok, OnOk};
+ghost use Rattle.std.specs.Prelude.{◌≡◌, ◌+◌, ◌-◌, ◌^◌, ◌<◌, ℕ, [], IfErr, IfOk, IfSome, List, Ok, OnOk, Option, Some};
 ghost use Rattle.plain_store.specs.Setups.{checked};
 ghost use Rattle.std.specs.Io.KnownBytes.{IsAtEnd};
 ghost use Rattle.files.specs.Engines.{streams};
 ghost use Rattle.files.specs.Streams.{failed_reading};
 ghost use Rattle.companions.specs.picture.declared.page.Form.TheVariants as form_variants;
-ghost use Rattle.record_drawer.specs.Sheets.{DrawsBandsOf, Drew, IsDrawFault, without_write};
+ghost use Rattle.any_judge.specs.trial.Ends.{IsOfRecord};
+ghost use Rattle.companions.specs.picture.declared.reads.Reads.{Reads as Mode};
+ghost use Rattle.record_file.specs.RecordFiles.{Said};
+ghost use Rattle.record_drawer.specs.Sheets.{DrawsAllBands, DrawsBandsOf, DrawsSaid, Drew, DrewJudged, IsDrawFault, IsJudged, without_write};
 ghost use Rattle.record_drawer.specs.Writing.{IsWriteFault, failed_write};
 
 use crate::changes::RecordedChanges;
 use crate::held::Held;
 use crate::sheet::{DrawnEntry, Sheet};
 use crate::writing::write_markup;
+use any_judge::{Judging, Trial};
 use companions::{FIRST_BAND, Form, Reads, page_end, picture_end, picture_head};
 use files::source_lines::Lines;
 use files::{Fault, FaultKind, Sink, Source, write_all};
@@ -36,6 +40,36 @@ pub fn draw_record<R: Source, W: Sink>(
         (streams ⟦<R as Source>⟧ ⟦<W as Sink>⟧ input.new output.new) }
 {
     let drawn = draw_bands(alloc, Form::Page, reads, input, output)?;
+    end_page(alloc, &drawn, output)
+}
+
+/// The same of a record that a judge hears too: the page ends with the first entry that breaks a law, and then shows what
+/// the judge tells of the whole record, line by line. The file is read to its end. Answers the judge's exit status.
+pub fn draw_judged_record<H: Judging, R: Source, W: Sink>(
+    alloc: Global,
+    reads: Reads,
+    input: &mut R,
+    output: &mut W,
+) -> Result<u8, Fault>
+    requires reads { R.failures input.old < 2 ^ 64 - 1 }
+    requires writes { W.failures output.old < 2 ^ 64 - 1 }
+    ensures { DrewJudged H.Keeps H.Tells reads form_variants.Page result
+        (streams ⟦<R as Source>⟧ ⟦<W as Sink>⟧ input.old output.old)
+        (streams ⟦<R as Source>⟧ ⟦<W as Sink>⟧ input.new output.new) }
+{
+    let (drawn, status) = judge_bands::<H, R, W>(alloc, Form::Page, reads, input, output)?;
+    end_page(alloc, &drawn, output)?;
+    Ok(status)
+}
+
+/// Writes what a page has behind its bands.
+fn end_page<W: Sink>(alloc: Global, drawn: &DrawnEntry, output: &mut W) -> Result<(), Fault>
+    requires good { checked drawn.now.setup ≡ Ok tt }
+    requires writes { W.failures output.old < 2 ^ 64 - 1 }
+    ensures ok { OnOk result ((reads : Mode) (said : Said) (told : List ℕ) (first : Option (List ℕ)) → DrawsBandsOf reads form_variants.Page drawn.now first (W.taken output.old) said told → DrawsSaid reads form_variants.Page said told first (W.taken output.new)) }
+    ensures fault { IfErr result IsWriteFault }
+    ensures failures { W.failures output.new ≡ W.failures output.old + failed_write result }
+{
     let opening = RecordedChanges::new(alloc, &drawn.setup)?.store_words()?;
     let end = page_end(alloc, opening.as_slice())?;
     write_markup(&end, output)
@@ -56,14 +90,53 @@ pub fn draw_record_svg<R: Source, W: Sink>(
         (streams ⟦<R as Source>⟧ ⟦<W as Sink>⟧ input.new output.new) }
 {
     let mut bands = Held::new(alloc);
-    let drawn = match draw_bands(alloc, Form::Picture(FIRST_BAND), reads, input, &mut bands) {
-        Ok(drawn) => drawn,
-        Err(fault) => return Err(held_fault(fault)),
-    };
+    match draw_bands(alloc, Form::Picture(FIRST_BAND), reads, input, &mut bands) {
+        Ok(drawn) => write_picture(alloc, reads, &drawn, bands.bytes(), output),
+        Err(fault) => Err(held_fault(fault)),
+    }
+}
+
+/// The same of a record that a judge hears too, as on its page.
+pub fn draw_judged_record_svg<H: Judging, R: Source, W: Sink>(
+    alloc: Global,
+    reads: Reads,
+    input: &mut R,
+    output: &mut W,
+) -> Result<u8, Fault>
+    requires reads { R.failures input.old < 2 ^ 64 - 1 }
+    requires writes { W.failures output.old < 2 ^ 64 - 1 }
+    ensures { DrewJudged H.Keeps H.Tells reads (form_variants.Picture 34) result
+        (streams ⟦<R as Source>⟧ ⟦<W as Sink>⟧ input.old output.old)
+        (streams ⟦<R as Source>⟧ ⟦<W as Sink>⟧ input.new output.new) }
+{
+    let mut bands = Held::new(alloc);
+    let form = Form::Picture(FIRST_BAND);
+    match judge_bands::<H, R, Held>(alloc, form, reads, input, &mut bands) {
+        Ok((drawn, status)) => {
+            write_picture(alloc, reads, &drawn, bands.bytes(), output)?;
+            Ok(status)
+        }
+        Err(fault) => Err(held_fault(fault)),
+    }
+}
+
+/// Writes one picture, whose bands are these bytes.
+fn write_picture<W: Sink>(
+    alloc: Global,
+    reads: Reads,
+    drawn: &DrawnEntry,
+    bands: &[u8],
+    output: &mut W,
+) -> Result<(), Fault>
+    requires { W.failures output.old < 2 ^ 64 - 1 }
+    ensures ok { OnOk result ((said : Said) (told : List ℕ) → DrawsBandsOf reads (form_variants.Picture 34) drawn.now (Some []) (Some bands.now) said told → DrawsSaid reads (form_variants.Picture 34) said told (W.taken output.old) (W.taken output.new)) }
+    ensures fault { IfErr result IsWriteFault }
+    ensures failures { W.failures output.new ≡ W.failures output.old + failed_write result }
+{
     let head = picture_head(alloc, &drawn.setup, drawn.height, reads)?;
     let end = picture_end(alloc, drawn.height, reads)?;
     write_markup(&head, output)?;
-    write_all(output, bands.bytes())?;
+    write_all(output, bands)?;
     write_markup(&end, output)
 }
 
@@ -77,7 +150,7 @@ fn draw_bands<R: Source, W: Sink>(
 ) -> Result<DrawnEntry, Fault>
     requires reads { R.failures input.old < 2 ^ 64 - 1 }
     requires writes { W.failures output.old < 2 ^ 64 - 1 }
-    ensures drawn { IfOk result (λ drawn. IfSome (R.to_come input.old) (λ text. DrawsBandsOf reads form text drawn (W.taken output.old) (W.taken output.new))) }
+    ensures drawn { IfOk result (λ drawn. IfSome (R.to_come input.old) (DrawsAllBands reads form drawn (W.taken output.old) (W.taken output.new))) }
     ensures good { IfOk result (λ drawn. checked drawn.setup ≡ Ok tt) }
     ensures end { IfOk result (λ _. IsAtEnd (R.to_come input.new)) }
     ensures fault { IfErr result (λ fault. IsDrawFault fault (R.to_come input.old)) }
@@ -89,9 +162,53 @@ fn draw_bands<R: Source, W: Sink>(
     'lines: while lines.next(input)? {
         sheet.read(lines.taken(), lines.line(), output)?;
     }
-    match sheet.end(output)? {
+    match sheet.end(b"", output)? {
         None => Err(lines.behind(FaultKind::NotFirst)),
         Some(drawn) => Ok(drawn),
+    }
+}
+
+/// The same of a record that a judge hears too: entries are drawn up to the first that breaks a law, and then what he tells.
+/// Answers his exit status too.
+fn judge_bands<H: Judging, R: Source, W: Sink>(
+    alloc: Global,
+    form: Form,
+    reads: Reads,
+    input: &mut R,
+    output: &mut W,
+) -> Result<(DrawnEntry, u8), Fault>
+    requires reads { R.failures input.old < 2 ^ 64 - 1 }
+    requires writes { W.failures output.old < 2 ^ 64 - 1 }
+    ensures drawn { IfOk result (λ answer. IfSome (R.to_come input.old) (IsOfRecord (IsJudged H.Keeps H.Tells answer.1 (DrawsBandsOf reads form answer.0 (W.taken output.old) (W.taken output.new))))) }
+    ensures good { IfOk result (λ answer. checked answer.0.setup ≡ Ok tt) }
+    ensures end { IfOk result (λ _. IsAtEnd (R.to_come input.new)) }
+    ensures fault { IfErr result (λ fault. IsDrawFault fault (R.to_come input.old)) }
+    ensures read_failures { R.failures input.new ≡ R.failures input.old + failed_reading result }
+    ensures write_failures { W.failures output.new ≡ W.failures output.old + failed_write result }
+{
+    let mut lines = Lines::new(alloc);
+    let mut trial: Trial<H> = Trial::new(alloc);
+    let mut sheet = Sheet::new(alloc, form, reads);
+    let mut shows = true;
+    'lines: while lines.next(input)? {
+        let number = lines.taken();
+        let line = lines.line();
+        if let Err(kind) = trial.line(number, line) {
+            return Err(lines.here(kind));
+        }
+        if !shows {
+            continue 'lines;
+        }
+        sheet.read(number, line, output)?;
+        shows = trial.is_good();
+    }
+    let Some(hearer) = trial.into_hearer()? else {
+        return Err(lines.behind(FaultKind::NotFirst));
+    };
+    let telling = hearer.tell(alloc)?;
+    match sheet.end(telling.text.as_slice(), output)? {
+        None => Err(lines.behind(FaultKind::NotFirst)),
+        Some(drawn) => Ok((drawn, telling.status)),
     }
 }
 

@@ -1,5 +1,6 @@
 //! The pictures of records: what an entry after the other says, as a page for a browser and as one picture. A record may be
-//! good or bad, and of any lock; what it says is drawn. The engines that judge records are passed on.
+//! good or bad, and of any lock; what it says is drawn. Where a judge hears it too, its picture ends with the first entry
+//! that breaks a law, and with what he tells. The engines that judge records are passed on.
 //!
 //! ```rust
 //! Engine::Draw if wanted.is_record => exit_status(draw_record(alloc, reads, input, output)),
@@ -11,10 +12,11 @@ mod changes;
 mod drawing;
 mod engines;
 mod held;
+mod judged;
 mod opened;
 mod sheet;
 mod writing;
 
-pub use any_judge::judge_any_lock;
-pub use engines::{draw_record, draw_record_svg};
+pub use any_judge::{Explaining, ExplainingAnyLock, Judging, judge_any_lock};
+pub use engines::{draw_judged_record, draw_judged_record_svg, draw_record, draw_record_svg};
 pub use opened::Opened;

@@ -125,11 +125,11 @@ impl Sheet {
         Ok(())
     }
 
-    /// Draws the end of the record, unless all lines were skipped.
-    pub fn end<W: Sink>(&mut self, output: &mut W) -> Result<Option<DrawnEntry>, Fault>
+    /// Draws what a judge tells and the end of the record, unless all lines were skipped.
+    pub fn end<W: Sink>(&mut self, told: &[u8], output: &mut W) -> Result<Option<DrawnEntry>, Fault>
         requires { W.failures output.old < 2 ^ 64 - 1 }
         ensures none { IfOk result (λ drawn. drawn ≡ None → self.old.reader ≡ None) }
-        ensures ok { IfOk result (λ drawn. IfSome drawn (λ d. (p : Progress) (past : Past) (first : Option (List ℕ)) → self.old.reader ≡ Some p → Stands self.old (Some p) past first (W.taken output.old) → (d.setup ≡ p.head.setup) × EndsAt self.old.reads self.old.form p.head.setup past d.height first (W.taken output.new))) }
+        ensures ok { IfOk result (λ drawn. IfSome drawn (λ d. (p : Progress) (past : Past) (first : Option (List ℕ)) → self.old.reader ≡ Some p → Stands self.old (Some p) past first (W.taken output.old) → (d.setup ≡ p.head.setup) × EndsAt self.old.reads self.old.form p.head.setup past told.now d.height first (W.taken output.new))) }
         ensures some { IfOk result (λ drawn. IfSome drawn (λ _. IsSome self.old.reader)) }
         ensures good { IfOk result (λ drawn. IfSome drawn (λ d. checked d.setup ≡ Ok tt)) }
         ensures fault { IfErr result IsWriteFault }
@@ -144,7 +144,7 @@ impl Sheet {
             form: self.form,
             reads: self.reads,
         };
-        let height = around.draw_end(reader.setup(), &mut self.drawing, output)?;
+        let height = around.draw_end(reader.setup(), told, &mut self.drawing, output)?;
         Ok(Some(DrawnEntry {
             setup: *reader.setup(),
             height,
@@ -187,16 +187,17 @@ impl Around {
         }
     }
 
-    /// Draws the end; answers the heights of the bands.
+    /// Draws what a judge tells and the end; answers the heights of the bands.
     fn draw_end<W: Sink>(
         self,
         setup: &Setup,
+        told: &[u8],
         drawing: &mut Option<RecordDrawing>,
         output: &mut W,
     ) -> Result<u64, Fault>
         requires good { checked setup.now ≡ Ok tt }
         requires writes { W.failures output.old < 2 ^ 64 - 1 }
-        ensures drawn { IfOk result (λ height. (past : Past) (first : Option (List ℕ)) → Draws self.reads self.form drawing.old setup.now past first (W.taken output.old) → EndsAt self.reads self.form setup.now past height first (W.taken output.new)) }
+        ensures drawn { IfOk result (λ height. (past : Past) (first : Option (List ℕ)) → Draws self.reads self.form drawing.old setup.now past first (W.taken output.old) → EndsAt self.reads self.form setup.now past told.now height first (W.taken output.new)) }
         ensures fault { IfErr result IsWriteFault }
         ensures failures { W.failures output.new ≡ W.failures output.old + failed_write result }
     {
@@ -205,7 +206,7 @@ impl Around {
         }
         match drawing {
             Some(drawing) => {
-                drawing.end(output)?;
+                drawing.end(told, output)?;
                 Ok(drawing.height())
             }
             None => Ok(0),

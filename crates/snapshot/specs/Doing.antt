@@ -160,7 +160,7 @@ open_how _ overlapped = None
 
 abbrev pub opened_words : Access → Option (List ℕ) → Option (List ℕ)
 opened_words a None = None
-opened_words a (Some how) = Some (codes "open " ++ (decimal a.owner ++ (codes "." ++ (field_word a.field ++ (codes "." ++ (decimal a.bit ++ (codes "." ++ (decimal a.reader ++ how)))))))) 
+opened_words a (Some how) = Some (codes "open " ++ (decimal a.owner ++ (codes "." ++ (field_word a.field ++ (codes "." ++ (decimal a.bit ++ (codes "." ++ (decimal a.reader ++ how))))))))
 
 abbrev pub open_words : Past → Option Access → Option (List ℕ)
 open_words past None = None

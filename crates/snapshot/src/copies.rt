@@ -44,7 +44,8 @@ impl RegisterCopies<'_> {
             → result ≡ bit_held self.now.setup.now past
             (copy_of self.now.owner self.now.field reader bit) }
     {
-        self.watch.holds(&copy_of(self.owner, self.field, reader, bit))
+        self.watch
+            .holds(&copy_of(self.owner, self.field, reader, bit))
     }
 
     /// The copy for a reader as text.
@@ -54,8 +55,7 @@ impl RegisterCopies<'_> {
         requires owner { self.now.owner < self.now.setup.now.processes }
         requires reader { reader < self.now.setup.now.processes }
         ensures { IfOk result (λ text. (past : Past) → HasHeard self.now.watch.now past
-            → text.items ≡ copy_text self.now.setup.now past self.now.owner self.now.field reader)
-            }
+            → text.items ≡ copy_text self.now.setup.now past self.now.owner self.now.field reader) }
     {
         let width = width(self.setup, self.field);
         let mut read = new_read(self.alloc, width)?;
@@ -204,12 +204,7 @@ fn flickering(alloc: Global) -> Result<Vec<u8>, AllocError>
 }
 
 /// What the bits of such a register say: a number, or the store whose image they are.
-fn shown(
-    alloc: Global,
-    setup: &Setup,
-    field: Field,
-    read: &ReadRun,
-) -> Result<Vec<u8>, AllocError>
+fn shown(alloc: Global, setup: &Setup, field: Field, read: &ReadRun) -> Result<Vec<u8>, AllocError>
     requires good { checked setup.now ≡ Ok tt }
     requires whole { length read.now.bits ≡ width setup.now field }
     ensures { IfOk result (λ text. text.items ≡ shown setup.now field read.now.bits) }

@@ -103,12 +103,7 @@ pub(crate) fn waits_at(
 {
     let _nested: NestedTypes = None;
     match stage {
-        Stage::Waiting => waits_by(
-            alloc,
-            process,
-            called.marks.ticket,
-            called.accesses.newest,
-        ),
+        Stage::Waiting => waits_by(alloc, process, called.marks.ticket, called.accesses.newest),
         _ => Ok(None),
     }
 }

@@ -40,12 +40,7 @@ pub(crate) struct Known<'a> {
 
 impl Known<'_> {
     /// Writes how far it is, where this access comes next.
-    pub fn push(
-        &self,
-        twin: &mut Core,
-        next: &Access,
-        text: &mut Vec<u8>,
-    ) -> Result<(), AllocError>
+    pub fn push(&self, twin: &mut Core, next: &Access, text: &mut Vec<u8>) -> Result<(), AllocError>
         requires good { checked self.now.setup.now ≡ Ok tt }
         requires core { self.now.core.now.setup ≡ self.now.setup.now }
         requires watch { self.now.watch.now.setup ≡ self.now.setup.now }
@@ -144,14 +139,7 @@ impl Known<'_> {
         let made = writes_before(self.setup, next);
         let all = writes_in_all(self.setup, next);
         let left = all.saturating_sub(made);
-        let ahead = watch_ahead(
-            self.alloc,
-            twin,
-            self.core,
-            self.watch,
-            self.process,
-            left,
-        )?;
+        let ahead = watch_ahead(self.alloc, twin, self.core, self.watch, self.process, left)?;
         let copies = RegisterCopies {
             alloc: self.alloc,
             setup: self.setup,
@@ -177,12 +165,7 @@ impl Known<'_> {
 }
 
 /// What stands before the value in the line of a write.
-fn value_words(
-    alloc: Global,
-    access: &Access,
-    made: u64,
-    all: u64,
-) -> Result<String, AllocError>
+fn value_words(alloc: Global, access: &Access, made: u64, all: u64) -> Result<String, AllocError>
     ensures { IfOk result (λ words. string_bytes words ≡ codes "writes "
         ++ (progress_words access.now made all ++ codes " value ")) }
 {

@@ -25,7 +25,7 @@ use Rattle.trial.proofs.Trials.{unless_then}
 -- One line.
 
 -- the line is read, and then the rest
-line_then : (n : ℕ) (text line rest : List ℕ) (before now : Option Progress) (entries : List Entry) → TakesLine text line rest → line_read line before ≡ Ok now → rest_read n text before entries ≡ rest_read (n + 1) rest (cleared now) (entries ++ entry_in now)
+pub line_then : (n : ℕ) (text line rest : List ℕ) (before now : Option Progress) (entries : List Entry) → TakesLine text line rest → line_read line before ≡ Ok now → rest_read n text before entries ≡ rest_read (n + 1) rest (cleared now) (entries ++ entry_in now)
 line_then n text line rest before now entries takes read =
     ap (λ ls. lines_read n ls before entries >>= said_by (n + length ls)) takes
     ∙ ap (λ r. (at_line n r >>= λ now. lines_read (n + 1) (lines rest) (cleared now) (entries ++ entry_in now)) >>= said_by (n + length (line ∷ lines rest))) read
@@ -36,7 +36,7 @@ number_then : (n : ℕ) (text line rest numbers : List ℕ) → TakesLine text l
 number_then n text line rest numbers takes = ap (λ ls. numbers ++ numbers_from n ls) takes ∙ sym (append_assoc numbers (number_in n line) (numbers_from (n + 1) (lines rest)))
 
 -- or it has a fault
-line_fault : (n : ℕ) (text line : List ℕ) (others : List (List ℕ)) (before : Option Progress) (entries : List Entry) (kind : FaultKind) → lines text ≡ line ∷ others → line_read line before ≡ Err kind → rest_read n text before entries ≡ Err (record { line = n; kind = kind })
+pub line_fault : (n : ℕ) (text line : List ℕ) (others : List (List ℕ)) (before : Option Progress) (entries : List Entry) (kind : FaultKind) → lines text ≡ line ∷ others → line_read line before ≡ Err kind → rest_read n text before entries ≡ Err (record { line = n; kind = kind })
 line_fault n text line others before entries kind is fault =
     ap (λ ls. lines_read n ls before entries >>= said_by (n + length ls)) is
     ∙ ap (λ r. (at_line n r >>= λ now. lines_read (n + 1) others (cleared now) (entries ++ entry_in now)) >>= said_by (n + length (line ∷ others))) fault
@@ -49,20 +49,20 @@ pub record GoesOnTo (before : Option Progress) (entries : List Entry) (numbers :
   pub counts : numbers ++ numbers_from (taken + 1) (lines left) ≡ numbers_of text
 
 -- what is told of three moments
-told_on : (a b c : Option (List ℕ)) (P Q R : List ℕ → List ℕ → Type 0) → ((x y z : List ℕ) → P x y → Q y z → R x z) → Told a b P → Told b c Q → Told a c R
+pub told_on : (a b c : Option (List ℕ)) (P Q R : List ℕ → List ℕ → Type 0) → ((x y z : List ℕ) → P x y → Q y z → R x z) → Told a b P → Told b c Q → Told a c R
 told_on None b c P Q R then first next = tt
 told_on (Some x) None c P Q R then first next = absurd first
 told_on (Some x) (Some y) None P Q R then first next = absurd next
 told_on (Some x) (Some y) (Some z) P Q R then first next = then x y z first next
 
 -- a fact of the whole input, by what is left of it
-of_input : (to_come rest : Option (List ℕ)) (P : List ℕ → List ℕ → Type 0) (Q R : List ℕ → Type 0) → ((x y : List ℕ) → P x y → Q y → R x) → Told to_come rest P → IfSome rest Q → IfSome to_come R
+pub of_input : (to_come rest : Option (List ℕ)) (P : List ℕ → List ℕ → Type 0) (Q R : List ℕ → Type 0) → ((x y : List ℕ) → P x y → Q y → R x) → Told to_come rest P → IfSome rest Q → IfSome to_come R
 of_input None rest P Q R then told is = tt
 of_input (Some x) None P Q R then told is = absurd told
 of_input (Some x) (Some y) P Q R then told is = then x y told is
 
 -- nothing is left
-at_end : (mid : Option (List ℕ)) → IsAtEnd mid → IfSome mid (λ y. y ≡ [])
+pub at_end : (mid : Option (List ℕ)) → IsAtEnd mid → IfSome mid (λ y. y ≡ [])
 at_end None is = tt
 at_end (Some y) is = is
 
@@ -71,13 +71,18 @@ pub none_told : (ahead : Given) (to_come : Option (List ℕ)) → ahead.ended �
 none_told ahead to_come open_yet told = let both : false ≡ true = sym open_yet ∙ told in absurd (cc)
 
 -- a line more
-goes_on : (before now : Option Progress) (entries : List Entry) (numbers : List ℕ) (taken taken' : ℕ) (line x y z : List ℕ) → taken' ≡ taken + 1 → line_read line before ≡ Ok now → GoesOnTo before entries numbers taken x y → TakesLine y line z →
+pub goes_on : (before now : Option Progress) (entries : List Entry) (numbers : List ℕ) (taken taken' : ℕ) (line x y z : List ℕ) → taken' ≡ taken + 1 → line_read line before ≡ Ok now → GoesOnTo before entries numbers taken x y → TakesLine y line z →
     GoesOnTo (cleared now) (entries ++ entry_in now) (numbers ++ number_in taken' line) taken' x z
 goes_on before now entries numbers taken taken' line x y z one says so_far takes =
     subst (λ n. GoesOnTo (cleared now) (entries ++ entry_in now) (numbers ++ number_in n line) n x z) (sym one) (record {
       reads = sym (line_then (taken + 1) y line z before now entries takes says) ∙ so_far.reads;
       counts = sym (number_then (taken + 1) y line z numbers takes) ∙ so_far.counts;
     })
+
+-- no line yet
+pub goes_on_at_first : (to_come : Option (List ℕ)) (taken : ℕ) → taken ≡ 0 → Told to_come (prepend_known [] to_come) (GoesOnTo None [] [] taken)
+goes_on_at_first None taken none = tt
+goes_on_at_first (Some text) taken none = subst (λ n. GoesOnTo None [] [] n text text) (sym none) (record { reads = refl; counts = refl })
 
 -- no line is left
 ended : (before : Option Progress) (entries : List Entry) (numbers : List ℕ) (taken : ℕ) (x y : List ℕ) → GoesOnTo before entries numbers taken x y → y ≡ [] → (rest_read (taken + 1) [] before entries ≡ record_of x) × (numbers ≡ numbers_of x)
@@ -110,14 +115,10 @@ module _ {H : Type 0} (HasHeard : H → Setup → List Entry → List ℕ → Ty
   onwards_start to_come ahead taken reader j fresh open_yet none stands =
       subst (λ (l : List ℕ). Onwards to_come (prepend_known l (unless_ended ahead.ended to_come)) taken reader j) (sym fresh)
       (subst (λ (b : Bool). Onwards to_come (prepend_known [] (unless_ended b to_come)) taken reader j) (sym open_yet)
-      (record { before = None; entries = []; numbers = []; stands = stands; few = omega arith; goes_on = by to_come }))
-    where
-      by : (to_come : Option (List ℕ)) → Told to_come (prepend_known [] to_come) (GoesOnTo None [] [] taken)
-      by None = tt
-      by (Some text) = subst (λ n. GoesOnTo None [] [] n text text) (sym none) (record { reads = refl; counts = refl })
+      (record { before = None; entries = []; numbers = []; stands = stands; few = omega arith; goes_on = goes_on_at_first to_come taken none }))
 
   -- a line more
-  pub onwards_on : (to_come mid rest : Option (List ℕ)) (l l' : LineState) (reader reader' : Option Progress) (j j' : Option H) (u : Onwards to_come mid l.taken reader j) → TakesNext l l' mid rest → GoesOn HasHeard l'.taken l'.line u.before reader' j' u.entries u.numbers → Onwards to_come rest l'.taken reader' j'
+  abbrev pub onwards_on : (to_come mid rest : Option (List ℕ)) (l l' : LineState) (reader reader' : Option Progress) (j j' : Option H) (u : Onwards to_come mid l.taken reader j) → TakesNext l l' mid rest → GoesOn HasHeard l'.taken l'.line u.before reader' j' u.entries u.numbers → Onwards to_come rest l'.taken reader' j'
   onwards_on to_come mid rest l l' reader reader' j j' u takes on = record {
     before = cleared on.now;
     entries = u.entries ++ entry_in on.now;
@@ -161,15 +162,14 @@ module _ {H : Type 0} (HasHeard : H → Setup → List Entry → List ℕ → Ty
       of_input to_come mid (GoesOnTo u.before u.entries u.numbers taken) (λ y. y ≡ []) (λ text. record_of text ≡ Err (record { line = taken + 1; kind = NotFirst }))
       (λ x y so_far is. sym (ended u.before u.entries u.numbers taken x y so_far is).0 ∙ ap (λ b. rest_read (taken + 1) [] b u.entries) none ∙ ap (λ n. Err (record { line = n; kind = NotFirst })) {y = taken + 1} (omega arith)) u.goes_on (at_end mid end)
 
-  -- who has heard all that the text says
-  pub onwards_heard : (to_come mid : Option (List ℕ)) (taken : ℕ) (reader : Option Progress) (j : Option H) (u : Onwards to_come mid taken reader j) (h : H) → IsHeard HasHeard (Some h) u.before u.entries u.numbers → IsAtEnd mid → IfSome to_come (IsOfRecord (HasHeard h))
-  onwards_heard to_come mid taken reader j u h heard end =
-      of_input to_come mid (GoesOnTo u.before u.entries u.numbers taken) (λ y. y ≡ []) (IsOfRecord (HasHeard h)) (λ x y so_far is.
-      let p : Progress = heard.0 in
+  -- what holds of all that the text says
+  pub onwards_all : (P : Setup → List Entry → List ℕ → Type 0) (to_come mid : Option (List ℕ)) (taken : ℕ) (reader : Option Progress) (j : Option H) (u : Onwards to_come mid taken reader j) (p : Progress) → u.before ≡ Some p → P p.head.setup u.entries u.numbers → IsAtEnd mid → IfSome to_come (IsOfRecord P)
+  onwards_all P to_come mid taken reader j u p read holds end =
+      of_input to_come mid (GoesOnTo u.before u.entries u.numbers taken) (λ y. y ≡ []) (IsOfRecord P) (λ x y so_far is.
       let to = ended u.before u.entries u.numbers taken x y so_far is in record {
         said = record { setup = p.head.setup; entries = u.entries };
-        says = sym to.0 ∙ ap (λ b. rest_read (taken + 1) [] b u.entries) heard.1;
-        holds = subst (λ (l : List ℕ). HasHeard h p.head.setup u.entries l) to.1 heard.2;
+        says = sym to.0 ∙ ap (λ b. rest_read (taken + 1) [] b u.entries) read;
+        holds = subst (λ (l : List ℕ). P p.head.setup u.entries l) to.1 holds;
       }) u.goes_on (at_end mid end)
 
 -- a fact of the fault that is answered

@@ -1,5 +1,5 @@
 -- What is kept while a record file is heard, line by line.
-use Rattle.std.specs.Prelude.{◌≡◌, ℕ, true, List, [], ◌++◌, Option, Some, None, Result, Ok, Err}
+use Rattle.std.specs.Prelude.{◌≡◌, ℕ, Bool, true, List, [], ◌++◌, Option, Some, None, Result, Ok, Err}
 use Rattle.plain_store.specs.declared.setups.Setup.{Setup}
 use Rattle.files.specs.Reads.{UnlessMemory}
 use Rattle.files.specs.declared.faults.FaultKind.{FaultKind}
@@ -11,6 +11,11 @@ use Rattle.trial.specs.Numbers.{number_in}
 abbrev pub count_in : {H : Type 0} → (H → ℕ) → Option H → ℕ
 count_in count None = 0
 count_in count (Some h) = count h
+
+-- whether each entry so far keeps all laws; before the first one there is none that breaks any
+abbrev pub good_in : {H : Type 0} → (H → Bool) → Option H → Bool
+good_in finds_good None = true
+good_in finds_good (Some h) = finds_good h
 
 module _ {H : Type 0} (HasHeard : H → Setup → List Entry → List ℕ → Type 0) where
   -- who hears, if there is one, has heard these entries of a record with this setup; there is none before the first entry

@@ -58,6 +58,28 @@ pub trait Hearer: Sized + Drop {
     ghost counts: { (hearer : Self) (s : Given) (entries : List Noted) (numbers : List ℕ) → HasHeard hearer s entries numbers → count hearer ≡ length entries };
 }
 
+/// A hearer who finds out whether each entry so far keeps all laws.
+pub trait Judging: Hearer {
+    ghost use Rattle.std.specs.Prelude.{Bool, true, false};
+    ghost use Rattle.plain_store.specs.declared.setups.Setup.{Setup as Given};
+    ghost use Rattle.record.specs.Entries.{Entry as Noted};
+
+    /// Each entry of such a record keeps all laws.
+    ghost Keeps: { Given → List Noted → Type 0 };
+
+    /// It finds that each does.
+    ghost finds_good: { Self → Bool };
+
+    fn is_good(&self) -> bool
+        ensures { result ≡ finds_good self.now };
+
+    ghost begins: { (s : Given) → Keeps s [] };
+
+    ghost good: { (hearer : Self) (s : Given) (entries : List Noted) (numbers : List ℕ) → Self.HasHeard hearer s entries numbers → finds_good hearer ≡ true → Keeps s entries };
+
+    ghost bad: { (hearer : Self) (s : Given) (entries : List Noted) (numbers : List ℕ) → Self.HasHeard hearer s entries numbers → finds_good hearer ≡ false → Keeps s entries → ⊥ };
+}
+
 /// The entry of a Step with this access and no mark.
 pub fn step_entry(alloc: Global, process: u8, access: Access) -> Entry
     ensures { result ≡ entry_of_step process access }

@@ -9,4 +9,5 @@ mod trial;
 
 pub use engine::run_trial;
 pub use files::{DONE, Fault, Sink, Source};
-pub use hearers::{Hearer, Telling, step_entry};
+pub use hearers::{Hearer, Judging, Telling, step_entry};
+pub use trial::Trial;

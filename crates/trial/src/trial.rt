@@ -2,9 +2,9 @@ ghost use Rattle.std.specs.Prelude.{◌≡◌, ◌-◌, ◌^◌, ◌<◌, ◌≤
 ghost use Rattle.plain_store.specs.Setups.{checked};
 ghost use Rattle.record.specs.Entries.{Entry as Noted};
 ghost use Rattle.record_file.specs.RecordFiles.{Progress, line_read};
-ghost use Rattle.trial.specs.Trials.{GoesOn, Hears, IsHeard, LineEnds, Stands, count_in};
+ghost use Rattle.trial.specs.Trials.{GoesOn, Hears, IsHeard, LineEnds, Stands, count_in, good_in};
 
-use crate::hearers::Hearer;
+use crate::hearers::{Hearer, Judging};
 use files::{FaultKind, read_any_line};
 use plain_store::{NestedTypes, Setup};
 use record::Entry;
@@ -13,10 +13,10 @@ use std::alloc::{AllocError, Global};
 
 /// A record file that is heard line by line: what was read, and who hears its entries, once there is one.
 #[derive(Drop)]
-pub(crate) struct Trial<H: Hearer> {
-    pub alloc: Global,
-    pub reader: Option<RecordReader>,
-    pub hearer: Option<H>,
+pub struct Trial<H: Hearer> {
+    alloc: Global,
+    reader: Option<RecordReader>,
+    hearer: Option<H>,
 }
 
 impl<H: Hearer> Trial<H> {
@@ -93,6 +93,18 @@ impl<H: Hearer> Trial<H> {
         match hearer {
             Some(hearer) => Ok(Some(hearer)),
             None => Ok(Some(H::begin(alloc, reader.setup())?)),
+        }
+    }
+}
+
+impl<H: Judging> Trial<H> {
+    /// Whether each entry so far keeps all laws.
+    pub fn is_good(&self) -> bool
+        ensures { result ≡ good_in H.finds_good self.now.hearer }
+    {
+        match &self.hearer {
+            Some(hearer) => hearer.is_good(),
+            None => true,
         }
     }
 }

@@ -46,9 +46,11 @@ returns g c =
     let past : past_in s u.now ≡ first_of c.args.events (past_after s (runs s lines run_at_start).happened) = along_all s lines was.0 c.loop-line.part ended u ∙ ap (λ n. first_of n (past_after s (runs s lines run_at_start).happened)) c.loop-line.invariant.most in
     let head = c.in_ok-print_head.ensures s (past_in s u.now) u.at.seen in
     let made = c.in_ok-push_made.ensures in
-    let print = c.in_ok-print.ensures s u.now u.at in
-    (made.0, print ∙ ap (λ l. l ++ state_lines s (past_in s u.now)) (made.1 ∙ ap (λ l. l ++ made.0) (head ∙ ap (λ l. l ++ head_lines (past_in s u.now)) c.new-text.ensures.items))
-    ∙ append_assoc (head_lines (past_in s u.now)) made.0 (state_lines s (past_in s u.now)) ∙ ap (state_after made.0 s) past)
+    let print = c.in_ok-print.ensures s u.now u.at in (
+      made.0,
+      print ∙ ap (λ l. l ++ state_lines s (past_in s u.now)) (made.1 ∙ ap (λ l. l ++ made.0) (head ∙ ap (λ l. l ++ head_lines (past_in s u.now)) c.new-text.ensures.items))
+          ∙ append_assoc (head_lines (past_in s u.now)) made.0 (state_lines s (past_in s u.now)) ∙ ap (state_after made.0 s) past,
+    )
 
 pub print-requires : goal.print-requires
 print-requires g c =

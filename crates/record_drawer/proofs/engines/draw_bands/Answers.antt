@@ -1,4 +1,4 @@
-use Rattle.std.proofs.Common.{◌≡◌, ℕ, ◌+◌, Bool, List, Option, Some, Ok, Err, IfSome, IsSome, refl, sym, subst, ap, ◌∙◌, arith}
+use Rattle.std.proofs.Common.{◌≡◌, ℕ, ◌+◌, Bool, List, [], Option, Some, Ok, Err, IfSome, IsSome, refl, sym, subst, ap, ◌∙◌, arith}
 use Rattle.files.specs.declared.faults.Fault.{Fault}
 use Rattle.files.specs.declared.faults.Fault.TheVariants.{Line}
 use Rattle.files.specs.declared.faults.FaultKind.TheVariants.{NotFirst}
@@ -7,9 +7,10 @@ use Rattle.companions.specs.picture.declared.page.Form.{Form}
 use Rattle.companions.specs.picture.declared.reads.Reads.{Reads as Mode}
 use Rattle.record.specs.Entries.{Past}
 use Rattle.record_file.specs.RecordFiles.{Progress, line_read}
-use Rattle.record_drawer.specs.Sheets.{DrawsBandsOf, EndsAt, GoesOn, IsDrawFault, LineStops, Stands}
+use Rattle.record_drawer.specs.Sheets.{DrawsAllBands, EndsAt, GoesOn, IsDrawFault, LineStops, Stands}
 use Rattle.record_drawer.specs.declared.sheet.DrawnEntry.{DrawnEntry}
-use Rattle.record_drawer.proofs.Ends.{fault_on, none_told, onwards_drawn, onwards_fault, onwards_none, onwards_on, onwards_start, onwards_stop, reading_same, read_some}
+use Rattle.any_judge.proofs.trial.Ends.{none_told}
+use Rattle.record_drawer.proofs.Ends.{fault_on, onwards_drawn, onwards_fault, onwards_none, onwards_on, onwards_start, onwards_stop, reading_same, read_some}
 use Rattle.record_drawer.proofs.engines.draw_bands.Goals as goal
 
 pub lines-preserved : goal.lines-preserved
@@ -85,10 +86,10 @@ returns-clause-drawn g c =
     let t = c.lines.sheet in
     let d : DrawnEntry = c.in-Some.drawn in
     let read = read_some t.reader (subst (λ (o : Option DrawnEntry). IfSome o (λ _. IsSome t.reader)) c.in-Some.is c.in_ok-end.ensures.some) in
-    let family = λ (m : Mode) (f : Form). IfSome all (λ text. DrawsBandsOf m f text d (g.W.Sink.taken c.args.output.now) (g.W.Sink.taken c.end.new.output)) in
+    let family = λ (m : Mode) (f : Form). IfSome all (DrawsAllBands m f d (g.W.Sink.taken c.args.output.now) (g.W.Sink.taken c.end.new.output)) in
     subst (λ (m : Mode). family m c.args.form) c.lines.invariant.reads (subst (λ (f : Form). family t.reads f) c.lines.invariant.form
     (onwards_drawn all mid c.lines.lines.taken t (g.W.Sink.taken c.args.output.now) (g.W.Sink.taken c.lines.output) (g.W.Sink.taken c.end.new.output) u read.0 d read.1 ends.before
-    (subst (λ (o : Option DrawnEntry). IfSome o (λ d. (p : Progress) (past : Past) (first : Option (List ℕ)) → t.reader ≡ Some p → Stands t (Some p) past first (g.W.Sink.taken c.lines.output) → (d.setup ≡ p.head.setup) × EndsAt t.reads t.form p.head.setup past d.height first (g.W.Sink.taken c.end.new.output))) c.in-Some.is c.in_ok-end.ensures.ok)))
+    (subst (λ (o : Option DrawnEntry). IfSome o (λ d. (p : Progress) (past : Past) (first : Option (List ℕ)) → t.reader ≡ Some p → Stands t (Some p) past first (g.W.Sink.taken c.lines.output) → (d.setup ≡ p.head.setup) × EndsAt t.reads t.form p.head.setup past [] d.height first (g.W.Sink.taken c.end.new.output))) c.in-Some.is c.in_ok-end.ensures.ok)))
 
 pub returns-clause-end : goal.returns-clause-end
 returns-clause-end g c = c.in_ok-next.ensures.holds c.lines.invariant.holds (c.in_ok-next.ensures.ended c.if-branch.false)

@@ -5,7 +5,7 @@ use Rattle.record_file.specs.RecordFiles.{line_read}
 use Rattle.files.specs.SourceLines.{GoesToNext, coming}
 use Rattle.trial.specs.Ends.{IsInputFault}
 use Rattle.trial.specs.Trials.{GoesOn, IsHeard}
-use Rattle.trial.proofs.Ends.{if_err, next_fault, onwards_fault, onwards_heard, onwards_on}
+use Rattle.trial.proofs.Ends.{if_err, next_fault, onwards_all, onwards_fault, onwards_on}
 use Rattle.trial.proofs.engine.hear_file.Goals as goal
 
 pub lines-preserved : goal.lines-preserved
@@ -45,7 +45,7 @@ returns-clause-heard g c =
     let rest = coming c.next.new.self.ahead (g.R.Source.to_come c.next.new.input) in
     let ends = subst (λ (b : Bool). GoesToNext (Ok b) c.lines.lines c.next.new.self mid rest) c.if-branch.false c.in_ok-next.ensures.next in
     let is = subst (λ (h : Option g.row.H.Denot). IsHeard heard h u.before u.entries u.numbers) c.in-Some.is (c.in_ok-into_hearer.ensures u.before u.entries u.numbers u.stands) in
-    onwards_heard heard all mid c.lines.lines.taken c.lines.trial.reader c.lines.trial.hearer u c.in-Some.hearer is ends.before
+    onwards_all heard (heard c.in-Some.hearer) all mid c.lines.lines.taken c.lines.trial.reader c.lines.trial.hearer u is.0 is.1 is.2 ends.before
 
 pub returns-in_err-next-clause-fault : goal.returns-in_err-next-clause-fault
 returns-in_err-next-clause-fault g c =

@@ -26,7 +26,7 @@ loop-step-preserved c = record {
   entries = omega (arith, c.in_ok-play.ensures.entries, c.loop-step.invariant.entries);
   within = λ s run at.
       go_on s c.args.process c.args.target run c.loop-step.step c.args.most c.in-Some.stage c.loop-step.self c.play-in-loop-step.new.self c.loop-step-test.true c.requires.few (subst (AnswersStage c.loop-step.self c.args.process) c.in-Some.is c.stage.ensures) (sym c.is_there-there.ensures ∙ c.if-there.false) c.in_ok-play.ensures.made (c.loop-step.invariant.within s run at)
-          (λ same. c.if-after-before.false (c.events-after.ensures ∙ same ∙ sym c.events-before.ensures));
+      (λ same. c.if-after-before.false (c.events-after.ensures ∙ same ∙ sym c.events-before.ensures));
 }
 
 pub returns-clause-part : goal.returns-clause-part

@@ -12,6 +12,6 @@ returns-clause-ok g c = λ p past first some stands.
     let same : found ≡ p = same_some t.reader found p c.in-Some.is some in
     let first_setup : c.setup.result.now ≡ p.head.setup = c.setup.ensures.value ∙ ap (λ (q : Progress). q.head.setup) same in (
       c.setup-2.ensures.value ∙ ap (λ (q : Progress). q.head.setup) same,
-      subst (λ (s : Setup). EndsAt t.reads t.form s past c.in_ok-height.height first (g.W.Sink.taken c.draw_end.new.output)) first_setup
+      subst (λ (s : Setup). EndsAt t.reads t.form s past c.args.told.now c.in_ok-height.height first (g.W.Sink.taken c.draw_end.new.output)) first_setup
           (c.in_ok-height.ensures.drawn past first (subst (λ (s : Setup). Draws t.reads t.form t.drawing s past first (g.W.Sink.taken c.args.output.now)) (sym first_setup) (draws_of t.reads t.form t.drawing p past first (g.W.Sink.taken c.args.output.now) stands.draws))),
     )

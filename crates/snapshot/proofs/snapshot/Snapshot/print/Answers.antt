@@ -18,8 +18,8 @@ returns c = record {
       let registers = c.in_ok-push_registers.ensures past (subst (λ w. Rattle.calls.specs.read_law.Watching.HasHeard w past) (sym c.watch.ensures.watch) heard.table.watch) ∙ ap (λ (x : SnapshotState). c.push_processes.new.text.items ++ register_lines x.setup past) c.self.view_is in
       let last = history_lines t.setup c.args.history.now in
       wrote ∙ ap (λ (x : SnapshotState). c.push_registers.new.text.items ++ history_lines x.setup c.args.history.now) c.self.view_is
-          ∙ ap (λ l. l ++ last) (registers ∙ ap (λ l. l ++ register_lines t.setup past) (c.in_ok-push_processes.ensures past u))
-          ∙ append_assoc (c.args.text.now.items ++ first) (register_lines t.setup past) last ∙ append_assoc c.args.text.now.items first (register_lines t.setup past ++ last)
-          ∙ ap (λ (taken : List Taken). c.args.text.now.items ++ (first ++ (register_lines t.setup past ++ history_lines t.setup taken))) (taken_is t c.args.core.now c.args.history.now past u))
+      ∙ ap (λ l. l ++ last) (registers ∙ ap (λ l. l ++ register_lines t.setup past) (c.in_ok-push_processes.ensures past u))
+      ∙ append_assoc (c.args.text.now.items ++ first) (register_lines t.setup past) last ∙ append_assoc c.args.text.now.items first (register_lines t.setup past ++ last)
+      ∙ ap (λ (taken : List Taken). c.args.text.now.items ++ (first ++ (register_lines t.setup past ++ history_lines t.setup taken))) (taken_is t c.args.core.now c.args.history.now past u))
       c.push_history.ensures;
 }

@@ -1,0 +1,21 @@
+use Rattle.std.proofs.Common.{ℕ, List, [], ◌∷◌, Option, subst, arith}
+use Rattle.record_drawer.specs.Drawings.{DrawsOn, kept}
+use Rattle.record_drawer.specs.Items.{SaysJudged, lines_given}
+use Rattle.record_drawer.specs.Judged.{told_lines}
+use Rattle.record_drawer.proofs.JudgedLines.{HasJudged, judged_next}
+use Rattle.record_drawer.proofs.drawing.RecordDrawing.draw_judged.Goals as goal
+
+pub loop-line-preserved : goal.loop-line-preserved
+loop-line-preserved g c =
+    let bad = c.bad_process-bad.result in
+    let all = told_lines c.args.told.now in
+    let line : List ℕ = c.in-Some.line.now in
+    let mid = c.loop-line.self in
+    let drawn = c.in_ok-draw_told.ensures in
+    record {
+      judged = judged_next bad all c.args.self.now (g.W.Sink.taken c.args.output.now) line c.next.new.self mid c.draw_told.new.self (g.W.Sink.taken c.loop-line.output) (g.W.Sink.taken c.draw_told.new.output)
+          (subst (λ (l : List (List ℕ)). HasJudged bad all c.args.self.now (g.W.Sink.taken c.args.output.now) l mid (g.W.Sink.taken c.loop-line.output)) c.in-Some.ensures.steps c.loop-line.invariant.judged)
+          (λ mode s past reads waits. subst (λ (p : Option ℕ). DrawsOn (kept mid.page) (kept c.draw_told.new.self.page) (g.W.Sink.taken c.loop-line.output) (g.W.Sink.taken c.draw_told.new.output) (lines_given mode mid.last mid.entries reads (SaysJudged p line ∷ []))) c.lane_of.ensures (drawn.ok mode s past reads waits))
+          drawn.overlaps drawn.last drawn.entries drawn.taken;
+      whole = omega (arith, drawn.failures, c.loop-line.invariant.whole);
+    }
