@@ -20,7 +20,7 @@ use Rattle.course.specs.declared.told.Told.{Told}
 use Rattle.snapshot.specs.Processes.{newest_line}
 use Rattle.snapshot.specs.States.{HasHeard, state_lines}
 use Rattle.inspect.specs.Tables.{IsInTurn, past_with}
-use Rattle.inspect.specs.declared.heard.Heard.{Heard}
+use Rattle.inspect.specs.declared.heard.HeardRun.{HeardRun}
 use Rattle.inspect.specs.declared.part_of_run.PartOfRun.{PartOfRun}
 
 -- The text.
@@ -64,17 +64,17 @@ newest [] = None
 newest (e ∷ past) = Some e
 
 -- these entries were heard
-pub record HasSeen (s : Setup) (past : Past) (kept : Heard) : Type 0 where
+pub record HasSeen (s : Setup) (past : Past) (kept : HeardRun) : Type 0 where
   pub setup : kept.snapshot.setup ≡ s
   pub heard : HasHeard kept.snapshot past
   pub newest_is : newest past ≡ option_map entry_made kept.newest
 
 -- what is told is heard, whatever has happened before
-abbrev pub HearsTold : Told → Heard → Heard → Type 0
+abbrev pub HearsTold : Told → HeardRun → HeardRun → Type 0
 HearsTold answer old new = (s : Setup) (past : Past) → IsInTurn s past answer → HasSeen s past old → HasSeen s (past_with past answer) new
 
 -- these lines of what was heard are added to a text
-abbrev pub WritesSeen : (Past → List ℕ) → Heard → List ℕ → List ℕ → Type 0
+abbrev pub WritesSeen : (Past → List ℕ) → HeardRun → List ℕ → List ℕ → Type 0
 WritesSeen lines kept old new = (s : Setup) (past : Past) → HasSeen s past kept → new ≡ old ++ lines past
 
 -- The part of a run.

@@ -17,21 +17,21 @@ use std::alloc::{AllocError, Global};
 
 /// What was heard of a run: its state, and the newest event.
 #[derive(Drop)]
-pub(crate) struct Heard {
+pub(crate) struct HeardRun {
     alloc: Global,
     pub snapshot: Snapshot,
     newest: Option<Accepted>,
 }
 
-impl Heard {
+impl HeardRun {
     /// Nothing.
-    pub fn new(alloc: Global, setup: &Setup) -> Result<Heard, AllocError>
+    pub fn new(alloc: Global, setup: &Setup) -> Result<HeardRun, AllocError>
         requires { checked setup.now ≡ Ok tt }
         ensures seen { IfOk result (HasSeen setup.now []) }
         ensures entries { IfOk result (λ heard. heard.snapshot.table.entries ≡ 0) }
     {
         let snapshot = Snapshot::new(alloc, setup)?;
-        Ok(Heard {
+        Ok(HeardRun {
             alloc,
             snapshot,
             newest: None,
@@ -101,7 +101,7 @@ impl Heard {
     }
 }
 
-impl Listener for Heard {
+impl Listener for HeardRun {
     ghost hears_steps = { λ _. true };
 
     #[inline(always)]

@@ -5,7 +5,7 @@ ghost use Rattle.scenario.specs.declared.lines.Line.TheVariants.{Go as GoLine};
 ghost use Rattle.course.specs.Runs.{run_at_start};
 ghost use Rattle.inspect.specs.States.{GoesAlong, GrowsBy, IsAt, MakesLine, MakesPart, WritesState, clipped, long_go};
 
-use crate::heard::Heard;
+use crate::heard::HeardRun;
 use course::{Course, is_there};
 use plain_store::{NestedTypes, Setup};
 use scenario::{Line, Target};
@@ -20,7 +20,7 @@ pub(crate) struct PartOfRun {
     /// So many events it is to have at most.
     most: u64,
     course: Course,
-    pub heard: Heard,
+    pub heard: HeardRun,
 }
 
 impl PartOfRun {
@@ -32,7 +32,7 @@ impl PartOfRun {
         ensures at { IfOk result (λ part. IsAt setup.now part run_at_start) }
     {
         let course = Course::new(alloc, setup)?;
-        let heard = Heard::new(alloc, setup)?;
+        let heard = HeardRun::new(alloc, setup)?;
         Ok(PartOfRun {
             most,
             course,

@@ -4,10 +4,10 @@ use Rattle.course.specs.Happenings.{Happening, past_after}
 use Rattle.course.specs.Listening.{Plays}
 use Rattle.std.specs.Prelude.{List}
 use Rattle.inspect.specs.States.{HasSeen}
-use Rattle.inspect.specs.declared.heard.Heard.{Heard}
+use Rattle.inspect.specs.declared.heard.HeardRun.{HeardRun}
 use Rattle.inspect.proofs.part_of_run.PartOfRun.play.Goals as goal
 
-abbrev Hears : Heard → Setup → List Happening → List Happening → Heard → Type 0
+abbrev Hears : HeardRun → Setup → List Happening → List Happening → HeardRun → Type 0
 Hears a s x y b = HasSeen s (past_after s x) a → HasSeen s (past_after s y) b
 
 pub play-requires : goal.play-requires

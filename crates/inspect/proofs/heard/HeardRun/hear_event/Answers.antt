@@ -2,7 +2,7 @@ use Rattle.std.proofs.Common.{refl, sym, subst, ◌∙◌}
 use Rattle.record.specs.Entries.{Entry}
 use Rattle.course.specs.Telling.{entry_made}
 use Rattle.snapshot.specs.calls.Hearing.{ComesInTurn}
-use Rattle.inspect.proofs.heard.Heard.hear_event.Goals as goal
+use Rattle.inspect.proofs.heard.HeardRun.hear_event.Goals as goal
 
 pub returns-clause-heard : goal.returns-clause-heard
 returns-clause-heard c = λ s past turn seen.

@@ -1,7 +1,7 @@
 use Rattle.std.proofs.Common.{subst, sym}
 use Rattle.course.specs.declared.told.Told.{Told}
 use Rattle.inspect.specs.States.{HearsTold}
-use Rattle.inspect.proofs.heard.Heard.hear_told.Goals as goal
+use Rattle.inspect.proofs.heard.HeardRun.hear_told.Goals as goal
 
 pub returns-in-Accepted-clause-heard : goal.returns-in-Accepted-clause-heard
 returns-in-Accepted-clause-heard c = subst (λ (t : Told). HearsTold t c.args.self.now c.hear_event.new.self) (sym c.in-Accepted.is) c.hear_event.ensures.heard

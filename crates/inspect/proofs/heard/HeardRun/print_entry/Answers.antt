@@ -3,7 +3,7 @@ use Rattle.course.specs.Telling.{entry_made}
 use Rattle.std.specs.Prelude.{None, Some, option_map}
 use Rattle.snapshot.proofs.Stand.{ok_then}
 use Rattle.inspect.proofs.Seeing.{newest_none, newest_some}
-use Rattle.inspect.proofs.heard.Heard.print_entry.Goals as goal
+use Rattle.inspect.proofs.heard.HeardRun.print_entry.Goals as goal
 
 pub returns-in-None : goal.returns-in-None
 returns-in-None c = λ s past seen.

@@ -2,7 +2,7 @@ use Rattle.std.proofs.Common.{◌++◌, length, codes, ap, sym, ◌∙◌, appen
 use Rattle.std.specs.Fmt.{decimal}
 use Rattle.snapshot.specs.Processes.{newest_line}
 use Rattle.snapshot.proofs.Stand.{ok_then}
-use Rattle.inspect.proofs.heard.Heard.print_head.Goals as goal
+use Rattle.inspect.proofs.heard.HeardRun.print_head.Goals as goal
 
 pub returns : goal.returns
 returns c = ok_then c.print_entry.result (λ newest s past seen.

@@ -4,7 +4,7 @@ use Rattle.course.specs.declared.told.Told.{Told}
 use Rattle.snapshot.specs.calls.Hearing.{ComesInTurn}
 use Rattle.inspect.specs.States.{newest}
 use Rattle.inspect.specs.Tables.{past_with}
-use Rattle.inspect.proofs.heard.Heard.hear_step.Goals as goal
+use Rattle.inspect.proofs.heard.HeardRun.hear_step.Goals as goal
 
 pub returns-clause-heard : goal.returns-clause-heard
 returns-clause-heard c = λ s past turn seen.

@@ -1,5 +1,5 @@
 use Rattle.std.proofs.Common.{refl}
-use Rattle.inspect.proofs.heard.Heard.new.Goals as goal
+use Rattle.inspect.proofs.heard.HeardRun.new.Goals as goal
 
 pub returns-clause-seen : goal.returns-clause-seen
 returns-clause-seen c = record { setup = c.in_ok-snapshot.ensures.setup; heard = c.in_ok-snapshot.ensures.heard; newest_is = refl }
