@@ -4,7 +4,6 @@
 //!
 //! ```rust
 //! Engine::Draw if wanted.is_record => exit_status(draw_record(alloc, reads, input, output)),
-//! Engine::DrawSvg if wanted.is_record => exit_status(draw_record_svg(alloc, reads, input, output)),
 //! ```
 #![tactic(auto)]
 

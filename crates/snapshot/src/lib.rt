@@ -3,7 +3,7 @@
 //! gives, and what the run's world would do next.
 //!
 //! ```rust
-//! snapshot.print(alloc, course.core(), course.history(), &mut text)?;
+//! .print(alloc, self.course.core(), self.course.history(), text)
 //! ```
 #![tactic(auto)]
 

@@ -70,6 +70,7 @@ pub trait Judging: Hearer {
     /// It finds that each does.
     ghost finds_good: { Self → Bool };
 
+    /// Whether each entry so far keeps all laws.
     fn is_good(&self) -> bool
         ensures { result ≡ finds_good self.now };
 
