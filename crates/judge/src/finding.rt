@@ -16,7 +16,7 @@ impl Judging for Explaining {
 
     ghost begins = { λ s. tt };
 
-    ghost good = { λ e s entries numbers heard good. found_good e.judge s entries heard good };
+    ghost good = { λ e s entries numbers heard good. found_good e.judge s entries heard.judged good };
 
-    ghost bad = { λ e s entries numbers heard bad keeps. found_bad e.judge s entries heard bad keeps };
+    ghost bad = { λ e s entries numbers heard bad keeps. found_bad e.judge s entries heard.judged bad keeps };
 }
