@@ -2,7 +2,7 @@
 ghost use Rattle.std.specs.Prelude.{◌≡◌, ◌↔◌, [], ◌∷◌, List, IfOk, IsTrue, None, Ok, Some, true};
 ghost use Rattle.plain_store.specs.Setups.{checked};
 ghost use Rattle.plain_store.specs.declared.setups.Setup.{Setup as Given};
-ghost use Rattle.record.specs.Entries.{Past};
+ghost use Rattle.record.specs.Entries.{Entry as Noted, Past};
 ghost use Rattle.record.specs.declared.history.Taken.{Taken as Seen};
 ghost use Rattle.auditor.specs.Verdicts.{KeepsAll};
 ghost use Rattle.auditor.specs.declared.verdicts.Verdict.TheVariants.{Good};
@@ -68,7 +68,7 @@ impl Audit {
     /// Hears an entry, unless one before has broken a law.
     fn hear(&mut self, process: u8, access: &Option<Access>, marks: &[Mark])
         ensures { (s : Given) (past : Past) →
-            let e = record { process = process; access = access.now; marks = marks.now } in
+            let e : Noted = record { process = process; access = access.now; marks = marks.now } in
             KeepsAll s past e → Audits s past self.old → Audits s (e ∷ past) self.new }
     {
         let _nested: NestedTypes = None;
@@ -83,7 +83,7 @@ impl Audit {
     #[inline]
     fn hear_access(&mut self, process: u8, access: Access)
         ensures { (s : Given) (past : Past) →
-            let e = record { process = process; access = Some access; marks = [] } in
+            let e : Noted = record { process = process; access = Some access; marks = [] } in
             KeepsAll s past e → Audits s past self.old → Audits s (e ∷ past) self.new }
     {
         let _nested: NestedTypes = None;

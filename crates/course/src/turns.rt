@@ -13,7 +13,7 @@ ghost use Rattle.world.specs.Shows.{Shows};
 ghost use Rattle.course.specs.Courses.{Follows, Makes, CourseState};
 ghost use Rattle.course.specs.Happenings.{Tries};
 ghost use Rattle.course.specs.Listening.{InItsRun, room_wanted};
-ghost use Rattle.course.specs.Runs.{Run, is_there as is_target, run_at_start, taken_in};
+ghost use Rattle.course.specs.Runs.{Run, is_there as is_target, past_in, run_at_start, taken_in};
 ghost use Rattle.course.specs.Texts.{newest_store};
 ghost use Rattle.course.specs.Turns.{happens, makes_steps, turn_of, turns_in as turns_of};
 

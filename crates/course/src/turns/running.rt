@@ -117,8 +117,11 @@ impl Course {
             Comes L.Hears self.old (WanderLine steps) self.new listener.old listener.new told) }
         ensures room { IfOk result
             (LeavesRoom L.HasRoom listener.old self.old.left listener.new self.new.left) }
-        ensures cut { IfErr result (λ fault. (steps : ℕ) → self.old.left ≤ steps →
-            StopsAmid L.Stops self.old (WanderLine steps) listener.old listener.new fault) }
+        ensures cut { IfErr result (λ fault. (steps : ℕ) →
+            InItsRun self.old (λ run. self.old.left ≤ steps →
+            L.Stops listener.old self.old.world.setup run.happened
+            (rest_of self.old.world.setup (WanderLine steps) self.old.left run).happened
+            fault listener.new)) }
     {
         let movers = self.movers();
         if movers.is_empty() {
