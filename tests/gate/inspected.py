@@ -42,7 +42,7 @@ KINDS = {kind: re.compile(kind) for kind in [
     r"process \d+ doorway from \d+$", r"process \d+ doorway from \d+ to", r"process \d+ inside from \d+$",
     r"process \d+ inside from \d+ to", r"process \d+ taken", r"process \d+ withdrew", r"process \d+ failed",
     r"process \d+ ticket above", r"process \d+ ticket \d", r"process \d+ waits for \d+ choosing",
-    r"process \d+ waits for \d+ ticket", r"process \d+ writes", r"process \d+ writes .* value no-image",
+    r"process \d+ waits for \d+ ticket", r"process \d+ writes",
     r"process \d+ reads", r"process \d+ reads .* so far", r"process \d+ settles \S+ \d+ of \d+$",
     r"process \d+ settles .* value", r"process \d+ torn", r"process \d+ open .* write", r"process \d+ open .* read$",
     r"process \d+ open .* read overlapped", r"process \d+ next", r"register \S+ \d+$", r"register \S+ readers",
