@@ -79,7 +79,7 @@ def tries(job):
     found = [(f"{how}, by `plain`, `bits` or `judge`", f"`{command}`", unlike(text, ran, want))]
     if said is None:
         for other in others:
-            ran = runner().run([other, "-"], text)
+            ran = runner().run([*other.split(), "-"], text)
             found.append((f"the same by `{other}`, where there is a fault", how, unlike(text, ran, want)))
     elif command == "plain":
         runs = whole_runs(text, said)
