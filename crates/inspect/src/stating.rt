@@ -26,11 +26,11 @@ pub fn events_said(word: &str) -> Option<u64>
     }
 }
 
-/// The line that made the newest event, where it stands, and how many events there were before it.
+/// The line that made the newest event, how many lines come behind it, and how many events there were before it.
 #[derive(Clone, Copy)]
-struct MakingLine<'a> {
+struct MakingLine {
     line: Line,
-    place: LinePlace<'a>,
+    behind: usize,
     before: u64,
 }
 
@@ -71,21 +71,23 @@ fn state_text<L: Onlooker>(
     let mut part = PartOfRun::new(alloc, &scenario.setup, events)?;
     let mut newest = None;
     let mut place = LinePlace::before(file, scenario.lines.len());
+    let mut behind = scenario.lines.len();
     for line in &scenario.lines {
+        behind = behind.saturating_sub(1);
         let before = part.events();
         onlooker.reached(place.begin_line(before));
         part.make_line(line)?;
         if before < part.events() {
             newest = Some(MakingLine {
                 line: *line,
-                place,
+                behind,
                 before,
             });
         }
     }
     let mut text = Vec::new(alloc);
     part.heard.print_head(&mut text)?;
-    push_made(alloc, &newest, part.events(), &mut text)?;
+    push_made(alloc, file, &newest, part.events(), &mut text)?;
     part.print(alloc, &mut text)?;
     Ok(text)
 }
@@ -93,7 +95,8 @@ fn state_text<L: Onlooker>(
 /// Writes the line that made the newest of so many events, if there is one.
 fn push_made(
     alloc: Global,
-    newest: &Option<MakingLine<'_>>,
+    file: &[u8],
+    newest: &Option<MakingLine>,
     events: u64,
     text: &mut Vec<u8>,
 ) -> Result<(), AllocError>
@@ -101,23 +104,55 @@ fn push_made(
 {
     match newest {
         None => Ok(()),
-        Some(newest) => push_line(alloc, newest, events, text),
+        Some(newest) => push_line(alloc, file, newest, events, text),
     }
 }
 
 /// Writes the line that made the newest of so many events.
 fn push_line(
     alloc: Global,
-    newest: &MakingLine<'_>,
+    file: &[u8],
+    newest: &MakingLine,
     events: u64,
     text: &mut Vec<u8>,
 ) -> Result<(), AllocError>
     ensures { OnOk result ((made : List ℕ) × (text.new.items ≡ text.old.items ++ made)) }
 {
     let _nested: NestedTypes = None;
-    let number = newest.place.number(alloc);
+    let number = line_number(file, newest.behind);
     let made = events.saturating_sub(newest.before);
     let line = newest.line;
     let words = format!(in alloc; "line {number} made {made} {line}\n")?;
     text.extend_from_slice(words.as_bytes())
+}
+
+/// The number of the line in a scenario file that is run as one with so many behind it, counted from 1. It takes no memory, so
+/// that none can be wanting.
+fn line_number(file: &[u8], behind: usize) -> u64 {
+    let (said, _) = go_along(file, usize::MAX);
+    let (_, number) = go_along(file, said.saturating_sub(behind));
+    number
+}
+
+/// Goes along a file's lines to the last of so many that are not skipped, or to its end: how many there are of these, and the
+/// number of the line there.
+fn go_along(file: &[u8], most: usize) -> (usize, u64) {
+    let mut said: usize = 0;
+    let mut number: u64 = 1;
+    let mut is_open = true;
+    for byte in file {
+        if *byte == b'\n' {
+            number = number.saturating_add(1);
+            is_open = true;
+        } else if is_open && !matches!(byte, b' ' | b'\t' | b'\r') {
+            is_open = false;
+            if *byte != b'#' {
+                said = said.saturating_add(1);
+                if most <= said {
+                    return (said, number);
+                }
+            }
+        }
+    }
+    (said, number)
 }
