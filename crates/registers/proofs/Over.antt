@@ -1,0 +1,94 @@
+-- Bits and lanes side by side.
+use Rattle.std.proofs.Common.{◌≡◌, ◌≢◌, ℕ, zero, suc, ◌+◌, ◌<◌, ◌≤◌, Bool, false, List, [], ◌∷◌, ◌++◌, set, length, refl, sym, ◌∙◌, arith, ap, inl, inr}
+use Rattle.std.proofs.lemmas.Bool.{cases_eq}
+use Rattle.std.proofs.lemmas.List.{get_or-set_same, get_or-set_other, length-set, set-set, set_comm, set-get_or}
+use Rattle.safe_bit.specs.Cell.{Cell, new_cell}
+use Rattle.registers.specs.Memory.{HasLanes, cell_in, lane_of}
+use Rattle.registers.specs.Wordwise.{over, over_lanes, more_bits}
+use Rattle.registers.proofs.Steps.{lanes-set}
+
+pub length-over : (n : ℕ) (f : ℕ → Cell → Cell) (from : ℕ) (cells : List Cell) → length (over n f from cells) ≡ length cells
+length-over zero f from cells = refl
+length-over (suc n) f from cells = length-set (over n f from cells) (from + n) _ ∙ length-over n f from cells
+
+-- the other bits stay
+pub over-outside : (n : ℕ) (f : ℕ → Cell → Cell) (from i : ℕ) (cells : List Cell) → ((j : ℕ) → j < n → i ≢ from + j) → cell_in (over n f from cells) i ≡ cell_in cells i
+over-outside zero f from i cells out = refl
+over-outside (suc n) f from i cells out =
+    get_or-set_other (over n f from cells) (from + n) i _ (new_cell false) (out n (omega arith)) ∙ over-outside n f from i cells (λ j h. out j (omega arith))
+
+-- and each of these is changed
+pub over-inside : (n : ℕ) (f : ℕ → Cell → Cell) (from j : ℕ) (cells : List Cell) → j < n → from + n ≤ length cells → cell_in (over n f from cells) (from + j) ≡ f (from + j) (cell_in cells (from + j))
+over-inside zero f from j cells h fits = absurd (omega arith)
+over-inside (suc n) f from j cells h fits = elim (cases_eq j n) [
+  | inl e ↦ ap (λ x. cell_in (over (suc n) f from cells) (from + x)) e
+      ∙ get_or-set_same (over n f from cells) (from + n) (f (from + n) (cell_in (over n f from cells) (from + n))) (new_cell false) (omega (arith, length-over n f from cells))
+      ∙ ap (f (from + n)) (over-outside n f from (from + n) cells (λ x below. omega arith))
+      ∙ ap (λ x. f (from + x) (cell_in cells (from + x))) (sym e)
+  | inr e ↦ get_or-set_other (over n f from cells) (from + n) (from + j) _ (new_cell false) (omega arith) ∙ over-inside n f from j cells (omega arith) (omega arith)
+]
+
+-- it matters only what is made of these
+pub over-same : (n : ℕ) (f g : ℕ → Cell → Cell) (from : ℕ) (cells : List Cell) → ((j : ℕ) (c : Cell) → j < n → f (from + j) c ≡ g (from + j) c) → over n f from cells ≡ over n g from cells
+over-same zero f g from cells same = refl
+over-same (suc n) f g from cells same =
+    let before : over n f from cells ≡ over n g from cells = over-same n f g from cells (λ j c h. same j c (omega arith)) in
+    ap (λ x. set x (from + n) (f (from + n) (cell_in x (from + n)))) before ∙ ap (λ c. set (over n g from cells) (from + n) c) (same n (cell_in (over n g from cells) (from + n)) (omega arith))
+
+pub more-same : (n : ℕ) (f g : ℕ → Bool) (bits : List Bool) → ((j : ℕ) → j < n → f j ≡ g j) → more_bits n f bits ≡ more_bits n g bits
+more-same zero f g bits same = refl
+more-same (suc n) f g bits same = let last : f n ≡ g n = same n (omega arith) in let before : more_bits n f bits ≡ more_bits n g bits = more-same n f g bits (λ j h. same j (omega arith)) in λ i. before i ++ last i ∷ []
+
+-- LANES
+
+pub length-over_lanes : (n : ℕ) (g : List Cell → List Cell) (lane : ℕ) (memory : List (List Cell)) → length (over_lanes n g lane memory) ≡ length memory
+length-over_lanes zero g lane memory = refl
+length-over_lanes (suc n) g lane memory = length-set (over_lanes n g lane memory) (lane + n) _ ∙ length-over_lanes n g lane memory
+
+-- lanes above stay
+pub lanes-above : (n : ℕ) (g : List Cell → List Cell) (lane l : ℕ) (memory : List (List Cell)) → lane + n ≤ l → lane_of (over_lanes n g lane memory) l ≡ lane_of memory l
+lanes-above zero g lane l memory above = refl
+lanes-above (suc n) g lane l memory above = get_or-set_other (over_lanes n g lane memory) (lane + n) l _ [] (omega arith) ∙ lanes-above n g lane l memory (omega arith)
+
+-- and may be changed before or behind
+pub lanes-commute : (n : ℕ) (g : List Cell → List Cell) (lane l : ℕ) (memory : List (List Cell)) (new : List Cell) → lane + n ≤ l → over_lanes n g lane (set memory l new) ≡ set (over_lanes n g lane memory) l new
+lanes-commute zero g lane l memory new above = refl
+lanes-commute (suc n) g lane l memory new above =
+    let A : List (List Cell) = over_lanes n g lane memory in
+    let apart : lane + n ≢ l = omega arith in
+    let other : l ≢ lane + n = omega arith in
+    ap (λ m. set m (lane + n) (g (lane_of m (lane + n)))) (lanes-commute n g lane l memory new (omega arith))
+    ∙ ap (λ x. set (set A l new) (lane + n) (g x)) (get_or-set_other A l (lane + n) new [] apart)
+    ∙ set_comm A l (lane + n) new (g (lane_of A (lane + n))) other
+
+-- to change them twice is to change them once
+pub lanes-twice : (n : ℕ) (g h : List Cell → List Cell) (lane : ℕ) (memory : List (List Cell)) → lane + n ≤ length memory → over_lanes n h lane (over_lanes n g lane memory) ≡ over_lanes n (λ x. h (g x)) lane memory
+lanes-twice zero g h lane memory there = refl
+lanes-twice (suc n) g h lane memory there =
+    let G : List (List Cell) = over_lanes n g lane memory in
+    let H : List (List Cell) = over_lanes n h lane G in
+    let x : List Cell = lane_of G (lane + n) in
+    let inside : lane + n < length H = omega (arith, length-over_lanes n h lane G, length-over_lanes n g lane memory) in
+    ap (λ m. set m (lane + n) (h (lane_of m (lane + n)))) (lanes-commute n h lane (lane + n) G (g x) (omega arith))
+    ∙ ap (λ y. set (set H (lane + n) (g x)) (lane + n) (h y)) (get_or-set_same H (lane + n) (g x) [] inside)
+    ∙ set-set H (lane + n) (g x) (h (g x))
+    ∙ ap (λ y. set H (lane + n) (h (g y))) (sym (lanes-above n h lane (lane + n) G (omega arith)))
+    ∙ ap (λ m. set m (lane + n) (h (g (lane_of m (lane + n))))) (lanes-twice n g h lane memory (omega arith))
+
+-- changes that keep lengths keep the lanes
+pub lanes-kept : (n : ℕ) (g : List Cell → List Cell) (at lane copies width : ℕ) (memory : List (List Cell)) → ((x : List Cell) → length (g x) ≡ length x) → at + n ≤ length memory → HasLanes memory lane copies width → HasLanes (over_lanes n g at memory) lane copies width
+lanes-kept zero g at lane copies width memory keeps there h = h
+lanes-kept (suc n) g at lane copies width memory keeps there h =
+    lanes-set (over_lanes n g at memory) (at + n) lane copies width _ (keeps (lane_of (over_lanes n g at memory) (at + n))) (omega (arith, length-over_lanes n g at memory)) (lanes-kept n g at lane copies width memory keeps (omega arith) h)
+
+-- what is made of lanes matters only where they are
+pub lanes-same : (n : ℕ) (g h : List Cell → List Cell) (lane : ℕ) (memory : List (List Cell)) → ((x : List Cell) → g x ≡ h x) → over_lanes n g lane memory ≡ over_lanes n h lane memory
+lanes-same zero g h lane memory same = refl
+lanes-same (suc n) g h lane memory same =
+    ap (λ m. set m (lane + n) (g (lane_of m (lane + n)))) (lanes-same n g h lane memory same)
+    ∙ ap (λ x. set (over_lanes n h lane memory) (lane + n) x) (same (lane_of (over_lanes n h lane memory) (lane + n)))
+
+-- no change
+pub lanes-nothing : (n lane : ℕ) (memory : List (List Cell)) → over_lanes n (λ x. x) lane memory ≡ memory
+lanes-nothing zero lane memory = refl
+lanes-nothing (suc n) lane memory = set-get_or (over_lanes n (λ x. x) lane memory) (lane + n) [] ∙ lanes-nothing n lane memory

@@ -1,0 +1,10 @@
+use Rattle.std.proofs.Common.{◌≡◌, map}
+use Rattle.std.specs.List.{range_with_len}
+use Rattle.record.specs.Registers.{width}
+use Rattle.record.specs.declared.access.Field.TheVariants.{Image0}
+use Rattle.registers.specs.Openings.{opening_lane}
+use Rattle.registers.specs.Words.{bits_of_words}
+use Rattle.registers.proofs.memory.BitMemory.new.Given as goal
+
+abbrev pub invariant-loop-lane : goal.invariant-loop-lane
+invariant-loop-lane l = l.lanes.items ≡ map (opening_lane l.setup (bits_of_words l.image (width l.setup Image0))) (range_with_len 0 l.lane)

@@ -1,0 +1,7 @@
+use Rattle.std.proofs.Common.{◌≡◌, ℕ, ◌*◌, ◌<◌, length}
+use Rattle.registers.specs.Memory.{cell_in}
+use Rattle.registers.specs.Words.{bit_of_words}
+use Rattle.registers.proofs.memory.BitMemory.words_held.Given as goal
+
+abbrev pub invariant-loop-place : goal.invariant-loop-place
+invariant-loop-place l = (length l.words ≡ 27) × ((k : ℕ) → k < 64 * l.place → k < length l.lane → bit_of_words l.words k ≡ (cell_in l.lane k).value)

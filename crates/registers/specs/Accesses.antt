@@ -1,0 +1,139 @@
+-- The single access of a cursor, and so many of them.
+use Rattle.std.specs.Prelude.{ℕ, zero, suc, ◌+◌, ◌==◌, ◌&&◌, ◌||◌, Bool, false, not, if◌then◌else◌, List, [], ◌∷◌, ◌++◌, Option, Some, unwrap_or, slice_index_or}
+use Rattle.safe_bit.specs.Cell.{Cell, read_answer}
+use Rattle.safe_bit.specs.declared.moves.Move.{Move}
+use Rattle.safe_bit.specs.declared.moves.Move.TheVariants.{BeginWrite, EndWrite, BeginRead, EndRead, Settle}
+use Rattle.reader_copies.specs.Runs.{is_open_at}
+use Rattle.flicks.specs.Flicks.{FlickState, flick_of, after_flick}
+use Rattle.record.specs.declared.access.Access.{Access}
+use Rattle.record.specs.Moves.{ended_with}
+use Rattle.record.specs.Places.{value_of}
+use Rattle.registers.specs.Memory.{cell_at, moved}
+use Rattle.registers.specs.Cursors.{CursorState, first_lane, lane_number}
+use Rattle.registers.specs.declared.cursor.NumberRun.{NumberRun}
+use Rattle.registers.specs.declared.cursor.NumberRun.TheVariants.{Reads, Writes, Settles}
+
+-- THE NEXT ACCESS
+
+-- of a read, whose end gives v
+abbrev pub read_move : Bool → Bool → Move
+read_move begun v = if begun then EndRead v else BeginRead
+
+-- of a write
+abbrev pub write_move : CursorState → Move
+write_move c = if c.begun then EndWrite else BeginWrite (slice_index_or c.bits c.bit false)
+
+-- of a settling at v, of a write that was cut after so many accesses
+abbrev pub settle_move : ℕ → CursorState → Bool → Move
+settle_move cut c v = if c.begun then EndWrite else if is_open_at cut c.copy then Settle v else BeginWrite v
+
+abbrev pub move_by : NumberRun → CursorState → Bool → Move
+move_by Reads c flick = read_move c.begun flick
+move_by Writes c flick = write_move c
+move_by (Settles cut value) c flick = settle_move cut c (unwrap_or value flick)
+
+-- the access that comes next, by this flick; the end of a read is open, and has the flick
+abbrev pub next_access : CursorState → Bool → Access
+next_access c flick = record { owner = c.register.owner; field = c.register.field; bit = c.bit; reader = c.reader + c.copy; how = move_by c.run c flick }
+
+-- WHAT THE MEMORY ANSWERS, AND WHAT IT IS THEN
+
+-- the lane of an access, where each bit has so many copies
+abbrev pub lane_of_access : ℕ → Access → ℕ
+lane_of_access copies a = lane_number copies (record { owner = a.owner; field = a.field }) a.reader
+
+-- the access, a read's end with what its copy answers
+abbrev pub answered : ℕ → List (List Cell) → Bool → Access → Access
+answered copies memory flick a = ended_with (read_answer (cell_at memory (lane_of_access copies a) a.bit) flick) a
+
+-- the next access of a cursor, answered
+abbrev pub next_answered : CursorState → List (List Cell) → Bool → Access
+next_answered c memory flick = answered c.copies memory flick (next_access c flick)
+
+-- the memory after it
+abbrev pub applied : ℕ → List (List Cell) → Access → List (List Cell)
+applied copies memory a = moved memory (lane_of_access copies a) a.bit a.how
+
+-- THE CURSOR AFTER IT
+
+-- of a read, whose end gives v
+abbrev pub read_after : CursorState → Bool → CursorState
+read_after c v = record c {
+  bit = if c.begun then c.bit + 1 else c.bit;
+  begun = not c.begun;
+  bits = if c.begun then c.bits ++ v ∷ [] else c.bits;
+}
+
+-- the end of a copy's write is that of the bit's
+abbrev pub ends_bit : CursorState → Bool
+ends_bit c = c.begun && (c.copy + 1 == c.copies)
+
+-- of a write
+abbrev pub write_after : CursorState → CursorState
+write_after c = record c {
+  bit = if ends_bit c then c.bit + 1 else c.bit;
+  copy = if ends_bit c then 0 else if c.begun then c.copy + 1 else c.copy;
+  begun = not c.begun;
+}
+
+-- the value of a bit that is written or settled
+abbrev pub value_written : Option Bool → Move → Option Bool
+value_written value (BeginWrite v) = Some v
+value_written value (Settle v) = Some v
+value_written value _ = value
+
+-- a copy of the bit is settled
+abbrev pub ends_copy : ℕ → CursorState → Bool
+ends_copy cut c = c.begun || is_open_at cut c.copy
+
+-- and it is the last one
+abbrev pub ends_settling : ℕ → CursorState → Bool
+ends_settling cut c = ends_copy cut c && (c.copy + 1 == c.copies)
+
+-- of a settling
+abbrev pub settle_after : ℕ → Option Bool → CursorState → Move → CursorState
+settle_after cut value c how = record c {
+  run = Settles cut (value_written value how);
+  bit = if ends_settling cut c then c.width else c.bit;
+  copy = if ends_settling cut c then 0 else if ends_copy cut c then c.copy + 1 else c.copy;
+  begun = not (ends_copy cut c);
+}
+
+abbrev pub after_by : NumberRun → CursorState → Move → CursorState
+after_by Reads c how = read_after c (value_of how)
+after_by Writes c how = write_after c
+after_by (Settles cut value) c how = settle_after cut value c how
+
+abbrev pub cursor_after : CursorState → Move → CursorState
+cursor_after c how = after_by c.run c how
+
+-- ONE ACCESS: the next one, as the memory answers it; the memory and the cursor go on by it, and a flick is taken
+abbrev pub made_by : CursorState → List (List Cell) → FlickState → Access → CursorState × List (List Cell) × FlickState
+made_by c memory flicks a = (cursor_after c a.how, applied c.copies memory a, after_flick flicks)
+
+abbrev pub access_of : CursorState × List (List Cell) × FlickState → CursorState × List (List Cell) × FlickState
+access_of (c, memory, flicks) = made_by c memory flicks (next_answered c memory (flick_of flicks))
+
+-- SO MANY
+abbrev pub run_of : ℕ → CursorState × List (List Cell) × FlickState → CursorState × List (List Cell) × FlickState
+run_of zero now = now
+run_of (suc k) now = access_of (run_of k now)
+
+-- THE SAME OF A READ ALONE, AND OF A WRITE
+
+abbrev pub answer_of : CursorState → List (List Cell) → Bool → Bool
+answer_of c memory flick = read_answer (cell_at memory (first_lane c) c.bit) flick
+
+abbrev pub read_access : CursorState × List (List Cell) × FlickState → CursorState × List (List Cell) × FlickState
+read_access (c, memory, flicks) = (read_after c (answer_of c memory (flick_of flicks)), moved memory (first_lane c) c.bit (read_move c.begun (answer_of c memory (flick_of flicks))), after_flick flicks)
+
+abbrev pub write_access : CursorState × List (List Cell) → CursorState × List (List Cell)
+write_access (c, memory) = (write_after c, moved memory (first_lane c + c.copy) c.bit (write_move c))
+
+abbrev pub reads_of : ℕ → CursorState × List (List Cell) × FlickState → CursorState × List (List Cell) × FlickState
+reads_of zero now = now
+reads_of (suc k) now = read_access (reads_of k now)
+
+abbrev pub writes_of : ℕ → CursorState × List (List Cell) → CursorState × List (List Cell)
+writes_of zero now = now
+writes_of (suc k) now = write_access (writes_of k now)

@@ -1,0 +1,56 @@
+-- A number access of which nothing is made, and what the fields of a cursor keep.
+use Rattle.std.specs.Prelude.{◌≡◌, ℕ, ◌+◌, ◌*◌, ◌<◌, ◌≤◌, ◌==◌, ◌&&◌, ◌||◌, not, Bool, true, false, if◌then◌else◌, List, [], None, length}
+use Rattle.plain_store.specs.declared.Setup.{Setup}
+use Rattle.record.specs.declared.access.Field.TheVariants.{Choosing}
+use Rattle.registers.specs.declared.fields.RegisterName.{RegisterName}
+use Rattle.record.specs.Registers.{width}
+use Rattle.registers.specs.Cursors.{CursorState, IsAtCopy, lane_number}
+use Rattle.registers.specs.declared.cursor.NumberRun.{NumberRun}
+use Rattle.registers.specs.declared.cursor.NumberRun.TheVariants.{Reads, Writes, Settles}
+
+-- nothing is to be done
+abbrev pub idle_cursor : CursorState
+idle_cursor = record { register = record { owner = 0; field = Choosing }; reader = 0; copies = 1; width = 0; run = Writes; bit = 0; copy = 0; begun = false; bits = [] }
+
+-- a read of a register
+abbrev pub reading : Setup → RegisterName → ℕ → CursorState
+reading s register reader = record { register = register; reader = reader; copies = s.processes; width = width s register.field; run = Reads; bit = 0; copy = 0; begun = false; bits = [] }
+
+-- a write of these bits to a register
+abbrev pub writing : Setup → RegisterName → List Bool → CursorState
+writing s register bits = record { register = register; reader = 0; copies = s.processes; width = width s register.field; run = Writes; bit = 0; copy = 0; begun = false; bits = bits }
+
+-- the present bit of a write has begun, and has not ended on every copy
+abbrev pub made_of_bit : CursorState → ℕ
+made_of_bit c = 2 * c.copy + (if c.begun then 1 else 0)
+
+-- a run that settles, and one that writes
+abbrev pub is_settling : NumberRun → Bool
+is_settling (Settles cut value) = true
+is_settling _ = false
+
+abbrev pub is_writing : NumberRun → Bool
+is_writing Writes = true
+is_writing _ = false
+
+-- nothing of a read or of a write is made
+abbrev pub is_fresh : CursorState → Bool
+is_fresh c = (c.bit == 0) && (c.copy == 0) && not c.begun && not (is_settling c.run)
+
+-- the bit of a write is unfinished
+abbrev pub is_torn : CursorState → Bool
+is_torn c = is_writing c.run && (not (c.copy == 0) || c.begun)
+
+-- its bit is settled, of whose write so many accesses were made
+abbrev pub settling : CursorState → CursorState
+settling c = record c { run = Settles (made_of_bit c) None; copy = 0; begun = false }
+
+-- what the fields of a cursor keep
+pub record KeepsCursor (register : RegisterName) (reader copies width lane : ℕ) (run : NumberRun) (bit copy : ℕ) (words : List ℕ) : Type 0 where
+  pub lane_is : lane ≡ lane_number copies register reader
+  pub copy_in : reader + copy < copies
+  pub few_copies : copies ≤ 16
+  pub bit_in : bit ≤ width
+  pub few_bits : width ≤ 1728
+  pub at : IsAtCopy run reader copy
+  pub room : length words ≡ 27

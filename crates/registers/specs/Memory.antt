@@ -1,0 +1,29 @@
+-- A memory of safe bits: lanes of cells. A lane holds the copies that one reader has of one register, bit by bit.
+use Rattle.std.specs.Prelude.{ℕ, ◌<◌, ◌≤◌, ◌+◌, List, [], false, length, map, slice_index_or, slice_set}
+use Rattle.safe_bit.specs.Cell.{Cell, new_cell, cell_after, without_read}
+use Rattle.safe_bit.specs.declared.moves.Move.{Move}
+
+-- bit k of a lane
+abbrev pub cell_in : List Cell → ℕ → Cell
+cell_in lane k = slice_index_or lane k (new_cell false)
+
+-- a lane of a memory
+abbrev pub lane_of : List (List Cell) → ℕ → List Cell
+lane_of memory lane = slice_index_or memory lane []
+
+-- a bit of a lane
+abbrev pub cell_at : List (List Cell) → ℕ → ℕ → Cell
+cell_at memory lane bit = cell_in (lane_of memory lane) bit
+
+-- the memory after one access to that bit: its cell goes on by it, and all others stay
+abbrev pub moved : List (List Cell) → ℕ → ℕ → Move → List (List Cell)
+moved memory lane bit how = slice_set memory lane (slice_set (lane_of memory lane) bit (cell_after (cell_at memory lane bit) how))
+
+-- these lanes are there, and as wide
+pub record HasLanes (memory : List (List Cell)) (lane copies width : ℕ) : Type 0 where
+  pub lanes : lane + copies ≤ length memory
+  pub wide : (l : ℕ) → lane ≤ l → l < lane + copies → width ≤ length (lane_of memory l)
+
+-- the memory with every open read of a lane dropped
+abbrev pub without_reads : List (List Cell) → ℕ → List (List Cell)
+without_reads memory lane = slice_set memory lane (map without_read (lane_of memory lane))

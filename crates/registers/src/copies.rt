@@ -1,0 +1,135 @@
+ghost use Rattle.std.specs.Prelude.{◌≡◌, ℕ, ◌<◌, ◌≤◌, ◌+◌, ◌*◌, ◌/◌, ◌%◌, true, false, length, map, replicate, slice_set, if◌then◌else◌, IfOk};
+ghost use Rattle.safe_bit.specs.Cell.{new_cell, cell_after, read_answer, without_read};
+ghost use Rattle.registers.specs.Flags.{flag_in};
+ghost use Rattle.registers.specs.Wordwise.{after_read, after_write, over};
+ghost use Rattle.registers.specs.Memory.{cell_in};
+ghost use Rattle.registers.specs.Words.{bits_of_words};
+
+use crate::flag_words::{LaneFlags, mask};
+use safe_bit::Move;
+use std::alloc::{AllocError, Global};
+use std::marker::Model;
+
+/// One reader's copies of all bits of a row: four flags for each.
+#[derive(Drop)]
+pub struct BitLane {
+    flags: Vec<LaneFlags>,
+    len: usize,
+}
+
+impl Model for BitLane {
+    ghost use Rattle.std.specs.Prelude.{◌≡◌, ◌+◌, ◌/◌, List, length};
+    ghost use Rattle.safe_bit.specs.Cell.{Cell};
+    ghost use Rattle.registers.specs.Flags.{cells_of};
+
+    ghost Value = { List Cell };
+
+    ghost view = { λ c. cells_of c.flags.items c.len };
+
+    ghost invariant = { λ c. length c.flags.items ≡ (c.len + 63) / 64 };
+}
+
+#[tactic(auto, using(crate::proofs::Cells::length_cells))]
+impl BitLane {
+    /// Copies of `width` bits that open at 0.
+    pub fn new(alloc: Global, width: usize) -> Result<BitLane, AllocError>
+        ensures { IfOk result (λ copies. copies ≡ replicate width (new_cell false)) }
+    {
+        let flags = vec![in alloc; LaneFlags::none(); width.div_ceil(64)]?;
+        Ok(BitLane { flags, len: width })
+    }
+
+    /// Copies of `width` bits that open at those of `words`.
+    pub fn open(alloc: Global, width: usize, words: &[u64]) -> Result<BitLane, AllocError>
+        requires { width ≤ 64 * length words.now }
+        ensures { IfOk result (λ copies. copies ≡ map new_cell (bits_of_words words.now width)) }
+    {
+        let mut flags = Vec::new(alloc);
+        for place in 0..width.div_ceil(64) {
+            flags.push(LaneFlags::open(words[place]))?;
+        }
+        Ok(BitLane { flags, len: width })
+    }
+
+    /// The copy of bit `k` goes on by one access.
+    #[inline]
+    pub fn go_on(&mut self, k: usize, how: Move)
+        requires { k < length self.old }
+        ensures { self.new ≡ slice_set self.old k (cell_after (cell_in self.old k) how) }
+    {
+        self.flags[k / 64].go_on(k % 64, how);
+    }
+
+    /// Drops every open read.
+    pub fn drop_reads(&mut self)
+        ensures { self.new ≡ map without_read self.old }
+    {
+        for place in 0..self.flags.len() {
+            self.flags[place].drop_reads();
+        }
+    }
+
+    /// Becomes as the other, of as many bits. It takes no memory.
+    pub fn copy_from(&mut self, other: &BitLane)
+        requires { length self.old ≡ length other.now }
+        ensures { self.new ≡ other.now }
+    {
+        self.flags.copy_from_slice(&other.flags);
+    }
+
+    /// What the end of the open read of bit `k` gives.
+    #[inline]
+    pub fn answer(&self, k: usize, flick: bool) -> bool
+        requires { k < length self.now }
+        ensures { result ≡ read_answer (cell_in self.now k) flick }
+    {
+        self.flags[k / 64].answer(k % 64, flick)
+    }
+
+    /// The copy of bit `k` goes on by begin or end of a read, without a branch on which.
+    #[inline(always)]
+    pub fn read_next(&mut self, k: usize, begun: bool)
+        requires { k < length self.old }
+        ensures { self.new ≡ slice_set self.old k (cell_after (cell_in self.old k) (if begun then Move.EndRead false else Move.BeginRead)) }
+    {
+        self.flags[k / 64].read_next(k % 64, begun);
+    }
+
+    /// So many bits of one word go on by begin and end of a read.
+    pub fn read_word(&mut self, k: usize, n: usize)
+        requires some { 1 ≤ n }
+        requires word { k % 64 + n ≤ 64 }
+        requires there { k + n ≤ length self.old }
+        ensures { self.new ≡ over n (λ i c. after_read c) k self.old }
+    {
+        self.flags[k / 64].read_where(mask(k % 64, n));
+    }
+
+    /// So many bits of one word go on by begin and end of a write of these.
+    pub fn write_word(&mut self, k: usize, n: usize, word: u64)
+        requires some { 1 ≤ n }
+        requires word { k % 64 + n ≤ 64 }
+        requires there { k + n ≤ length self.old }
+        ensures { self.new ≡ over n (λ i c. after_write (flag_in word (i % 64)) c) k self.old }
+    {
+        self.flags[k / 64].write_where(mask(k % 64, n), word);
+    }
+
+    /// Whether no write is open on so many bits of one word. Where it answers `false` it says nothing.
+    pub fn is_quiet(&self, k: usize, n: usize) -> bool
+        requires some { 1 ≤ n }
+        requires word { k % 64 + n ≤ 64 }
+        requires there { k + n ≤ length self.now }
+        ensures { result ≡ true → (j : ℕ) → j < n → (cell_in self.now (k + j)).writing ≡ false }
+    {
+        self.flags[k / 64].is_quiet(mask(k % 64, n))
+    }
+
+    /// The word that bit `k` stands in.
+    pub fn word(&self, k: usize) -> u64
+        requires { k < length self.now }
+        ensures { (i : ℕ) → i / 64 ≡ k / 64 → i < length self.now → flag_in result (i % 64) ≡ (cell_in self.now i).value }
+    {
+        self.flags[k / 64].word()
+    }
+}

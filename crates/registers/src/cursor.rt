@@ -1,0 +1,353 @@
+//! How far a number access of a process has come.
+ghost use Rattle.std.specs.Prelude.{◌≡◌, ℕ, ◌<◌, ◌≤◌, ◌+◌, ◌*◌, ◌/◌, ◌%◌, ◌^◌, true, false, Ok, length, slice_index_or};
+ghost use Rattle.plain_store.specs.Setups.{checked};
+ghost use Rattle.record.specs.Places.{value_of};
+ghost use Rattle.record.specs.Registers.{width};
+ghost use Rattle.safe_number.specs.Bytes.{bit_in, bits_in, bits_of_number, number_of_bits};
+ghost use Rattle.registers.specs.Accesses.{cursor_after, next_access, value_written};
+ghost use Rattle.registers.specs.Begins.{idle_cursor, is_fresh, is_torn, reading, settling, writing};
+ghost use Rattle.registers.specs.Cursors.{is_over, lane_number, rest_of};
+
+mod steps;
+
+use crate::fields::{RegisterName, number_of_field, width_of};
+use crate::word_bytes::{bytes_of, words_of};
+use plain_store::Setup;
+use record::{Access, Field, Move};
+use std::marker::Model;
+
+/// What a number access does.
+#[derive(Clone, Copy, Debug, PartialEq, Eq)]
+pub enum NumberRun {
+    /// It reads each bit: begin and end on the reader's own copy.
+    Reads,
+    /// It writes each bit: begin and end on each copy, reader 0's first.
+    Writes,
+    /// It gives all copies of one bit one value, in the stead of its writer, who has left it.
+    Settles {
+        /// How many accesses of the bit's write were made.
+        cut: u8,
+        /// The value, once it has begun.
+        value: Option<bool>,
+    },
+}
+
+/// One number access: it reads, writes or settles a register, bit 0 first.
+#[derive(Debug, Drop)]
+pub struct Cursor {
+    register: RegisterName,
+    /// The reader whose copies are read; of a write or a settling 0.
+    reader: u8,
+    /// How many copies each bit has.
+    copies: u8,
+    width: u16,
+    /// The lane of its reader, and the first of those that it writes.
+    lane: usize,
+    run: NumberRun,
+    /// The present bit, its copy that a write has come to, and whether the access to it has begun.
+    bit: u16,
+    copy: u8,
+    begun: bool,
+    /// What is read or written: bit `k` is bit `k % 64` of word `k / 64`. Of a read, what stands above the bits that were
+    /// read is of no meaning.
+    words: [u64; 27],
+}
+
+impl Model for Cursor {
+    ghost use Rattle.registers.specs.Cursors.{CursorState, bits_kept};
+    ghost use Rattle.registers.specs.Begins.{KeepsCursor};
+
+    ghost Value = { CursorState };
+
+    ghost view = { λ c. record { register = c.register; reader = c.reader; copies = c.copies; width = c.width; run = c.run; bit = c.bit; copy = c.copy; begun = c.begun; bits = bits_kept c.run c.words c.bit c.width } };
+
+    ghost invariant = { λ c. KeepsCursor c.register c.reader c.copies c.width c.lane c.run c.bit c.copy c.words };
+}
+
+impl Cursor {
+    /// One with nothing to do.
+    pub fn idle() -> Cursor
+        ensures { result ≡ idle_cursor }
+    {
+        Cursor {
+            register: RegisterName {
+                owner: 0,
+                field: Field::Choosing,
+            },
+            reader: 0,
+            copies: 1,
+            width: 0,
+            lane: 0,
+            run: NumberRun::Writes,
+            bit: 0,
+            copy: 0,
+            begun: false,
+            words: [0; 27],
+        }
+    }
+
+    /// Becomes as the other.
+    pub fn copy_from(&mut self, other: &Cursor)
+        ensures { self.new ≡ other.now }
+    {
+        self.register = other.register;
+        self.reader = other.reader;
+        self.copies = other.copies;
+        self.width = other.width;
+        self.lane = other.lane;
+        self.run = other.run;
+        self.bit = other.bit;
+        self.copy = other.copy;
+        self.begun = other.begun;
+        self.words = other.words;
+    }
+
+    /// Begins a read of a register by this reader.
+    pub fn begin_read(&mut self, setup: &Setup, register: RegisterName, reader: u8)
+        requires good { checked setup.now ≡ Ok tt }
+        requires reader { reader < setup.now.processes }
+        ensures { self.new ≡ reading setup.now register reader }
+    {
+        self.register = register;
+        self.reader = reader;
+        self.copies = setup.processes;
+        self.width = width_of(register.field, setup);
+        self.lane = lane_number(self.copies, register, reader);
+        self.run = NumberRun::Reads;
+        self.bit = 0;
+        self.copy = 0;
+        self.begun = false;
+    }
+
+    /// Begins a write of a number to a register of at most 32 bits.
+    pub fn begin_write(&mut self, setup: &Setup, register: RegisterName, number: u32)
+        requires good { checked setup.now ≡ Ok tt }
+        requires narrow { width setup.now register.field ≤ 32 }
+        ensures { self.new ≡ writing setup.now register (bits_of_number (width setup.now register.field) number) }
+    {
+        self.register = register;
+        self.reader = 0;
+        self.copies = setup.processes;
+        self.width = width_of(register.field, setup);
+        self.lane = lane_number(self.copies, register, 0);
+        self.run = NumberRun::Writes;
+        self.bit = 0;
+        self.copy = 0;
+        self.begun = false;
+        self.words[0] = u64::from(number);
+    }
+
+    /// Begins a write of these bytes to a register.
+    pub fn begin_write_bytes(&mut self, setup: &Setup, register: RegisterName, bytes: &[u8; 216])
+        requires { checked setup.now ≡ Ok tt }
+        ensures { self.new ≡ writing setup.now register (bits_in bytes.now (width setup.now register.field)) }
+    {
+        self.register = register;
+        self.reader = 0;
+        self.copies = setup.processes;
+        self.width = width_of(register.field, setup);
+        self.lane = lane_number(self.copies, register, 0);
+        self.run = NumberRun::Writes;
+        self.bit = 0;
+        self.copy = 0;
+        self.begun = false;
+        self.words = words_of(bytes);
+    }
+
+    /// Settles the present bit, whose write was cut, in the stead of its writer.
+    pub fn settle(&mut self)
+        requires writes { self.old.run ≡ NumberRun.Writes }
+        ensures { self.new ≡ settling self.old }
+    {
+        let cut = 2 * self.copy + u8::from(self.begun);
+        self.run = NumberRun::Settles { cut, value: None };
+        self.copy = 0;
+        self.begun = false;
+    }
+
+    /// Whether nothing of it is made. It does not settle.
+    #[inline]
+    pub fn is_fresh(&self) -> bool
+        ensures { result ≡ is_fresh self.now }
+    {
+        self.bit == 0
+            && self.copy == 0
+            && !self.begun
+            && !matches!(self.run, NumberRun::Settles { .. })
+    }
+
+    /// Whether it writes, and its present bit has begun and has not ended on every copy.
+    pub fn is_torn(&self) -> bool
+        ensures { result ≡ is_torn self.now }
+    {
+        matches!(self.run, NumberRun::Writes) && (self.copy != 0 || self.begun)
+    }
+
+    /// What was read of a register of at most 32 bits, or is written to it.
+    pub fn number(&self) -> u32
+        requires { self.now.width ≤ 32 }
+        ensures { result ≡ number_of_bits self.now.bits }
+    {
+        let word = word_at(&self.words, 0);
+        match self.run {
+            NumberRun::Reads => low_bits(word, self.bit),
+            NumberRun::Writes => low_bits(word, self.width),
+            NumberRun::Settles { .. } => low_bits(word, self.width),
+        }
+    }
+
+    /// The bytes of what was read, or is written. Behind its bits they are of no meaning.
+    pub fn bytes(&self) -> [u8; 216]
+        ensures { (k : ℕ) → k < length self.now.bits → bit_in result k ≡ slice_index_or self.now.bits k false }
+    {
+        bytes_of(&self.words)
+    }
+
+    /// Whether nothing is left.
+    #[inline]
+    pub fn is_over(&self) -> bool
+        ensures { result ≡ is_over self.now }
+    {
+        self.bit == self.width
+    }
+
+    /// What it does.
+    #[inline]
+    pub fn run(&self) -> NumberRun
+        ensures { result ≡ self.now.run }
+    {
+        self.run
+    }
+
+    /// How many accesses `BitMemory::run` may make: all that are left, but of a settling one at a time.
+    #[inline(always)]
+    pub fn left(&self) -> u32
+        ensures { result ≡ rest_of self.now }
+    {
+        match self.run {
+            NumberRun::Reads => {
+                let made = 2 * u32::from(self.bit) + u32::from(self.begun);
+                (2 * u32::from(self.width)).saturating_sub(made)
+            }
+            NumberRun::Writes => {
+                let copies = u32::from(self.copies);
+                let bits = copies * u32::from(self.bit) + u32::from(self.copy);
+                (2 * (copies * u32::from(self.width))).saturating_sub(
+                    2 * bits + u32::from(self.begun),
+                )
+            }
+            NumberRun::Settles { .. } => u32::from(self.bit != self.width),
+        }
+    }
+
+    /// The access that comes next, by this flick: the value of a settling that has not begun. The value of a read's end is
+    /// left open, and is the flick.
+    #[inline]
+    pub fn next(&self, flick: bool) -> Access
+        requires { self.now.bit < self.now.width }
+        ensures { result ≡ next_access self.now flick }
+    {
+        let how = match self.run {
+            NumberRun::Reads => {
+                if self.begun {
+                    Move::EndRead(flick)
+                } else {
+                    Move::BeginRead
+                }
+            }
+            NumberRun::Writes => self.write_move(),
+            NumberRun::Settles { cut, value } => {
+                let value = match value {
+                    Some(first) => first,
+                    None => flick,
+                };
+                if self.begun {
+                    Move::EndWrite
+                } else if cut == 2 * self.copy + 1 {
+                    Move::Settle(value)
+                } else {
+                    Move::BeginWrite(value)
+                }
+            }
+        };
+        Access {
+            owner: self.register.owner,
+            field: self.register.field,
+            bit: self.bit,
+            reader: self.reader + self.copy,
+            how,
+        }
+    }
+
+    /// Goes on by that access, whatever memory it was made on; a read's end has what it gave.
+    #[inline]
+    pub fn advance(&mut self, how: Move)
+        requires { self.old.bit < self.old.width }
+        ensures { self.new ≡ cursor_after self.old how }
+    {
+        match self.run {
+            NumberRun::Reads => self.read_on(given(how)),
+            NumberRun::Writes => self.write_on(),
+            NumberRun::Settles { cut, value } => {
+                let ends = self.begun || cut == 2 * self.copy + 1;
+                self.run = NumberRun::Settles {
+                    cut,
+                    value: written(value, how),
+                };
+                self.begun = !ends;
+                if ends && self.copy + 1 == self.copies {
+                    self.copy = 0;
+                    self.bit = self.width;
+                } else {
+                    self.copy += u8::from(ends);
+                }
+            }
+        }
+    }
+}
+
+/// The word that a bit stands in.
+#[inline(always)]
+fn word_at(words: &[u64; 27], bit: usize) -> u64
+    requires { bit < 1728 }
+    ensures { result ≡ slice_index_or words.now (bit / 64) 0 }
+{
+    words[bit / 64]
+}
+
+/// The `bits` lowest bits of a word.
+pub(crate) fn low_bits(word: u64, bits: u16) -> u32
+    requires { bits ≤ 32 }
+    ensures { result ≡ word % 2 ^ bits }
+{
+    (word % (1u64 << bits)) as u32
+}
+
+/// The lane with a reader's copies of a register.
+pub(crate) fn lane_number(copies: u8, register: RegisterName, reader: u8) -> usize
+    ensures { result ≡ lane_number copies register reader }
+{
+    (7 * register.owner as usize + number_of_field(register.field)) * copies as usize
+        + reader as usize
+}
+
+/// What the end of a read gave; `false` for every other access.
+#[inline]
+pub fn given(how: Move) -> bool
+    ensures { result ≡ value_of how }
+{
+    match how {
+        Move::EndRead(value) => value,
+        _ => false,
+    }
+}
+
+/// The value of a bit that is written or settled.
+fn written(value: Option<bool>, how: Move) -> Option<bool>
+    ensures { result ≡ value_written value how }
+{
+    match how {
+        Move::BeginWrite(value) | Move::Settle(value) => Some(value),
+        _ => value,
+    }
+}

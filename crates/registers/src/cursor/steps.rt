@@ -1,0 +1,163 @@
+//! How a cursor goes on: by the single access of a read or of a write, and by whole words.
+ghost use Rattle.std.specs.Prelude.{◌≡◌, ℕ, ◌<◌, ◌≤◌, ◌+◌, ◌*◌, ◌/◌, ◌%◌, true, false, slice_index_or};
+ghost use Rattle.registers.specs.Accesses.{read_after, write_after, write_move};
+ghost use Rattle.registers.specs.Cursors.{IsAtCopy, first_lane};
+ghost use Rattle.registers.specs.Flags.{flag_in};
+ghost use Rattle.registers.specs.Wordwise.{more_bits};
+
+use super::{Cursor, NumberRun, word_at};
+use crate::flag_words::{all_flags, choose, has_flag, mask, one_flag};
+use record::Move;
+
+impl Cursor {
+    /// The lane of its reader, and the first of those that it writes.
+    #[inline(always)]
+    pub(crate) fn lane(&self) -> usize
+        ensures { result ≡ first_lane self.now }
+    {
+        self.lane
+    }
+
+    #[inline(always)]
+    pub(crate) fn bit(&self) -> usize
+        ensures bit { result ≡ self.now.bit }
+        ensures inside { result ≤ self.now.width }
+    {
+        self.bit as usize
+    }
+
+    #[inline(always)]
+    pub(crate) fn has_begun(&self) -> bool
+        ensures { result ≡ self.now.begun }
+    {
+        self.begun
+    }
+
+    #[inline(always)]
+    pub(crate) fn copies(&self) -> u32
+        ensures copies { result ≡ self.now.copies }
+        ensures most { result ≤ 16 }
+        ensures inside { self.now.reader + self.now.copy < self.now.copies }
+        ensures at { IsAtCopy self.now.run self.now.reader self.now.copy }
+    {
+        self.copies as u32
+    }
+
+    /// The next access of a write.
+    #[inline(always)]
+    pub(crate) fn write_move(&self) -> Move
+        requires writes { self.now.run ≡ NumberRun.Writes }
+        requires going { self.now.bit < self.now.width }
+        ensures { result ≡ write_move self.now }
+    {
+        if self.begun {
+            Move::EndWrite
+        } else {
+            let bit = self.bit as usize;
+            Move::BeginWrite(has_flag(word_at(&self.words, bit), bit % 64))
+        }
+    }
+
+    /// The lane of the copy that a write has come to.
+    #[inline(always)]
+    pub(crate) fn copy_lane(&self) -> usize
+        ensures lane { result ≡ first_lane self.now + self.now.copy }
+        ensures inside { self.now.copy < self.now.copies }
+    {
+        self.lane + self.copy as usize
+    }
+
+    /// A read goes on by its next access, whose end gives `value`, without a branch on which it is.
+    #[inline(always)]
+    pub(crate) fn read_on(&mut self, value: bool)
+        requires reads { self.old.run ≡ NumberRun.Reads }
+        requires going { self.old.bit < self.old.width }
+        ensures { self.new ≡ read_after self.old value }
+    {
+        let bit = self.bit as usize;
+        let here = one_flag(bit % 64) & all_flags(self.begun);
+        let old = word_at(&self.words, bit);
+        self.words[bit / 64] = choose(here, all_flags(value), old);
+        self.bit += u16::from(self.begun);
+        self.begun = !self.begun;
+    }
+
+    /// How many bits may be read at once, at most so many, within one word.
+    pub(crate) fn bits_ahead(&self, most: u32) -> u32
+        ensures most { result ≤ most }
+        ensures inside { self.now.bit + result ≤ self.now.width }
+        ensures word { self.now.bit % 64 + result ≤ 64 }
+        ensures closed { 0 < result → self.now.begun ≡ false }
+    {
+        if self.begun {
+            return 0;
+        }
+        let bit = u32::from(self.bit);
+        most.min(u32::from(self.width) - bit).min(64 - bit % 64)
+    }
+
+    /// The next bits of a read are these.
+    pub(crate) fn keep_word(&mut self, n: usize, word: u64)
+        requires reads { self.old.run ≡ NumberRun.Reads }
+        requires some { 1 ≤ n }
+        requires inside { self.old.bit + n ≤ self.old.width }
+        requires word { self.old.bit % 64 + n ≤ 64 }
+        ensures { self.new ≡ record self.old { bit = self.old.bit + n; bits = more_bits n (λ j. flag_in word ((self.old.bit + j) % 64)) self.old.bits } }
+    {
+        let bit = self.bit as usize;
+        let old = word_at(&self.words, bit);
+        self.words[bit / 64] = choose(mask(bit % 64, n), word, old);
+        self.bit += n as u16;
+    }
+
+    /// How many bits may be written at once, within so many accesses and one word.
+    pub(crate) fn whole_ahead(&self, steps: u32) -> u32
+        ensures within { 2 * (self.now.copies * result) ≤ steps }
+        ensures inside { self.now.bit + result ≤ self.now.width }
+        ensures word { self.now.bit % 64 + result ≤ 64 }
+        ensures closed { 0 < result → (self.now.begun ≡ false) × (self.now.copy ≡ 0) × (0 < self.now.copies) }
+    {
+        if self.copy != 0 {
+            return 0;
+        }
+        self.bits_ahead(steps / (2 * u32::from(self.copies)))
+    }
+
+    /// The word of a write's value that the next bit stands in.
+    pub(crate) fn word(&self) -> u64
+        requires writes { self.now.run ≡ NumberRun.Writes }
+        requires going { self.now.bit < self.now.width }
+        ensures { (i : ℕ) → i / 64 ≡ self.now.bit / 64 → i < self.now.width → flag_in result (i % 64) ≡ slice_index_or self.now.bits i false }
+    {
+        word_at(&self.words, self.bit as usize)
+    }
+
+    /// So many bits were written.
+    pub(crate) fn skip(&mut self, n: u16)
+        requires writes { self.old.run ≡ NumberRun.Writes }
+        requires inside { self.old.bit + n ≤ self.old.width }
+        ensures { self.new ≡ record self.old { bit = self.old.bit + n } }
+    {
+        self.bit += n;
+    }
+
+    /// A write goes on by its next access.
+    #[inline(always)]
+    pub(crate) fn write_on(&mut self)
+        requires writes { self.old.run ≡ NumberRun.Writes }
+        requires going { self.old.bit < self.old.width }
+        ensures { self.new ≡ write_after self.old }
+    {
+        if !self.begun {
+            self.begun = true;
+            return;
+        }
+        self.begun = false;
+        if self.copy + 1 == self.copies {
+            self.copy = 0;
+            self.bit += 1;
+        } else {
+            self.copy += 1;
+        }
+    }
+}

@@ -1,0 +1,18 @@
+//! The registers of all processes as one memory of safe bits, and the cursor of a number access. Whoever makes steps asks
+//! for a single access, told ([`BitMemory::make`]) or not ([`BitMemory::step`]), or for so many ([`BitMemory::run`]), which
+//! are the single access so many times. How quickly they go is their own affair.
+#![tactic(auto)]
+
+mod copies;
+mod cursor;
+mod fields;
+mod flag_words;
+mod laws;
+mod memory;
+mod word_bytes;
+
+pub use cursor::{Cursor, NumberRun, given};
+pub use fields::{FIELDS, RegisterName, width_of};
+pub use laws::cursors_follow_places;
+pub use memory::BitMemory;
+pub use word_bytes::words_of;

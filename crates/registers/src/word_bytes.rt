@@ -1,0 +1,38 @@
+//! Words as bytes, the least significant first.
+ghost use Rattle.std.specs.Prelude.{◌≡◌, ◌<◌, ℕ, length};
+ghost use Rattle.safe_number.specs.Bytes.{bit_in};
+ghost use Rattle.registers.specs.Words.{bit_of_words, byte_of_word};
+
+use safe_number::number_of;
+
+/// The words of bytes.
+pub fn words_of(bytes: &[u8; 216]) -> [u64; 27]
+    ensures room { length result ≡ 27 }
+    ensures bits { (k : ℕ) → k < 1728 → bit_of_words result k ≡ bit_in bytes.now k }
+{
+    let mut words = [0; 27];
+    for place in 0..27 {
+        words[place] = number_of(&bytes[8 * place..8 * place + 8]);
+    }
+    words
+}
+
+/// The bytes of words.
+pub(crate) fn bytes_of(words: &[u64; 27]) -> [u8; 216]
+    ensures room { length result ≡ 216 }
+    ensures bits { (k : ℕ) → k < 1728 → bit_in result k ≡ bit_of_words words.now k }
+{
+    let mut bytes = [0; 216];
+    for place in 0..216 {
+        bytes[place] = byte_in(words[place / 8], place % 8);
+    }
+    bytes
+}
+
+/// One byte of a word.
+fn byte_in(word: u64, place: usize) -> u8
+    requires { place < 8 }
+    ensures { result ≡ byte_of_word word place }
+{
+    (word >> (8 * place) & 0xff) as u8
+}
