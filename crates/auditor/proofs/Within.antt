@@ -9,7 +9,7 @@ use Rattle.record.specs.Histories.{history}
 use Rattle.world.specs.process.declared.told.StepTold.TheVariants.{Nothing}
 use Rattle.world.specs.Cores.{CoreState, CoreStepsQuietly, with_history}
 use Rattle.world.specs.Events.{Adds}
-use Rattle.world.specs.Walks.{bits_within_at}
+use Rattle.world.specs.Walks.{left_in}
 use Rattle.world.proofs.WithinStages.{within-unsettled}
 use Rattle.auditor.specs.declared.verdicts.Law.{Law}
 use Rattle.auditor.specs.Hearing.{AuditorState, BreaksNext, HasHeard, IsHeard, flick_in, law_of_wrong}
@@ -17,7 +17,7 @@ use Rattle.auditor.proofs.Hearing.{heard_on, heard_wrong}
 
 -- what the auditor knows of its step that it has made
 pub record MadeWithin (core : CoreState) (p : ℕ) (flick : Bool) (made : Access) (new : CoreState) : Type 0 where
-  pub within : 0 < bits_within_at core.seats p
+  pub within : 0 < left_in core.seats p
   pub steps : CoreStepsQuietly core p flick new
   pub adds : (taken : List Taken) → Adds (with_history core taken) (event.Step p flick) p (record { access = Some made; marks = [] })
 

@@ -1,54 +1,46 @@
 -- What the next access of a seat's process makes of what the seat knows, and of the words.
-use Rattle.std.proofs.Common.{◌≡◌, ℕ, ◌<◌, ◌==◌, Bool, true, false, cond, List, [], ◌∷◌, length, map, set, refl, sym, ap, ◌∙◌, subst, Option, Some, None, option_map, append-nil, eq-eqb, get_or-set_same, get_or-set_other}
+use Rattle.std.proofs.Common.{◌≡◌, ℕ, ◌<◌, ◌==◌, Bool, true, false, cond, List, [], ◌∷◌, length, map, set, refl, sym, ap, ◌∙◌, subst, Option, Some, None, option_map, append-nil, eq-eqb, get_or-set_same, get_or-set_other, arith}
 use Rattle.std.proofs.lemmas.Bool.{true≢false}
 use Rattle.std.specs.Prelude.{slice_index, fold}
 use mathlib.Core.Option.{some}
 use lib.ListN.{get_elem?}
-use Rattle.safe_bit.specs.Cell.{Cell, cell_after}
-use Rattle.safe_bit.specs.SafeRule.{read_value}
-use Rattle.safe_bit.specs.declared.Move.{Move}
-use Rattle.safe_bit.specs.declared.Move.TheVariants.{BeginWrite, EndWrite, BeginRead, EndRead, Settle}
+use Rattle.record.specs.safe_bit.Cell.{Cell, cell_after}
+use Rattle.record.specs.safe_bit.SafeRule.{read_value}
+use Rattle.record.specs.safe_bit.declared.Move.{Move}
 use Rattle.record.specs.declared.access.Access.{Access}
 use Rattle.plain_store.specs.declared.Setup.{Setup}
 use Rattle.record.specs.declared.events.Event.{Event}
 use Rattle.record.specs.declared.events.Event.TheVariants as event
 use Rattle.record.specs.declared.marks.Mark.{Mark}
-use Rattle.record.specs.declared.marks.Mark.TheVariants as mark
 use Rattle.record.specs.declared.refusals.Refusal.{Refusal}
-use Rattle.record.specs.declared.refusals.Refusal.TheVariants.{NotRunning}
 use Rattle.record.specs.Calls.{last_command, call_number}
-use Rattle.record.specs.Closings.{Withdraws, Settles, Frees, Lowers, Quit, Ended}
 use Rattle.record.specs.Entries.{Entry, Past, own}
 use Rattle.record.specs.Histories.{history}
 use Rattle.record.specs.Moves.{ended, ended_with, moves_of, same_bit, valued}
-use Rattle.record.specs.Parts.{Part, is_over}
-use Rattle.record.specs.Parts as part
-use Rattle.record.specs.Places.{Place, value_of}
+use Rattle.record.specs.Places.{value_of}
 use Rattle.record.specs.Records.{entry_of, past_of, placed}
 use Rattle.record.specs.Registers.{opening_bit}
-use Rattle.record.specs.Scripts.{Call}
 use Rattle.record.specs.Stages.{stage, stage_after}
 use Rattle.record.proofs.Accepted.{accepted_adds}
 use Rattle.record.proofs.Local.{command-plain, calls-plain}
 use Rattle.record.proofs.Singles.{is_write}
 use Rattle.record.proofs.Staging.{no_called, stage-placed}
 use Rattle.record.proofs.Width.{IsGood, is_good}
-use Rattle.process.specs.laws.Doings.{Doing, Rests, Lies, Runs, Closes, call, doing}
-use Rattle.process.specs.laws.Held.{IsThere, cell_held}
-use Rattle.process.specs.laws.Steps.{IsLive, marks_with, next_of}
-use Rattle.process.proofs.laws.Frame.{own-own}
-use Rattle.process.proofs.laws.FrameCells.{OnCopy, on-copy}
-use Rattle.process.proofs.laws.HeldCells.{held-entry}
-use Rattle.process.proofs.laws.HeldThere.{access_there}
-use Rattle.process.proofs.laws.Steps.{StepIs, step_is}
-use Rattle.process.specs.Processes.{kept_at, kept_in}
-use Rattle.process.specs.Steps.{may_step}
-use Rattle.process.proofs.Stages.{is-at}
-use Rattle.process.proofs.Turns.{step-refused}
+use Rattle.laws.specs.Doings.{doing}
+use Rattle.laws.specs.Held.{IsThere, cell_held}
+use Rattle.laws.specs.Steps.{marks_with, next_of}
+use Rattle.laws.proofs.Frame.{own-own}
+use Rattle.laws.proofs.FrameCells.{OnCopy, on-copy}
+use Rattle.laws.proofs.HeldCells.{held-entry}
+use Rattle.laws.proofs.HeldThere.{access_there}
+use Rattle.laws.proofs.Steps.{StepIs, step_is}
+use Rattle.board.specs.Ports.{IsUnended}
+use Rattle.board.proofs.Doings.{known_unended, next_goes, step_allowed}
 use Rattle.board.specs.Agreement.{Knows, Shows}
 use Rattle.history_laws.specs.Stamps.{changes_taken}
 use Rattle.board.specs.Calls.{Calls, calls_after, calls_of, changes_of}
-use Rattle.board.specs.Views.{OwnView, ViewState, counted_at, entries_of, entry_stepped, own_view, refusal_in, with_step}
+use Rattle.board.specs.Views.{OwnView, ViewState, counted_at, entries_of, entry_stepped, own_view, refusal_in, stage_in, with_step}
+use Rattle.board.specs.WordSteps.{goes}
 use Rattle.board.specs.Words.{shown, word_of, words_in}
 use Rattle.board.proofs.WordNumbers.{one_bit, one_word, word_below}
 use Rattle.board.proofs.Along.{Along, along_entry, kept}
@@ -57,17 +49,7 @@ use Rattle.board.proofs.Happenings.{calls_own, entries_own, given_more, past_aft
 -- What is known then.
 
 mark-placed : (k j : ℕ) (t : Calls) (m : Mark) → calls_after k t (placed j m) ≡ calls_after k t m
-mark-placed k j t (mark.Called c) = refl
-mark-placed k j t (mark.Waiting n) = refl
-mark-placed k j t mark.Entered = refl
-mark-placed k j t (mark.Taken i r) = refl
-mark-placed k j t mark.Left = refl
-mark-placed k j t (mark.Answered a) = refl
-mark-placed k j t mark.Failed = refl
-mark-placed k j t (mark.Settled v) = refl
-mark-placed k j t mark.Down = refl
-mark-placed k j t mark.Withdrew = refl
-mark-placed k j t mark.Restarted = refl
+mark-placed k j t m = grind arith
 
 -- the calls do not look at the places in the history
 fold-placed : (k j : ℕ) (t : Calls) (ms : List Mark) → fold (calls_after k) t (map (placed j) ms) ≡ fold (calls_after k) t ms
@@ -75,17 +57,7 @@ fold-placed k j t [] = refl
 fold-placed k j t (m ∷ ms) = fold-placed k j (calls_after k t (placed j m)) ms ∙ ap (λ t. fold (calls_after k) t ms) (mark-placed k j t m)
 
 mark-again : (k j : ℕ) (m : Mark) → placed k (placed j m) ≡ placed k m
-mark-again k j (mark.Called c) = refl
-mark-again k j (mark.Waiting t) = refl
-mark-again k j mark.Entered = refl
-mark-again k j (mark.Taken i r) = refl
-mark-again k j mark.Left = refl
-mark-again k j (mark.Answered a) = refl
-mark-again k j mark.Failed = refl
-mark-again k j (mark.Settled v) = refl
-mark-again k j mark.Down = refl
-mark-again k j mark.Withdrew = refl
-mark-again k j mark.Restarted = refl
+mark-again k j m = grind arith
 
 -- of two places the last one stays
 placed-again : (k j : ℕ) (ms : List Mark) → map (placed k) (map (placed j) ms) ≡ map (placed k) ms
@@ -94,11 +66,7 @@ placed-again k j (m ∷ ms) = λ i. mark-again k j m i ∷ placed-again k j ms i
 
 -- the value of a move is that with which it ends
 ended-value : (v : Bool) (m : Move) → ended (value_of (ended v m)) m ≡ ended v m
-ended-value v (BeginWrite u) = refl
-ended-value v EndWrite = refl
-ended-value v (Settle u) = refl
-ended-value v BeginRead = refl
-ended-value v (EndRead u) = refl
+ended-value v m = grind arith
 
 -- the entry of a step, with its place
 counted-step : (s : Setup) (past : Past) (p : ℕ) (flick : Bool) (e : Entry) (place : ℕ) → (is : StepIs s past p flick e) → counted_at place e ≡ entry_stepped s (own_view s past p) flick (value_of (valued s past flick is.next).how) place
@@ -130,41 +98,12 @@ own_step s past p flick e is =
 
 -- It is accepted.
 
-goes-in : (c : Call) (at : Place) (x : Part) → is_over x ≡ false → may_step (kept_in c at x) ≡ true
-goes-in c at part.Raises h = refl
-goes-in c at (part.Asks j js ts) h = refl
-goes-in c at (part.TakesTicket t) h = refl
-goes-in c at (part.Lowers t) h = refl
-goes-in c at (part.Refuses q) h = refl
-goes-in c at (part.Waits t w ws) h = refl
-goes-in c at (part.AsksCommit k ks vs) h = refl
-goes-in c at (part.AsksStamp k ks vs b) h = refl
-goes-in c at (part.AsksImage vs) h = refl
-goes-in c at (part.WritesImage vs st) h = refl
-goes-in c at (part.WritesStamp vs st) h = refl
-goes-in c at (part.WritesCommit vs st) h = refl
-goes-in c at (part.Clears a) h = refl
-goes-in c at part.Over h = cc
+not_refused : (s : Setup) (o : OwnView) (flick : Bool) → goes s o ≡ true → refusal_in s o (event.Step o.process flick) ≡ None
+not_refused s o flick h = ap (λ r. elim r as (λ _. Option Refusal) [ Some x ↦ Some x | None ↦ None ]) (step_allowed (stage_in s o) o.process flick h)
 
--- who has a next access may step
-pub may_go : (s : Setup) (p : ℕ) (d : Doing) (flick : Bool) (n : Access) → IsLive d → next_of s p d flick ≡ Some n → may_step (kept_at s p d) ≡ true
-may_go s p Rests flick n live h = cc
-may_go s p Lies flick n live h = cc
-may_go s p (Runs command number at) flick n live h = goes-in (call s p command number) at at.part live
-may_go s p (Closes command number (Withdraws w)) flick n live h = refl
-may_go s p (Closes command number (Settles f b begun taken is t)) flick n live h = refl
-may_go s p (Closes command number (Frees is w)) flick n live h = refl
-may_go s p (Closes command number (Lowers w)) flick n live h = refl
-may_go s p (Closes command number Quit) flick n live h = cc
-may_go s p (Closes command number Ended) flick n live h = cc
-
-not_refused : (s : Setup) (o : OwnView) (flick : Bool) → may_step (kept_at s o.process o.doing) ≡ true → refusal_in s o (event.Step o.process flick) ≡ None
-not_refused s o flick goes =
-    ap (λ r. elim r as (λ _. Option Refusal) [ Some x ↦ Some x | None ↦ None ]) (step-refused (kept_at s o.process o.doing) o.process flick ∙ ap (λ b. cond b None (Some NotRunning)) goes)
-
--- what a process of a record is doing is not over
-pub live_doing : (s : Setup) → IsGood s → (events : List Event) (v : ViewState) → Knows s (past_of s events) v → IsLive v.own.doing
-live_doing s g events v k = subst IsLive (sym (ap (λ (o : OwnView). o.doing) k.own)) (is-at s g events v.own.process).live
+-- what a view knows to be done has not come to its end
+pub unended : (s : Setup) (past : Past) (v : ViewState) → Knows s past v → IsUnended v.own.doing
+unended s past v k = subst IsUnended (sym (ap (λ (o : OwnView). o.doing) k.own)) (known_unended s v.own.process past)
 
 -- the entry of the next access of a seat's process
 pub record Made (s : Setup) (events : List Event) (v : ViewState) (flick : Bool) (n : Access) : Type 0 where
@@ -193,7 +132,7 @@ made s g events v flick n k next =
     let past = past_of s events in
     let p = v.own.process in
     let what = event.Step p flick in
-    let goes = not_refused s v.own flick (may_go s p v.own.doing flick n (live_doing s g events v k) next) in
+    let goes = not_refused s v.own flick (next_goes s p v.own.doing flick n (unended s past v k) next) in
     let add = accepted_adds s g events what (refused_is s g events what v k refl ∙ goes) in
     let e = add.0 in
     let is : StepIs s past p flick e = step_is s g events p flick e add.1 in
@@ -234,11 +173,7 @@ step_shows s events words words' views id v flick n f at live m size bits =
 
 -- a read leaves what the words show
 shown-read : (c : Cell) (m : Move) → is_write m ≡ false → shown (cell_after c m) ≡ shown c
-shown-read c (BeginWrite v) h = cc
-shown-read c EndWrite h = cc
-shown-read c (Settle v) h = cc
-shown-read c BeginRead h = refl
-shown-read c (EndRead v) h = refl
+shown-read c m h = grind arith
 
 pub cells_read : (s : Setup) (past : Past) (e : Entry) (x a : Access) → e.access ≡ Some x → is_write x.how ≡ false → shown (cell_held s (e ∷ past) a) ≡ shown (cell_held s past a)
 cells_read s past e x a h r = ap shown (held-entry s past e x a h) ∙ by (same_bit a x)

@@ -21,10 +21,10 @@ use Rattle.record.specs.Histories.{history, reply_taken}
 use Rattle.record.specs.Headline.{count_changes}
 use Rattle.record.specs.Records.{entry_of, past_of}
 use Rattle.record.proofs.Width.{IsGood}
-use Rattle.process.specs.laws.Doings.{doing, is_inside}
-use Rattle.process.specs.laws.Held.{IsThere, cell_held}
-use Rattle.process.proofs.laws.Frame.{own-other, doing-other}
-use Rattle.process.proofs.laws.FrameInside.{inside-is}
+use Rattle.laws.specs.Doings.{doing, is_inside}
+use Rattle.laws.specs.Held.{IsThere, cell_held}
+use Rattle.laws.proofs.Frame.{own-other, doing-other}
+use Rattle.laws.proofs.FrameInside.{inside-is}
 use Rattle.history_laws.proofs.ReadStamps.{history_stands}
 use Rattle.history_laws.proofs.CountedChanges.{history-none, history-takes, taken_at, then}
 use Rattle.board.specs.Agreement.{IsIn, IsQuiet, Knows, KnowsSeats, Shows}

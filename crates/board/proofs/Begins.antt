@@ -1,30 +1,26 @@
 -- What ends with an access has begun with the access before, and with none after an event without an access.
-use Rattle.std.proofs.Common.{◌≡◌, ◌≢◌, ℕ, ◌+◌, ◌*◌, ◌%◌, ◌==◌, ◌||◌, Bool, true, false, cond, if◌then◌else◌, List, [], ◌∷◌, refl, sym, ap, ◌∙◌, subst, arith, Option, Some, None, eq-eqb}
-use Rattle.std.specs.Prelude.{unwrap_or, option_map}
-use Rattle.safe_bit.specs.declared.Move.{Move}
-use Rattle.safe_bit.specs.declared.Move.TheVariants.{BeginWrite, EndWrite, BeginRead, EndRead, Settle}
+use Rattle.std.proofs.Common.{◌≡◌, ◌≢◌, ℕ, ◌+◌, ◌*◌, ◌%◌, ◌==◌, ◌||◌, Bool, true, false, cond, if◌then◌else◌, List, [], ◌∷◌, refl, sym, ap, ◌∙◌, subst, arith, Some, None, eq-eqb}
+use Rattle.std.specs.Prelude.{unwrap_or}
+use Rattle.record.specs.safe_bit.declared.Move.{Move}
+use Rattle.record.specs.safe_bit.declared.Move.TheVariants.{BeginWrite, EndWrite, BeginRead, EndRead, Settle}
 use Rattle.record.specs.reader_copies.Runs as copies
 use Rattle.record.specs.declared.access.Access.{Access}
 use Rattle.record.specs.declared.access.Field.{Field}
 use Rattle.record.specs.declared.access.Field.TheVariants.{Choosing, Ticket}
-use Rattle.record.specs.declared.access.TornBit.{TornBit}
 use Rattle.record.specs.Accesses.{access_of}
-use Rattle.record.specs.safe_number.Runs.{NumberWrite, new_write, torn_bit}
+use Rattle.record.specs.safe_number.Runs.{NumberWrite, new_write}
 use Rattle.plain_store.specs.declared.Command.{Command}
-use Rattle.plain_store.specs.declared.Command.TheVariants.{Ask}
 use Rattle.plain_store.specs.declared.Setup.{Setup}
 use Rattle.record.specs.declared.events.Event.{Event}
 use Rattle.record.specs.declared.events.Event.TheVariants as event
 use Rattle.record.specs.Closings.{Closing, Withdraws, Settles, Frees, Lowers, Quit, Ended, closing_after, freeing, is_last_settled, is_last_written, no_ticket}
-use Rattle.record.specs.Cuts.{Change, named, pending_at, torn_at, torn_closing, torn_in}
-use Rattle.record.specs.Failures.{begun_at, begun_closing, cut}
-use Rattle.record.specs.Parts.{Part, Raises, is_over, is_read, part_after, written_at}
+use Rattle.record.specs.Parts.{Part, Raises, is_over, part_after, written_at}
 use Rattle.record.specs.Places.{Place, Run, Writing, Reading, access_at, bit_written, bits_with, enter, is_last, next_written, place_after, run_after, write_moved}
-use Rattle.record.specs.Registers.{width}
 use Rattle.record.specs.Scripts.{Call}
-use Rattle.process.specs.laws.Doings.{Doing, Rests, Lies, Runs, Closes, call, closes, runs}
-use Rattle.process.specs.laws.Steps.{IsLive, being_written, cut_of, does_then, next_of}
-use Rattle.process.specs.Refusals.{next_number}
+use Rattle.laws.specs.Doings.{Doing, Rests, Lies, Runs, Closes, call, closes, runs}
+use Rattle.laws.specs.Steps.{being_written, cut_of, does_then, next_of}
+use Rattle.process.specs.Places.{next_number}
+use Rattle.board.specs.Ports.{IsUnended}
 use Rattle.board.specs.Views.{MayHappen, OwnView, with_event}
 
 -- nothing ends with the next access
@@ -45,13 +41,10 @@ how-is : (x y : Access) (m : Move) → x ≡ y → y.how ≡ m → x.how ≡ m
 how-is x y m h k = ap (λ (z : Access). z.how) h ∙ k
 
 begins_only : (b v : Bool) → ((if b then BeginWrite v else EndWrite) ≡ EndWrite → b ≡ false) × ((u : Bool) → (if b then BeginWrite v else EndWrite) ≡ EndRead u → ⊥)
-begins_only true v = ((λ h. cc), λ u h. cc)
-begins_only false v = ((λ h. refl), λ u h. cc)
+begins_only b v = grind arith
 
 settles_only : (a b v : Bool) → ((if a then EndWrite else if b then Settle v else BeginWrite v) ≡ EndWrite → a ≡ true) × ((u : Bool) → (if a then EndWrite else if b then Settle v else BeginWrite v) ≡ EndRead u → ⊥)
-settles_only true b v = ((λ h. refl), λ u h. cc)
-settles_only false true v = ((λ h. cc), λ u h. cc)
-settles_only false false v = ((λ h. cc), λ u h. cc)
+settles_only a b v = grind arith
 
 fresh_write : (p : ℕ) (f : Field) (bits : List Bool) (wide : ℕ) (x : Access) → access_of p f (next_written bits (new_write wide)) ≡ x → (x.how ≡ EndWrite → ⊥) × ((v : Bool) → x.how ≡ EndRead v → ⊥)
 fresh_write p f bits wide x is = (
@@ -60,18 +53,7 @@ fresh_write p f bits wide x is = (
 )
 
 fresh_part : (s : Setup) (p : ℕ) (command : Command) (number : ℕ) (x : Part) → Fresh s p (runs command number (enter (call s p command number) x))
-fresh_part s p command number x fl n = over (is_over x)
-  where
-    c : Call
-    c = call s p command number
-
-    read : (b : Bool) → access_at c x (cond b (Reading [] false) (Writing (new_write (width s (written_at c x).0)))) ≡ n → (n.how ≡ EndWrite → ⊥) × ((v : Bool) → n.how ≡ EndRead v → ⊥)
-    read true is = ((λ e. let h : BeginRead ≡ EndWrite = how-is _ n EndWrite is e in cc), λ v e. let h : BeginRead ≡ EndRead v = how-is _ n (EndRead v) is e in cc)
-    read false is = fresh_write p (written_at c x).0 (written_at c x).1 (width s (written_at c x).0) n is
-
-    over : (b : Bool) → next_of s p (cond b Rests (Runs command number (enter c x))) fl ≡ Some n → (n.how ≡ EndWrite → ⊥) × ((v : Bool) → n.how ≡ EndRead v → ⊥)
-    over true is = cc
-    over false is = read (is_read x) (some_access _ n is)
+fresh_part s p command number x = grind arith
 
 -- a write
 written : (p : ℕ) (f : Field) (bits : List Bool) (n : ℕ) (w : NumberWrite) (x : Access) → access_of p f (next_written bits (write_moved n bits w)) ≡ x →
@@ -187,7 +169,7 @@ closing_follows s p command number at flick n next = go at next
     go Ended i = cc
 
 -- what a step leads to
-pub step_follows : (s : Setup) (p : ℕ) (d : Doing) (flick value : Bool) (n : Access) → IsLive d → next_of s p d flick ≡ Some n → Follows s p (does_then s p d flick value) n.how
+pub step_follows : (s : Setup) (p : ℕ) (d : Doing) (flick value : Bool) (n : Access) → IsUnended d → next_of s p d flick ≡ Some n → Follows s p (does_then s p d flick value) n.how
 step_follows s p Rests flick value n live next = cc
 step_follows s p Lies flick value n live next = cc
 step_follows s p (Runs command number at) flick value n live next =
@@ -196,44 +178,8 @@ step_follows s p (Closes command number at) flick value n live next = closing_fo
 
 -- An event without an access.
 
-cut_fresh : (s : Setup) (p : ℕ) (command : Command) (number : ℕ) (c : Call) (torn : Option TornBit) (begun : Bool) (pending : Option Change) (inside : Bool) → c.setup.ticket_bits ≡ s.ticket_bits → ((t : TornBit) → torn ≡ Some t → t.torn.begun ≡ false) →
-    Fresh s p (Closes command number (cut c torn begun pending inside))
-cut_fresh s p command number c None begun pending inside same h = freeing_fresh s p command number c inside same
-cut_fresh s p command number c (Some t) begun pending inside same h = λ fl x i.
-    let is = some_access _ x i in
-    ((λ e. let f : true ≡ false = sym ((settles_only t.torn.begun _ _).0 (how-is _ x EndWrite is e)) ∙ h t refl in cc), λ v e. (settles_only t.torn.begun _ _).1 v (how-is _ x (EndRead v) is e))
-
-torn_begun : (f : Field) (w : NumberWrite) (t : TornBit) → torn_in f w ≡ Some t → t.torn.begun ≡ false
-torn_begun f w t h = go w.run h
-  where
-    test : (bit : ℕ) (r : copies.Writing) (b : Bool) → option_map (named f) (option_map (λ (x : copies.Settling). (bit, x)) (if b then None else Some (record { made = r.made; reader = 0; begun = false; value = None }))) ≡ Some t → t.torn.begun ≡ false
-    test bit r true h = cc
-    test bit r false h = ap (λ (x : TornBit). x.torn.begun) (sym (one _ t h))
-      where
-        one : (x y : TornBit) → Some x ≡ Some y → x ≡ y
-        one x y h = cc
-
-    go : (o : Option copies.Writing) → option_map (named f) (Rattle.record.specs.safe_number.Runs.torn_run w.bit o) ≡ Some t → t.torn.begun ≡ false
-    go None h = cc
-    go (Some r) h = test w.bit r (r.made == 0 || r.ended) h
-
-run_begun : (c : Call) (x : Part) (run : Run) (t : TornBit) → Rattle.record.specs.Cuts.torn_run c x run ≡ Some t → t.torn.begun ≡ false
-run_begun c x (Writing w) t h = torn_begun (written_at c x).0 w t h
-run_begun c x (Reading bits begun) t h = cc
-
-closing_begun : (at : Closing) (t : TornBit) → torn_closing at ≡ Some t → t.torn.begun ≡ false
-closing_begun (Withdraws w) t h = torn_begun Ticket w t h
-closing_begun (Settles f k begun taken is u) t h = cc
-closing_begun (Frees is w) t h = cc
-closing_begun (Lowers w) t h = cc
-closing_begun Quit t h = cc
-closing_begun Ended t h = cc
-
 fails_fresh : (s : Setup) (p : ℕ) (command : Command) (number : ℕ) (d : Doing) → Fresh s p (Closes command number (cut_of s p d))
-fails_fresh s p command number Rests = freeing_fresh s p command number (call s p Ask 0) false refl
-fails_fresh s p command number Lies = freeing_fresh s p command number (call s p Ask 0) false refl
-fails_fresh s p command number (Runs x n at) = cut_fresh s p command number (call s p x n) (torn_at (call s p x n) at) (begun_at (call s p x n) at) (pending_at (call s p x n) at.part) _ refl (run_begun (call s p x n) at.part at.run)
-fails_fresh s p command number (Closes x n at) = cut_fresh s p command number (call s p x n) (torn_closing at) (begun_closing (call s p x n) at) None _ refl (closing_begun at)
+fails_fresh s p command number d = grind arith
 
 -- after an event without an access nothing ends next
 pub event_fresh : (s : Setup) (o : OwnView) (event : Event) → MayHappen s o event → Fresh s o.process (with_event s o event).doing

@@ -1,5 +1,5 @@
 -- The calls of each process stand in the list of changes, of every past.
-use Rattle.std.proofs.Common.{◌≡◌, ℕ, suc, ◌+◌, ◌<◌, ◌==◌, ◌||◌, Bool, true, false, cond, List, [], ◌∷◌, ◌++◌, Option, Some, None, Ok, length, refl, sym, ap, subst, ◌∙◌, arith, eqb-true, Contains}
+use Rattle.std.proofs.Common.{◌≡◌, ℕ, ◌+◌, ◌<◌, ◌==◌, ◌||◌, Bool, true, false, cond, List, [], ◌∷◌, ◌++◌, Option, Some, None, Ok, length, refl, sym, ap, subst, ◌∙◌, arith, eqb-true, Contains}
 use Rattle.std.specs.Prelude.{fold}
 use Rattle.std.specs.List.{list_any}
 use Rattle.std.proofs.lemmas.Bool.{eqb-false}
@@ -24,9 +24,9 @@ use Rattle.record.specs.Records.{entry_of, past_of}
 use Rattle.record.specs.Spans.{takings, all_takings}
 use Rattle.record.specs.Stages.{stage, stage_after}
 use Rattle.record.proofs.Width.{IsGood, is_good}
-use Rattle.process.specs.laws.Doings.{Doing, Rests, Lies, Runs, Closes, call, doing}
-use Rattle.process.proofs.laws.Frame.{Does, at_rest, lying, running, leaving, settling, Happens, a_call, a_withdrawal, a_failure, a_restart, a_step, a_closing}
-use Rattle.process.proofs.laws.FrameEvents.{accepted, does_all}
+use Rattle.laws.specs.Doings.{Doing, Rests, Lies, call, doing}
+use Rattle.laws.proofs.Frame.{Does, Happens, a_call, a_withdrawal, a_failure, a_restart, a_step, a_closing}
+use Rattle.laws.proofs.FrameEvents.{accepted, does_all}
 use Rattle.history_laws.specs.Stamps.{changes_taken}
 use Rattle.history_laws.proofs.CountedChanges.{history-takes, taken_at}
 use Rattle.history_laws.proofs.DataHeadline.{taken}
@@ -50,18 +50,10 @@ data OwnMarks (s : Setup) (past : Past) (e : Entry) : Type 0 where
   steps : StepMarks e.marks → OwnMarks s past e
 
 quiet_rests : (s : Setup) (p : ℕ) (mine : Past) (st : Stage) (d : Doing) → Does s p mine st d → d ≡ Rests → is_quiet st ≡ true
-quiet_rests s p mine st d (at_rest i k) h = ap is_quiet i
-quiet_rests s p mine st d (lying i k) h = ap is_quiet i
-quiet_rests s p mine st d (running command b r k) h = let f : Runs (last_command mine) _ _ ≡ Rests = sym k ∙ h in cc
-quiet_rests s p mine st d (leaving b i k) h = let f : Closes (last_command mine) _ _ ≡ Rests = sym k ∙ h in cc
-quiet_rests s p mine st d (settling b i k) h = let f : Closes (last_command mine) _ _ ≡ Rests = sym k ∙ h in cc
+quiet_rests s p mine st d h k = grind arith
 
 quiet_lies : (s : Setup) (p : ℕ) (mine : Past) (st : Stage) (d : Doing) → Does s p mine st d → d ≡ Lies → is_quiet st ≡ true
-quiet_lies s p mine st d (at_rest i k) h = ap is_quiet i
-quiet_lies s p mine st d (lying i k) h = ap is_quiet i
-quiet_lies s p mine st d (running command b r k) h = let f : Runs (last_command mine) _ _ ≡ Lies = sym k ∙ h in cc
-quiet_lies s p mine st d (leaving b i k) h = let f : Closes (last_command mine) _ _ ≡ Lies = sym k ∙ h in cc
-quiet_lies s p mine st d (settling b i k) h = let f : Closes (last_command mine) _ _ ≡ Lies = sym k ∙ h in cc
+quiet_lies s p mine st d h k = grind arith
 
 own_marks : (s : Setup) → IsGood s → (events : List Event) (event : Event) (e : Entry) → entry_of s (past_of s events) event ≡ Some e → OwnMarks s (past_of s events) e
 own_marks s g events event e is = go (accepted s g events event e is).happens

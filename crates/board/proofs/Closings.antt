@@ -8,7 +8,7 @@ use native.Mathlib.Decide.{ℕ_discrete}
 use lib.ListN.{get_elem?}
 use Rattle.atomic_table.proofs.Lists.{set_else}
 use Rattle.atomic_table.specs.Table.{State, Joins}
-use Rattle.safe_bit.specs.Cell.{Cell}
+use Rattle.record.specs.safe_bit.Cell.{Cell}
 use Rattle.record.specs.declared.access.Field.{Field}
 use Rattle.record.specs.declared.access.Field.TheVariants.{Commit}
 use Rattle.record.specs.safe_number.Bytes.{number_of_bits}
@@ -32,14 +32,12 @@ use Rattle.record.specs.Records.{past_of}
 use Rattle.record.specs.Registers.{bytes_of_bits, image_bytes, processes, width}
 use Rattle.record.specs.Stages.{inside, stage}
 use Rattle.record.proofs.Width.{IsGood, is_good}
-use Rattle.process.proofs.section.NewestSteps.{process-in}
-use Rattle.process.proofs.section.Widths.{ranges}
-use Rattle.process.specs.laws.Doings.{Doing, call, doing, is_inside}
-use Rattle.process.specs.laws.Held.{IsThere, cell_held}
-use Rattle.process.proofs.laws.Frame.{Does, at_rest, lying, running, leaving, settling}
-use Rattle.process.proofs.laws.FrameEvents.{does_all}
-use Rattle.process.proofs.laws.FrameInside.{inside-is}
-use Rattle.process.proofs.laws.HeldCells.{held-is}
+use Rattle.laws.specs.Doings.{Doing, call, doing, is_inside}
+use Rattle.laws.specs.Held.{IsThere, cell_held}
+use Rattle.laws.proofs.Frame.{Does, at_rest, lying, running, leaving, settling}
+use Rattle.laws.proofs.FrameEvents.{does_all}
+use Rattle.laws.proofs.FrameInside.{inside-is}
+use Rattle.laws.proofs.HeldCells.{held-is}
 use Rattle.history_laws.proofs.Codec.{bytes_read, store_is_read}
 use Rattle.history_laws.proofs.CountedChanges.{then}
 use Rattle.history_laws.proofs.DataAlways.{data_of}
@@ -47,16 +45,16 @@ use Rattle.history_laws.proofs.DataHeadline as headline
 use Rattle.history_laws.proofs.Headlines.{throughout}
 use Rattle.history_laws.proofs.Sound.{IsStoreOf}
 use Rattle.history_laws.proofs.Sounding.{after_is_same}
-use Rattle.process.proofs.Stages.{stage-process}
+use Rattle.board.proofs.Doings.{stage_known}
 use Rattle.board.specs.Agreement.{Agree, IsIn, IsQuiet, KnowsSeats, Shows}
 use Rattle.board.specs.Calls.{Calls, changes_of, changing}
 use Rattle.board.specs.Lists.{StandsIn}
 use Rattle.board.proofs.CallsStand.{calls_in_the_changes}
 use Rattle.board.specs.Closings.{IsStill, Leaves, bits_shown, bytes_shown, version_shown, versions_shown}
 use Rattle.board.specs.Views.{OwnView, ViewState, own_view, spent_view, stage_in, with_joined}
-use Rattle.board.specs.Words.{closed_word, shown, word_of}
-use Rattle.board.proofs.Seats.{is_first, joins}
-use Rattle.board.proofs.ShownBits.{many-versions}
+use Rattle.board.specs.Words.{shown, word_of}
+use Rattle.board.proofs.Seats.{is_first, joins, some_processes}
+use Rattle.board.proofs.ShownBits.{newest-below}
 
 -- Processes that are still.
 
@@ -68,7 +66,7 @@ still_quiet s g events p still = go (does_all s g events p) still
     past = past_of s events
 
     is : (st : Stage) → stage_in s (own_view s past p) ≡ st → stage p past ≡ st
-    is st h = sym (stage-process s g events p) ∙ h
+    is st h = sym (stage_known s g events p) ∙ h
 
     go : Does s p (own p past) (stage p past) (doing s p past) → IsStill s (own_view s past p) → IsQuiet (doing s p past)
     go (at_rest i k) h = inl k
@@ -94,11 +92,7 @@ joins_still s id v other w live zero_ w_live still state agree at ne at_w =
 -- The bits.
 
 bit-value : (c : Cell) → c.writing ≡ false → (shown c == 1) ≡ c.value
-bit-value c h = ap (λ w. cond w 2 (closed_word c.value) == 1) h ∙ closed c.value
-  where
-    closed : (b : Bool) → (closed_word b == 1) ≡ b
-    closed true = refl
-    closed false = refl
+bit-value c h = grind arith
 
 -- nobody is inside: the words show what the registers of the versions hold
 bits-are : (s : Setup) (events : List Event) (words : List ℕ) (views : List ViewState) → Shows s events words views → is_somebody_inside s (past_of s events) ≡ false → (p : ℕ) (field : Field) → p < s.processes → is_version field ≡ true →
@@ -134,7 +128,7 @@ bytes-are s events words views f none =
     newest = newest_process (versions_shown s words)
 
     below : newest < s.processes
-    below = let some = (ranges s f.good).some_processes in let many = many-versions s words s.processes in omega (arith, process-in (versions_shown s words) (omega (arith, many, some)), many)
+    below = newest-below s words (some_processes s f.good)
 
     image : (p : ℕ) (b : Bool) → p < s.processes → bits_shown s words p (image_field b) ≡ bits_held s past p (image_field b) 0
     image p true h = bits-are s events words views f none p (image_field true) h refl

@@ -1,43 +1,25 @@
 -- Driving a port: word steps, one after the other.
-use Rattle.std.proofs.Common.{◌≡◌, ℕ, suc, ◌<◌, Bool, true, refl, ap, ◌∙◌, subst, arith}
+use Rattle.std.proofs.Common.{◌≡◌, ℕ, suc, ◌<◌, Bool, true, ap, ◌∙◌, subst, arith}
 use Rattle.plain_store.specs.declared.Answer.{Answer}
 use Rattle.plain_store.specs.declared.Setup.{Setup}
 use Rattle.process.specs.flicks.Flicks.{FlickState, after_flick, flick_of}
+use Rattle.record.specs.declared.stages.Stage.{Stage}
 use Rattle.record.specs.declared.stages.Stage.TheVariants as stage
-use Rattle.process.specs.Processes as kept
-use Rattle.process.specs.Processes.{Kept, stage_kept}
-use Rattle.process.specs.Steps.{may_step}
 use Rattle.process.specs.declared.told.StepTold.{StepTold}
 use Rattle.process.specs.declared.told.StepTold.TheVariants as tells
 use Rattle.board.specs.declared.driving.Driven.TheVariants as driven
 use Rattle.board.specs.Driving.{Drives, Walks, flicks_after}
 use Rattle.board.specs.Ports.{PortState, SamePort}
 use Rattle.board.specs.Views.{OwnView}
-use Rattle.board.specs.WordSteps.{LeadsTo, WordStep, goes}
+use Rattle.board.specs.WordSteps.{LeadsTo, WordStep, goes, goes_at}
 
 -- a process that is neither idle nor down has a next access
-pub goes_unless : (k : Kept) → (stage_kept k ≡ stage.Idle → ⊥) → (stage_kept k ≡ stage.Down → ⊥) → may_step k ≡ true
-goes_unless kept.Rests idle down = absurd (idle refl)
-goes_unless kept.Lies idle down = absurd (down refl)
-goes_unless (kept.AtDoor door) idle down = refl
-goes_unless (kept.AtData section) idle down = refl
-goes_unless (kept.Leaves answer fresh leaving) idle down = refl
-goes_unless (kept.Withdraws leaving) idle down = refl
-goes_unless (kept.Settles inside taken value unit) idle down = refl
-goes_unless (kept.Frees inside unit) idle down = refl
+pub goes_unless : (st : Stage) → (st ≡ stage.Idle → ⊥) → (st ≡ stage.Down → ⊥) → goes_at st ≡ true
+goes_unless st h k = grind arith
 
 -- so has one whose word step neither answers its call nor brings it down
 pub leads_on : (s : Setup) (told : StepTold) (o after : OwnView) → LeadsTo s told o after → ((answer : Answer) → told ≡ tells.Answers answer → ⊥) → (told ≡ tells.Lies → ⊥) → goes s after ≡ true
-leads_on s tells.Nothing o after h answers lies = h
-leads_on s (tells.Waits t) o after h answers lies = h
-leads_on s (tells.WaitsAndEnters t) o after h answers lies = h
-leads_on s tells.Enters o after h answers lies = h
-leads_on s (tells.Took reply changes) o after h answers lies = h
-leads_on s tells.Leaves o after h answers lies = h
-leads_on s (tells.Answers answer) o after h answers lies = absurd (answers answer refl)
-leads_on s (tells.Settles value) o after h answers lies = h
-leads_on s (tells.SettlesAndTakes value reply) o after h answers lies = h
-leads_on s tells.Lies o after h answers lies = absurd (lies refl)
+leads_on s told o after h k g = grind arith
 
 -- A port that is driven, after so many word steps, and has a next access.
 pub record IsDriven (old : PortState) (flicks : FlickState) (made : ℕ) (now : PortState) (flicks_now : FlickState) : Type 0 where

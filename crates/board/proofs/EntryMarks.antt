@@ -1,5 +1,5 @@
 -- The marks of an entry, as far as they tell of a call: it is taken, it is answered, or its process is down; at most one of these, and with the last mark.
-use Rattle.std.proofs.Common.{◌≡◌, ℕ, ◌&&◌, ◌||◌, Bool, true, false, cond, not, List, [], ◌∷◌, ◌++◌, Option, Some, None, map, refl, ap, subst, ◌∙◌}
+use Rattle.std.proofs.Common.{◌≡◌, ℕ, ◌&&◌, ◌||◌, Bool, true, false, cond, not, List, [], ◌∷◌, ◌++◌, Option, Some, None, map, refl, ap, subst, ◌∙◌, arith}
 use Rattle.std.specs.Prelude.{fold, if◌then◌else◌}
 use Rattle.std.specs.List.{list_any}
 use Rattle.record.specs.reader_copies.Runs as copies
@@ -8,9 +8,8 @@ use Rattle.plain_store.specs.declared.Answer.TheVariants as answer
 use Rattle.plain_store.specs.declared.Reply.{Reply}
 use Rattle.plain_store.specs.Store.{changes}
 use Rattle.record.specs.declared.marks.Mark.{Mark}
-use Rattle.record.specs.declared.marks.Mark.TheVariants.{Called, Waiting, Entered, Taken, Left, Answered, Failed, Settled, Down, Withdrew, Restarted}
+use Rattle.record.specs.declared.marks.Mark.TheVariants.{Called, Taken, Left, Answered, Settled, Down, Restarted}
 use Rattle.record.specs.declared.stages.Stage.{Stage}
-use Rattle.record.specs.declared.stages.Stage.TheVariants as stage
 use Rattle.record.specs.Closings.{Closing, Withdraws, Settles, Frees, Lowers, Quit, Ended, closing_next, is_last_settled, is_last_written, is_unwritten, no_ticket, settled_marks}
 use Rattle.record.specs.Entries.{is_called}
 use Rattle.record.specs.Histories.{reply_taken}
@@ -52,9 +51,7 @@ entered-by n ws true = entered n ws
 entered-by n ws false = refl
 
 first-plain : (n : ℕ) (x : Part) (fresh : Bool) → list_any tells (map (placed n) (cond fresh (first_marks x) [] ++ [])) ≡ false
-first-plain n x false = refl
-first-plain n (part.Clears a) true = refl
-first-plain n _ true = refl
+first-plain n x fresh = grind arith
 
 -- nothing marks the first access
 unmarked-first : (X : List Mark → Type 0) (fresh : Bool) (ms : List Mark) → X ms → X (cond {A = List Mark} fresh [] [] ++ ms)
@@ -148,11 +145,7 @@ both-false true b h = cc
 both-false false b h = (refl, h)
 
 one-calls : (place : ℕ) (t : Calls) (m : Mark) → tells m ≡ false → calls_after place t m ≡ t
-one-calls place t (Called command) h = cc
-one-calls place t (Taken k r) h = cc
-one-calls place t (Answered a) h = cc
-one-calls place t Down h = cc
-one-calls place t _ h = refl
+one-calls place t m h = grind arith
 
 one-takings : (m : Mark) (ms : List Mark) → tells m ≡ false → takings (m ∷ ms) ≡ takings ms
 one-takings (Taken k r) ms h = cc
@@ -184,28 +177,8 @@ pub plain-uncalled : (ms more : List Mark) → list_any tells ms ≡ false → l
 plain-uncalled [] more h = refl
 plain-uncalled (m ∷ ms) more h = let both = both-false (tells m) (list_any tells ms) h in ap (λ b. b || list_any is_called (ms ++ more)) (one-uncalled m both.0) ∙ plain-uncalled ms more both.1
 
--- Such a mark leads to no stage without a call.
-left-quiet : (st : Stage) → is_quiet (stage_after st Left) ≡ true → is_quiet st ≡ true
-left-quiet stage.Idle q = refl
-left-quiet stage.Doorway q = q
-left-quiet stage.Waiting q = q
-left-quiet stage.Inside q = q
-left-quiet stage.Leaving q = q
-left-quiet stage.Settling q = q
-left-quiet stage.Down q = refl
-
 pub quiet-before : (st : Stage) (m : Mark) → tells m ≡ false → is_quiet (stage_after st m) ≡ true → is_quiet st ≡ true
-quiet-before st (Called command) h q = cc
-quiet-before st (Waiting t) h q = cc
-quiet-before st Entered h q = cc
-quiet-before st (Taken k r) h q = cc
-quiet-before st Left h q = left-quiet st q
-quiet-before st (Answered a) h q = cc
-quiet-before st Failed h q = cc
-quiet-before st (Settled v) h q = q
-quiet-before st Down h q = cc
-quiet-before st Withdrew h q = cc
-quiet-before st Restarted h q = cc
+quiet-before st m h k = grind arith
 
 pub plain-quiet : (st : Stage) (ms : List Mark) → list_any tells ms ≡ false → is_quiet (fold stage_after st ms) ≡ true → is_quiet st ≡ true
 plain-quiet st [] h q = q

@@ -1,11 +1,11 @@
 -- What an accepted event without an access makes of what a seat knows, and of the words.
-use Rattle.std.proofs.Common.{◌≡◌, ℕ, suc, ◌+◌, ◌<◌, ◌==◌, ◌&&◌, Bool, true, false, cond, List, [], ◌∷◌, ◌++◌, ◌||◌, set, refl, sym, ap, ◌∙◌, subst, arith, Option, Some, None, eq-eqb}
+use Rattle.std.proofs.Common.{◌≡◌, ℕ, suc, ◌<◌, ◌==◌, ◌&&◌, Bool, true, false, cond, List, [], ◌∷◌, ◌++◌, ◌||◌, set, refl, sym, ap, ◌∙◌, subst, arith, Option, Some, None, eq-eqb}
 use Rattle.std.proofs.lemmas.Bool.{lt-ltb}
 use Rattle.std.specs.Prelude.{fold, nat_le}
 use mathlib.Core.Option.{some}
 use lib.ListN.{get_elem?}
 use Rattle.atomic_table.proofs.Lists.{set_again}
-use Rattle.safe_bit.specs.Cell.{Cell, without_read}
+use Rattle.record.specs.safe_bit.Cell.{Cell, without_read}
 use Rattle.plain_store.specs.declared.Command.{Command}
 use Rattle.plain_store.specs.declared.Setup.{Setup}
 use Rattle.record.specs.declared.events.Event.{Event}
@@ -26,19 +26,18 @@ use Rattle.record.specs.Stages.{inside, inside_after, stage}
 use Rattle.record.proofs.Accepted.{accepted_adds}
 use Rattle.record.proofs.Width.{IsGood, is_good}
 use Rattle.record.proofs.World.{entry-accepted}
-use Rattle.process.specs.laws.Doings.{Doing, Rests, Runs, Closes, call, doing, is_inside}
-use Rattle.process.specs.laws.Held.{cell_held, drops}
-use Rattle.process.specs.laws.Steps.{cut_of}
-use Rattle.process.proofs.laws.Cuts.{cut_is}
-use Rattle.process.proofs.laws.Frame.{doing-goes, own-own}
-use Rattle.process.proofs.laws.FrameInside.{inside-is}
-use Rattle.process.proofs.laws.HeldCells.{held-marks}
-use Rattle.process.proofs.Marked.{marked_as}
-use Rattle.process.proofs.Stages.{stage-process}
+use Rattle.laws.specs.Doings.{Doing, Rests, Runs, Closes, call, doing, is_inside}
+use Rattle.laws.specs.Held.{cell_held, drops}
+use Rattle.laws.specs.Steps.{cut_of}
+use Rattle.laws.proofs.Cuts.{cut_is}
+use Rattle.laws.proofs.Frame.{doing-goes, own-own}
+use Rattle.laws.proofs.FrameInside.{inside-is}
+use Rattle.laws.proofs.HeldCells.{held-marks}
+use Rattle.board.proofs.Doings.{stage_known}
 use Rattle.board.specs.Agreement.{Knows, Shows, are_neighbours}
 use Rattle.history_laws.specs.Stamps.{changes_taken}
 use Rattle.board.specs.Calls.{Calls, calls_after, calls_of}
-use Rattle.process.specs.Refusals.{next_number}
+use Rattle.process.specs.Places.{next_number}
 use Rattle.board.specs.Views.{MayAllHappen, MayHappen, OwnView, ViewState, at_events, counted_at, entries_of, entry_marked, own_view, refusal_in, stage_in, with_event, with_events}
 use Rattle.board.specs.Words.{shown}
 use Rattle.board.proofs.Neighbours.{marked_reads, one_more}
@@ -57,15 +56,11 @@ pub entries_own : (s : Setup) (q : ℕ) (e : Entry) (past : Past) → e.process 
 entries_own s q e past h = ap (λ b. cond b (counted_at (changes_taken s past) e ∷ cond (has is_called e) [] (entries_of s q past)) (entries_of s q past)) (eq-eqb e.process q h)
 
 number-next : (s : Setup) (n : ℕ) → cond (s.version == 2) (suc n) 0 ≡ next_number s (cond (s.version == 2) n 0)
-number-next s n = by (s.version == 2)
-  where
-    by : (b : Bool) → cond b (suc n) 0 ≡ cond b (cond b n 0 + 1) 0
-    by true = omega arith
-    by false = refl
+number-next s n = grind arith
 
-own_call : (s : Setup) (past : Past) (p : ℕ) (command : Command) → own_view s (marked_as p (mark.Called command) ∷ past) p ≡ with_event s (own_view s past p) (event.Call p command)
+own_call : (s : Setup) (past : Past) (p : ℕ) (command : Command) → own_view s (entry_marked p (mark.Called command) ∷ past) p ≡ with_event s (own_view s past p) (event.Call p command)
 own_call s past p command =
-    let e : Entry = marked_as p (mark.Called command) in
+    let e : Entry = entry_marked p (mark.Called command) in
     let mine : own p (e ∷ past) ≡ e ∷ own p past = own-own p e past refl in
     let number : call_number s (e ∷ own p past) ≡ next_number s (call_number s (own p past)) = number-next s (calls_in (own p past)) in
     λ i. record {
@@ -79,11 +74,11 @@ own_call s past p command =
 
 -- a mark that leaves the calls, and what it makes of what is done
 own-mark : (s : Setup) (past : Past) (p : ℕ) (m : Mark) (d : Doing)
-    → let e : Entry = marked_as p m in
+    → let e : Entry = entry_marked p m in
     ((k : ℕ) (t : Calls) → calls_after k t m ≡ t) → is_called m ≡ false → ((k : ℕ) → placed k m ≡ m) → doing s p (e ∷ past) ≡ d → last_command (e ∷ own p past) ≡ last_command (own p past) → calls_in (e ∷ own p past) ≡ calls_in (own p past)
     → own_view s (e ∷ past) p ≡ record (own_view s past p) { entries = entry_marked p m ∷ entries_of s p past; doing = d }
 own-mark s past p m d plain uncalled untaken does command number =
-    let e : Entry = marked_as p m in
+    let e : Entry = entry_marked p m in
     let mine : own p (e ∷ past) ≡ e ∷ own p past = own-own p e past refl in
     λ i. record {
       process = p;
@@ -94,19 +89,19 @@ own-mark s past p m d plain uncalled untaken does command number =
       calls = (calls_own s p e past refl ∙ plain (changes_taken s past) (calls_of s p past)) i;
     }
 
-own_fail : (s : Setup) → IsGood s → (events : List Event) (p : ℕ) → refused_at (event.Fail p) (stage p (past_of s events)) ≡ None → own_view s (marked_as p mark.Failed ∷ past_of s events) p ≡ with_event s (own_view s (past_of s events) p) (event.Fail p)
+own_fail : (s : Setup) → IsGood s → (events : List Event) (p : ℕ) → refused_at (event.Fail p) (stage p (past_of s events)) ≡ None → own_view s (entry_marked p mark.Failed ∷ past_of s events) p ≡ with_event s (own_view s (past_of s events) p) (event.Fail p)
 own_fail s g events p may =
     let past = past_of s events in
     own-mark s past p mark.Failed (Closes (last_command (own p past)) (call_number s (own p past)) (cut_of s p (doing s p past))) (λ k t. refl) refl (λ k. refl)
-    (doing-goes s p (marked_as p mark.Failed) past refl ∙ ap (Closes (last_command (own p past)) (call_number s (own p past))) (cut_is s g events p may)) refl refl
+    (doing-goes s p (entry_marked p mark.Failed) past refl ∙ ap (Closes (last_command (own p past)) (call_number s (own p past))) (cut_is s g events p may)) refl refl
 
-own_withdrawal : (s : Setup) (past : Past) (p : ℕ) → own_view s (marked_as p mark.Withdrew ∷ past) p ≡ with_event s (own_view s past p) (event.Withdraw p)
+own_withdrawal : (s : Setup) (past : Past) (p : ℕ) → own_view s (entry_marked p mark.Withdrew ∷ past) p ≡ with_event s (own_view s past p) (event.Withdraw p)
 own_withdrawal s past p =
     let number = call_number s (own p past) in
-    own-mark s past p mark.Withdrew (Closes (last_command (own p past)) number (withdrawing (call s p (last_command (own p past)) number))) (λ k t. refl) refl (λ k. refl) (doing-goes s p (marked_as p mark.Withdrew) past refl) refl refl
+    own-mark s past p mark.Withdrew (Closes (last_command (own p past)) number (withdrawing (call s p (last_command (own p past)) number))) (λ k t. refl) refl (λ k. refl) (doing-goes s p (entry_marked p mark.Withdrew) past refl) refl refl
 
-own_restart : (s : Setup) (past : Past) (p : ℕ) → own_view s (marked_as p mark.Restarted ∷ past) p ≡ with_event s (own_view s past p) (event.Restart p)
-own_restart s past p = own-mark s past p mark.Restarted Rests (λ k t. refl) refl (λ k. refl) (doing-goes s p (marked_as p mark.Restarted) past refl) refl refl
+own_restart : (s : Setup) (past : Past) (p : ℕ) → own_view s (entry_marked p mark.Restarted ∷ past) p ≡ with_event s (own_view s past p) (event.Restart p)
+own_restart s past p = own-mark s past p mark.Restarted Rests (λ k t. refl) refl (λ k. refl) (doing-goes s p (entry_marked p mark.Restarted) past refl) refl refl
 
 -- what an event without an access makes of what is known; it takes no command, and nobody gets inside by it
 pub record KnowsThen (s : Setup) (past : Past) (o : OwnView) (event : Event) (e : Entry) : Type 0 where
@@ -117,11 +112,11 @@ pub record KnowsThen (s : Setup) (past : Past) (o : OwnView) (event : Event) (e 
   pub inside : inside o.process (e ∷ past) ≡ inside o.process past
 
 -- an entry with a mark that lets nobody in or out
-inside-mark : (q : ℕ) (past : Past) (m : Mark) → inside_after (inside q past) m ≡ inside q past → inside q (marked_as q m ∷ past) ≡ inside q past
+inside-mark : (q : ℕ) (past : Past) (m : Mark) → inside_after (inside q past) m ≡ inside q past → inside q (entry_marked q m ∷ past) ≡ inside q past
 inside-mark q past m h = ap (λ b. cond b (inside_after (inside q past) m) (inside q past)) (eq-eqb q q refl) ∙ h
 
-same-mark : (p q : ℕ) (m : Mark) (e : Entry) → p ≡ q → Some (marked_as p m) ≡ Some e → marked_as q m ≡ e
-same-mark p q m e is h = let one : marked_as p m ≡ e = cc in ap (λ q. marked_as q m) (sym is) ∙ one
+same-mark : (p q : ℕ) (m : Mark) (e : Entry) → p ≡ q → Some (entry_marked p m) ≡ Some e → entry_marked q m ≡ e
+same-mark p q m e is h = let one : entry_marked p m ≡ e = cc in ap (λ q. entry_marked q m) (sym is) ∙ one
 
 marked : (s : Setup) → IsGood s → (events : List Event) (event : Event) (e : Entry) (o : OwnView) → o ≡ own_view s (past_of s events) o.process → entry_of s (past_of s events) event ≡ Some e → MayHappen s o event → KnowsThen s (past_of s events) o event e
 marked s g events (event.Call p command) e o known h may =
@@ -156,9 +151,7 @@ marked s g events (event.Restart p) e o known h may =
 -- Refusals.
 
 full-is : (is b : Bool) (n : ℕ) → (is && b && nat_le 65535 n) ≡ (is && b && nat_le 65535 (cond b n 0))
-full-is true true n = refl
-full-is true false n = refl
-full-is false b n = refl
+full-is is b n = grind arith
 
 -- an event is refused as the view of its process tells
 refused-own : (s : Setup) → IsGood s → (events : List Event) (event : Event) → process_of event < s.processes → refused s (past_of s events) event ≡ refusal_in s (own_view s (past_of s events) (process_of event)) event
@@ -166,7 +159,7 @@ refused-own s g events event below =
     let past = past_of s events in
     let p = process_of event in
     ap (λ b. cond b (elim (refused_at event (stage p past)) as (λ _. Option Refusal) [ Some r ↦ Some r | None ↦ cond (calls_full s past event) (Some CallsFull) None ]) (Some NoProcess)) (lt-ltb p s.processes below)
-    ∙ ap (λ at. elim (refused_at event at) as (λ _. Option Refusal) [ Some r ↦ Some r | None ↦ cond (calls_full s past event) (Some CallsFull) None ]) (sym (stage-process s g events p))
+    ∙ ap (λ at. elim (refused_at event at) as (λ _. Option Refusal) [ Some r ↦ Some r | None ↦ cond (calls_full s past event) (Some CallsFull) None ]) (sym (stage_known s g events p))
     ∙ ap (λ b. elim (refused_at event (stage_in s (own_view s past p))) as (λ _. Option Refusal) [ Some r ↦ Some r | None ↦ cond b (Some CallsFull) None ]) (full-is (is_call event) (s.version == 2) (calls_in (own p past)))
 
 pub refused_is : (s : Setup) → IsGood s → (events : List Event) (event : Event) (v : ViewState) → Knows s (past_of s events) v → process_of event ≡ v.own.process → refused s (past_of s events) event ≡ refusal_in s v.own event
@@ -185,11 +178,7 @@ pub given_more : (s : Setup) (events : List Event) (event : Event) → AreGiven 
 given_more s events event g h = record { opening = g.opening; commands = λ i. h i && g.commands i }
 
 pub same_process : (s : Setup) (o : OwnView) (event : Event) → (with_event s o event).process ≡ o.process
-same_process s o (event.Call p c) = refl
-same_process s o (event.Step p flick) = refl
-same_process s o (event.Fail p) = refl
-same_process s o (event.Withdraw p) = refl
-same_process s o (event.Restart p) = refl
+same_process s o event = grind arith
 
 pub same_process_all : (s : Setup) (o : OwnView) (events : List Event) → (with_events s o events).process ≡ o.process
 same_process_all s o [] = refl
@@ -266,7 +255,7 @@ stage_told s events words views i v since shows at live may =
     let o = with_events s v.own since in
     let k = knows_since s events words views i v since shows at live may in
     ap (λ p. stage p (past_of s (since ++ events))) (sym (same_process_all s v.own since))
-    ∙ sym (stage-process s (is_good s shows.good) (since ++ events) o.process) ∙ ap (stage_in s) (sym k.own)
+    ∙ sym (stage_known s (is_good s shows.good) (since ++ events) o.process) ∙ ap (stage_in s) (sym k.own)
 
 pub refusals_told : (s : Setup) (events : List Event) (words : List ℕ) (views : List ViewState) (i : ℕ) (v : ViewState) (since : List Event) → Shows s events words views → get_elem? views i ≡ some v → v.spent ≡ false → MayAllHappen s v.own since →
     (event : Event) → process_of event ≡ v.own.process → refused s (past_of s (since ++ events)) event ≡ refusal_in s (with_events s v.own since) event

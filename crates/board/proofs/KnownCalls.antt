@@ -13,7 +13,7 @@ use Rattle.record.specs.Calls.{called_in, calls_in, last_command}
 use Rattle.record.specs.Entries.{Entry, Past, own, has, since, is_called}
 use Rattle.record.specs.Spans.{takings, all_takings}
 use Rattle.record.specs.Stages.{stage, stage_after}
-use Rattle.process.proofs.laws.Frame.{own-other, own-own}
+use Rattle.laws.proofs.Frame.{own-other, own-own}
 use Rattle.history_laws.specs.Stamps.{changes_taken}
 use Rattle.history_laws.proofs.HistoryItems.{calls-uncalled}
 use Rattle.history_laws.proofs.Told.{since-uncalled}

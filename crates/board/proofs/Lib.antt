@@ -1,10 +1,11 @@
-pub use Rattle.process.proofs.laws as laws
+pub use Rattle.laws.proofs as laws
 pub mod Accesses
 pub mod Along
 pub mod Begins
 pub mod CallsStand
 pub mod Changes
 pub mod Closings
+pub mod Doings
 pub mod Drives
 pub mod EntryMarks
 pub mod Happenings
@@ -19,6 +20,7 @@ pub mod Pendings
 pub mod Places
 pub mod PortLists
 pub mod ReadBegins
+pub mod Reached
 pub mod Seats
 pub mod SeenStands
 pub mod ShownBits

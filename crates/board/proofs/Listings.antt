@@ -1,16 +1,15 @@
 -- A port's list and what its seat knows, over a word step and over an event without an access.
-use Rattle.std.proofs.Common.{◌≡◌, ℕ, Bool, true, false, List, [], ◌∷◌, length, sym, ap, ◌∙◌, Option, Some}
+use Rattle.std.proofs.Common.{◌≡◌, ℕ, Bool, true, false, List, [], ◌∷◌, length, sym, ap, subst, ◌∙◌, Option, Some}
 use Rattle.std.specs.Prelude.{IfSome, fold}
-use Rattle.safe_bit.specs.declared.Move.TheVariants.{BeginRead}
+use Rattle.record.specs.safe_bit.declared.Move.TheVariants.{BeginRead}
 use Rattle.record.specs.declared.access.Access.{Access}
 use Rattle.plain_store.specs.declared.Command.{Command}
 use Rattle.plain_store.specs.declared.Setup.{Setup}
 use Rattle.record.specs.declared.events.Event.TheVariants as event
 use Rattle.record.specs.declared.history.Taken.{Taken}
-use Rattle.process.specs.laws.Doings.{Doing, is_inside}
-use Rattle.process.specs.laws.Steps.{does_then, marks_with}
-use Rattle.process.specs.Processes.{ProcessState}
-use Rattle.process.specs.Steps.{IsAt, changes_pending, changes_read}
+use Rattle.laws.specs.Doings.{is_inside}
+use Rattle.laws.specs.Steps.{does_then}
+use Rattle.process.specs.Places.{ProcessState, changes_pending, changes_read, marks_on, stepped}
 use Rattle.process.specs.Telling.{changes_told, marks_told}
 use Rattle.process.specs.declared.told.StepTold.{StepTold}
 use Rattle.board.specs.declared.pending.Pending.{Pending}
@@ -22,29 +21,25 @@ use Rattle.board.specs.Words.{loaded}
 use Rattle.board.specs.WordSteps.{Loads, Stores}
 use Rattle.board.proofs.Leads.{begin_calls}
 use Rattle.board.proofs.Places.{cut_takes, is_place, may_take_on, may_take_writes}
-use Rattle.board.proofs.Ties.{GoneOn, begun_at, is_at, next_own, process_step}
+use Rattle.board.proofs.Ties.{begins, next_own}
 
 -- A word step.
 
--- what a step tells, in the words of its process
-abbrev pub Tells : StepTold → ProcessState → Bool → Bool → Type 0
-Tells told now flick value = (d : Doing) → IsAt now d → marks_told told ≡ marks_with now.setup now.process d flick value
-
+-- what the number of changes is that it tells
 abbrev pub TellsStamp : StepTold → ProcessState → Type 0
-TellsStamp told now = (d : Doing) → IsAt now d → IfSome (changes_told told) (λ changes. changes ≡ changes_read d)
+TellsStamp told now = IfSome (changes_told told) (λ changes. changes ≡ changes_read now.doing)
 
 pub lists_stored : (s : Setup) (pending : Pending) (process : ProcessState) (value flick : Bool) (v w : ViewState) (told : StepTold) (stamp : Option ℕ) → IsTied s pending process value v → Stores s flick (with_pending s pending v) w →
-    Tells told process flick false → TellsStamp told process → KnowsPlace stamp (with_pending s pending v) → Lists stamp told (with_pending s pending v) w
+    marks_told told ≡ marks_on process flick false → TellsStamp told process → KnowsPlace stamp (with_pending s pending v) → Lists stamp told (with_pending s pending v) w
 lists_stored s pending process value flick v w told stamp t stored marks read known =
     let b = with_pending s pending v in
     let m = stored.makes in
-    let at = is_at s pending process value v t in
-    let is : marks_told told ≡ marks_with s b.own.process b.own.doing flick false = marks b.own.doing at ∙ ap (λ (q : ProcessState). marks_with q.setup q.process b.own.doing flick false) t.same in
+    let is : marks_told told ≡ marks_on (process_at s b.own) flick false = marks ∙ ap (λ q. marks_on q flick false) t.same in
     let does : w.own.doing ≡ does_then s b.own.process b.own.doing flick false = ap (λ (o : OwnView). o.doing) m.is in
     let on = λ (h : may_take w.own.doing ≡ true). may_take_on s b.own.process b.own.doing flick false (sym (ap may_take does) ∙ h) in
     record {
       place = m.place;
-      is = is_place s b.seen flick false b.own w.own m stamp told is (read b.own.doing at) known.inside known.kept;
+      is = is_place s b.seen flick false b.own w.own m stamp told is (subst (TellsStamp told) t.same read) known.inside known.kept;
       calls = ap (λ (o : OwnView). o.calls) m.is ∙ ap (fold (calls_after m.place) b.own.calls) (sym is);
       known = record {
         read = stored.goes.stamped;
@@ -54,21 +49,20 @@ lists_stored s pending process value flick v w told stamp t stored marks read kn
     }
 
 pub lists_loaded : (s : Setup) (pending : Pending) (process middle : ProcessState) (value flick : Bool) (word found : ℕ) (n : Access) (v w : ViewState) (told : StepTold) (stamp : Option ℕ) → IsTied s pending process value v → IsNext s process flick word n → n.how ≡ BeginRead →
-    Loads s flick (with_pending s pending v) found w → GoneOn process middle flick false → Tells told middle flick (loaded flick found) → TellsStamp told middle → KnowsPlace stamp (with_pending s pending v) → Lists stamp told (with_pending s pending v) w
+    Loads s flick (with_pending s pending v) found w → middle ≡ stepped process flick false → marks_told told ≡ marks_on middle flick (loaded flick found) → TellsStamp told middle → KnowsPlace stamp (with_pending s pending v) → Lists stamp told (with_pending s pending v) w
 lists_loaded s pending process middle value flick word found n v w told stamp t h how l goes marks read known =
     let b = with_pending s pending v in
     let x = loaded flick found in
     let begun = l.begun in
     let m = l.ends in
-    let at = (begun_at s pending process middle value flick word found n v w t h how l goes).1 in
-    let middle_is : middle ≡ process_at s begun = process_step s b.own begun process middle flick false l.begins.place t.same (is_at s pending process value v t) goes l.begins.is in
-    let is : marks_told told ≡ marks_with s begun.process begun.doing flick x = marks begun.doing at ∙ ap (λ (q : ProcessState). marks_with q.setup q.process begun.doing flick x) middle_is in
+    let k = begins s pending process middle value flick word found n v w t h how l goes in
+    let is : marks_told told ≡ marks_on (process_at s begun) flick x = marks ∙ ap (λ q. marks_on q flick x) k.same in
     let next = next_own s pending process value v t flick word n h in
     let not_begun = λ (h : may_take begun.doing ≡ true). may_take_writes s b.own.process b.own.doing flick n next how (may_take_on s b.own.process b.own.doing flick false (sym (ap (λ (o : OwnView). may_take o.doing) l.begins.is) ∙ h)).0 in
     let not_then = λ (h : may_take w.own.doing ≡ true). not_begun (may_take_on s begun.process begun.doing flick x (sym (ap (λ (o : OwnView). may_take o.doing) m.is) ∙ h)).0 in
     record {
       place = m.place;
-      is = is_place s b.seen flick x begun w.own m stamp told is (read begun.doing at) (λ h. absurd (not_begun h)) (λ h. absurd (not_begun h));
+      is = is_place s b.seen flick x begun w.own m stamp told is (subst (TellsStamp told) k.same read) (λ h. absurd (not_begun h)) (λ h. absurd (not_begun h));
       calls = ap (λ (o : OwnView). o.calls) m.is ∙ ap (fold (calls_after m.place) begun.calls) (sym is)
           ∙ ap (λ calls. fold (calls_after m.place) calls (marks_told told)) (ap (λ (o : OwnView). o.calls) l.begins.is ∙ begin_calls s b.own.process b.own.doing flick false n l.begins.place b.own.calls next how);
       known = record { read = l.goes.stamped; inside = λ h. absurd (not_then h); kept = λ h. absurd (not_then h) };

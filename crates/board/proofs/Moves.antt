@@ -1,14 +1,14 @@
 -- Each load and each store of a port keeps the rule.
-use Rattle.std.proofs.Common.{◌≡◌, ℕ, ◌<◌, Bool, true, false, cond, if◌then◌else◌, List, [], ◌∷◌, ◌++◌, set, length, refl, sym, ap, ◌∙◌, subst, Some, None, length-set, map}
+use Rattle.std.proofs.Common.{◌≡◌, ℕ, ◌<◌, Bool, true, false, cond, if◌then◌else◌, List, [], ◌∷◌, ◌++◌, set, length, refl, sym, ap, ◌∙◌, subst, Some, None, length-set, map, arith}
 use Rattle.std.proofs.lemmas.List.{append-nil, set-get_or}
 use Rattle.std.specs.Prelude.{Ok, fold, slice_index}
 use mathlib.Core.Option.{some}
 use lib.ListN.{get_elem?}
 use Rattle.atomic_table.specs.Table.{State, keeps, Allows}
-use Rattle.safe_bit.specs.Cell.{Cell, cell_after, read_answer}
-use Rattle.safe_bit.specs.SafeRule.{read_value}
-use Rattle.safe_bit.specs.declared.Move.{Move}
-use Rattle.safe_bit.specs.declared.Move.TheVariants.{BeginWrite, EndWrite, BeginRead, EndRead, Settle}
+use Rattle.record.specs.safe_bit.Cell.{Cell, cell_after, read_answer}
+use Rattle.record.specs.safe_bit.SafeRule.{read_value}
+use Rattle.record.specs.safe_bit.declared.Move.{Move}
+use Rattle.record.specs.safe_bit.declared.Move.TheVariants.{EndWrite, BeginRead, EndRead}
 use Rattle.record.specs.reader_copies.Written.{IsWrite}
 use Rattle.record.specs.declared.access.Access.{Access}
 use Rattle.plain_store.specs.Setups.{checked}
@@ -26,14 +26,15 @@ use Rattle.record.specs.Registers.{opening_bit}
 use Rattle.record.specs.Stages.{stage, stage_after}
 use Rattle.record.proofs.Singles.{is_write, is_write-true}
 use Rattle.record.proofs.Width.{IsGood, is_good}
-use Rattle.process.specs.laws.Doings.{doing, is_inside}
-use Rattle.process.specs.laws.Held.{cell_held}
-use Rattle.process.specs.laws.Steps.{being_written, marks_with, next_of}
-use Rattle.process.proofs.laws.Ends.{ends_what_began}
-use Rattle.process.proofs.laws.FrameCells.{itself}
-use Rattle.process.proofs.laws.FrameSteps.{valued-write}
-use Rattle.process.proofs.laws.HeldCells.{held-entry, held_answers}
-use Rattle.process.proofs.Stages.{is-at, stage-process}
+use Rattle.laws.specs.Doings.{doing, is_inside}
+use Rattle.laws.specs.Held.{cell_held}
+use Rattle.laws.specs.Steps.{being_written, marks_with, next_of}
+use Rattle.laws.proofs.Ends.{ends_what_began}
+use Rattle.laws.proofs.FrameCells.{itself}
+use Rattle.laws.proofs.FrameSteps.{valued-write}
+use Rattle.laws.proofs.HeldCells.{held-entry, held_answers}
+use Rattle.board.proofs.Doings.{stage_known}
+use Rattle.board.proofs.Reached.{known_where}
 use Rattle.board.specs.Agreement.{Agree, Knows, Shows, are_neighbours, is_pair}
 use Rattle.board.specs.Calls.{IsPrefix, changes_of}
 use Rattle.history_laws.specs.Stamps.{changes_taken, stamp_read}
@@ -47,14 +48,12 @@ use Rattle.board.proofs.Happenings.{events_apart, events_show, same_process_all}
 use Rattle.board.proofs.Neighbours.{one_more, read_more, written_reads}
 use Rattle.history_laws.proofs.Outside.{placed-none}
 use Rattle.history_laws.proofs.ReadStamps.{stamps_count}
-use Rattle.board.proofs.Accesses.{Made, cells_read, cells_written, live_doing, made, seeing, step_shows}
+use Rattle.board.proofs.Accesses.{Made, cells_read, cells_written, made, seeing, step_shows, unended}
 
 -- What a read gives.
 
 given : (flick w v : Bool) → (if w then flick else v) ≡ loaded flick (cond w 2 (closed_word v))
-given flick true v = refl
-given flick false true = refl
-given flick false false = refl
+given flick w v = grind arith
 
 -- the value of a read whose begin is the entry before its end
 neighbours : (s : Setup) → IsGood s → (events events' : List Event) (v : ViewState) (flick : Bool) (n : Access) → (m : Made s events v flick n) → past_of s events' ≡ m.e ∷ past_of s events → m.e.access ≡ Some n → n.how ≡ BeginRead →
@@ -84,7 +83,7 @@ seen_then s events v flick n k m = prefix-trans v.seen (changes_of s (past_of s 
 goes_on : (s : Setup) → checked s ≡ Ok tt → (events : List Event) → AreGiven s events → (v : ViewState) → v.own.process < s.processes → IsPrefix v.seen (changes_of s (past_of s events)) → GoesOn s v (seeing s (past_of s events) v)
 goes_on s good events given v below seen = record {
   same = refl;
-  at = is-at s (is_good s good) events v.own.process;
+  at = known_where s (is_good s good) events v.own.process;
   seen = seen;
   stamped = λ stamp h. so_many_changes s (past_of s events) ∙ sym (stamps_count s good events given v.own.process stamp below h);
   stands = record { stands = (calls_in_the_changes s good events given v.own.process).1; seen = record { events = events; given = given; first = ([], sym (append-nil (changes_of s (past_of s events)))) } };
@@ -102,13 +101,13 @@ makes s good events given v seen flick value n k m is all =
     let past = past_of s events in
     let p = v.own.process in
     let events1 = event.Step p flick ∷ events in
-    let was = sym (stage-process s g events p) in
+    let was = sym (stage_known s g events p) in
     record {
       place = changes_taken s past;
       is = ap (λ z. own_view s z p) m.on ∙ m.own ∙ ap (λ x. with_step s v.own flick x (changes_taken s past)) is;
       counted = λ stamp h. sym (stamps_count s good events given p stamp k.below (ap (λ (o : OwnView). stamp_read o.doing) (sym k.own) ∙ h));
       inside = λ h. sym (ap length (all h) ∙ so_many_changes s past);
-      stage = stage-process s g events1 p ∙ ap (stage p) m.on ∙ m.stage
+      stage = stage_known s g events1 p ∙ ap (stage p) m.on ∙ m.stage
           ∙ (λ i. fold stage_after (was i) (marks_with s p v.own.doing flick (is i)))
           ∙ ap (λ (o : OwnView). fold stage_after (stage_in s o) (marks_with s p v.own.doing flick value)) (sym k.own);
     }
@@ -154,12 +153,12 @@ loads s slots id flick v held xs n live may next how t agree _ at _ =
     let k1 = f1.known id w1 w1_at live in
     let value1 : value_of (valued s past flick n).how ≡ false = ap (λ (y : Access). value_of y.how) n_is ∙ ap value_of how in
     let begins : Makes s b.seen flick false b.own w1.own = makes s f.good events f.given b b.seen flick false n k m value1 k.inside in
-    let live_b = live_doing s g events b k in
-    let next1 : next_of s p w1.own.doing flick ≡ Some (ending n) = ap (λ (o : OwnView). next_of s p o.doing flick) begins.is ∙ reads_on s p b.own.doing flick false n live_b b_next how in
+    let going = unended s past b k in
+    let next1 : next_of s p w1.own.doing flick ≡ Some (ending n) = ap (λ (o : OwnView). next_of s p o.doing flick) begins.is ∙ reads_on s p b.own.doing flick false n going b_next how in
     let untaken : changes_of s past1 ≡ changes_of s past =
     ap (changes_of s) m.on ∙ changes_none s past m.e (ap reply_taken m.marks ∙ begin_untaken s p b.own.doing flick (value_of (valued s past flick n).how) n (length (history s past)) b_next how) in
     let all1 : is_inside w1.own.doing ≡ true → b.seen ≡ changes_of s past1 = λ i.
-    k.inside (begin_inside s p b.own.doing flick false n live_b b_next how (ap (λ (o : OwnView). is_inside o.doing) (sym begins.is) ∙ i)) ∙ sym untaken in
+    k.inside (begin_inside s p b.own.doing flick false n going b_next how (ap (λ (o : OwnView). is_inside o.doing) (sym begins.is) ∙ i)) ∙ sym untaken in
     let second : Moved s events1 t.words (set t.views id w1) id w1 flick (ending n) = reading s events1 t.words (set t.views id w1) id w1 flick (ending n) (valued s past1 flick (ending n)) f1 w1_at live next1 refl refl in
     let m1 = second.made in
     let events2 = event.Step p flick ∷ events1 in
@@ -186,7 +185,7 @@ loads s slots id flick v held xs n live may next how t agree _ at _ =
           reads = how;
           begun = w1.own;
           begins = begins;
-          at = is-at s g events1 p;
+          at = known_where s g events1 p;
           ends = makes s f1.good events1 f1.given w1 b.seen flick (loaded flick word) (ending n) k1 m1 value2 all1;
           goes = goes_on s f.good events2 f2.given b k.below (prefix-trans b.seen (changes_of s past1) (changes_of s past2) seen1 seen2);
         },
@@ -197,19 +196,11 @@ loads s slots id flick v held xs n live may next how t agree _ at _ =
 -- What a store writes.
 
 no-value : (m : Move) (v : Bool) → is_write m ≡ true → value_of (ended v m) ≡ false
-no-value (BeginWrite u) v h = refl
-no-value EndWrite v h = refl
-no-value (Settle u) v h = refl
-no-value BeginRead v h = cc
-no-value (EndRead u) v h = cc
+no-value m v h = grind arith
 
 -- after a write the word shows what was stored
 shows-stored : (c : Cell) (m : Move) (value : Bool) → is_write m ≡ true → (m ≡ EndWrite → c.value ≡ value) → shown (cell_after c m) ≡ stored value m
-shows-stored c (BeginWrite v) value h e = refl
-shows-stored c EndWrite value h e = ap closed_word (e refl)
-shows-stored c (Settle v) value h e = refl
-shows-stored c BeginRead value h e = cc
-shows-stored c (EndRead v) value h e = cc
+shows-stored c m value h k = grind arith
 
 -- a store
 pub stores : (s : Setup) (slots id : ℕ) (flick : Bool) (v : ViewState) (held : List (ℕ × Unit {0})) (xs : List Event) (n : Access) → v.spent ≡ false → MayAllHappen s v.own xs

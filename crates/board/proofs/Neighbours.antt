@@ -1,8 +1,7 @@
 -- Begin and end of each read are neighbours.
-use Rattle.std.proofs.Common.{◌≡◌, ◌==◌, ◌&&◌, Bool, true, false, [], ◌∷◌, Option, Some, None, refl, ap, ◌∙◌, eq-eqb}
+use Rattle.std.proofs.Common.{◌≡◌, ◌==◌, ◌&&◌, Bool, true, false, [], ◌∷◌, Option, Some, None, refl, ap, ◌∙◌, eq-eqb, arith}
 use Rattle.std.specs.Prelude.{not}
-use Rattle.safe_bit.specs.declared.Move.{Move}
-use Rattle.safe_bit.specs.declared.Move.TheVariants.{BeginWrite, EndWrite, BeginRead, EndRead, Settle}
+use Rattle.record.specs.safe_bit.declared.Move.{Move}
 use Rattle.record.specs.declared.access.Access.{Access}
 use Rattle.record.specs.Entries.{Entry, Past}
 use Rattle.record.specs.Moves.{same_bit}
@@ -11,15 +10,7 @@ use Rattle.board.specs.Agreement.{are_neighbours, is_of_read, is_pair, is_whole_
 
 -- an entry that is of no read ends none
 no-pair : (a b : Move) → is_of_read b ≡ false → is_pair a b ≡ false
-no-pair (BeginWrite v) b h = refl
-no-pair EndWrite b h = refl
-no-pair (Settle v) b h = refl
-no-pair (EndRead v) b h = refl
-no-pair BeginRead (BeginWrite v) h = refl
-no-pair BeginRead EndWrite h = refl
-no-pair BeginRead (Settle v) h = refl
-no-pair BeginRead BeginRead h = refl
-no-pair BeginRead (EndRead v) h = cc
+no-pair a b h = grind arith
 
 ends_none : (b e : Entry) → reads e ≡ false → is_whole_read b e ≡ false
 ends_none b e h = by b.access e.access h
@@ -61,11 +52,4 @@ pub marked_reads : (e : Entry) → e.access ≡ None → reads e ≡ false
 marked_reads e h = ap (λ o. elim o as (λ _. Bool) [ None ↦ false | Some a ↦ is_of_read a.how ]) h
 
 pub written_reads : (e : Entry) (x : Access) → e.access ≡ Some x → is_write x.how ≡ true → reads e ≡ false
-written_reads e x h w = ap (λ o. elim o as (λ _. Bool) [ None ↦ false | Some a ↦ is_of_read a.how ]) h ∙ by x.how w
-  where
-    by : (m : Move) → is_write m ≡ true → is_of_read m ≡ false
-    by (BeginWrite v) w = refl
-    by EndWrite w = refl
-    by (Settle v) w = refl
-    by BeginRead w = cc
-    by (EndRead v) w = cc
+written_reads e x h k = grind arith

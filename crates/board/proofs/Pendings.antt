@@ -1,48 +1,29 @@
 -- A port's process and what its seat knows, over an event without an access.
-use Rattle.std.proofs.lemmas.Bool.Decides.{nat_tests}
-use Rattle.std.proofs.Common.{◌≡◌, ℕ, ◌<◌, ◌&&◌, ◌==◌, arith, eq-eqb, Bool, true, false, cond, [], ◌∷◌, refl, sym, ap, ◌∙◌, subst, Option, Some, None}
-use Rattle.std.specs.Prelude.{nat_le, Ok, Err, Result}
-use Rattle.atomic_table.specs.Seated.{TableId}
-use Rattle.record.specs.declared.access.TornBit.{TornBit}
+use Rattle.std.proofs.Common.{◌≡◌, ℕ, ◌<◌, ◌==◌, arith, Bool, true, false, cond, [], ◌∷◌, refl, sym, ap, ◌∙◌, subst, Option, Some, None}
+use Rattle.std.specs.Prelude.{Ok, Err, Result}
 use Rattle.plain_store.specs.Commands.{is_command}
 use Rattle.plain_store.specs.declared.Command.{Command}
-use Rattle.plain_store.specs.declared.Command.TheVariants.{Ask}
 use Rattle.plain_store.specs.declared.Setup.{Setup}
 use Rattle.record.specs.declared.events.Event.{Event}
 use Rattle.record.specs.declared.events.Event.TheVariants as event
 use Rattle.record.specs.declared.refusals.Refusal.{Refusal}
 use Rattle.record.specs.declared.stages.Stage.{Stage}
 use Rattle.record.specs.declared.stages.Stage.TheVariants as stage
-use Rattle.record.specs.declared.refusals.Refusal.TheVariants.{AlreadyFailed, CallsFull}
-use Rattle.record.specs.Closings.{Closing, Withdraws, Settles, Frees, Lowers, Quit, Ended}
-use Rattle.record.specs.Cuts.{Change, pending_at, torn_at, torn_closing}
-use Rattle.record.specs.Failures.{begun_at, begun_closing, cut}
-use Rattle.record.specs.Parts.{Raises}
-use Rattle.record.specs.Places.{enter}
+use Rattle.record.specs.declared.refusals.Refusal.TheVariants.{AlreadyFailed}
 use Rattle.record.specs.Records.{refused_at}
-use Rattle.record.specs.Scripts.{Call}
-use Rattle.process.specs.laws.Doings.{Doing, Rests, Lies, Runs, Closes, call}
-use Rattle.process.specs.laws.Steps.{cut_of, next_of}
-use Rattle.process.specs.Processes.{ProcessState, kept_at, kept_closing, process_after, stage_kept}
-use Rattle.process.specs.Processes as kept
-use Rattle.process.specs.Refusals.{is_full, next_number}
-use Rattle.process.specs.Steps.{IsAt, kept_failing, kept_withdrawing, may_fail}
-use Rattle.process.proofs.Stages.{fails-kept}
+use Rattle.laws.specs.Steps.{next_of}
+use Rattle.process.specs.Places.{ProcessState, is_full, may_fail, next_number, process_after}
+use Rattle.process.specs.Places as places
 use Rattle.board.specs.declared.pending.Pending.{Pending}
 use Rattle.board.specs.Pending.{events_of, nothing}
-use Rattle.board.specs.Ports.{IsTied, PortState, answer_to, port_after, with_pending}
+use Rattle.board.specs.Ports.{IsTied, IsUnended, PortState, answer_to, port_after, with_pending}
 use Rattle.board.specs.Views.{MayAllHappen, MayHappen, OwnView, ViewState, at_events, new_own, new_view, process_at, refusal_in, stage_in, with_event, with_events}
 use Rattle.board.specs.WordSteps.{IsBetween}
 use Rattle.board.proofs.Begins.{event_fresh}
+use Rattle.board.proofs.Doings.{event_unended}
 use Rattle.board.proofs.Happenings.{same_process, same_process_all}
 
 -- What a port answers.
-
-pub answers_yes : (port : PortState) (event : Event) → refusal_in port.setup port.view.own event ≡ None → (answer_to port event ≡ Ok tt) × (port_after port event ≡ record port { view = at_events port.setup port.view (event ∷ []) })
-answers_yes port event h = (
-  ap (λ r. elim r as (λ _. Result (Unit {0}) Refusal) [ Some refusal ↦ Err refusal | None ↦ Ok tt ]) h,
-  ap (λ r. elim r as (λ _. PortState) [ Some refusal ↦ port | None ↦ record port { view = at_events port.setup port.view (event ∷ []) } ]) h,
-)
 
 pub answers_no : (port : PortState) (event : Event) (refusal : Refusal) → refusal_in port.setup port.view.own event ≡ Some refusal → (answer_to port event ≡ Err refusal) × (port_after port event ≡ port)
 answers_no port event refusal h = (
@@ -51,18 +32,10 @@ answers_no port event refusal h = (
 )
 
 pub is_accepted : (port : PortState) (event : Event) → answer_to port event ≡ Ok tt → refusal_in port.setup port.view.own event ≡ None
-is_accepted port event h = by (refusal_in port.setup port.view.own event) refl
-  where
-    by : (r : Option Refusal) → refusal_in port.setup port.view.own event ≡ r → refusal_in port.setup port.view.own event ≡ None
-    by None e = e
-    by (Some x) e = let f : Err x ≡ Ok tt = sym (answers_no port event x e).0 ∙ h in cc
+is_accepted port event h = grind arith
 
 pub is_left : (port : PortState) (event : Event) (refusal : Refusal) → answer_to port event ≡ Err refusal → port_after port event ≡ port
-is_left port event refusal h = by (refusal_in port.setup port.view.own event) refl
-  where
-    by : (r : Option Refusal) → refusal_in port.setup port.view.own event ≡ r → port_after port event ≡ port
-    by None e = let f : Ok tt ≡ Err refusal = sym (answers_yes port event e).0 ∙ h in cc
-    by (Some x) e = (answers_no port event x e).1
+is_left port event refusal h = grind arith
 
 -- by its process
 pub answered_by : (port : PortState) (event : Event) (refusal : Option Refusal) (result : Result (Unit {0}) Refusal) → refusal ≡ refusal_in port.setup port.view.own event → result ≡ (elim refusal [ Some x ↦ Err x | None ↦ Ok tt ]) → result ≡ answer_to port event
@@ -71,38 +44,16 @@ answered_by port event refusal result is h = h ∙ ap (λ r. elim r as (λ _. Re
 -- What is not refused is allowed by the stage.
 
 stage_allows : (s : Setup) (o : OwnView) (event : Event) → refusal_in s o event ≡ None → refused_at event (stage_in s o) ≡ None
-stage_allows s o event h = by (refused_at event (stage_in s o)) refl
-  where
-    by : (r : Option Refusal) → refused_at event (stage_in s o) ≡ r → refused_at event (stage_in s o) ≡ None
-    by None e = e
-    by (Some x) e = let f : Some x ≡ None = sym (ap (λ r. elim r as (λ _. Option Refusal) [ Some y ↦ Some y | None ↦ cond (is_full s o.number event) (Some CallsFull) None ]) e) ∙ h in cc
+stage_allows s o event h = grind arith
 
 idle_at : (p : ℕ) (command : Command) (st : Stage) → refused_at (event.Call p command) st ≡ None → st ≡ stage.Idle
-idle_at p command stage.Idle h = refl
-idle_at p command stage.Doorway h = cc
-idle_at p command stage.Waiting h = cc
-idle_at p command stage.Inside h = cc
-idle_at p command stage.Leaving h = cc
-idle_at p command stage.Settling h = cc
-idle_at p command stage.Down h = cc
+idle_at p command st h = grind arith
 
 waiting_at : (p : ℕ) (st : Stage) → refused_at (event.Withdraw p) st ≡ None → st ≡ stage.Waiting
-waiting_at p stage.Waiting h = refl
-waiting_at p stage.Idle h = cc
-waiting_at p stage.Doorway h = cc
-waiting_at p stage.Inside h = cc
-waiting_at p stage.Leaving h = cc
-waiting_at p stage.Settling h = cc
-waiting_at p stage.Down h = cc
+waiting_at p st h = grind arith
 
 down_at : (p : ℕ) (st : Stage) → refused_at (event.Restart p) st ≡ None → st ≡ stage.Down
-down_at p stage.Down h = refl
-down_at p stage.Idle h = cc
-down_at p stage.Doorway h = cc
-down_at p stage.Waiting h = cc
-down_at p stage.Inside h = cc
-down_at p stage.Leaving h = cc
-down_at p stage.Settling h = cc
+down_at p st h = grind arith
 
 idle : (s : Setup) (o : OwnView) (p : ℕ) (command : Command) → refusal_in s o (event.Call p command) ≡ None → stage_in s o ≡ stage.Idle
 idle s o p command h = idle_at p command (stage_in s o) (stage_allows s o (event.Call p command) h)
@@ -113,67 +64,38 @@ waits s o p h = waiting_at p (stage_in s o) (stage_allows s o (event.Withdraw p)
 pub down : (s : Setup) (o : OwnView) (p : ℕ) → refusal_in s o (event.Restart p) ≡ None → stage_in s o ≡ stage.Down
 down s o p h = down_at p (stage_in s o) (stage_allows s o (event.Restart p) h)
 
-pub fails : (s : Setup) (o : OwnView) (p : ℕ) → refusal_in s o (event.Fail p) ≡ None → may_fail (kept_at s o.process o.doing) ≡ true
-fails s o p h = fails-kept p (kept_at s o.process o.doing) (stage_allows s o (event.Fail p) h)
+pub fails : (s : Setup) (o : OwnView) (p : ℕ) → refusal_in s o (event.Fail p) ≡ None → may_fail o.doing ≡ true
+fails s o p h = grind arith
 
 -- so does the number of calls
 pub few_calls : (s : Setup) (o : OwnView) (p : ℕ) (command : Command) → refusal_in s o (event.Call p command) ≡ None → s.version ≡ 2 → o.number < 65535
-few_calls s o p command h version = by (nat_le 65535 o.number) refl
-  where
-    full : is_full s o.number (event.Call p command) ≡ nat_le 65535 o.number
-    full = ap (λ b. b && nat_le 65535 o.number) (eq-eqb s.version 2 version)
-
-    by : (b : Bool) → nat_le 65535 o.number ≡ b → o.number < 65535
-    by false e = grind (arith, nat_tests)
-    by true e = let f : Some CallsFull ≡ None =
-        sym (ap (λ r. elim r as (λ _. Option Refusal) [ Some y ↦ Some y | None ↦ cond (is_full s o.number (event.Call p command)) (Some CallsFull) None ]) (stage_allows s o (event.Call p command) h) ∙ ap (λ b. cond b (Some CallsFull) None) (full ∙ e)) ∙ h in cc
+few_calls s o p command h k = grind arith
 
 -- The tie.
 
--- one more event is pending
-tied_event : (s : Setup) (pending pending' : Pending) (process new : ProcessState) (value : Bool) (v : ViewState) (event : Event) → IsTied s pending process value v → events_of v.own.process pending' ≡ event ∷ events_of v.own.process pending →
-    MayHappen s (with_pending s pending v).own event → new ≡ process_at s (with_event s (with_pending s pending v).own event) → IsAt (process_at s (with_event s (with_pending s pending v).own event)) (with_event s (with_pending s pending v).own event).doing →
-    IsTied s pending' new value v
-tied_event s pending pending' process new value v event t is may same at =
-    let b = (with_pending s pending v).own in
-    let b' = with_event s b event in
-    record {
-      live = t.live;
-      may = subst (MayAllHappen s v.own) (sym is) (t.may, may);
-      same = subst (λ xs. new ≡ process_at s (with_events s v.own xs)) (sym is) same;
-      at = subst (λ xs. IsAt (process_at s (with_events s v.own xs)) (with_events s v.own xs).doing) (sym is) at;
-      between = subst (λ xs. IsBetween s value (with_events s v.own xs)) (sym is)
-          (λ fl x i. let f = event_fresh s b event may fl x (ap (λ p. next_of s p b'.doing fl) (sym (same_process s b event)) ∙ i) in ((λ e. absurd (f.0 e)), f.1));
-    }
-
--- the port after that event
+-- the port after one more event is pending
 abbrev pub Joins : Setup → Pending → ProcessState → Bool → ViewState → Pending → Event → Type 0
 Joins s pending' new value v pending event = IsTied new.setup pending' new value v × (with_pending s pending' v ≡ at_events s (with_pending s pending v) (event ∷ []))
 
 joined : (s : Setup) (pending pending' : Pending) (process new : ProcessState) (value : Bool) (v : ViewState) (event : Event) → IsTied s pending process value v → events_of v.own.process pending' ≡ event ∷ events_of v.own.process pending →
-    MayHappen s (with_pending s pending v).own event → new ≡ process_at s (with_event s (with_pending s pending v).own event) → IsAt (process_at s (with_event s (with_pending s pending v).own event)) (with_event s (with_pending s pending v).own event).doing →
-    Joins s pending' new value v pending event
-joined s pending pending' process new value v event t is may same at =
-    (subst (λ s. IsTied s pending' new value v) (sym (ap (λ (q : ProcessState). q.setup) same)) (tied_event s pending pending' process new value v event t is may same at), ap (at_events s v) is)
+    MayHappen s (with_pending s pending v).own event → new ≡ process_at s (with_event s (with_pending s pending v).own event) → Joins s pending' new value v pending event
+joined s pending pending' process new value v event t is may same =
+    let b = (with_pending s pending v).own in
+    let b' = with_event s b event in
+    let tied : IsTied s pending' new value v = record {
+      live = t.live;
+      may = subst (MayAllHappen s v.own) (sym is) (t.may, may);
+      same = subst (λ xs. new ≡ process_at s (with_events s v.own xs)) (sym is) same;
+      unended = subst (λ xs. IsUnended (with_events s v.own xs).doing) (sym is) (event_unended s b event t.unended);
+      between = subst (λ xs. IsBetween s value (with_events s v.own xs)) (sym is)
+          (λ fl x i. let f = event_fresh s b event may fl x (ap (λ p. next_of s p b'.doing fl) (sym (same_process s b event)) ∙ i) in ((λ e. absurd (f.0 e)), f.1));
+    } in (subst (λ s. IsTied s pending' new value v) (sym (ap (λ (q : ProcessState). q.setup) same)) tied, ap (at_events s v) is)
 
 -- The stages of what is pending.
 
-stage-cut : (c d : Call) (torn : Option TornBit) (begun : Bool) (pending : Option Change) (inside : Bool) → stage_kept (kept_closing c (cut d torn begun pending inside)) ≡ stage.Settling
-stage-cut c d None begun pending inside = refl
-stage-cut c d (Some t) begun pending inside = refl
-
-stage-fails : (s : Setup) (p : ℕ) (command : Command) (number : ℕ) (d : Doing) → stage_kept (kept_at s p (Closes command number (cut_of s p d))) ≡ stage.Settling
-stage-fails s p command number Rests = refl
-stage-fails s p command number Lies = refl
-stage-fails s p command number (Runs x n at) = stage-cut (call s p command number) (call s p x n) (torn_at (call s p x n) at) (begun_at (call s p x n) at) (pending_at (call s p x n) at.part) _
-stage-fails s p command number (Closes x n at) = stage-cut (call s p command number) (call s p x n) (torn_closing at) (begun_closing (call s p x n) at) None _
-
 -- a process that failed is settling
 pub settling : (s : Setup) (v : ViewState) (restarted withdrew : Bool) (called : Option Command) → stage_in s (with_pending s (record { restarted = restarted; called = called; withdrew = withdrew; failed = true }) v).own ≡ stage.Settling
-settling s v restarted withdrew called =
-    let pending : Pending = record { restarted = restarted; called = called; withdrew = withdrew; failed = false } in
-    let w = (with_pending s pending v).own in
-    stage-fails s w.process w.command w.number w.doing
+settling s v restarted withdrew called = grind arith
 
 -- A call.
 
@@ -181,9 +103,7 @@ pub joins_call : (s : Setup) (restarted failed withdrew : Bool) (called : Option
     → let pending : Pending = record { restarted = restarted; called = called; withdrew = withdrew; failed = failed } in
     let pending' : Pending = record { restarted = restarted; called = Some command; withdrew = withdrew; failed = failed } in
     let o : OwnView = (with_pending s pending v).own in
-    IsTied s pending process value v → refusal_in s o (event.Call o.process command) ≡ None → is_command command ≡ true → next ≡ next_number process.setup process.number →
-    new ≡ record process { kept = kept_at process.setup process.process (Runs command next (enter (call process.setup process.process command next) Raises)); command = command; number = next } →
-    Joins s pending' new value v pending (event.Call o.process command)
+    IsTied s pending process value v → refusal_in s o (event.Call o.process command) ≡ None → is_command command ≡ true → next ≡ next_number process.setup process.number → new ≡ places.called process command next → Joins s pending' new value v pending (event.Call o.process command)
 joins_call s restarted true withdrew called process new value v command next t may given n is = let o = (with_pending s (record { restarted = restarted; called = called; withdrew = withdrew; failed = true }) v).own in let f : stage.Settling ≡ stage.Idle = sym (settling s v restarted withdrew called) ∙ idle s o o.process command may in cc
 joins_call s restarted false true called process new value v command next t may given n is = let o = (with_pending s (record { restarted = restarted; called = called; withdrew = true; failed = false }) v).own in let f : stage.Leaving ≡ stage.Idle = idle s o o.process command may in cc
 joins_call s restarted false false (Some c) process new value v command next t may given n is = let o = (with_pending s (record { restarted = restarted; called = Some c; withdrew = false; failed = false }) v).own in let f : stage.Doorway ≡ stage.Idle = idle s o o.process command may in cc
@@ -192,34 +112,17 @@ joins_call s restarted false false None process new value v command next t may g
     let pending' : Pending = record { restarted = restarted; called = Some command; withdrew = false; failed = false } in
     let o = (with_pending s pending v).own in
     let number : next ≡ next_number s o.number = n ∙ ap (λ (q : ProcessState). next_number q.setup q.number) t.same in
-    joined s pending pending' process new value v (event.Call o.process command) t (ap (λ p. event.Call p command ∷ events_of v.own.process pending) (sym (same_process_all s v.own (events_of v.own.process pending)))) (record {
-      marked = refl;
-      process = refl;
-      accepted = may;
-      given = given;
-    })
-    (is
-    ∙ ap (λ (q : ProcessState). record q { kept = kept_at q.setup q.process (Runs command next (enter (call q.setup q.process command next) Raises)); command = command; number = next }) t.same
-    ∙ ap (λ k. record (process_at s o) { kept = kept_at s o.process (Runs command k (enter (call s o.process command k) Raises)); command = command; number = k }) number)
-    (record { kept = refl; call = (refl, refl); reached = ([], refl); live = refl })
+    joined s pending pending' process new value v (event.Call o.process command) t (ap (λ p. event.Call p command ∷ events_of v.own.process pending) (sym (same_process_all s v.own (events_of v.own.process pending))))
+    (record { marked = refl; process = refl; accepted = may; given = given })
+    (is ∙ ap (λ q. places.called q command next) t.same ∙ ap (places.called (process_at s o) command) number)
 
 -- A failure.
-
--- a closing is kept whatever its call asks
-kept-closing : (s : Setup) (p : ℕ) (command : Command) (number : ℕ) (at : Closing) → kept_closing (call s p command number) at ≡ kept_closing (call s p Ask 0) at
-kept-closing s p command number (Withdraws w) = refl
-kept-closing s p command number (Settles field bit begun taken is t) = refl
-kept-closing s p command number (Frees is w) = refl
-kept-closing s p command number (Lowers w) = refl
-kept-closing s p command number Quit = refl
-kept-closing s p command number Ended = refl
 
 pub joins_failure : (s : Setup) (restarted failed withdrew : Bool) (called : Option Command) (process new : ProcessState) (value : Bool) (v : ViewState)
     → let pending : Pending = record { restarted = restarted; called = called; withdrew = withdrew; failed = failed } in
     let pending' : Pending = record { restarted = restarted; called = called; withdrew = withdrew; failed = true } in
     let o : OwnView = (with_pending s pending v).own in
-    IsTied s pending process value v → refusal_in s o (event.Fail o.process) ≡ None → new ≡ record process { kept = kept_failing process.setup process.process o.doing } →
-    Joins s pending' new value v pending (event.Fail o.process)
+    IsTied s pending process value v → refusal_in s o (event.Fail o.process) ≡ None → new ≡ places.failed process → Joins s pending' new value v pending (event.Fail o.process)
 joins_failure s restarted true withdrew called process new value v t may is =
     let o = (with_pending s (record { restarted = restarted; called = called; withdrew = withdrew; failed = true }) v).own in
     let f : Some AlreadyFailed ≡ None = sym (ap (refused_at (event.Fail o.process)) (settling s v restarted withdrew called)) ∙ stage_allows s o (event.Fail o.process) may in cc
@@ -228,11 +131,7 @@ joins_failure s restarted false withdrew called process new value v t may is =
     let pending' : Pending = record { restarted = restarted; called = called; withdrew = withdrew; failed = true } in
     let o = (with_pending s pending v).own in
     joined s pending pending' process new value v (event.Fail o.process) t (ap (λ p. event.Fail p ∷ events_of v.own.process pending) (sym (same_process_all s v.own (events_of v.own.process pending))))
-    (record { marked = refl; process = refl; accepted = may; given = refl })
-    (is
-    ∙ ap (λ (q : ProcessState). record q { kept = kept_failing q.setup q.process o.doing }) t.same
-    ∙ ap (λ k. record (process_at s o) { kept = k }) (sym (kept-closing s o.process o.command o.number (cut_of s o.process o.doing))))
-    (record { kept = refl; call = tt; reached = tt; live = tt })
+    (record { marked = refl; process = refl; accepted = may; given = refl }) (is ∙ ap places.failed t.same)
 
 -- A withdrawal.
 
@@ -249,6 +148,6 @@ new_tied process v made fresh known = subst (IsTied process.setup nothing proces
   live = refl;
   may = tt;
   same = fresh ∙ ap (λ n. record (process_at process.setup (new_own process.process)) { number = n }) (no-number (process.setup.version == 2));
-  at = record { kept = refl; call = tt; reached = tt; live = tt };
+  unended = tt;
   between = λ flick x i. cc;
 })

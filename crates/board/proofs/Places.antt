@@ -1,7 +1,7 @@
 -- What a word step makes of the list of a port: the place of what is taken.
-use Rattle.std.proofs.Common.{◌≡◌, ℕ, Bool, true, false, cond, List, [], ◌∷◌, ◌++◌, ◌&&◌, length, refl, sym, ap, ◌∙◌, Option, Some, None}
+use Rattle.std.proofs.Common.{◌≡◌, ℕ, Bool, true, false, cond, List, [], ◌∷◌, ◌++◌, ◌&&◌, length, refl, sym, ap, ◌∙◌, Option, Some, None, arith}
 use Rattle.std.specs.Prelude.{IfSome, option_map}
-use Rattle.safe_bit.specs.declared.Move.TheVariants.{BeginRead}
+use Rattle.record.specs.safe_bit.declared.Move.TheVariants.{BeginRead}
 use Rattle.record.specs.declared.access.Access.{Access}
 use Rattle.record.specs.declared.access.Field.{Field}
 use Rattle.record.specs.declared.access.TornBit.{TornBit}
@@ -12,28 +12,26 @@ use Rattle.record.specs.reader_copies.Runs as copies
 use Rattle.record.specs.declared.history.Taken.{Taken}
 use Rattle.record.specs.declared.marks.Mark.{Mark}
 use Rattle.record.specs.declared.marks.Mark.TheVariants as mark
-use Rattle.record.specs.Closings.{Closing, Withdraws, Settles, Frees, Lowers, Quit, Ended, freeing, is_last_settled, is_last_written, is_unwritten, no_ticket, settled_marks}
+use Rattle.record.specs.Closings.{Closing, Withdraws, Settles, Frees, Lowers, Quit, Ended, is_last_settled, is_last_written, is_unwritten, no_ticket, settled_marks}
 use Rattle.record.specs.Cuts.{Change, pending_at, torn_at, torn_closing}
 use Rattle.record.specs.Failures.{begun_at, begun_closing, cut}
 use Rattle.record.specs.Histories.{reply_taken}
 use Rattle.record.specs.Parts.{Part, first_marks, is_over, last_marks}
 use Rattle.record.specs.Parts as part
-use Rattle.record.specs.Places.{Place, bits_with, is_fresh, is_last, place_after}
-use Rattle.record.specs.Program.{Wait, entered_if_none, newest_stamp, waits_of}
+use Rattle.record.specs.Places.{bits_with, is_fresh, is_last}
+use Rattle.record.specs.Program.{newest_stamp}
 use Rattle.record.specs.Scripts.{Call}
 use Rattle.record.specs.Unit.{is_commit}
-use Rattle.process.specs.section.Sections.{changes_at}
-use Rattle.process.specs.laws.Doings.{Doing, Rests, Lies, Runs, Closes, call, closes, is_inside, is_inside_at, is_inside_closing}
-use Rattle.process.specs.laws.Steps.{cut_of, does_then, marks_with, next_of}
+use Rattle.laws.specs.Doings.{Doing, Rests, Lies, Runs, Closes, call, is_inside, is_inside_at, is_inside_closing}
+use Rattle.laws.specs.Steps.{cut_of, does_then, marks_with, next_of}
 use Rattle.history_laws.specs.Stamps.{stamp_at, stamp_read}
 use Rattle.process.specs.declared.told.StepTold.{StepTold}
 use Rattle.process.specs.declared.told.StepTold.TheVariants as told
-use Rattle.process.specs.Steps.{changes_pending, changes_read}
+use Rattle.process.specs.Places.{changes_pending, changes_read}
 use Rattle.process.specs.Telling.{changes_told, marks_told}
 use Rattle.board.specs.Listing.{IsPlace, may_take}
 use Rattle.board.specs.Views.{OwnView}
 use Rattle.board.specs.WordSteps.{Makes}
-use Rattle.board.proofs.ReadBegins.{closing_no_read}
 
 -- The marks of what is taken.
 
@@ -47,169 +45,18 @@ abbrev pub settles_taking : List Mark → Bool
 settles_taking (mark.Settled v ∷ mark.Taken k r ∷ marks) = true
 settles_taking _ = false
 
-waits-take : (b : Bool) (ws : List Wait) → takes (cond b (entered_if_none ws) []) ≡ true → ⊥
-waits-take true [] h = cc
-waits-take true (w ∷ ws) h = cc
-waits-take false ws h = cc
-
-waits-settle : (b : Bool) (ws : List Wait) → settles_taking (cond b (entered_if_none ws) []) ≡ true → ⊥
-waits-settle true [] h = cc
-waits-settle true (w ∷ ws) h = cc
-waits-settle false ws h = cc
-
-image-settles : (b : Bool) (r : Reply) → settles_taking (cond b [] (mark.Taken 0 r ∷ [])) ≡ true → ⊥
-image-settles true r h = cc
-image-settles false r h = cc
-
-enters-settle : (t : ℕ) (ws : List Wait) → settles_taking (mark.Waiting t ∷ entered_if_none ws) ≡ true → ⊥
-enters-settle t [] h = cc
-enters-settle t (w ∷ ws) h = cc
-
--- a part whose last access takes the command has read the stamps
-part-takes : (c : Call) (x : Part) (fresh last : Bool) (bits : List Bool) → takes (cond fresh (first_marks x) [] ++ cond last (last_marks c x bits) []) ≡ true → stamp_at x ≡ Some (changes_at x)
-part-takes c part.Raises true true bits h = cc
-part-takes c part.Raises true false bits h = cc
-part-takes c part.Raises false true bits h = cc
-part-takes c part.Raises false false bits h = cc
-part-takes c (part.Asks j js ts) true true bits h = cc
-part-takes c (part.Asks j js ts) true false bits h = cc
-part-takes c (part.Asks j js ts) false true bits h = cc
-part-takes c (part.Asks j js ts) false false bits h = cc
-part-takes c (part.TakesTicket t) true true bits h = cc
-part-takes c (part.TakesTicket t) true false bits h = cc
-part-takes c (part.TakesTicket t) false true bits h = cc
-part-takes c (part.TakesTicket t) false false bits h = cc
-part-takes c (part.Lowers t) true true bits h = cc
-part-takes c (part.Lowers t) true false bits h = cc
-part-takes c (part.Lowers t) false true bits h = cc
-part-takes c (part.Lowers t) false false bits h = cc
-part-takes c (part.Refuses f) true true bits h = cc
-part-takes c (part.Refuses f) true false bits h = cc
-part-takes c (part.Refuses f) false true bits h = cc
-part-takes c (part.Refuses f) false false bits h = cc
-part-takes c (part.Waits t w ws) true true bits h = absurd (waits-take _ ws h)
-part-takes c (part.Waits t w ws) true false bits h = cc
-part-takes c (part.Waits t w ws) false true bits h = absurd (waits-take _ ws h)
-part-takes c (part.Waits t w ws) false false bits h = cc
-part-takes c (part.AsksCommit k ks vs) true true bits h = cc
-part-takes c (part.AsksCommit k ks vs) true false bits h = cc
-part-takes c (part.AsksCommit k ks vs) false true bits h = cc
-part-takes c (part.AsksCommit k ks vs) false false bits h = cc
-part-takes c (part.AsksStamp k ks vs b) true true bits h = cc
-part-takes c (part.AsksStamp k ks vs b) true false bits h = cc
-part-takes c (part.AsksStamp k ks vs b) false true bits h = cc
-part-takes c (part.AsksStamp k ks vs b) false false bits h = cc
-part-takes c (part.AsksImage vs) fresh last bits h = refl
-part-takes c (part.WritesImage vs st) true true bits h = cc
-part-takes c (part.WritesImage vs st) true false bits h = cc
-part-takes c (part.WritesImage vs st) false true bits h = cc
-part-takes c (part.WritesImage vs st) false false bits h = cc
-part-takes c (part.WritesStamp vs st) true true bits h = cc
-part-takes c (part.WritesStamp vs st) true false bits h = cc
-part-takes c (part.WritesStamp vs st) false true bits h = cc
-part-takes c (part.WritesStamp vs st) false false bits h = cc
-part-takes c (part.WritesCommit vs st) fresh last bits h = refl
-part-takes c (part.Clears a) true true bits h = cc
-part-takes c (part.Clears a) true false bits h = cc
-part-takes c (part.Clears a) false true bits h = cc
-part-takes c (part.Clears a) false false bits h = cc
-part-takes c part.Over true true bits h = cc
-part-takes c part.Over true false bits h = cc
-part-takes c part.Over false true bits h = cc
-part-takes c part.Over false false bits h = cc
-
-closing-takes : (b : Bool) (ms : List Mark) → takes ms ≡ false → takes (cond b ms []) ≡ true → ⊥
-closing-takes true ms without h = let f : false ≡ true = sym without ∙ h in cc
-closing-takes false ms without h = cc
-
 pub takes_read : (s : Setup) (p : ℕ) (d : Doing) (flick v : Bool) → takes (marks_with s p d flick v) ≡ true → stamp_read d ≡ Some (changes_read d)
-takes_read s p Rests flick v h = cc
-takes_read s p Lies flick v h = cc
-takes_read s p (Runs x n at) flick v h = part-takes (call s p x n) at.part (is_fresh at.run) (is_last (call s p x n) at.part at.run) (bits_with at.run v) h
-takes_read s p (Closes x n (Withdraws w)) flick v h = absurd (closing-takes (is_last_written (call s p x n) (no_ticket (call s p x n)) w) _ refl h)
-takes_read s p (Closes x n (Settles f bit begun taken is t)) flick v h = absurd (closing-takes (is_last_settled (call s p x n) t (copies.settled_at t flick)) _ refl h)
-takes_read s p (Closes x n (Frees is w)) flick v h = absurd (closing-takes (is && is_unwritten w) (mark.Left ∷ []) refl h)
-takes_read s p (Closes x n (Lowers w)) flick v h = absurd (closing-takes (is_last_written (call s p x n) (false ∷ []) w) (mark.Down ∷ []) refl h)
-takes_read s p (Closes x n Quit) flick v h = cc
-takes_read s p (Closes x n Ended) flick v h = cc
+takes_read s p d flick v h = grind arith
 
 -- no part settles a bit
 part-settles : (c : Call) (x : Part) (fresh last : Bool) (bits : List Bool) → settles_taking (cond fresh (first_marks x) [] ++ cond last (last_marks c x bits) []) ≡ true → ⊥
-part-settles c part.Raises true true bits h = cc
-part-settles c part.Raises true false bits h = cc
-part-settles c part.Raises false true bits h = cc
-part-settles c part.Raises false false bits h = cc
-part-settles c (part.Asks j js ts) true true bits h = cc
-part-settles c (part.Asks j js ts) true false bits h = cc
-part-settles c (part.Asks j js ts) false true bits h = cc
-part-settles c (part.Asks j js ts) false false bits h = cc
-part-settles c (part.TakesTicket t) true true bits h = cc
-part-settles c (part.TakesTicket t) true false bits h = cc
-part-settles c (part.TakesTicket t) false true bits h = cc
-part-settles c (part.TakesTicket t) false false bits h = cc
-part-settles c (part.Lowers t) true true bits h = enters-settle t (waits_of c) h
-part-settles c (part.Lowers t) true false bits h = cc
-part-settles c (part.Lowers t) false true bits h = enters-settle t (waits_of c) h
-part-settles c (part.Lowers t) false false bits h = cc
-part-settles c (part.Refuses f) true true bits h = cc
-part-settles c (part.Refuses f) true false bits h = cc
-part-settles c (part.Refuses f) false true bits h = cc
-part-settles c (part.Refuses f) false false bits h = cc
-part-settles c (part.Waits t w ws) true true bits h = waits-settle _ ws h
-part-settles c (part.Waits t w ws) true false bits h = cc
-part-settles c (part.Waits t w ws) false true bits h = waits-settle _ ws h
-part-settles c (part.Waits t w ws) false false bits h = cc
-part-settles c (part.AsksCommit k ks vs) true true bits h = cc
-part-settles c (part.AsksCommit k ks vs) true false bits h = cc
-part-settles c (part.AsksCommit k ks vs) false true bits h = cc
-part-settles c (part.AsksCommit k ks vs) false false bits h = cc
-part-settles c (part.AsksStamp k ks vs b) true true bits h = cc
-part-settles c (part.AsksStamp k ks vs b) true false bits h = cc
-part-settles c (part.AsksStamp k ks vs b) false true bits h = cc
-part-settles c (part.AsksStamp k ks vs b) false false bits h = cc
-part-settles c (part.AsksImage vs) true true bits h = image-settles _ _ h
-part-settles c (part.AsksImage vs) true false bits h = cc
-part-settles c (part.AsksImage vs) false true bits h = image-settles _ _ h
-part-settles c (part.AsksImage vs) false false bits h = cc
-part-settles c (part.WritesImage vs st) true true bits h = cc
-part-settles c (part.WritesImage vs st) true false bits h = cc
-part-settles c (part.WritesImage vs st) false true bits h = cc
-part-settles c (part.WritesImage vs st) false false bits h = cc
-part-settles c (part.WritesStamp vs st) true true bits h = cc
-part-settles c (part.WritesStamp vs st) true false bits h = cc
-part-settles c (part.WritesStamp vs st) false true bits h = cc
-part-settles c (part.WritesStamp vs st) false false bits h = cc
-part-settles c (part.WritesCommit vs st) true true bits h = cc
-part-settles c (part.WritesCommit vs st) true false bits h = cc
-part-settles c (part.WritesCommit vs st) false true bits h = cc
-part-settles c (part.WritesCommit vs st) false false bits h = cc
-part-settles c (part.Clears a) true true bits h = cc
-part-settles c (part.Clears a) true false bits h = cc
-part-settles c (part.Clears a) false true bits h = cc
-part-settles c (part.Clears a) false false bits h = cc
-part-settles c part.Over true true bits h = cc
-part-settles c part.Over true false bits h = cc
-part-settles c part.Over false true bits h = cc
-part-settles c part.Over false false bits h = cc
+part-settles c x fresh last bits h = grind arith
 
 settling : (b begun v : Bool) (taken : Option Reply) (x : Command) (n : ℕ) (f : Field) (bit : ℕ) (begun' is : Bool) (t : copies.Settling) → settles_taking (cond b (settled_marks begun taken v) []) ≡ true → may_take (Closes x n (Settles f bit begun' taken is t)) ≡ true
-settling true begun v (Some r) x n f bit begun' is t h = refl
-settling true begun v None x n f bit begun' is t h = cc
-settling false begun v taken x n f bit begun' is t h = cc
+settling b begun v taken x n f bit begun' is t h = grind arith
 
 one-settles : (b : Bool) (m : Mark) → settles_taking (cond b (m ∷ []) []) ≡ true → ⊥
-one-settles true (mark.Called c) h = cc
-one-settles true (mark.Waiting t) h = cc
-one-settles true mark.Entered h = cc
-one-settles true (mark.Taken k r) h = cc
-one-settles true mark.Left h = cc
-one-settles true (mark.Answered a) h = cc
-one-settles true mark.Failed h = cc
-one-settles true (mark.Settled v) h = cc
-one-settles true mark.Down h = cc
-one-settles true mark.Withdrew h = cc
-one-settles true mark.Restarted h = cc
-one-settles false m h = cc
+one-settles b m h = grind arith
 
 -- where a bit is settled and a command taken, a memory unit might take it
 pub settles_may : (s : Setup) (p : ℕ) (d : Doing) (flick v : Bool) → settles_taking (marks_with s p d flick v) ≡ true → may_take d ≡ true
@@ -229,47 +76,12 @@ settles_may s p (Closes x n Ended) flick v h = cc
 abbrev pub MayTakeOn : Setup → ℕ → Doing → Bool → Bool → Type 0
 MayTakeOn s p d flick v = (may_take d ≡ true) × (reply_taken (marks_with s p d flick v) ≡ None) × (is_inside (does_then s p d flick v) ≡ is_inside d)
 
-over-takes : (b : Bool) (x : Command) (n : ℕ) (at : Place) → may_take (cond b Rests (Runs x n at)) ≡ true → ⊥
-over-takes true x n at h = cc
-over-takes false x n at h = cc
-
-withdrawing-takes : (b : Bool) (x : Command) (n : ℕ) (w : Rattle.record.specs.safe_number.Runs.NumberWrite) → may_take (closes x n (cond b Quit (Withdraws w))) ≡ true → ⊥
-withdrawing-takes true x n w h = cc
-withdrawing-takes false x n w h = cc
-
-freeing-takes : (b is : Bool) (x : Command) (n : ℕ) (w w' : Rattle.record.specs.safe_number.Runs.NumberWrite) → may_take (closes x n (cond b (Lowers w) (Frees is w'))) ≡ true → ⊥
-freeing-takes true is x n w w' h = cc
-freeing-takes false is x n w w' h = cc
-
-lowering-takes : (b : Bool) (x : Command) (n : ℕ) (w : Rattle.record.specs.safe_number.Runs.NumberWrite) → may_take (closes x n (cond b Ended (Lowers w))) ≡ true → ⊥
-lowering-takes true x n w h = cc
-lowering-takes false x n w h = cc
-
-settling-on : (b : Bool) (c : Call) (x : Command) (n : ℕ) (f : Field) (bit : ℕ) (begun v is : Bool) (taken : Option Reply) (t t' : copies.Settling)
-    → let then : Closing = cond b (freeing c is) (Settles f bit begun taken is t') in
-    may_take (closes x n then) ≡ true → (may_take (Closes x n (Settles f bit begun taken is t)) ≡ true) × (reply_taken (cond b (settled_marks begun taken v) []) ≡ None) × (is_inside (closes x n then) ≡ is)
-settling-on true c x n f bit begun v is taken t t' h = cc
-settling-on false c x n f bit begun v is None t t' h = cc
-settling-on false c x n f bit begun v is (Some r) t t' h = (refl, refl, refl)
-
 pub may_take_on : (s : Setup) (p : ℕ) (d : Doing) (flick v : Bool) → may_take (does_then s p d flick v) ≡ true → MayTakeOn s p d flick v
-may_take_on s p Rests flick v h = cc
-may_take_on s p Lies flick v h = cc
-may_take_on s p (Runs x n at) flick v h = absurd (over-takes (is_over (place_after (call s p x n) at v).part) x n (place_after (call s p x n) at v) h)
-may_take_on s p (Closes x n (Withdraws w)) flick v h = absurd (withdrawing-takes (is_last_written (call s p x n) (no_ticket (call s p x n)) w) x n _ h)
-may_take_on s p (Closes x n (Settles f bit begun taken is t)) flick v h =
-    settling-on (is_last_settled (call s p x n) t (copies.settled_at t flick)) (call s p x n) x n f bit begun (copies.settled_at t flick) is taken t (copies.settle_after t (copies.settled_at t flick)) h
-may_take_on s p (Closes x n (Frees is w)) flick v h = absurd (freeing-takes _ is x n _ _ h)
-may_take_on s p (Closes x n (Lowers w)) flick v h = absurd (lowering-takes _ x n _ h)
-may_take_on s p (Closes x n Quit) flick v h = cc
-may_take_on s p (Closes x n Ended) flick v h = cc
+may_take_on s p d flick v h = grind arith
 
 -- it reads nothing
 pub may_take_writes : (s : Setup) (p : ℕ) (d : Doing) (flick : Bool) (n : Access) → next_of s p d flick ≡ Some n → n.how ≡ BeginRead → may_take d ≡ true → ⊥
-may_take_writes s p Rests flick n next how h = cc
-may_take_writes s p Lies flick n next how h = cc
-may_take_writes s p (Runs x k at) flick n next how h = cc
-may_take_writes s p (Closes x k at) flick n next how h = closing_no_read s p x k at flick n next how
+may_take_writes s p d flick n h k g = grind arith
 
 -- A failure that leaves a command to be taken: its process was writing a change.
 

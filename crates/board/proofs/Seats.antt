@@ -1,11 +1,11 @@
 -- The first seat, and seats that are made and joined.
-use Rattle.std.proofs.Common.{◌≡◌, ◌≢◌, ◌⊎◌, ◌==◌, ℕ, zero, suc, ◌<◌, Bool, true, false, cond, List, [], ◌∷◌, ◌++◌, length, set, refl, sym, ap, ◌∙◌, subst, inl, inr, ⊎_elim, arith}
+use Rattle.std.proofs.Common.{◌≡◌, ◌≢◌, ◌⊎◌, ◌==◌, ℕ, zero, suc, ◌<◌, true, false, List, [], ◌∷◌, ◌++◌, length, set, refl, sym, ap, ◌∙◌, subst, inl, inr, ⊎_elim, arith}
 use Rattle.std.specs.Prelude.{slice_index, Ok}
 use mathlib.Core.Option.{some, some-injective, some-ne-none}
 use lib.ListN.{get_elem?}
 use Rattle.atomic_table.proofs.Lists.{at_set, at_snoc, set_else, at_longer}
 use Rattle.atomic_table.specs.Table.{State, Splits, Joins}
-use Rattle.safe_bit.specs.declared.Move.TheVariants.{BeginRead}
+use Rattle.record.specs.safe_bit.declared.Move.TheVariants.{BeginRead}
 use Rattle.record.specs.declared.access.Access.{Access}
 use Rattle.record.specs.declared.access.Field.TheVariants.{Choosing}
 use Rattle.plain_store.specs.Store.{are_pairs}
@@ -16,8 +16,9 @@ use Rattle.record.specs.Calls.{call_number, last_command}
 use Rattle.record.specs.Entries.{Entry, Past, own}
 use Rattle.record.specs.Records.{past_of}
 use Rattle.record.specs.Registers.{opening_bit}
-use Rattle.process.specs.laws.Doings.{Rests, doing}
-use Rattle.process.specs.laws.Held.{IsThere}
+use Rattle.record.proofs.Width.{is_good}
+use Rattle.laws.specs.Doings.{Rests, doing}
+use Rattle.laws.specs.Held.{IsThere}
 use Rattle.board.specs.Agreement.{Agree, IsIn, IsQuiet, Knows, KnowsSeats, Shows}
 use Rattle.board.specs.Calls.{calls_of, changes_of, no_calls}
 use Rattle.board.specs.Views.{OwnView, ViewState, first_view, new_own, new_view, entries_of, own_view, spent_view, with_joined, with_made}
@@ -31,11 +32,7 @@ Holds s t = Agree s t.words t.views
 -- Who has no entries has done nothing.
 
 off : (p : ℕ) (e : Entry) (past : Past) → own p (e ∷ past) ≡ [] → ((e.process == p) ≡ false) × (own p past ≡ [])
-off p e past h = go (e.process == p) refl h
-  where
-    go : (b : Bool) → (e.process == p) ≡ b → cond b (e ∷ own p past) (own p past) ≡ [] → ((e.process == p) ≡ false) × (own p past ≡ [])
-    go true i h = cc
-    go false i h = (i, h)
+off p e past h = grind arith
 
 no_doing : (s : Setup) (p : ℕ) (past : Past) → own p past ≡ [] → doing s p past ≡ Rests
 no_doing s p [] h = refl
@@ -50,11 +47,7 @@ none_made s p [] h = refl
 none_made s p (e ∷ past) h = let o = off p e past h in rw o.0 (none_made s p past o.1)
 
 no_number : (s : Setup) → call_number s [] ≡ 0
-no_number s = go (s.version == 2)
-  where
-    go : (b : Bool) → cond {A = ℕ} b 0 0 ≡ (let z : ℕ = 0 in z)
-    go true = refl
-    go false = refl
+no_number s = grind arith
 
 -- what is known of a process that has no entries
 nothing_known : (s : Setup) (p : ℕ) (past : Past) → own p past ≡ [] → own_view s past p ≡ new_own p
@@ -246,6 +239,10 @@ joins s id v other w live zero_ w_live quiet state agree at ne at_w = (
 pub splits_at : (key s : Setup) (id k : ℕ) (v : ViewState) → key ≡ s → v ≡ new_view 0 k → k < s.processes → Splits (Holds key) id v (with_made v) (new_view v.made 0)
 splits_at key s id k v same is room = subst (λ (m : Setup). Splits (Holds m) id v (with_made v) (new_view v.made 0)) (sym same)
     (splits s id v (ap (λ (u : ViewState). u.spent) is) (ap (λ (u : ViewState). u.own.process) is) (let made : v.made ≡ k = ap (λ (u : ViewState). u.made) is in omega arith) (ap (λ (u : ViewState). u.joined) is))
+
+-- there is a process
+pub some_processes : (s : Setup) → checked s ≡ Ok tt → 0 < s.processes
+some_processes s good = let is = (is_good s good).processes_is in omega arith
 
 -- there are words
 pub some_words : (s : Setup) → 0 < s.processes → 0 < words_in s

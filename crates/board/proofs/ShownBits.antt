@@ -1,9 +1,13 @@
 -- What words show of registers, as bits, numbers and bytes.
-use Rattle.std.proofs.Common.{◌≡◌, ℕ, zero, suc, ◌+◌, ◌*◌, ◌<◌, ◌==◌, Bool, false, List, [], ◌∷◌, ◌++◌, length, map, take, drop, get_or, if◌then◌else◌, sym, ap, ◌∙◌, add-one, arith}
+use Rattle.std.proofs.Common.{◌≡◌, ℕ, zero, suc, ◌+◌, ◌*◌, ◌^◌, ◌<◌, ◌==◌, max, Bool, true, false, cond, List, [], ◌∷◌, ◌++◌, length, map, fold, take, drop, get_or, if◌then◌else◌, refl, sym, ap, ◌∙◌, add-one, pow_mono, eq-eqb, arith}
+use Rattle.std.proofs.lemmas.Bool.{ne_eqb}
+use Rattle.std.proofs.lemmas.List.{map-append, get_or-map, length-map, length-take, drop-drop}
+use Rattle.std.proofs.lemmas.List.Sums.{fold-append}
 use Rattle.std.specs.Prelude.{slice_index}
 use Rattle.std.specs.List.{range_with_len}
 use Rattle.std.proofs.Math.Seq.{drop-cons, take-length}
 use Rattle.std.proofs.lemmas.List.FromFn.{get_or-map-range_with_len, length-map-range_with_len, map-range_with_len_more}
+use mir.Val.{bool_byte}
 use mathlib.Core.Option.{some, some-injective, some-ne-none}
 use lib.ListN.{get_elem?}
 use Rattle.record.specs.declared.access.Field.{Field}
@@ -11,9 +15,11 @@ use Rattle.record.specs.declared.access.Field.TheVariants.{Commit}
 use Rattle.record.specs.safe_number.Bytes.{number_of_bits}
 use Rattle.plain_store.specs.declared.Setup.{Setup}
 use Rattle.record.specs.Newest.{copy}
-use Rattle.record.specs.Program.{Version, stamp_field}
-use Rattle.record.specs.Registers.{width}
-use Rattle.board.specs.Closings.{bits_shown, version_shown}
+use Rattle.record.specs.Program.{Version, newest_process, newest_stamp, place_of, stamp_field}
+use Rattle.record.specs.Registers.{bytes_of_bits, width}
+use Rattle.record.proofs.safe_number.Bits.{number-fits}
+use Rattle.process.proofs.Greatest.{greatest-there}
+use Rattle.board.specs.Closings.{bits_shown, version_shown, versions_shown}
 use Rattle.board.specs.Words.{word_of}
 
 -- the word that is found at a place
@@ -28,6 +34,11 @@ bit-at s words p field k inside = get_or-map-range_with_len (λ k. slice_index w
 
 pub length-bits : (s : Setup) (words : List ℕ) (p : ℕ) (field : Field) → length (bits_shown s words p field) ≡ width s field
 length-bits s words p field = length-map-range_with_len (λ k. slice_index words (word_of s (copy p field 0 k)) == 1) 0 (width s field)
+
+-- a bit as a number
+pub byte-is : (b : Bool) → bool_byte b ≡ (if b then 1 else 0)
+byte-is true = refl
+byte-is false = refl
 
 -- the number of some bits from bit k on, and of one more
 pub number-more : (values : List Bool) (k n : ℕ) → k < length values → number_of_bits (take (n + 1) (drop k values)) ≡ (if get_or values k false then 1 else 0) + 2 * number_of_bits (take n (drop (k + 1) values))
@@ -47,6 +58,47 @@ versions-more s words p = map-range_with_len_more (version_shown s words) 0 p p 
 
 pub many-versions : (s : Setup) (words : List ℕ) (p : ℕ) → length (map (version_shown s words) (range_with_len 0 p)) ≡ p
 many-versions s words p = length-map-range_with_len (version_shown s words) 0 p
+
+-- what is said of one of all
+pub version-at : {X : Type 0} (f : Version → X) (none : X) (s : Setup) (words : List ℕ) (p : ℕ) → p < s.processes → get_or (map f (versions_shown s words)) p none ≡ f (version_shown s words p)
+version-at f none s words p below =
+    get_or-map f (versions_shown s words) p (false, 0) none (omega (arith, below, many-versions s words s.processes))
+    ∙ ap f (get_or-map-range_with_len (version_shown s words) 0 s.processes p p (false, 0) below (omega arith))
+
+-- the greatest stamp, with one more version
+pub stamp-more : (vs : List Version) (v : Version) → newest_stamp (vs ++ v ∷ []) ≡ max (newest_stamp vs) v.1
+stamp-more vs v = ap (fold max 0) (map-append (λ (v : Version). v.1) vs (v ∷ [])) ∙ fold-append max 0 (map (λ (v : Version). v.1) vs) (v.1 ∷ [])
+
+pub many-stamps : (s : Setup) (words : List ℕ) → length (map (λ (v : Version). v.1) (versions_shown s words)) ≡ s.processes
+many-stamps s words = length-map (versions_shown s words) (λ (v : Version). v.1) ∙ many-versions s words s.processes
+
+-- the process that has it is below the processes
+pub newest-below : (s : Setup) (words : List ℕ) → 0 < s.processes → newest_process (versions_shown s words) < s.processes
+newest-below s words positive =
+    let many = many-stamps s words in
+    omega (arith, many, greatest-there (map (λ (v : Version). v.1) (versions_shown s words)) (omega (arith, many, positive)))
+
+-- where an item is, from place p on
+pub place-here : (n p : ℕ) (xs : List ℕ) → p < length xs → get_or xs p 0 ≡ n → place_of n (drop p xs) ≡ 0
+place-here n p xs inside same = ap (place_of n) (drop-cons xs p 0 inside) ∙ ap (λ b. cond b 0 (1 + place_of n (drop (suc p) xs))) (eq-eqb (get_or xs p 0) n same)
+
+pub place-later : (n p : ℕ) (xs : List ℕ) → p < length xs → (get_or xs p 0 ≡ n → ⊥) → place_of n (drop p xs) ≡ 1 + place_of n (drop (p + 1) xs)
+place-later n p xs inside other =
+    ap (place_of n) (drop-cons xs p 0 inside) ∙ ap (λ b. cond b 0 (1 + place_of n (drop (suc p) xs))) (ne_eqb (get_or xs p 0) n other) ∙ ap (λ k. 1 + place_of n (drop k xs)) (sym (add-one p))
+
+-- so many bits make a number below that power of 2
+pub number-below : (bits : List Bool) (n : ℕ) → number_of_bits (take n bits) < 2 ^ n
+number-below bits n = let fits = number-fits (take n bits) in omega (arith, fits, pow_mono {i = length (take n bits)} {j = n} (omega (arith, length-take n bits)))
+
+-- the bytes of some bits, and of 8 more
+pub bytes-more : (k : ℕ) (bits : List Bool) → bytes_of_bits (k + 1) bits ≡ bytes_of_bits k bits ++ number_of_bits (take 8 (drop (8 * k) bits)) ∷ []
+bytes-more zero bits = refl
+bytes-more (suc k) bits =
+    let on : 8 + 8 * k ≡ 8 * suc k = omega arith in
+    ap (λ n. bytes_of_bits n bits) (add-one (suc k))
+    ∙ ap (λ n. number_of_bits (take 8 bits) ∷ bytes_of_bits n (drop 8 bits)) (sym (add-one k))
+    ∙ ap (λ rest. number_of_bits (take 8 bits) ∷ rest) (bytes-more k (drop 8 bits))
+    ∙ ap (λ rest. number_of_bits (take 8 bits) ∷ (bytes_of_bits k (drop 8 bits) ++ number_of_bits (take 8 rest) ∷ [])) (drop-drop (8 * k) 8 bits ∙ ap (λ n. drop n bits) on)
 
 -- a commit bit, and the stamp that it chooses
 pub version_is : (s : Setup) (words : List ℕ) (p n bits : ℕ) (b : Bool) → b ≡ get_or (bits_shown s words p Commit) 0 false → n ≡ number_of_bits (take bits (drop 0 (bits_shown s words p (stamp_field b)))) → bits ≡ width s (stamp_field b) →

@@ -187,19 +187,8 @@ standing_taken s p st then n command k r list done (Some call) quiet reply h = r
 one_reply : (t u : ℕ × Reply) → t ∷ [] ≡ u ∷ [] → t.1 ≡ u.1
 one_reply t u h = let same : t ≡ u = cc in ap (λ (x : ℕ × Reply). x.1) same
 
-not_none : (t : ℕ × Reply) (xs : List (ℕ × Reply)) → xs ≡ [] → xs ≡ t ∷ [] → ⊥
-not_none t [] h is = cc
-not_none t (x ∷ xs) h is = cc
-
 answered_so : (s : Setup) (list : List Taken) (caller : Caller) (command : Command) (a : Answer) (place : Option ℕ) (taken : List (ℕ × Reply)) → IsAnswerTo a taken → TookFrom s list caller command place taken → PlacedAsAnswered (Some a) place
-answered_so s list caller command (answer.Reply r) None taken told took = absurd (not_none (told.0, r) taken took told.1)
-answered_so s list caller command (answer.Reply r) (Some place) taken told took = (place, refl)
-answered_so s list caller command (answer.TicketsFull j) None taken told took = refl
-answered_so s list caller command (answer.TicketsFull j) (Some place) taken told took = absurd (not_none (took.0, reply_to (store_at s list place) command caller) taken told took.1)
-answered_so s list caller command answer.StampsFull None taken told took = refl
-answered_so s list caller command answer.StampsFull (Some place) taken told took = absurd (not_none (took.0, reply_to (store_at s list place) command caller) taken told took.1)
-answered_so s list caller command answer.Withdrawn None taken told took = refl
-answered_so s list caller command answer.Withdrawn (Some place) taken told took = absurd (not_none (took.0, reply_to (store_at s list place) command caller) taken told took.1)
+answered_so s list caller command a place taken h k = grind arith
 
 -- with the reply of the store at its place
 replied_so : (s : Setup) (list : List Taken) (caller : Caller) (command : Command) (place : ℕ) (r : Reply) (taken : List (ℕ × Reply)) → IsAnswerTo (answer.Reply r) taken → TookFrom s list caller command (Some place) taken →

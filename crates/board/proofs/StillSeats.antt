@@ -3,7 +3,7 @@ use Rattle.std.proofs.Common.{◌≡◌, Bool, true, false, refl, sym, ◌∙◌
 use Rattle.plain_store.specs.declared.Command.{Command}
 use Rattle.plain_store.specs.declared.Setup.{Setup}
 use Rattle.record.specs.declared.stages.Stage.TheVariants as stage
-use Rattle.process.specs.Processes.{ProcessState}
+use Rattle.process.specs.Places.{ProcessState}
 use Rattle.board.specs.declared.pending.Pending.{Pending}
 use Rattle.board.specs.Closings.{IsStill}
 use Rattle.board.specs.Ports.{IsTied, with_pending}

@@ -1,30 +1,29 @@
 -- A port's process and what its seat knows, over a word step.
-use Rattle.std.proofs.Common.{◌≡◌, ℕ, Bool, true, false, refl, sym, ap, ◌∙◌, subst, Some}
+use Rattle.std.proofs.Common.{◌≡◌, ℕ, Bool, true, false, refl, sym, ap, ◌∙◌, subst, Some, arith}
 use Rattle.std.specs.Prelude.{fold}
 use Rattle.atomic_table.specs.Table.{State, Me, Allows}
-use Rattle.safe_bit.specs.declared.Move.{Move}
-use Rattle.safe_bit.specs.declared.Move.TheVariants.{BeginWrite, EndWrite, BeginRead, EndRead, Settle}
+use Rattle.record.specs.safe_bit.declared.Move.{Move}
+use Rattle.record.specs.safe_bit.declared.Move.TheVariants.{BeginWrite, EndWrite, BeginRead, EndRead, Settle}
 use Rattle.record.specs.reader_copies.Written.{IsWrite}
 use Rattle.record.specs.declared.access.Access.{Access}
 use Rattle.plain_store.specs.declared.Setup.{Setup}
-use Rattle.process.specs.laws.Doings.{Doing}
 use Rattle.record.specs.Stages.{stage_after}
-use Rattle.process.specs.laws.Held.{IsThere}
-use Rattle.process.specs.laws.Steps.{being_written, does_then, marks_with, next_of}
-use Rattle.process.specs.Processes.{ProcessState, kept_at}
-use Rattle.process.specs.Steps.{IsAt, may_step}
+use Rattle.laws.specs.Held.{IsThere}
+use Rattle.laws.specs.Steps.{being_written, next_of}
+use Rattle.process.specs.Places.{ProcessState, marks_on, may_step, stepped}
+use Rattle.process.specs.Serving.{next_at}
 use Rattle.process.specs.Telling.{marks_told}
 use Rattle.process.specs.declared.told.StepTold.{StepTold}
 use Rattle.board.specs.Agreement.{Agree}
 use Rattle.board.specs.Calls.{calls_after}
 use Rattle.board.specs.declared.pending.Pending.{Pending}
 use Rattle.board.specs.Pending.{events_of, nothing}
-use Rattle.board.specs.Ports.{IsNext, IsTied, with_pending}
+use Rattle.board.specs.Ports.{IsNext, IsTied, IsUnended, with_pending}
 use Rattle.board.specs.Views.{OwnView, ViewState, process_at, stage_in, with_step}
 use Rattle.board.specs.Words.{closed_word, loaded, stored, word_of}
 use Rattle.board.specs.WordSteps.{IsBetween, LeadsTo, Loads, Stores}
-use Rattle.board.proofs.Accesses.{may_go}
 use Rattle.board.proofs.Begins.{step_follows}
+use Rattle.board.proofs.Doings.{does_unended, may_go, next_goes, next_there}
 use Rattle.board.proofs.Happenings.{same_process_all}
 use Rattle.board.proofs.Leads.{begin_calls, leads}
 use Rattle.board.proofs.Moves.{loads, stores}
@@ -32,16 +31,18 @@ use Rattle.board.proofs.ReadBegins.{ending, reads_on}
 
 -- Before a word step.
 
--- the process is where its seat's view knows it to be
-pub is_at : (s : Setup) (pending : Pending) (process : ProcessState) (value : Bool) (v : ViewState) → IsTied s pending process value v → IsAt process (with_pending s pending v).own.doing
-is_at s pending process value v t = subst (λ q. IsAt q (with_pending s pending v).own.doing) (sym t.same) t.at
+-- the next access of a process that may step
+pub is_next : (s : Setup) (pending : Pending) (process : ProcessState) (value : Bool) (v : ViewState) (flick : Bool) (word : ℕ) (n : Access) → IsTied s pending process value v → may_step process.doing ≡ true → n ≡ next_at process flick → word ≡ word_of s n → IsNext s process flick word n
+is_next s pending process value v flick word n t goes is at = record {
+  next = subst (λ (q : ProcessState). next_of q.setup q.process q.doing flick ≡ Some (next_at q flick)) (sym t.same)
+      (next_there s (with_pending s pending v).own flick t.unended (ap (λ (q : ProcessState). may_step q.doing) (sym t.same) ∙ goes)) ∙ ap Some (sym is);
+  at = at;
+}
 
--- its next access
+-- as its seat's view knows it
 pub next_own : (s : Setup) (pending : Pending) (process : ProcessState) (value : Bool) (v : ViewState) → IsTied s pending process value v → (flick : Bool) (word : ℕ) (n : Access) → IsNext s process flick word n →
     next_of s (with_pending s pending v).own.process (with_pending s pending v).own.doing flick ≡ Some n
-next_own s pending process value v t flick word n h =
-    let d = (with_pending s pending v).own.doing in
-    ap (λ (q : ProcessState). next_of q.setup q.process d flick) (sym t.same) ∙ h.next d (is_at s pending process value v t)
+next_own s pending process value v t flick word n h = ap (λ (q : ProcessState). next_of q.setup q.process q.doing flick) (sym t.same) ∙ h.next
 
 next_before : (s : Setup) (pending : Pending) (v : ViewState) (flick : Bool) (n : Access) → next_of s (with_pending s pending v).own.process (with_pending s pending v).own.doing flick ≡ Some n →
     next_of s v.own.process (with_pending s pending v).own.doing flick ≡ Some n
@@ -80,19 +81,15 @@ no_end s pending process value flick u word n v t h e = (t.between flick n (next
 
 -- After it.
 
--- a process that has gone on from this
-abbrev pub GoneOn : ProcessState → ProcessState → Bool → Bool → Type 0
-GoneOn old new flick value = (d : Doing) → IsAt old d → new ≡ record old { kept = kept_at old.setup old.process (does_then old.setup old.process d flick value) }
+process_step : (s : Setup) (o then : OwnView) (process new : ProcessState) (flick value : Bool) (place : ℕ) → process ≡ process_at s o → new ≡ stepped process flick value → then ≡ with_step s o flick value place → new ≡ process_at s then
+process_step s o then process new flick value place t goes is = goes ∙ ap (λ q. stepped q flick value) t ∙ ap (process_at s) (sym is)
 
-pub process_step : (s : Setup) (o then : OwnView) (process new : ProcessState) (flick value : Bool) (place : ℕ) → process ≡ process_at s o → IsAt process o.doing → GoneOn process new flick value → then ≡ with_step s o flick value place → new ≡ process_at s then
-process_step s o then process new flick value place t at goes is =
-    goes o.doing at
-    ∙ ap (λ (q : ProcessState). record q { kept = kept_at q.setup q.process (does_then q.setup q.process o.doing flick value) }) t
-    ∙ ap (process_at s) (sym is)
+unended_then : (s : Setup) (o then : OwnView) (flick value : Bool) (place : ℕ) → then ≡ with_step s o flick value place → IsUnended then.doing
+unended_then s o then flick value place is = subst (λ (o : OwnView). IsUnended o.doing) (sym is) (does_unended s o.process o.doing flick value)
 
 -- of a store
 pub tied_stored : (s : Setup) (pending : Pending) (process new : ProcessState) (value value' flick : Bool) (word : ℕ) (n : Access) (v w : ViewState) → IsTied s pending process value v → IsNext s process flick word n →
-    IsWrite n.how → ((u : Bool) → n.how ≡ BeginWrite u → value' ≡ u) → Stores s flick (with_pending s pending v) w → GoneOn process new flick false → IsTied s nothing new value' w
+    IsWrite n.how → ((u : Bool) → n.how ≡ BeginWrite u → value' ≡ u) → Stores s flick (with_pending s pending v) w → new ≡ stepped process flick false → IsTied s nothing new value' w
 tied_stored s pending process new value value' flick word n v w t h writes begins told goes =
     let b = (with_pending s pending v).own in
     let next = next_own s pending process value v t flick word n h in
@@ -100,9 +97,9 @@ tied_stored s pending process new value value' flick word n v w t h writes begin
     record {
       live = ap (λ (u : ViewState). u.spent) told.goes.same ∙ t.live;
       may = tt;
-      same = process_step s b w.own process new flick false told.makes.place t.same (is_at s pending process value v t) goes told.makes.is;
-      at = told.goes.at;
-      between = subst (IsBetween s value') (sym told.makes.is) (λ fl y i. let f = step_follows s b.process b.doing flick false n t.at.live next fl y i in
+      same = process_step s b w.own process new flick false told.makes.place t.same goes told.makes.is;
+      unended = unended_then s b w.own flick false told.makes.place told.makes.is;
+      between = subst (IsBetween s value') (sym told.makes.is) (λ fl y i. let f = step_follows s b.process b.doing flick false n t.unended next fl y i in
           ((λ e. begins (being_written s o'.process o'.doing) (f.0 e)), λ u e. no_read n.how writes (f.1 u e)));
     }
   where
@@ -113,62 +110,64 @@ tied_stored s pending process new value value' flick word n v w t h writes begin
     no_read BeginRead h e = h
     no_read (EndRead v) h e = h
 
--- the access after the begin of a read
-next_begun : (s : Setup) (pending : Pending) (process : ProcessState) (value flick : Bool) (word found : ℕ) (n : Access) (v w : ViewState) → IsTied s pending process value v → IsNext s process flick word n → n.how ≡ BeginRead →
-    (told : Loads s flick (with_pending s pending v) found w) → next_of s told.begun.process told.begun.doing flick ≡ Some (ending n)
-next_begun s pending process value flick word found n v w t h how told =
-    let b = (with_pending s pending v).own in
-    ap (λ (o : OwnView). next_of s o.process o.doing flick) told.begins.is
-    ∙ reads_on s b.process b.doing flick false n t.at.live (next_own s pending process value v t flick word n h) how
+-- between begin and end of a read
+pub record Begun (s : Setup) (middle : ProcessState) (flick : Bool) (n : Access) (begun : OwnView) : Type 0 where
+  pub same : middle ≡ process_at s begun
+  pub unended : IsUnended begun.doing
+  pub next : next_of s begun.process begun.doing flick ≡ Some (ending n)
+  pub goes : may_step middle.doing ≡ true
 
--- between begin and end of a read the process may go on
-pub begun_at : (s : Setup) (pending : Pending) (process middle : ProcessState) (value flick : Bool) (word found : ℕ) (n : Access) (v w : ViewState) → IsTied s pending process value v → IsNext s process flick word n → n.how ≡ BeginRead →
-    (told : Loads s flick (with_pending s pending v) found w) → GoneOn process middle flick false → (may_step middle.kept ≡ true) × IsAt middle told.begun.doing
-begun_at s pending process middle value flick word found n v w t h how told goes =
+pub begins : (s : Setup) (pending : Pending) (process middle : ProcessState) (value flick : Bool) (word found : ℕ) (n : Access) (v w : ViewState) → IsTied s pending process value v → IsNext s process flick word n → n.how ≡ BeginRead →
+    (told : Loads s flick (with_pending s pending v) found w) → middle ≡ stepped process flick false → Begun s middle flick n told.begun
+begins s pending process middle value flick word found n v w t h how told goes =
     let b = (with_pending s pending v).own in
-    let is : middle ≡ process_at s told.begun = process_step s b told.begun process middle flick false told.begins.place t.same (is_at s pending process value v t) goes told.begins.is in
-    let next = next_begun s pending process value flick word found n v w t h how told in (
-      ap (λ (q : ProcessState). may_step q.kept) is ∙ may_go s told.begun.process told.begun.doing flick (ending n) told.at.live next,
-      subst (λ q. IsAt q told.begun.doing) (sym is) told.at,
-    )
+    let begun = told.begun in
+    let is : middle ≡ process_at s begun = process_step s b begun process middle flick false told.begins.place t.same goes told.begins.is in
+    let next : next_of s begun.process begun.doing flick ≡ Some (ending n) = ap (λ (o : OwnView). next_of s o.process o.doing flick) told.begins.is
+    ∙ reads_on s b.process b.doing flick false n t.unended (next_own s pending process value v t flick word n h) how in
+    record {
+      same = is;
+      unended = unended_then s b begun flick false told.begins.place told.begins.is;
+      next = next;
+      goes = ap (λ (q : ProcessState). may_step q.doing) is ∙ may_go s begun.process begun.doing flick (ending n) next;
+    }
 
 -- of a load
 pub tied_loaded : (s : Setup) (pending : Pending) (process middle new : ProcessState) (value flick : Bool) (word found : ℕ) (n : Access) (v w : ViewState) → IsTied s pending process value v → IsNext s process flick word n → n.how ≡ BeginRead →
-    Loads s flick (with_pending s pending v) found w → GoneOn process middle flick false → GoneOn middle new flick (loaded flick found) → IsTied s nothing new value w
+    Loads s flick (with_pending s pending v) found w → middle ≡ stepped process flick false → new ≡ stepped middle flick (loaded flick found) → IsTied s nothing new value w
 tied_loaded s pending process middle new value flick word found n v w t h how told goes on =
-    let b = (with_pending s pending v).own in
-    let is : middle ≡ process_at s told.begun = process_step s b told.begun process middle flick false told.begins.place t.same (is_at s pending process value v t) goes told.begins.is in
-    let next = next_begun s pending process value flick word found n v w t h how told in
+    let begun = told.begun in
+    let k = begins s pending process middle value flick word found n v w t h how told goes in
+    let x = loaded flick found in
     record {
       live = ap (λ (u : ViewState). u.spent) told.goes.same ∙ t.live;
       may = tt;
-      same = process_step s told.begun w.own middle new flick (loaded flick found) told.ends.place is (begun_at s pending process middle value flick word found n v w t h how told goes).1 on told.ends.is;
-      at = told.goes.at;
-      between = subst (IsBetween s value) (sym told.ends.is) (λ fl z i. let f = step_follows s told.begun.process told.begun.doing flick (loaded flick found) (ending n) told.at.live next fl z i in
+      same = process_step s begun w.own middle new flick x told.ends.place k.same on told.ends.is;
+      unended = unended_then s begun w.own flick x told.ends.place told.ends.is;
+      between = subst (IsBetween s value) (sym told.ends.is) (λ fl z i. let f = step_follows s begun.process begun.doing flick x (ending n) k.unended k.next fl z i in
           ((λ e. let f0 : EndRead false ≡ BeginWrite _ = f.0 e in cc), λ u e. let f1 : EndRead false ≡ BeginRead = f.1 u e in cc));
     }
 
 -- What it leads to.
 
 pub leads_stored : (s : Setup) (pending : Pending) (process : ProcessState) (value flick : Bool) (word : ℕ) (n : Access) (v w : ViewState) (told : StepTold) → IsTied s pending process value v → IsNext s process flick word n → Stores s flick (with_pending s pending v) w →
-    ((d : Doing) → IsAt process d → marks_told told ≡ marks_with process.setup process.process d flick false) → LeadsTo s told (with_pending s pending v).own w.own
+    marks_told told ≡ marks_on process flick false → LeadsTo s told (with_pending s pending v).own w.own
 leads_stored s pending process value flick word n v w told t h stored_ marks =
     let b = (with_pending s pending v).own in
-    let is : marks_told told ≡ marks_with s b.process b.doing flick false = marks b.doing (is_at s pending process value v t) ∙ ap (λ (q : ProcessState). marks_with q.setup q.process b.doing flick false) t.same in
-    leads s told b b w.own stored_.makes.place (may_go s b.process b.doing flick n t.at.live (next_own s pending process value v t flick word n h))
+    let is : marks_told told ≡ marks_on (process_at s b) flick false = marks ∙ ap (λ q. marks_on q flick false) t.same in
+    leads s told b b w.own stored_.makes.place (next_goes s b.process b.doing flick n t.unended (next_own s pending process value v t flick word n h))
     (stored_.makes.stage ∙ ap (fold stage_after (stage_in s b)) (sym is)) refl
     (ap (λ (o : OwnView). o.calls) stored_.makes.is ∙ ap (fold (calls_after stored_.makes.place) b.calls) (sym is))
 
 pub leads_loaded : (s : Setup) (pending : Pending) (process middle : ProcessState) (value flick : Bool) (word found : ℕ) (n : Access) (v w : ViewState) (told : StepTold) → IsTied s pending process value v → IsNext s process flick word n → n.how ≡ BeginRead →
-    Loads s flick (with_pending s pending v) found w → GoneOn process middle flick false → ((d : Doing) → IsAt middle d → marks_told told ≡ marks_with middle.setup middle.process d flick (loaded flick found)) → LeadsTo s told (with_pending s pending v).own w.own
+    Loads s flick (with_pending s pending v) found w → middle ≡ stepped process flick false → marks_told told ≡ marks_on middle flick (loaded flick found) → LeadsTo s told (with_pending s pending v).own w.own
 leads_loaded s pending process middle value flick word found n v w told t h how loaded_ goes marks =
     let b = (with_pending s pending v).own in
     let x = loaded flick found in
     let begun = loaded_.begun in
-    let middle_is : middle ≡ process_at s begun = process_step s b begun process middle flick false loaded_.begins.place t.same (is_at s pending process value v t) goes loaded_.begins.is in
-    let is : marks_told told ≡ marks_with s begun.process begun.doing flick x =
-    marks begun.doing (begun_at s pending process middle value flick word found n v w t h how loaded_ goes).1 ∙ ap (λ (q : ProcessState). marks_with q.setup q.process begun.doing flick x) middle_is in
-    leads s told b begun w.own loaded_.ends.place (may_go s begun.process begun.doing flick (ending n) loaded_.at.live (next_begun s pending process value flick word found n v w t h how loaded_))
+    let k = begins s pending process middle value flick word found n v w t h how loaded_ goes in
+    let is : marks_told told ≡ marks_on (process_at s begun) flick x = marks ∙ ap (λ q. marks_on q flick x) k.same in
+    leads s told b begun w.own loaded_.ends.place (next_goes s begun.process begun.doing flick (ending n) k.unended k.next)
     (loaded_.ends.stage ∙ ap (fold stage_after (stage_in s begun)) (sym is))
     (ap (λ (o : OwnView). o.calls) loaded_.begins.is ∙ begin_calls s b.process b.doing flick false n loaded_.begins.place b.calls (next_own s pending process value v t flick word n h) how)
     (ap (λ (o : OwnView). o.calls) loaded_.ends.is ∙ ap (fold (calls_after loaded_.ends.place) begun.calls) (sym is))
@@ -181,8 +180,4 @@ there_at s pending process value v n t h = subst (λ s. IsThere s n) (ap (λ (q 
 
 -- an access that is no read belongs to a write
 pub is_written : (m : Move) → (m ≡ BeginRead → ⊥) → ((v : Bool) → m ≡ EndRead v → ⊥) → IsWrite m
-is_written (BeginWrite v) h k = tt
-is_written EndWrite h k = tt
-is_written (Settle v) h k = tt
-is_written BeginRead h k = h refl
-is_written (EndRead v) h k = k v refl
+is_written m h k = grind arith

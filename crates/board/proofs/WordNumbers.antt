@@ -1,19 +1,19 @@
 -- The word of a bit is its own, and tells the bit.
-use Rattle.std.proofs.Common.{◌≡◌, ℕ, zero, suc, ◌+◌, ◌-◌, ◌*◌, ◌/◌, ◌%◌, ◌<◌, ◌≤◌, ◌==◌, ◌&&◌, Bool, true, false, List, [], ◌∷◌, ◌++◌, refl, sym, ap, ◌∙◌, arith, eq-eqb, mul-le-mul_right, suc-mul, div-add-mod'}
+use Rattle.std.proofs.Common.{◌≡◌, ℕ, zero, suc, ◌+◌, ◌-◌, ◌*◌, ◌/◌, ◌%◌, ◌<◌, ◌≤◌, ◌==◌, ◌&&◌, Bool, true, false, List, [], ◌∷◌, ◌++◌, refl, sym, ap, ◌∙◌, arith, eq-eqb, mul-le-mul_right, suc-mul}
 use Rattle.std.proofs.Math.Nat.{div-lt_iff_lt-mul, le-div_iff_mul-le, mod-lt}
 use Rattle.std.proofs.lemmas.Bool.{lt-ltb, le-ltb}
 use Rattle.std.proofs.lemmas.Bool.Decides.{nat_tests}
 use Rattle.std.proofs.lemmas.Nat.{div-mul-add}
 use Rattle.std.specs.Prelude.{nat_lt, slice_index_or}
-use Rattle.safe_bit.specs.declared.Move.TheVariants.{BeginRead}
+use Rattle.record.specs.safe_bit.declared.Move.TheVariants.{BeginRead}
 use Rattle.record.specs.declared.access.Access.{Access}
 use Rattle.record.specs.declared.access.Field.{Field}
-use Rattle.record.specs.declared.access.Field.TheVariants.{Choosing, Ticket, Commit, Stamp0, Stamp1, Image0, Image1}
+use Rattle.record.specs.declared.access.Field.TheVariants.{Image0}
 use Rattle.plain_store.specs.declared.Setup.{Setup}
 use Rattle.record.specs.Moves.{field_number, same_bit}
 use Rattle.record.specs.Registers.{opening_bits, width}
-use Rattle.process.specs.laws.Held.{IsThere}
-use Rattle.process.proofs.laws.FrameCells.{OnCopy, on-copy}
+use Rattle.laws.specs.Held.{IsThere}
+use Rattle.laws.proofs.FrameCells.{OnCopy, on-copy}
 use Rattle.board.specs.Words.{bits_of, bit_in_row, bit_of, closed_word, fields, first_bit, opening_word, row_bits, word_of, words_in}
 
 -- A number of two digits.
@@ -22,10 +22,7 @@ pub quotient : (n high low : ℕ) → low < n → (high * n + low) / n ≡ high
 quotient n high low h = div-mul-add high n low h
 
 pub remainder : (n high low : ℕ) → low < n → (high * n + low) % n ≡ low
-remainder n high low h =
-    let whole : (high * n + low) / n * n + (high * n + low) % n ≡ high * n + low = div-add-mod' (high * n + low) n in
-    let front : (high * n + low) / n * n ≡ high * n = ap (λ k. k * n) (quotient n high low h) in
-    omega arith
+remainder n high low h = grind arith
 
 pub below : (m n high low : ℕ) → high < m → low < n → high * n + low < m * n
 below m n high low a b = let h : suc high * n ≤ m * n = mul-le-mul_right n a in omega (arith, suc-mul high n)
@@ -45,23 +42,11 @@ found s (other ∷ before) field after k h =
 
 -- the place of a bit tells it
 pub placed : (s : Setup) (field : Field) (k : ℕ) → k < width s field → bit_in_row s fields (first_bit s field + k) ≡ (field, k)
-placed s Choosing k h = found s [] Choosing (Ticket ∷ Commit ∷ Stamp0 ∷ Stamp1 ∷ Image0 ∷ Image1 ∷ []) k h
-placed s Ticket k h = found s (Choosing ∷ []) Ticket (Commit ∷ Stamp0 ∷ Stamp1 ∷ Image0 ∷ Image1 ∷ []) k h
-placed s Commit k h = found s (Choosing ∷ Ticket ∷ []) Commit (Stamp0 ∷ Stamp1 ∷ Image0 ∷ Image1 ∷ []) k h
-placed s Stamp0 k h = found s (Choosing ∷ Ticket ∷ Commit ∷ []) Stamp0 (Stamp1 ∷ Image0 ∷ Image1 ∷ []) k h
-placed s Stamp1 k h = found s (Choosing ∷ Ticket ∷ Commit ∷ Stamp0 ∷ []) Stamp1 (Image0 ∷ Image1 ∷ []) k h
-placed s Image0 k h = found s (Choosing ∷ Ticket ∷ Commit ∷ Stamp0 ∷ Stamp1 ∷ []) Image0 (Image1 ∷ []) k h
-placed s Image1 k h = found s (Choosing ∷ Ticket ∷ Commit ∷ Stamp0 ∷ Stamp1 ∷ Image0 ∷ []) Image1 [] k h
+placed s field k h = grind arith
 
 -- and lies in the row
 pub in_row : (s : Setup) (field : Field) (k : ℕ) → k < width s field → first_bit s field + k < row_bits s
-in_row s Choosing k h = omega arith
-in_row s Ticket k h = omega arith
-in_row s Commit k h = omega arith
-in_row s Stamp0 k h = omega arith
-in_row s Stamp1 k h = omega arith
-in_row s Image0 k h = omega arith
-in_row s Image1 k h = omega arith
+in_row s field k h = grind arith
 
 -- SharedWords.
 
@@ -136,14 +121,7 @@ byte_word false = refl
 
 -- no register but the first image of process 0 opens at anything but 0
 pub opens_low : (s : Setup) (owner : ℕ) (field : Field) (k : ℕ) → (field ≡ Image0 → ⊥) → slice_index_or (opening_bits s owner field) k false ≡ false
-opens_low s zero Choosing k h = none k
-opens_low s zero Ticket k h = none k
-opens_low s zero Commit k h = none k
-opens_low s zero Stamp0 k h = none k
-opens_low s zero Stamp1 k h = none k
-opens_low s zero Image0 k h = absurd (h refl)
-opens_low s zero Image1 k h = none k
-opens_low s (suc owner) field k h = none k
+opens_low s owner field k h = grind arith
 
 -- nor any register of another process
 pub opens_elsewhere : (s : Setup) (owner : ℕ) (field : Field) (k : ℕ) → (owner ≡ 0 → ⊥) → slice_index_or (opening_bits s owner field) k false ≡ false

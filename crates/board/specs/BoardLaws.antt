@@ -2,7 +2,7 @@
 use Rattle.std.specs.Prelude.{◌≡◌, ℕ, ◌+◌, ◌<◌, false, true, List, ◌++◌, take, slice_get, Ok, Some}
 use mathlib.Core.Option.{some}
 use lib.ListN.{get_elem?}
-use Rattle.safe_bit.specs.declared.Move.TheVariants.{BeginRead}
+use Rattle.record.specs.safe_bit.declared.Move.TheVariants.{BeginRead}
 use Rattle.record.specs.declared.access.Access.{Access}
 use Rattle.plain_store.specs.declared.Answer.{Answer}
 use Rattle.plain_store.specs.declared.Answer.TheVariants as answer
@@ -20,7 +20,7 @@ use Rattle.record.specs.Headline.{KeepsHeadlineThroughout, count_changes}
 use Rattle.record.specs.Histories.{history, store_after}
 use Rattle.record.specs.Records.{past_of, process_of, refused}
 use Rattle.record.specs.Stages.{stage}
-use Rattle.process.specs.laws.Held.{IsThere}
+use Rattle.laws.specs.Held.{IsThere}
 use Rattle.board.specs.Agreement.{Agree, Shows, are_neighbours}
 use Rattle.process.specs.flicks.Flicks.{FlickState}
 use Rattle.board.specs.Driving.{Drives}

@@ -24,7 +24,7 @@ use Rattle.record.specs.Newest.{copy}
 use Rattle.record.specs.Program.{Version, image_field, newest_process, stamp_field, version_of}
 use Rattle.record.specs.Records.{past_of}
 use Rattle.record.specs.Registers.{bytes_of_bits, image_bytes, processes, width}
-use Rattle.process.specs.laws.Doings.{doing}
+use Rattle.laws.specs.Doings.{doing}
 use Rattle.board.specs.Agreement.{IsIn, IsQuiet}
 use Rattle.board.specs.Boards.{BoardState, IsOf}
 use Rattle.board.specs.declared.closing.Closing.{Closing}

@@ -1,7 +1,6 @@
-pub use Rattle.process.specs.bakery as bakery
 pub use Rattle.process.specs.flicks as flicks
-pub use Rattle.process.specs.laws as laws
-pub use Rattle.process.specs as process
+pub use Rattle.laws.specs as laws
+pub use Rattle.process.specs as place
 pub mod Agreement
 pub mod BoardLaws
 pub mod Boards

@@ -1,7 +1,7 @@
 -- What a port knows of the place of its call, and what a word step tells its list.
 use Rattle.std.specs.Prelude.{◌≡◌, ℕ, Bool, true, false, length, fold, Option, Some}
 use Rattle.record.specs.Closings.{Settles}
-use Rattle.process.specs.laws.Doings.{Doing, Closes, is_inside}
+use Rattle.laws.specs.Doings.{Doing, Closes, is_inside}
 use Rattle.history_laws.specs.Stamps.{stamp_read}
 use Rattle.process.specs.declared.told.StepTold.{StepTold}
 use Rattle.process.specs.declared.told.StepTold.TheVariants as told

@@ -4,15 +4,16 @@ use Rattle.atomic_table.specs.Seated.{TableId}
 use Rattle.record.specs.declared.access.Access.{Access}
 use Rattle.plain_store.specs.declared.Command.{Command}
 use Rattle.plain_store.specs.declared.Setup.{Setup}
+use Rattle.record.specs.Closings.{Quit, Ended}
+use Rattle.record.specs.Parts.{is_over}
 use Rattle.record.specs.declared.calls.Placed.{Placed}
 use Rattle.record.specs.declared.events.Event.{Event}
 use Rattle.record.specs.declared.events.Event.TheVariants.{Call}
 use Rattle.record.specs.declared.refusals.Refusal.{Refusal}
 use Rattle.record.specs.declared.refusals.Refusal.TheVariants.{Memory}
-use Rattle.process.specs.laws.Doings.{Doing}
-use Rattle.process.specs.laws.Steps.{next_of}
-use Rattle.process.specs.Processes.{ProcessState}
-use Rattle.process.specs.Steps.{IsAt}
+use Rattle.laws.specs.Doings.{Doing, Runs, Closes}
+use Rattle.laws.specs.Steps.{next_of}
+use Rattle.process.specs.Places.{ProcessState}
 use Rattle.board.specs.declared.pending.Pending.{Pending}
 use Rattle.board.specs.Calls.{Calls}
 use Rattle.board.specs.Listing.{KnowsPlace}
@@ -53,12 +54,19 @@ port_after port event = elim (refusal_in port.setup port.view.own event) [ Some 
 abbrev pub with_pending : Setup → Pending → ViewState → ViewState
 with_pending s pending v = at_events s v (events_of v.own.process pending)
 
+-- neither a call nor a closing that it does has come to its end
+abbrev pub IsUnended : Doing → Type 0
+IsUnended (Runs command number at) = is_over at.part ≡ false
+IsUnended (Closes command number Quit) = ⊥
+IsUnended (Closes command number Ended) = ⊥
+IsUnended _ = Unit {0}
+
 -- the process of a port is where its seat's view, with what is pending, knows it to be; no read is open, and a write that is open is of this value
 pub record IsTied (s : Setup) (pending : Pending) (process : ProcessState) (value : Bool) (v : ViewState) : Type 0 where
   pub live : v.spent ≡ false
   pub may : MayAllHappen s v.own (events_of v.own.process pending)
   pub same : process ≡ process_at s (with_pending s pending v).own
-  pub at : IsAt (process_at s (with_pending s pending v).own) (with_pending s pending v).own.doing
+  pub unended : IsUnended (with_pending s pending v).own.doing
   pub between : IsBetween s value (with_pending s pending v).own
 
 -- what the fields of a port keep: the list is that of its view, the stamp the place of what a memory unit takes, the calls stand in the changes that it has seen, and its seat holds nothing
@@ -75,5 +83,5 @@ StandInSeen port calls = StandsIn port.setup port.view.own.process calls port.vi
 
 -- the next access of a process is this one, on this word
 pub record IsNext (s : Setup) (process : ProcessState) (flick : Bool) (word : ℕ) (access : Access) : Type 0 where
-  pub next : (d : Doing) → IsAt process d → next_of process.setup process.process d flick ≡ Some access
+  pub next : next_of process.setup process.process process.doing flick ≡ Some access
   pub at : word ≡ word_of s access

@@ -18,10 +18,9 @@ use Rattle.record.specs.Moves.{ended_with}
 use Rattle.record.specs.Parts.{Raises}
 use Rattle.record.specs.Places.{enter}
 use Rattle.record.specs.Records.{placed, process_of}
-use Rattle.process.specs.laws.Doings.{Doing, Rests, Runs, Closes, call, doing}
-use Rattle.process.specs.laws.Steps.{cut_of, does_then, marks_with, next_of}
-use Rattle.process.specs.Processes.{ProcessState, kept_at, stage_kept}
-use Rattle.process.specs.Refusals.{next_number, refusal_of}
+use Rattle.laws.specs.Doings.{Doing, Rests, Runs, Closes, call, doing}
+use Rattle.laws.specs.Steps.{cut_of, does_then, marks_with, next_of}
+use Rattle.process.specs.Places.{ProcessState, next_number, refusal_of, stage_doing}
 use Rattle.history_laws.specs.Stamps.{changes_taken}
 use Rattle.board.specs.Calls.{Calls, calls_after, calls_of, no_calls}
 
@@ -81,13 +80,13 @@ with_made v = record v { made = v.made + 1 }
 abbrev pub with_joined : ViewState → ViewState → ViewState
 with_joined v other = record v { joined = other.own.process ∷ v.joined }
 
--- a process that keeps this
+-- the process that is known so
 abbrev pub process_at : Setup → OwnView → ProcessState
-process_at s o = record { setup = s; process = o.process; kept = kept_at s o.process o.doing; command = o.command; number = o.number }
+process_at s o = record { setup = s; process = o.process; doing = o.doing; command = o.command; number = o.number }
 
 -- its stage
 abbrev pub stage_in : Setup → OwnView → Stage
-stage_in s o = stage_kept (kept_at s o.process o.doing)
+stage_in s o = stage_doing o.doing
 
 -- why an event of the process is refused, if it is
 abbrev pub refusal_in : Setup → OwnView → Event → Option Refusal

@@ -1,25 +1,24 @@
 -- What a word step of a port is: the next access of its process, or of that one's memory unit; of a read, begin and end.
 use Rattle.std.specs.Prelude.{◌≡◌, ◌⊎◌, ℕ, Bool, true, false, List, [], length, None, Some, fold}
-use Rattle.safe_bit.specs.declared.Move.TheVariants.{BeginRead, BeginWrite, EndRead, EndWrite}
-use Rattle.safe_bit.specs.declared.Move.{Move}
+use Rattle.record.specs.safe_bit.declared.Move.TheVariants.{BeginRead, BeginWrite, EndRead, EndWrite}
+use Rattle.record.specs.safe_bit.declared.Move.{Move}
 use Rattle.record.specs.declared.access.Access.{Access}
 use Rattle.record.specs.reader_copies.Written.{IsWrite}
 use Rattle.plain_store.specs.declared.Setup.{Setup}
 use Rattle.record.specs.declared.history.Taken.{Taken}
 use Rattle.record.specs.declared.marks.Mark.TheVariants.{Answered, Down}
+use Rattle.record.specs.declared.stages.Stage.{Stage}
 use Rattle.record.specs.declared.stages.Stage.TheVariants as stage
 use Rattle.record.specs.Histories.{reply_taken}
 use Rattle.record.specs.Stages.{stage_after}
-use Rattle.process.specs.laws.Doings.{is_inside}
-use Rattle.process.specs.laws.Steps.{being_written, marks_with, next_of}
+use Rattle.laws.specs.Doings.{is_inside}
+use Rattle.laws.specs.Steps.{IsCallOf, IsLive, IsReached, being_written, marks_with, next_of}
 use Rattle.history_laws.specs.Stamps.{stamp_read}
 use Rattle.process.specs.declared.told.StepTold.{StepTold}
 use Rattle.process.specs.declared.told.StepTold.TheVariants as told
-use Rattle.process.specs.Processes.{kept_at}
-use Rattle.process.specs.Steps.{IsAt, may_step}
 use Rattle.board.specs.Calls.{IsPrefix, calls_after}
 use Rattle.board.specs.Lists.{StandsInSeen}
-use Rattle.board.specs.Views.{OwnView, ViewState, process_at, stage_in, with_step}
+use Rattle.board.specs.Views.{OwnView, ViewState, stage_in, with_step}
 use Rattle.board.specs.Words.{loaded}
 
 -- the next access of the process is made, which gives this value, by a port that has seen these changes: its marks lead to its stage; what its call takes has the stamp that was read as its place; and what is taken while it is inside, itself or by its memory unit, has the number of changes seen
@@ -30,10 +29,16 @@ pub record Makes (s : Setup) (seen : List Taken) (flick value : Bool) (o then : 
   pub inside : is_inside o.doing ≡ true → place ≡ length seen
   pub stage : stage_in s then ≡ fold stage_after (stage_in s o) (marks_with s o.process o.doing flick value)
 
+-- what is known of a process: it is where its accesses lead, in the call that is kept, which has not come to its end
+pub record IsWhere (s : Setup) (o : OwnView) : Type 0 where
+  pub reached : IsReached s o.process o.doing
+  pub call : IsCallOf o.command o.number o.doing
+  pub live : IsLive o.doing
+
 -- a view goes on: it knows this of its process then, where that goes on from, and has seen no fewer changes; where its process has read the stamps, it has seen as many as the greatest of them; and the calls of its process stand in what it has seen
 pub record GoesOn (s : Setup) (v w : ViewState) : Type 0 where
   pub same : w ≡ record v { own = w.own; seen = w.seen }
-  pub at : IsAt (process_at s w.own) w.own.doing
+  pub at : IsWhere s w.own
   pub seen : IsPrefix v.seen w.seen
   pub stamped : (stamp : ℕ) → stamp_read w.own.doing ≡ Some stamp → length w.seen ≡ stamp
   pub stands : StandsInSeen s w
@@ -45,7 +50,7 @@ pub record Loads (s : Setup) (flick : Bool) (v : ViewState) (word : ℕ) (w : Vi
   pub reads : access.how ≡ BeginRead
   pub begun : OwnView
   pub begins : Makes s v.seen flick false v.own begun
-  pub at : IsAt (process_at s begun) begun.doing
+  pub at : IsWhere s begun
   pub ends : Makes s v.seen flick (loaded flick word) begun w.own
   pub goes : GoesOn s v w
 
@@ -62,9 +67,15 @@ pub record Stores (s : Setup) (flick : Bool) (v w : ViewState) : Type 0 where
 abbrev pub WordStep : Setup → Bool → ViewState → ViewState → Type 0
 WordStep s flick v w = ((word : ℕ) × Loads s flick v word w) ⊎ Stores s flick v w
 
--- the process has a next access, or its memory unit has one
+-- in this stage a process has a next access, or its memory unit has one
+abbrev pub goes_at : Stage → Bool
+goes_at stage.Idle = false
+goes_at stage.Down = false
+goes_at _ = true
+
+-- the process has one, or its memory unit
 abbrev pub goes : Setup → OwnView → Bool
-goes s o = may_step (kept_at s o.process o.doing)
+goes s o = goes_at (stage_in s o)
 
 -- what a word step leads to: its call is answered; the process is down; or there is a next access
 abbrev pub LeadsTo : Setup → StepTold → OwnView → OwnView → Type 0

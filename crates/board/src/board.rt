@@ -51,7 +51,7 @@ impl Board {
     {
         let (board, mut seat) = opened(alloc, setup)?;
         let mut ports = board.others(alloc, &mut seat)?;
-        let first = Process::new(alloc, 0, setup)?;
+        let first = Process::new(0, setup);
         ports.insert(0, Port::new(alloc, seat, first))?;
         Ok((board, ports))
     }
@@ -68,7 +68,7 @@ impl Board {
     {
         let mut ports: Vec<Port> = Vec::with_capacity(alloc, usize::from(self.setup.processes))?;
         for number in 1..self.setup.processes {
-            let process = Process::new(alloc, number, &self.setup)?;
+            let process = Process::new(number, &self.setup);
             let seat = self.newcomer(first);
             ports.push_reserved(Port::new(alloc, seat, process));
         }

@@ -1,6 +1,7 @@
 //! Ports, each of which runs one process.
 ghost use Rattle.std.specs.Prelude.{◌≡◌, ◌↔◌, Bool, IsTrue, ℕ, OnErr, OnOk, true, []};
 ghost use Rattle.plain_store.specs.Store.{are_pairs};
+ghost use Rattle.process.specs.Places.{process_after};
 ghost use Rattle.record.specs.declared.Event.TheVariants.{Fail, Restart, Withdraw};
 ghost use Rattle.board.specs.Boards.{IsOf};
 ghost use Rattle.board.specs.Closings.{IsSeatOf, IsStill, StandsInRecord};
@@ -9,12 +10,11 @@ ghost use Rattle.board.specs.Ports.{IsBegun, SamePort, StandInSeen, answer_to, c
 ghost use Rattle.board.specs.Seats.{port_at};
 ghost use Rattle.board.specs.Views.{new_view, stage_in};
 ghost use Rattle.board.specs.WordSteps.{LeadsTo, WordStep, goes};
-ghost use Rattle.process.specs.Processes.{process_after};
 
 use crate::board::Board;
 use crate::calls::CallList;
 use crate::pending::Pending;
-use crate::steps::{WordSeat, step_within, word_step};
+use crate::steps::{WordSeat, word_step};
 use plain_store::Command;
 use process::{Process, StepTold};
 use record::{Event, Placed, Refusal, Stage};
@@ -108,8 +108,8 @@ impl Port {
         self.calls.done()
     }
 
-    /// One word step. Nearly all are within a number access at the data, and lead to nothing.
-    #[inline(always)]
+    /// One word step.
+    #[inline]
     pub(crate) fn turn(&mut self, board: &Board, flick: bool) -> StepTold
         requires board { IsOf board.now self.old }
         requires goes { goes self.old.setup self.old.view.own ≡ true }
@@ -117,20 +117,6 @@ impl Port {
         ensures step { WordStep self.old.setup flick self.old.view self.new.view }
         ensures leads { LeadsTo self.old.setup result self.old.view.own self.new.view.own }
     {
-        if self.process.bits_within() > 1 {
-            step_within(
-                &board.table.shared,
-                &board.setup,
-                &board.layout,
-                &mut self.seat,
-                &mut self.process,
-                self.pending,
-                &mut self.value,
-                flick,
-            );
-            self.pending.clear();
-            return StepTold::Nothing;
-        }
         let told = word_step(
             &board.table.shared,
             &board.setup,

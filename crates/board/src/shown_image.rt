@@ -3,7 +3,7 @@ ghost use Rattle.std.specs.Prelude.{◌≡◌, ◌+◌, ◌*◌, ◌<◌, ◌≤
 ghost use Rattle.std.specs.Slots.{slots_len, IsFull};
 ghost use Rattle.store_image.specs.Reading.{store_in};
 ghost use Rattle.plain_store.specs.Setups.{callers_of, checked};
-ghost use Rattle.record.specs.Program.{newest_process, version_of};
+ghost use Rattle.record.specs.Program.{newest_process, newest_stamp, version_of};
 ghost use Rattle.record.specs.Registers.{image_bytes, width};
 ghost use Rattle.board.specs.Closings.{bit_shown, bytes_of, number_shown, store_shown, version_shown, versions_shown, words_of};
 ghost use Rattle.board.specs.Words.{words_in};
@@ -11,8 +11,7 @@ ghost use Rattle.board.specs.Words.{words_in};
 use crate::layout::WordLayout;
 use atomic_table::Closed;
 use plain_store::Setup;
-use record::{Access, Field};
-use safe_bit::Move;
+use record::{Access, Field, Move};
 use std::alloc::Global;
 use store_image::Image;
 
@@ -106,7 +105,21 @@ fn version_shown(setup: &Setup, words: &ClosedWords, owner: u8) -> (bool, u32)
     }
 }
 
-/// The process with the greatest stamp, the lowest on a tie, and its commit bit.
+/// The greatest stamp.
+fn greatest_shown(setup: &Setup, words: &ClosedWords) -> u32
+    requires good { checked setup.now ≡ Ok tt }
+    requires words { (slots_len words.now.words ≡ words_in setup.now) × IsFull words.now.words }
+    ensures { result ≡ newest_stamp (versions_shown setup.now (words_of words.now)) }
+{
+    let mut greatest = 0;
+    for process in 0..setup.processes {
+        let (_, stamp) = version_shown(setup, words, process);
+        greatest = greatest.max(stamp);
+    }
+    greatest
+}
+
+/// The process that has it, the lowest on a tie, and its commit bit.
 fn newest_shown(setup: &Setup, words: &ClosedWords) -> (u8, bool)
     requires good { checked setup.now ≡ Ok tt }
     requires words { (slots_len words.now.words ≡ words_in setup.now) × IsFull words.now.words }
@@ -114,18 +127,14 @@ fn newest_shown(setup: &Setup, words: &ClosedWords) -> (u8, bool)
     ensures bit { result.1 ≡ version_of (versions_shown setup.now (words_of words.now)) result.0 }
     ensures there { result.0 < setup.now.processes }
 {
-    let mut newest = 0;
-    let mut chosen = false;
-    let mut greatest = 0;
+    let greatest = greatest_shown(setup, words);
     for process in 0..setup.processes {
         let (commit, stamp) = version_shown(setup, words, process);
-        if process == 0 || greatest < stamp {
-            newest = process;
-            chosen = commit;
-            greatest = stamp;
+        if stamp == greatest {
+            return (process, commit);
         }
     }
-    (newest, chosen)
+    unreachable!()
 }
 
 /// The store whose image the bytes are. The empty store stands in place of bytes that are none.

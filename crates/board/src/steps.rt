@@ -1,8 +1,7 @@
 //! One word step of a port: a load or a store of one word.
 ghost use Rattle.std.specs.Prelude.{◌≡◌, ◌<◌, Bool, true};
 ghost use Rattle.record.specs.reader_copies.Written.{IsWrite};
-ghost use Rattle.process.specs.Steps.{bits_within, may_step};
-ghost use Rattle.process.specs.declared.told.StepTold.TheVariants as tells;
+ghost use Rattle.process.specs.Places.{may_step};
 ghost use Rattle.board.specs.Lists.{StandsInSeen};
 ghost use Rattle.board.specs.Pending.{nothing};
 ghost use Rattle.board.specs.Ports.{IsTied};
@@ -16,7 +15,7 @@ use crate::rule::{Agreement, Load, Turn, View, WordStore};
 use atomic_table::{Seat, Shared};
 use plain_store::Setup;
 use process::{Process, StepTold};
-use safe_bit::Move;
+use record::Move;
 use std::marker::Brand;
 
 /// The words of a board, as its ports share them.
@@ -93,7 +92,7 @@ fn read(
     requires place { (seat.old.table_id ≡ words.now.table_id) × (word < words.now.table_id.words) }
     requires tied { (value : Bool) × IsTied words.now.key pending process.old value seat.old.me.0 }
     requires next { ReadsNext words.now.key process.old flick word }
-    requires goes { may_step process.old.kept ≡ true }
+    requires goes { may_step process.old.doing ≡ true }
     ensures same { SameSeat seat.old seat.new }
     ensures tied { StaysTied words.now.key pending process.old process.new seat.old seat.new }
     ensures step { SeatSteps words.now.key pending flick seat.old seat.new }
@@ -104,32 +103,6 @@ fn read(
     let found = load::<Brand>(words, seat, word, flick, pending);
     let _begun = process.advance(flick, false);
     briefly(process.advance(flick, loaded(flick, found)))
-}
-
-/// The same within a number access at the data, where it leads to nothing.
-#[inline(always)]
-fn read_within(
-    words: &SharedWords,
-    seat: &mut WordSeat,
-    process: &mut Process,
-    word: usize,
-    pending: Pending,
-    flick: bool,
-)
-    requires place { (seat.old.table_id ≡ words.now.table_id) × (word < words.now.table_id.words) }
-    requires tied { (value : Bool) × IsTied words.now.key pending process.old value seat.old.me.0 }
-    requires next { ReadsNext words.now.key process.old flick word }
-    requires within { 1 < bits_within process.old.kept }
-    ensures same { SameSeat seat.old seat.new }
-    ensures tied { StaysTied words.now.key pending process.old process.new seat.old seat.new }
-    ensures step { SeatSteps words.now.key pending flick seat.old seat.new }
-    ensures leads { SeatLeads words.now.key pending tells.Nothing seat.old seat.new }
-    ensures lists { SeatLists words.now.key pending tells.Nothing seat.old seat.new }
-    ensures stands { StandsInSeen words.now.key seat.new.me.0 }
-{
-    let found = load::<Brand>(words, seat, word, flick, pending);
-    process.advance_within(false);
-    process.advance_within(loaded(flick, found));
 }
 
 /// One access of a write of one bit: one store.
@@ -145,7 +118,7 @@ fn write(
 ) -> StepTold
     requires place { (seat.old.table_id ≡ words.now.table_id) × (word < words.now.table_id.words) }
     requires next { WritesNext words.now.key pending process.old seat.old flick word new }
-    requires goes { may_step process.old.kept ≡ true }
+    requires goes { may_step process.old.doing ≡ true }
     ensures same { SameSeat seat.old seat.new }
     ensures tied { WriteTies words.now.key pending flick process.old process.new seat.old seat.new }
     ensures step { SeatSteps words.now.key pending flick seat.old seat.new }
@@ -155,31 +128,6 @@ fn write(
 {
     store::<Brand>(words, seat, word, new, flick, pending);
     briefly(process.advance(flick, false))
-}
-
-/// The same within a number access at the data, where it leads to nothing.
-#[inline(always)]
-fn write_within(
-    words: &SharedWords,
-    seat: &mut WordSeat,
-    process: &mut Process,
-    word: usize,
-    new: u64,
-    pending: Pending,
-    flick: bool,
-)
-    requires place { (seat.old.table_id ≡ words.now.table_id) × (word < words.now.table_id.words) }
-    requires next { WritesNext words.now.key pending process.old seat.old flick word new }
-    requires within { 0 < bits_within process.old.kept }
-    ensures same { SameSeat seat.old seat.new }
-    ensures tied { WriteTies words.now.key pending flick process.old process.new seat.old seat.new }
-    ensures step { SeatSteps words.now.key pending flick seat.old seat.new }
-    ensures leads { SeatLeads words.now.key pending tells.Nothing seat.old seat.new }
-    ensures lists { SeatLists words.now.key pending tells.Nothing seat.old seat.new }
-    ensures stands { StandsInSeen words.now.key seat.new.me.0 }
-{
-    store::<Brand>(words, seat, word, new, flick, pending);
-    process.advance_within(false);
 }
 
 /// What the store of a write's access writes, where the bit is written to `value`: the value of a begin, from then on.
@@ -217,7 +165,7 @@ pub(crate) fn word_step(
     requires size { words.now.table_id.words ≡ words_in setup.now }
     requires key { words.now.key ≡ setup.now }
     requires tied { IsTied words.now.key pending process.old value.old seat.old.me.0 }
-    requires goes { may_step process.old.kept ≡ true }
+    requires goes { may_step process.old.doing ≡ true }
     ensures same { SameSeat seat.old seat.new }
     ensures tied { IsTied words.now.key nothing process.new value.new seat.new.me.0 }
     ensures step { SeatSteps words.now.key pending flick seat.old seat.new }
@@ -233,43 +181,6 @@ pub(crate) fn word_step(
         _ => {
             let new = stored(access.how, value);
             write(words, seat, process, word, new, pending, flick)
-        }
-    }
-}
-
-/// The same within a number access at the data, where nearly all word steps are: it leads to nothing.
-#[inline(always)]
-pub(crate) fn step_within(
-    words: &SharedWords,
-    setup: &Setup,
-    layout: &WordLayout,
-    seat: &mut WordSeat,
-    process: &mut Process,
-    pending: Pending,
-    value: &mut bool,
-    flick: bool,
-)
-    requires laid { layout.now ≡ layout_of setup.now }
-    requires table { seat.old.table_id ≡ words.now.table_id }
-    requires size { words.now.table_id.words ≡ words_in setup.now }
-    requires key { words.now.key ≡ setup.now }
-    requires tied { IsTied words.now.key pending process.old value.old seat.old.me.0 }
-    requires within { 1 < bits_within process.old.kept }
-    ensures same { SameSeat seat.old seat.new }
-    ensures tied { IsTied words.now.key nothing process.new value.new seat.new.me.0 }
-    ensures step { SeatSteps words.now.key pending flick seat.old seat.new }
-    ensures leads { SeatLeads words.now.key pending tells.Nothing seat.old seat.new }
-    ensures lists { SeatLists words.now.key pending tells.Nothing seat.old seat.new }
-    ensures stands { StandsInSeen words.now.key seat.new.me.0 }
-{
-    let access = process.next_at_data();
-    let word = layout.word_of(setup, &access);
-    match access.how {
-        Move::BeginRead => read_within(words, seat, process, word, pending, flick),
-        Move::EndRead(_) => unreachable!(),
-        _ => {
-            let new = stored(access.how, value);
-            write_within(words, seat, process, word, new, pending, flick);
         }
     }
 }

@@ -6,8 +6,7 @@ ghost use Rattle.record.specs.Registers.{width};
 ghost use Rattle.board.specs.Words.{bit_of, first_bit, row_bits, words_in};
 
 use plain_store::Setup;
-use record::{Access, Field};
-use safe_bit::Move;
+use record::{Access, Field, Move};
 
 /// The bits of a register.
 #[inline]

@@ -3,7 +3,7 @@ use Rattle.std.proofs.Common.{◌≡◌, ◌≤◌, ℕ, List, length, replicate
 use Rattle.std.proofs.lemmas.Bool.{cases_eq, cases_lt}
 use Rattle.std.proofs.lemmas.List.{get_or-replicate, get_or-set_other, get_or-set_same, get_or_past, length-replicate, length-set}
 use Rattle.world.specs.Seats.{Seat}
-use Rattle.world.specs.Walks.{KeepOthers, bits_within_at}
+use Rattle.world.specs.Walks.{KeepOthers, left_in}
 use Rattle.course.specs.Counts.{IsCounted}
 
 -- at first nothing is known
@@ -11,25 +11,25 @@ pub none_known : (n p : ℕ) → slice_index (replicate n 0) p ≡ 0
 none_known n p = elim (cases_lt p n) [ inl inside ↦ get_or-replicate n p 0 0 inside | inr past ↦ get_or_past (replicate n 0) p 0 (omega (arith, length-replicate {A = ℕ} n 0, past)) ]
 
 -- one is put down
-put_same : (within : List ℕ) (p bits : ℕ) → slice_index (set within p bits) p ≤ bits
-put_same within p bits = elim (cases_lt p (length within)) [
-  | inl inside ↦ let is : slice_index (set within p bits) p ≡ bits = get_or-set_same within p bits 0 inside in omega (arith, is)
+put_same : (within : List ℕ) (p quiet : ℕ) → slice_index (set within p quiet) p ≤ quiet
+put_same within p quiet = elim (cases_lt p (length within)) [
+  | inl inside ↦ let is : slice_index (set within p quiet) p ≡ quiet = get_or-set_same within p quiet 0 inside in omega (arith, is)
   | inr past ↦
-      let long = length-set within p bits in
-      let none : slice_index (set within p bits) p ≡ 0 = get_or_past (set within p bits) p 0 (omega (arith, long, past)) in
+      let long = length-set within p quiet in
+      let none : slice_index (set within p quiet) p ≡ 0 = get_or_past (set within p quiet) p 0 (omega (arith, long, past)) in
       omega (arith, none)
 ]
 
 -- after a Step of a process of which so much is known
-pub counted_put : (within : List ℕ) (p bits : ℕ) (old new : List Seat) → IsCounted within old → bits ≤ bits_within_at new p → KeepOthers old p new → IsCounted (set within p bits) new
-counted_put within p bits old new known few others q = elim (cases_eq q p) [
+pub counted_put : (within : List ℕ) (p quiet : ℕ) (old new : List Seat) → IsCounted within old → quiet ≤ left_in new p → KeepOthers old p new → IsCounted (set within p quiet) new
+counted_put within p quiet old new known few others q = elim (cases_eq q p) [
   | inl is ↦
-      let here : slice_index (set within p bits) q ≡ slice_index (set within p bits) p = ap (slice_index (set within p bits)) is in
-      let same : bits_within_at new q ≡ bits_within_at new p = ap (bits_within_at new) is in
-      let most = put_same within p bits in
+      let here : slice_index (set within p quiet) q ≡ slice_index (set within p quiet) p = ap (slice_index (set within p quiet)) is in
+      let same : left_in new q ≡ left_in new p = ap (left_in new) is in
+      let most = put_same within p quiet in
       omega (arith, here, same, most, few)
   | inr apart ↦
-      let there : slice_index (set within p bits) q ≡ slice_index within q = get_or-set_other within p q bits 0 apart in
+      let there : slice_index (set within p quiet) q ≡ slice_index within q = get_or-set_other within p q quiet 0 apart in
       let more = others q apart in
       let before = known q in
       omega (arith, there, more, before)

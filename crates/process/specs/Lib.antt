@@ -1,12 +1,12 @@
-pub use Rattle.bakery.specs as bakery
-pub use Rattle.section.specs as section
-pub use Rattle.section.specs.flicks as flicks
+pub use Rattle.flicks.specs as flicks
 pub use Rattle.laws.specs as laws
-pub mod Drops
-pub mod Halts
-pub mod Keeping
-pub mod Processes
-pub mod Refusals
-pub mod Registers
-pub mod Steps
+pub use Rattle.registers.specs as registers
+pub mod CallParts
+pub mod Memories
+pub mod Newest
+pub mod Others
+pub mod Places
+pub mod Seen
+pub mod Serving
 pub mod Telling
+pub mod Working

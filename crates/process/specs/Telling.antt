@@ -1,13 +1,9 @@
 -- What an event leads to, and its marks.
-use Rattle.std.specs.Prelude.{◌≡◌, ℕ, Bool, List, [], ◌∷◌, map, IfSome, Option, None, Some}
+use Rattle.std.specs.Prelude.{ℕ, List, [], ◌∷◌, map, Option, None, Some}
 use Rattle.record.specs.declared.Mark.{Mark}
 use Rattle.record.specs.declared.Mark.TheVariants as mark
 use Rattle.record.specs.Acts.{Act}
 use Rattle.record.specs.Records.{placed}
-use Rattle.laws.specs.Doings.{Doing}
-use Rattle.laws.specs.Steps.{marks_with}
-use Rattle.process.specs.Processes.{ProcessState}
-use Rattle.process.specs.Steps.{IsAt, changes_read}
 use Rattle.process.specs.declared.told.Effect.{Effect}
 use Rattle.process.specs.declared.told.Effect.TheVariants.{Steps, Calls, Fails, Withdraws, Restarts}
 use Rattle.process.specs.declared.told.EventMade.{EventMade}
@@ -27,18 +23,10 @@ marks_told (Settles value) = mark.Settled value ∷ []
 marks_told (SettlesAndTakes value reply) = mark.Settled value ∷ mark.Taken 0 reply ∷ []
 marks_told Lies = mark.Down ∷ []
 
--- those of the next access of the process, where it has this value
-abbrev pub TellsMarks : ProcessState → (flick value : Bool) → StepTold → Type 0
-TellsMarks now flick value told = (d : Doing) → IsAt now d → marks_told told ≡ marks_with now.setup now.process d flick value
-
 -- how many changes a process tells to have been taken before the command that it takes
 abbrev pub changes_told : StepTold → Option ℕ
 changes_told (Took reply changes) = Some changes
 changes_told _ = None
-
--- so many as the process has read
-abbrev pub TellsChanges : ProcessState → StepTold → Type 0
-TellsChanges now told = (d : Doing) → IsAt now d → IfSome (changes_told told) (λ changes. changes ≡ changes_read d)
 
 -- the marks of an event
 abbrev pub marks_of : Effect → List Mark

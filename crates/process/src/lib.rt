@@ -1,15 +1,30 @@
-//! One process, whatever memory serves it: a cursor over the accesses of its calls and of its memory unit, which
-//! tells the next one and goes on by what that gave, and which is called, gives up waiting, fails and is restarted.
-//! It alone knows which of the cursors below follows which (Lamport's bakery, 1974). One such memory stands here too:
-//! the registers of all processes.
+//! One process at its place: its call, the part of its program that it has come to, and the cursor of the number access
+//! that it makes there.
 #![tactic(auto)]
 
+mod after;
+mod asked;
+mod call_part;
+mod committed;
+mod entering;
+mod image;
+mod marks;
+mod numbers;
+mod opening;
+mod others;
+mod part;
 mod process;
-mod registers;
+mod seen;
+mod store;
 mod told;
+mod work;
 
-pub use bakery::Pace;
+pub use asked::Asked;
+pub use call_part::CallPart;
+pub use committed::newest;
+pub use flicks::Flicks;
+pub use opening::open_memory;
 pub use process::Process;
-pub use registers::Registers;
-pub use section::{Flicks, Image};
+pub use registers::BitMemory;
+pub use store_image::Image;
 pub use told::{Effect, EventMade, StepTold};

@@ -1,95 +1,58 @@
-ghost use Rattle.std.specs.Prelude.{◌≡◌, ◌<◌, [], IfOk, Ok};
+//! One process, as the place that it has come to.
+ghost use Rattle.std.specs.Prelude.{◌≡◌, ◌<◌, ℕ, [], IfSome, None, Ok, Some, cond};
+ghost use Rattle.record.specs.Parts.{is_read, read_at};
 ghost use Rattle.plain_store.specs.Setups.{checked};
-ghost use Rattle.record.specs.Doorways.{is_waiting_stage};
-ghost use Rattle.process.specs.Keeping.{is_at_data};
-ghost use Rattle.process.specs.Processes.{inside_kept, process_after, stage_kept};
-ghost use Rattle.process.specs.Processes as kept;
-ghost use Rattle.process.specs.Steps.{IsPending, IsRead, ReadsWithin, called, is_at_door, may_step};
+ghost use Rattle.record.specs.declared.access.Field.{Field};
+ghost use Rattle.record.specs.Doorways.{is_queued, is_waiting_stage};
+ghost use Rattle.laws.specs.Doings.{is_inside};
+ghost use Rattle.laws.specs.Steps.{reads_of};
+ghost use Rattle.process.specs.Places.{called, changes_pending, may_step, process_after, restarted, stage_doing};
 
 mod advance;
 mod cut;
 mod refusals;
-mod served;
+mod serving;
 
-use bakery::{Door, Leaving};
-use memory_unit::Unit;
-use plain_store::{Answer, Command, Reply, Setup};
+use crate::asked::Asked;
+use crate::call_part::CallPart;
+use crate::entering::enter;
+use crate::work::ProcessWork;
+use plain_store::{Command, Setup};
 use record::{Field, Stage};
-use section::Section;
-use std::alloc::{AllocError, Global};
+use registers::Cursor;
 use std::marker::Model;
 
-/// Which cursor of a process goes on, with what its next accesses may mark.
-#[derive(Clone, Copy)]
-pub(crate) enum ActiveCursor {
-    Rests,
-    Lies,
-    /// The door: in the doorway, or waiting.
-    AtDoor {
-        waits: bool,
-    },
-    AtData,
-    /// The ticket is being cleared, and then the call is answered; `fresh`: nothing of that is made.
-    Leaves {
-        answer: Answer,
-        fresh: bool,
-        leaving: Leaving,
-    },
-    Withdraws(Leaving),
-    /// The unit settles the torn bit, at `value` once it has begun. A commit bit that is settled at the bit of
-    /// `taken` takes the command, with that reply.
-    Settles {
-        inside: bool,
-        taken: Option<(bool, Reply)>,
-        value: Option<bool>,
-        unit: Unit,
-    },
-    /// The unit clears the ticket and the choosing bit.
-    Frees {
-        inside: bool,
-        unit: Unit,
-    },
-}
-
-/// One process: its cursors, and its last call. After `new` it takes no memory.
+/// One process: its last call, with the part that it is at, and the cursor of its number access. It takes no memory.
 #[derive(Drop)]
 pub struct Process {
-    setup: Setup,
-    process: u8,
-    door: Door,
-    section: Section,
-    work: ActiveCursor,
-    command: Command,
-    number: u16,
+    called: CallPart,
+    work: ProcessWork,
+    cursor: Cursor,
 }
 
 impl Model for Process {
-    ghost use Rattle.process.specs.Keeping.{KeepsProcess, kept_shown};
-    ghost use Rattle.process.specs.Processes.{ProcessState};
+    ghost use Rattle.process.specs.Places.{ProcessState};
+    ghost use Rattle.process.specs.Working.{KeepsPlace, state_at};
 
     ghost Value = { ProcessState };
 
-    ghost view = { λ q. record { setup = q.setup; process = q.process; kept = kept_shown q.work q.door q.section; command = q.command; number = q.number } };
+    ghost view = { λ q. state_at q.called q.work q.cursor };
 
-    ghost invariant = { λ q. KeepsProcess q.setup q.process q.work q.door q.section };
+    ghost invariant = { λ q. KeepsPlace q.called q.work q.cursor };
 }
 
 impl Process {
-    /// A process that has made no call. The one fault is want of memory.
-    pub fn new(alloc: Global, process: u8, setup: &Setup) -> Result<Process, AllocError>
+    /// A process that has made no call.
+    pub fn new(process: u8, setup: &Setup) -> Process
         requires good { checked setup.now ≡ Ok tt }
         requires process { process < setup.now.processes }
-        ensures { IfOk result (λ now. now ≡ process_after setup.now [] process) }
+        ensures { result ≡ process_after setup.now [] process }
     {
-        Ok(Process {
-            setup: *setup,
-            process,
-            door: Door::new(alloc, process, setup)?,
-            section: Section::new(alloc, process, setup)?,
-            work: ActiveCursor::Rests,
-            command: Command::Ask,
-            number: 0,
-        })
+        Process {
+            called: CallPart::new(setup, process, Command::Ask, 0),
+            work: ProcessWork::Rests,
+            cursor: Cursor::idle(),
+        }
     }
 
     /// Which process it is.
@@ -97,92 +60,81 @@ impl Process {
         ensures process { result ≡ self.now.process }
         ensures there { result < self.now.setup.processes }
     {
-        self.process
+        self.called.process()
+    }
+
+    /// The command of its last call.
+    pub fn command(&self) -> Command
+        ensures { result ≡ self.now.command }
+    {
+        self.called.command()
+    }
+
+    /// The number of its last call.
+    pub fn number(&self) -> u16
+        ensures { result ≡ self.now.number }
+    {
+        self.called.number()
     }
 
     /// Where it stands: idle, in its doorway, waiting, inside, leaving, settling or down.
     pub fn stage(&self) -> Stage
-        ensures { result ≡ stage_kept self.now.kept }
+        ensures { result ≡ stage_doing self.now.doing }
     {
-        match &self.work {
-            ActiveCursor::Rests => Stage::Idle,
-            ActiveCursor::Lies => Stage::Down,
-            ActiveCursor::AtDoor { waits } => {
-                if *waits {
-                    Stage::Waiting
-                } else {
-                    Stage::Doorway
-                }
-            }
-            ActiveCursor::AtData => Stage::Inside,
-            ActiveCursor::Leaves { fresh, .. } => {
-                if *fresh {
-                    Stage::Inside
-                } else {
-                    Stage::Leaving
-                }
-            }
-            ActiveCursor::Withdraws(_) => Stage::Leaving,
-            ActiveCursor::Settles { .. } | ActiveCursor::Frees { .. } => Stage::Settling,
+        match self.work {
+            ProcessWork::Rests => Stage::Idle,
+            ProcessWork::Lies => Stage::Down,
+            ProcessWork::Runs => self.called.stage(self.cursor.is_fresh()),
+            ProcessWork::Withdraws => Stage::Leaving,
+            ProcessWork::Settles { .. } | ProcessWork::Frees { .. } | ProcessWork::Lowers =>
+                Stage::Settling,
         }
     }
 
     /// Whether it waits.
     #[inline]
     pub fn is_waiting(&self) -> bool
-        ensures { result ≡ is_waiting_stage (stage_kept self.now.kept) }
+        ensures { result ≡ is_waiting_stage (stage_doing self.now.doing) }
     {
-        match &self.work {
-            ActiveCursor::AtDoor { waits } => *waits,
-            _ => false,
-        }
+        matches!(self.stage(), Stage::Waiting)
     }
 
     /// Whether it is in its doorway or waits.
     #[inline]
     pub fn is_at_door(&self) -> bool
-        ensures { result ≡ is_at_door self.now.kept }
+        ensures { result ≡ is_queued (stage_doing self.now.doing) }
     {
-        matches!(&self.work, ActiveCursor::AtDoor { .. })
-    }
-
-    /// Whether it reads or writes the versions of the store: there a process has nearly all its accesses.
-    #[inline]
-    fn is_at_data(&self) -> bool
-        ensures { result ≡ is_at_data self.now.kept }
-    {
-        matches!(&self.work, ActiveCursor::AtData)
+        matches!(self.stage(), Stage::Doorway | Stage::Waiting)
     }
 
     /// Whether it is inside the critical section, or its memory unit stands in for it there.
     pub fn is_inside(&self) -> bool
-        ensures { result ≡ inside_kept self.now.kept }
+        ensures { result ≡ is_inside self.now.doing }
     {
-        match &self.work {
-            ActiveCursor::AtData => true,
-            ActiveCursor::Leaves { fresh, .. } => *fresh,
-            ActiveCursor::Settles { inside, .. } | ActiveCursor::Frees { inside, .. } => *inside,
+        match self.work {
+            ProcessWork::Runs => self.called.is_inside(self.cursor.is_fresh()),
+            ProcessWork::Settles { inside, .. } => inside,
+            ProcessWork::Frees { inside } => inside && self.cursor.is_fresh(),
             _ => false,
         }
     }
 
-    /// Whether it has a next access: it runs, or its memory unit settles.
+    /// Whether it has a next access: it runs, or its memory unit works.
     #[inline]
     pub fn goes(&self) -> bool
-        ensures { result ≡ may_step self.now.kept }
+        ensures { result ≡ may_step self.now.doing }
     {
-        !matches!(&self.work, ActiveCursor::Rests | ActiveCursor::Lies)
+        !matches!(self.work, ProcessWork::Rests | ProcessWork::Lies)
     }
 
-    /// The register that it reads, and whose it is; none, if it reads none. Where the process gives up waiting or
-    /// fails, its read of that register is dropped by whoever keeps the memory.
+    /// The register that it reads, and whose it is; none, if it reads none. Where the process gives up waiting or fails,
+    /// its read of that register is dropped by whoever keeps the memory.
     pub fn reads(&self) -> Option<(u8, Field)>
-        ensures register { IsRead self.now result }
-        ensures there { ReadsWithin self.now result }
+        ensures register { result ≡ reads_of self.now.setup self.now.process self.now.doing }
+        ensures there { IfSome result (λ (register : ℕ × Field). register.0 < self.now.setup.processes) }
     {
-        match &self.work {
-            ActiveCursor::AtDoor { .. } => self.door.reads(),
-            ActiveCursor::AtData => self.section.reads(),
+        match self.work {
+            ProcessWork::Runs => register_read(&self.called),
             _ => None,
         }
     }
@@ -190,13 +142,10 @@ impl Process {
     /// While it writes a change of the store, the greatest stamp that it has read: how many changes were taken before
     /// that one.
     pub fn changes_pending(&self) -> Option<u32>
-        ensures { IsPending self.now result }
+        ensures { result ≡ changes_pending self.now.setup self.now.process self.now.doing }
     {
-        match &self.work {
-            ActiveCursor::AtData => match self.section.pending() {
-                Some((_, changes, _)) => Some(changes),
-                None => None,
-            },
+        match self.work {
+            ProcessWork::Runs => self.called.changes_pending(),
             _ => None,
         }
     }
@@ -205,44 +154,36 @@ impl Process {
     pub fn call(&mut self, command: Command, number: u16)
         ensures { self.new ≡ called self.old command number }
     {
-        self.door.start();
-        self.work = ActiveCursor::AtDoor { waits: false };
-        self.command = command;
-        self.number = number;
+        self.called.start(command, number);
+        self.work = ProcessWork::Runs;
+        enter(&self.called, &mut self.cursor);
     }
 
     /// A process that was down may call again.
     pub fn restart(&mut self)
-        ensures { self.new ≡ record self.old { kept = kept.Rests } }
+        ensures { self.new ≡ restarted self.old }
     {
-        self.work = ActiveCursor::Rests;
+        self.work = ProcessWork::Rests;
     }
 
-    /// The command of its last call.
-    pub fn command(&self) -> Command
-        ensures { result ≡ self.now.command }
-    {
-        self.command
-    }
-
-    /// The number of its last call.
-    pub fn number(&self) -> u16
-        ensures { result ≡ self.now.number }
-    {
-        self.number
-    }
-
-    /// Becomes as the other, of the same setup: it has the same number, and its calls have come as far. It takes no
-    /// memory.
+    /// Becomes as the other, of the same setup. It takes no memory.
     pub fn copy_from(&mut self, other: &Process)
         requires setup { self.old.setup ≡ other.now.setup }
         ensures { self.new ≡ other.now }
     {
-        self.process = other.process;
-        self.door.copy_from(&other.door);
-        self.section.copy_from(&other.section);
+        self.called.copy_from(&other.called);
         self.work = other.work;
-        self.command = other.command;
-        self.number = other.number;
+        self.cursor.copy_from(&other.cursor);
+    }
+}
+
+/// The register that a part reads, and whose it is.
+fn register_read(called: &CallPart) -> Option<(u8, Field)>
+    ensures register { result ≡ cond (is_read called.now.part) (Some (read_at called.now.call called.now.part)) None }
+    ensures there { IfSome result (λ (register : ℕ × Field). register.0 < called.now.call.setup.processes) }
+{
+    match called.asks() {
+        Asked::Reads { owner, field } => Some((owner, field)),
+        _ => None,
     }
 }

@@ -1,16 +1,11 @@
-ghost use Rattle.std.specs.Prelude.{◌≡◌, cond, [], ◌∷◌, map, None};
+//! What a step and an event lead to.
+ghost use Rattle.std.specs.Prelude.{◌≡◌, [], ◌∷◌, map};
 ghost use Rattle.record.specs.Histories.{reply_taken};
 ghost use Rattle.record.specs.Records.{placed};
-ghost use Rattle.record.specs.declared.Mark.TheVariants.{Left};
-ghost use Rattle.bakery.specs.Doors as doors;
-ghost use Rattle.section.specs.Sections as sections;
-ghost use Rattle.process.specs.Keeping.{answer_told, changes_in, marks_settled, stage_waiting};
-ghost use Rattle.process.specs.Telling.{act_of, changes_told, marks_of, marks_told};
+ghost use Rattle.process.specs.Telling.{act_of, marks_of, marks_told};
 
-use bakery::DoorProgress;
 use plain_store::{Answer, Command, Reply};
 use record::{Access, Act, Mark};
-use section::SectionProgress;
 use smallvec::SmallVec;
 use std::alloc::Global;
 
@@ -137,69 +132,5 @@ fn two(alloc: Global, first: Mark, second: Mark) -> SmallVec<Mark, 3>
     match SmallVec::from_array(alloc, [first, second]) {
         Ok(marks) => marks,
         Err(_) => unreachable!(),
-    }
-}
-
-/// What the door's progress tells of a process that waited before, or did not.
-pub(crate) fn told_at_door(waits: bool, progress: DoorProgress) -> StepTold
-    ensures marks { marks_told result ≡ doors.marks_told (stage_waiting waits) progress }
-    ensures changes { changes_told result ≡ None }
-{
-    match progress {
-        DoorProgress::Doorway => StepTold::Nothing,
-        DoorProgress::Waiting(_) if waits => StepTold::Nothing,
-        DoorProgress::Waiting(ticket) => StepTold::Waits(ticket),
-        DoorProgress::Inside(_) if waits => StepTold::Enters,
-        DoorProgress::Inside(ticket) => StepTold::WaitsAndEnters(ticket),
-        DoorProgress::Full { .. } if waits => StepTold::Nothing,
-        DoorProgress::Full { process } => StepTold::Answers(Answer::TicketsFull { process }),
-    }
-}
-
-/// The answer that is to come once a section has told this.
-pub(crate) fn answer_told(progress: &SectionProgress) -> Option<Answer>
-    ensures { result ≡ answer_told progress.now }
-{
-    match progress {
-        SectionProgress::Reading | SectionProgress::Writing => None,
-        SectionProgress::Taken { reply, .. } => Some(Answer::Reply(*reply)),
-        SectionProgress::NoStamp => Some(Answer::StampsFull),
-    }
-}
-
-/// What a section's progress tells.
-pub(crate) fn told_at_data(progress: &SectionProgress) -> StepTold
-    ensures marks { marks_told result ≡ sections.marks_told progress.now }
-    ensures changes { changes_told result ≡ changes_in progress.now }
-{
-    match progress {
-        SectionProgress::Taken { reply, changes } => StepTold::Took {
-            reply: *reply,
-            changes: *changes,
-        },
-        _ => StepTold::Nothing,
-    }
-}
-
-/// What the settling of the torn bit at a value leads to.
-pub(crate) fn settled(value: bool, taken: Option<(bool, Reply)>) -> StepTold
-    ensures marks { marks_told result ≡ marks_settled value taken }
-    ensures changes { changes_told result ≡ None }
-{
-    match taken {
-        Some((bit, reply)) if bit == value => StepTold::SettlesAndTakes(value, reply),
-        _ => StepTold::Settles(value),
-    }
-}
-
-/// What an access of the unit leads to that is the first one outside, or is not.
-pub(crate) fn told_left(inside: bool) -> StepTold
-    ensures marks { marks_told result ≡ cond inside (Left ∷ []) [] }
-    ensures changes { changes_told result ≡ None }
-{
-    if inside {
-        StepTold::Leaves
-    } else {
-        StepTold::Nothing
     }
 }

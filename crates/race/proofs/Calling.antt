@@ -11,7 +11,7 @@ use Rattle.record.specs.declared.marks.Mark.{Mark}
 use Rattle.record.specs.declared.marks.Mark.TheVariants as mark
 use Rattle.record.specs.declared.stages.Stage.{Stage}
 use Rattle.record.specs.declared.stages.Stage.TheVariants as stage
-use Rattle.record.specs.Parts.{Part, first_marks, is_over, last_marks}
+use Rattle.record.specs.Parts.{Part, first_marks, is_over, last_marks, stage_of}
 use Rattle.record.specs.Program.{Wait, entered_if_none, lets_by, reply, store_read, waits_of}
 use Rattle.record.specs.Parts as part
 use Rattle.record.specs.Places.{Place, bits_with, is_fresh, is_last, place_after}
@@ -19,17 +19,14 @@ use Rattle.record.specs.Scripts.{Call}
 use Rattle.record.specs.Stages.{stage_after}
 use Rattle.board.specs.laws.Doings.{Doing, Rests, Lies, Runs, Closes, call}
 use Rattle.board.specs.laws.Steps.{does_then, marks_with}
-use Rattle.board.specs.process.Processes as kept
-use Rattle.board.specs.process.Processes.{Kept, kept_at, kept_in, stage_kept}
-use Rattle.board.specs.bakery.Doors.{is_waiting}
-use Rattle.board.specs.process.Steps.{may_step}
+use Rattle.board.specs.place.Places.{stage_doing}
 use Rattle.record.specs.declared.calls.Placed.{Placed}
 use Rattle.board.specs.Calls.{Calls, and_then, calls_after}
 use Rattle.board.specs.Driving.{Drives, EndsWith, Walks, flicks_after}
 use Rattle.board.specs.declared.driving.Driven.{Driven}
 use Rattle.board.specs.declared.driving.Driven.TheVariants as driven
 use Rattle.board.specs.Views.{OwnView, ViewState, stage_in}
-use Rattle.board.specs.WordSteps.{Loads, Makes, WordStep, goes}
+use Rattle.board.specs.WordSteps.{Loads, Makes, WordStep, goes, goes_at}
 use Rattle.board.proofs.Leads.{begin_calls}
 use Rattle.board.specs.Calls.{called}
 use Rattle.board.specs.Boards.{BoardState, IsOf}
@@ -57,51 +54,32 @@ uncut_then s p Lies flick v h = cc
 uncut_then s p (Runs command number at) flick v h = over_uncut (is_over (place_after (call s p command number) at v).part) (Runs command number (place_after (call s p command number) at v)) refl
 uncut_then s p (Closes command number at) flick v h = cc
 
-door_up : (b : Bool) → (elim b [ true ↦ stage.Waiting | false ↦ stage.Doorway ]) ≡ stage.Down → ⊥
-door_up true h = cc
-door_up false h = cc
+part_up : (x : Part) (fresh : Bool) → stage_of x fresh ≡ stage.Down → ⊥
+part_up part.Raises fresh h = cc
+part_up (part.Asks j js ts) fresh h = cc
+part_up (part.TakesTicket t) fresh h = cc
+part_up (part.Lowers t) fresh h = cc
+part_up (part.Refuses f) fresh h = cc
+part_up (part.Waits t w ws) fresh h = cc
+part_up (part.AsksCommit k ks vs) fresh h = cc
+part_up (part.AsksStamp k ks vs b) fresh h = cc
+part_up (part.AsksImage vs) fresh h = cc
+part_up (part.WritesImage vs st) fresh h = cc
+part_up (part.WritesStamp vs st) fresh h = cc
+part_up (part.WritesCommit vs st) fresh h = cc
+part_up (part.Clears a) true h = cc
+part_up (part.Clears a) false h = cc
+part_up part.Over fresh h = cc
 
-leaving_up : (b : Bool) → (elim b [ true ↦ stage.Inside | false ↦ stage.Leaving ]) ≡ stage.Down → ⊥
-leaving_up true h = cc
-leaving_up false h = cc
-
-part_up : (c : Call) (at : Place) (x : Part) → stage_kept (kept_in c at x) ≡ stage.Down → ⊥
-part_up c at part.Raises h = door_up _ h
-part_up c at (part.Asks j js ts) h = door_up _ h
-part_up c at (part.TakesTicket t) h = door_up _ h
-part_up c at (part.Lowers t) h = door_up _ h
-part_up c at (part.Refuses f) h = door_up _ h
-part_up c at (part.Waits t w ws) h = door_up _ h
-part_up c at (part.AsksCommit k ks vs) h = cc
-part_up c at (part.AsksStamp k ks vs b) h = cc
-part_up c at (part.AsksImage vs) h = cc
-part_up c at (part.WritesImage vs st) h = cc
-part_up c at (part.WritesStamp vs st) h = cc
-part_up c at (part.WritesCommit vs st) h = cc
-part_up c at (part.Clears a) h = leaving_up (is_fresh at.run) h
-part_up c at part.Over h = cc
-
-uncut_up : (s : Setup) (p : ℕ) (d : Doing) → is_uncut d ≡ true → stage_kept (kept_at s p d) ≡ stage.Down → ⊥
-uncut_up s p Rests h is = cc
-uncut_up s p Lies h is = cc
-uncut_up s p (Runs command number at) h is = part_up (call s p command number) at at.part is
-uncut_up s p (Closes command number at) h is = cc
+uncut_up : (d : Doing) → is_uncut d ≡ true → stage_doing d ≡ stage.Down → ⊥
+uncut_up Rests h is = cc
+uncut_up Lies h is = cc
+uncut_up (Runs command number at) h is = part_up at.part (is_fresh at.run) is
+uncut_up (Closes command number at) h is = cc
 
 -- who has a next access is not idle
-goes_busy : (k : Kept) → may_step k ≡ true → stage_kept k ≡ stage.Idle → ⊥
-goes_busy kept.Rests h is = cc
-goes_busy kept.Lies h is = cc
-goes_busy (kept.AtDoor door) h is = by (is_waiting door) is
-  where
-    by : (b : Bool) → (elim b [ true ↦ stage.Waiting | false ↦ stage.Doorway ]) ≡ stage.Idle → ⊥
-    by true h = cc
-    by false h = cc
-goes_busy (kept.AtData section) h is = cc
-goes_busy (kept.Leaves answer true leaving) h is = cc
-goes_busy (kept.Leaves answer false leaving) h is = cc
-goes_busy (kept.Withdraws leaving) h is = cc
-goes_busy (kept.Settles inside taken value unit) h is = cc
-goes_busy (kept.Frees inside unit) h is = cc
+goes_busy : (st : Stage) → goes_at st ≡ true → st ≡ stage.Idle → ⊥
+goes_busy st h is = let f : false ≡ true = sym (ap goes_at is) ∙ h in cc
 
 -- The marks of a call: it goes on, or it is answered.
 
@@ -199,7 +177,7 @@ makes_on : (s : Setup) (seen : List Taken) (flick value : Bool) (o then : OwnVie
 makes_on s seen flick value o then before m h on go =
     elim (marks_end before o.calls m.place (stage_in s o) s o.process o.doing flick value h on) [
       | inl a ↦ subst (CallGoesOn before) (sym (ap (λ (x : OwnView). x.calls) m.is)) a
-      | inr a ↦ absurd (goes_busy (kept_at s then.process then.doing) go (m.stage ∙ a))
+      | inr a ↦ absurd (goes_busy (stage_in s then) go (m.stage ∙ a))
     ]
 
 -- One word step.
@@ -247,8 +225,8 @@ ends_lead s flicks v turns (driven.Answered answer) (suc n) w h c =
       subst (IsAnswered v.own.calls) (sym h.1.4.1) (answered_on v.own.calls u.own.calls answer (walk_on s flicks v n u h.1.1 c.uncut h.1.2)),
       h.1.4.0,
     )
-ends_lead s flicks v turns driven.Down n w h c = absurd (uncut_up s w.own.process w.own.doing (walk_uncut s flicks v n w h.1 c.uncut) h.2)
-ends_lead s flicks v turns driven.Idle n w h c = absurd (goes_busy (kept_at s v.own.process v.own.doing) c.goes h.2)
+ends_lead s flicks v turns driven.Down n w h c = absurd (uncut_up w.own.doing (walk_uncut s flicks v n w h.1 c.uncut) h.2)
+ends_lead s flicks v turns driven.Idle n w h c = absurd (goes_busy (stage_in s v.own) c.goes h.2)
 
 drives_lead : (s : Setup) (v : ViewState) (turns : ℕ) (flicks : FlickState) (end : Driven) (w : ViewState) (then : FlickState) → Drives s v turns flicks end w then → IsCalling s v.own → LeadsOn s end v w
 drives_lead s v turns flicks end w then d c = ends_lead s flicks v turns end d.made w d.ends c

@@ -6,7 +6,7 @@ ghost use Rattle.record_file.specs.scenario.Spelling.{bit_word};
 ghost use Rattle.snapshot.specs.Copies.{is_image};
 ghost use Rattle.snapshot.specs.Doing.{awaited, chosen_words, doorway_ticket, failed_words, is_ticket, is_writing, one_if, open_how, opened_words, progress_words, reads_before, reads_in_all, reads_words, settles_words, so_far, ticket_at, ticket_words, torn_words, waiting_ticket, waits_at, waits_by, writes_before, writes_in_all};
 
-use crate::registers::field_word;
+use crate::register_lines::field_word;
 use crate::sight::TornWrite;
 use calls::{Called, FinishedRead, holds_up, width};
 use plain_store::{NestedTypes, Setup};

@@ -12,7 +12,7 @@ mod called;
 mod copies;
 mod doing;
 mod known;
-mod registers;
+mod register_lines;
 mod sight;
 mod snapshot;
 mod stores;

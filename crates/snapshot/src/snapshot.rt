@@ -15,7 +15,7 @@ ghost use Rattle.snapshot.specs.States.{HasHeard, Stands, state_lines};
 use crate::ahead::{next_entry, push_newest, push_next};
 use crate::called::{push_line, push_open};
 use crate::known::Known;
-use crate::registers::push_registers;
+use crate::register_lines::push_registers;
 use crate::sight::Sight;
 use crate::stores::push_history;
 use calls::{CallTable, Called};

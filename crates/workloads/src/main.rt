@@ -2,10 +2,10 @@
 //! `tests/byhand/soak_boards.py` judges.
 #![tactic(auto)]
 
+mod accesses;
 mod boards;
 mod counters;
 mod images;
-mod registers;
 mod rounds;
 mod weighing;
 mod worlds;
@@ -45,7 +45,7 @@ fn run<T: Env + Print + Eprint + Clock + AllocGlobal + Threads + Sync>(
     let (first, second) = (number(rt, 2)?, number(rt, 3)?);
     let (some, more) = (first.unwrap_or(1), second.unwrap_or(1));
     if part == "registers" {
-        registers::times(rt, some)
+        accesses::times(rt, some)
     } else if part == "image" {
         images::times(rt, some)
     } else if part == "board" {

@@ -1,100 +1,214 @@
--- A core that shows events with a history keeps, with it, what a world keeps.
-use Rattle.std.proofs.Common.{◌≡◌, ℕ, zero, suc, ◌+◌, ◌<◌, ◌≤◌, Bool, List, [], ◌∷◌, Option, None, Some, length, map, refl, sym, ap, subst, ◌∙◌, arith}
-use Rattle.std.specs.Prelude.{slice_index_or, slice_set}
+-- A core goes on by an event that is not refused, with each history with which it shows something.
+use Rattle.std.proofs.Common.{◌≡◌, ℕ, zero, suc, ◌+◌, ◌<◌, ◌≤◌, Bool, true, false, cond, List, [], ◌∷◌, Option, None, Some, length, map, refl, sym, ap, subst, ◌∙◌, arith}
+use Rattle.std.specs.Prelude.{slice_get, slice_index_or, slice_set}
 use Rattle.std.proofs.lemmas.List.{length-map, length-set, length_push}
 use Rattle.plain_store.specs.declared.Command.{Command}
 use Rattle.plain_store.specs.declared.Reply.{Reply}
 use Rattle.plain_store.specs.declared.Setup.{Setup}
+use Rattle.record.specs.declared.access.Access.{Access}
 use Rattle.record.specs.declared.events.Event.{Event}
+use Rattle.record.specs.declared.events.Event.TheVariants as event
 use Rattle.record.specs.declared.history.Taken.{Taken}
-use Rattle.record.specs.declared.refusals.Refusal.{Refusal}
-use Rattle.record.specs.Records.{past_of, process_of, refused}
-use Rattle.process.specs.Processes.{ProcessState}
-use Rattle.process.specs.Refusals.{refusal_of}
-use Rattle.world.specs.Changes.{pending_in, told, with_taken}
-use Rattle.world.specs.Cores.{CoreGoesOn, CoreRefuses, CoreState, CoreWalks, KeepsCore, call_in, with_history}
-use Rattle.world.specs.Events.{IsRefused}
-use Rattle.flicks.specs.Flicks.{FlickState}
-use Rattle.world.specs.Seats.{Seat}
-use Rattle.world.specs.Shows.{Shows, WorldState}
-use Rattle.world.proofs.WorldEnds.{IsUsed, index-in}
-use Rattle.world.proofs.WorldNew.{refused-told}
-use Rattle.world.proofs.WorldOpen.{is-open, opened}
-use Rattle.world.proofs.WorldWalks.{keeps_of, room_of, walks-then}
+use Rattle.record.specs.Calls.{call_number, last_command}
+use Rattle.record.specs.Entries.{Entry, Past, own}
+use Rattle.record.specs.Given.{is_event}
+use Rattle.record.specs.Histories.{history, reply_taken}
+use Rattle.record.specs.Places.{value_of}
+use Rattle.record.specs.Records.{entry_of, is_call, past_of, placed, process_of, refused}
+use Rattle.process.specs.declared.told.Effect.{Effect}
+use Rattle.process.specs.Serving.{answered_at}
+use Rattle.process.specs.Telling.{marks_of}
+use Rattle.world.specs.Changes.{is_pending, pending, pending_in, told, with_taken}
+use Rattle.world.specs.Cores.{CoreRefuses, CoreState, KeepsCore, call_in, history_with, with_history}
+use Rattle.world.specs.Going.{CoreGoes, access_made, core_after, marks_made, seat_after}
+use Rattle.world.specs.Seats.{Seat, is_waiting, seat_of}
+use Rattle.world.specs.Shows.{Shows}
+use Rattle.world.proofs.CoreGoes.{core-goes, entry_made, entry_told, made}
+use Rattle.world.proofs.WorldOpen.{core-shown, core_of, history-shown, is-allowed, many-seats, seat-below, seat-indexed, seat-shown}
+use Rattle.world.proofs.WorldPending.{fails-pending, keeps, pending-most, pending-set, pending-told, takes}
+use Rattle.world.proofs.WorldShows.{history-then, reply-placed, shows-on}
 
--- the world of a core, and what is known of it
-pub refused_of : (c d : CoreState) (taken : List Taken) (what : Event) (r : Option Refusal) → c ≡ d → CoreRefuses d what r → IsRefused (with_history c taken) what r
-refused_of c d taken what r is h = subst (λ (x : CoreState). IsRefused (with_history x taken) what r) (sym is) (h taken)
+-- an event of a core, by the seat of its process; it is not refused
+pub record IsNext (c : CoreState) (what : Event) (seat : Seat) : Type 0 where
+  pub given : is_event what ≡ true
+  pub there : slice_get c.seats (process_of what) ≡ Some seat
+  pub allowed : CoreRefuses c what None
 
-pub shows_of : (c d : CoreState) (taken : List Taken) (events : List Event) → c ≡ d → Shows (with_history d taken) events → Shows (with_history c taken) events
-shows_of c d taken events is h = subst (λ (x : CoreState). Shows (with_history x taken) events) (sym is) h
+-- A command that is taken.
+
+-- it makes the history longer by one
+pub taken_length : (h : List Taken) (p : ℕ) (command : Command) (number : ℕ) (o : Option Reply) → length (with_taken h p command number o) ≡ length h + elim o as (λ _. ℕ) [ None ↦ 0 | Some r ↦ 1 ]
+taken_length h p command number None = omega arith
+taken_length h p command number (Some r) = length_push h (record { process = p; command = command; reply = r; number = number })
+
+-- the last call of a process is that of its seat after the event
+call-set : (seats : List Seat) (waited waits : Bool) (p i : ℕ) (then : Seat) → i < length seats → call_in (map (told p waited waits) (slice_set seats i then)) i ≡ (then.process.command, then.process.number)
+call-set [] waited waits p i then l = absurd (omega (arith, l))
+call-set (x ∷ seats) waited waits p zero then l = refl
+call-set (x ∷ seats) waited waits p (suc i) then l = call-set seats waited waits p i then (omega (arith, l))
+
+-- what is taken by the call of the seat before it, is taken by the call after it
+taken-then : (c : CoreState) (seat : Seat) (what : Event) (h : List Taken) → with_taken h (process_of what) (seat_after c seat what).process.command (seat_after c seat what).process.number (reply_taken (marks_made c seat what))
+    ≡ with_taken h (process_of what) seat.process.command seat.process.number (reply_taken (marks_made c seat what))
+taken-then c seat (event.Call p command) h = refl
+taken-then c seat (event.Step p flick) h = refl
+taken-then c seat (event.Fail p) h = refl
+taken-then c seat (event.Withdraw p) h = refl
+taken-then c seat (event.Restart p) h = refl
+
+-- the history after the event
+abbrev history_after : CoreState → Seat → Event → List Taken → List Taken
+history_after c seat what h = history_with h (core_after c seat what) (process_of what) (reply_taken (marks_made c seat what))
+
+history-is : (c : CoreState) (seat : Seat) (what : Event) (h : List Taken) → process_of what < length c.seats →
+    history_after c seat what h ≡ with_taken h (process_of what) seat.process.command seat.process.number (reply_taken (marks_made c seat what))
+history-is c seat what h l =
+    let last = call-set c.seats (is_waiting seat) (is_waiting (seat_after c seat what)) (process_of what) (process_of what) (seat_after c seat what) l in
+    (λ i. with_taken h (process_of what) (last i).0 (last i).1 (reply_taken (marks_made c seat what))) ∙ taken-then c seat what h
+
+-- With one history.
+
+module _ (c : CoreState) (taken : List Taken) (events : List Event) (what : Event) (seat : Seat) (shows : Shows (with_history c taken) events) (n : IsNext c what seat) where
+  abbrev s : Setup
+  s = c.setup
+
+  abbrev past : Past
+  past = past_of s events
+
+  abbrev p : ℕ
+  p = process_of what
+
+  allowed : refused s past what ≡ None
+  allowed = n.allowed taken events shows
+
+  core-is : c ≡ core_of s past
+  core-is = core-shown c taken events shows
+
+  seat-is : seat ≡ seat_of s past p
+  seat-is = seat-shown (with_history c taken) events p seat shows n.there
+
+  taken-is : taken ≡ history s past
+  taken-is = history-shown c taken events shows
+
+  told-is : entry_told c seat (length taken) what ≡ entry_made s past what
+  told-is = λ i. entry_told (core-is i) (seat-is i) (length (taken-is i)) what
+
+  pub next-adds : entry_of s past what ≡ Some (entry_told c seat (length taken) what)
+  next-adds = made s shows.good events what allowed ∙ ap Some (sym told-is)
+
+  history-goes : history_after c seat what taken ≡ history s (entry_made s past what ∷ past)
+  history-goes =
+      history-is c seat what taken (seat-below c.seats p seat n.there)
+      ∙ (λ i. with_taken (taken-is i) p (seat-is i).process.command (seat-is i).process.number (reply_taken (marks_made (core-is i) (seat-is i) what)))
+      ∙ ap (with_taken (history s past) p (last_command (own p past)) (call_number s (own p past))) (sym (reply-placed (length (history s past)) (marks_made (core_of s past) (seat_of s past p) what)))
+      ∙ sym (history-then s past (entry_made s past what))
+
+  pub next-shows : Shows (with_history (core_after c seat what) (history_after c seat what taken)) (what ∷ events)
+  next-shows = shows-on s shows.good events what (entry_made s past what) (made s shows.good events what allowed) shows.given n.given _
+      (λ i. with_history (((λ j. core_after (core-is j) (seat-is j) what) ∙ core-goes s shows.good events what allowed) i) (history-goes i))
+
+-- How many calls are pending.
+
+-- a boolean as a number
+counted : (a b : Bool) → (a ≡ false → b ≡ false) → cond b 1 0 ≤ cond a 1 0
+counted true true h = omega arith
+counted true false h = omega arith
+counted false true h = let no : true ≡ false = h refl in cc
+counted false false h = omega arith
+
+counted-taken : (a b : Bool) → a ≡ true → b ≡ false → cond b 1 0 + 1 ≤ cond a 1 0
+counted-taken true false was now = omega arith
+counted-taken true true was now = cc
+counted-taken false b was now = cc
+
+-- of the seat
+abbrev taking_of : Option Reply → ℕ
+taking_of o = elim o as (λ _. ℕ) [ None ↦ 0 | Some r ↦ 1 ]
+
+seat-pending : (c : CoreState) (seat : Seat) (what : Event) → is_call what ≡ false → pending (seat_after c seat what) + taking_of (reply_taken (marks_made c seat what)) ≤ pending seat
+seat-pending c seat (event.Call p command) other = cc
+seat-pending c seat (event.Step p flick) other = go (reply_taken (marks_made c seat (event.Step p flick))) refl
+  where
+    v : Bool
+    v = value_of (answered_at seat.process c.registers flick).how
+
+    go : (o : Option Reply) → reply_taken (marks_made c seat (event.Step p flick)) ≡ o → pending (seat_after c seat (event.Step p flick)) + taking_of o ≤ pending seat
+    go None is =
+        let less = counted (is_pending seat.process.doing) (is_pending (seat_after c seat (event.Step p flick)).process.doing) (keeps seat.process.setup seat.process.process seat.process.doing flick v) in
+        omega (arith, less)
+    go (Some r) is = let both = takes seat.process.setup seat.process.process seat.process.doing flick v r is in counted-taken _ _ both.0 both.1
+seat-pending c seat (event.Fail p) other =
+    let less = counted (is_pending seat.process.doing) (is_pending (seat_after c seat (event.Fail p)).process.doing) (fails-pending seat.process.setup seat.process.process seat.process.command seat.process.number seat.process.doing) in
+    omega (arith, less)
+seat-pending c seat (event.Withdraw p) other = omega arith
+seat-pending c seat (event.Restart p) other = omega arith
+
+-- of all
+next-pending : (c : CoreState) (seat : Seat) (what : Event) → slice_get c.seats (process_of what) ≡ Some seat →
+    pending_in (core_after c seat what).seats + pending seat ≡ pending_in c.seats + pending (seat_after c seat what)
+next-pending c seat what there =
+    let told = pending-told (process_of what) (is_waiting seat) (is_waiting (seat_after c seat what)) (slice_set c.seats (process_of what) (seat_after c seat what)) in
+    let set = pending-set c.seats (process_of what) (seat_after c seat what) seat there in
+    omega (arith, told, set)
+
+pub next-fewer : (c : CoreState) (seat : Seat) (what : Event) → slice_get c.seats (process_of what) ≡ Some seat → is_call what ≡ false →
+    pending_in (core_after c seat what).seats + taking_of (reply_taken (marks_made c seat what)) ≤ pending_in c.seats
+next-fewer c seat what there other = let all = next-pending c seat what there in let own = seat-pending c seat what other in omega (arith, all, own)
+
+many-after : (c : CoreState) (seat : Seat) (what : Event) → length (core_after c seat what).seats ≡ length c.seats
+many-after c seat what =
+    length-map (slice_set c.seats (process_of what) (seat_after c seat what)) (told (process_of what) (is_waiting seat) (is_waiting (seat_after c seat what)))
+    ∙ length-set c.seats (process_of what) (seat_after c seat what)
+
+next-few : (c : CoreState) (seat : Seat) (what : Event) → slice_get c.seats (process_of what) ≡ Some seat →
+    pending_in (core_after c seat what).seats + taking_of (reply_taken (marks_made c seat what)) ≤ length c.seats
+next-few c seat (event.Call p command) there =
+    let most = pending-most (core_after c seat (event.Call p command)).seats in let many = many-after c seat (event.Call p command) in omega (arith, most, many)
+next-few c seat (event.Step p flick) there = let fewer = next-fewer c seat (event.Step p flick) there refl in let most = pending-most c.seats in omega (arith, fewer, most)
+next-few c seat (event.Fail p) there = let fewer = next-fewer c seat (event.Fail p) there refl in let most = pending-most c.seats in omega (arith, fewer, most)
+next-few c seat (event.Withdraw p) there = let fewer = next-fewer c seat (event.Withdraw p) there refl in let most = pending-most c.seats in omega (arith, fewer, most)
+next-few c seat (event.Restart p) there = let fewer = next-fewer c seat (event.Restart p) there refl in let most = pending-most c.seats in omega (arith, fewer, most)
+
+-- What a method is given: a core, which contracts see as another one.
 
 -- what a core keeps, with the history and the events that it shows
 pub keeps_core : (c : CoreState) (taken : List Taken) (events : List Event) → Shows (with_history c taken) events → KeepsCore c
 keeps_core c taken events shows = record { taken = taken; events = events; shows = shows }
 
--- an event of a process that there is is refused as its seat tells
-pub core_told : (c d : CoreState) (what : Event) (i : ℕ) (seat : Seat) (now : ProcessState) → c ≡ d → i ≡ process_of what → i < length c.seats → seat ≡ slice_index_or c.seats i seat → now ≡ seat.process → CoreRefuses d what (refusal_of now what)
-core_told c d what i seat now is own inside seat_is same taken events shows =
-    let inside : process_of what < length c.seats = omega (arith, own, inside) in
-    ap (λ (x : CoreState). refused x.setup (past_of x.setup events) what) (sym is)
-    ∙ refused-told (with_history c taken) events what seat seat (shows_of c d taken events is shows) inside (seat_is ∙ ap (λ k. slice_index_or c.seats k seat) own) ∙ ap (λ (now : ProcessState). refusal_of now what) (sym same)
+pub shows_of : (c d : CoreState) (taken : List Taken) (events : List Event) → c ≡ d → Shows (with_history d taken) events → Shows (with_history c taken) events
+shows_of c d taken events is h = subst (λ (x : CoreState). Shows (with_history x taken) events) (sym is) h
 
--- the process of an event that is not refused: there is one, below 16
-pub core_in : (c d : CoreState) (what : Event) → KeepsCore c → c ≡ d → CoreRefuses d what None → (process_of what < length c.seats) × (process_of what < 16)
+-- the process of an event that is not refused is there
+pub core_in : (c d : CoreState) (what : Event) → KeepsCore c → c ≡ d → CoreRefuses d what None → process_of what < length c.seats
 core_in c d what k is ok =
-    let w : WorldState = with_history c k.taken in
-    index-in w (room_of w) what (keeps_of w k.events k.shows) (refused_of c d k.taken what None is ok)
+    let allowed : CoreRefuses c what None = subst (λ (x : CoreState). CoreRefuses x what None) (sym is) ok in
+    let below = (is-allowed c.setup (past_of c.setup k.events) what (allowed k.taken k.events k.shows)).below in
+    let many = many-seats (with_history c k.taken) k.events k.shows in
+    omega (arith, below, many)
 
--- and it is there afterwards
-pub core_there : (c d new : CoreState) (what : Event) → KeepsCore c → c ≡ d → CoreRefuses d what None → CoreGoesOn d what new → new.setup ≡ d.setup → process_of what < length new.seats
-core_there c d new what k is ok goes setup =
-    let w : WorldState = with_history c k.taken in
-    let before = opened w k.events what k.shows (refused_of c d k.taken what None is ok) in
-    let shows : Shows (with_history new k.taken) (what ∷ k.events) = goes k.taken k.events (subst (λ (x : CoreState). Shows (with_history x k.taken) k.events) is k.shows) in
-    let same = ap (λ (s : Setup). s.processes) setup in
-    let kept = ap (λ (x : CoreState). x.setup.processes) is in
-    let below : process_of what < new.setup.processes = let inside = before.inside in let many = before.many in omega (arith, inside, many, same, kept) in
-    (is-open (with_history new k.taken) (what ∷ k.events) (process_of what) shows below).inside
-
--- and its seat is used, with each history with which the core shows something
-pub core_used : (c d : CoreState) (what : Event) (i : ℕ) (seat : Seat) (taken : List Taken) (events : List Event) → Shows (with_history c taken) events → c ≡ d → CoreRefuses d what None → i ≡ process_of what → seat ≡ slice_index_or c.seats i seat →
-    IsUsed (with_history c taken) (room_of (with_history c taken)) what i seat
-core_used c d what i seat taken events shows is ok index seat_is = record {
-  keeps = keeps_of (with_history c taken) events shows;
-  ok = refused_of c d taken what None is ok;
-  index = index;
-  seat_is = seat_is;
+-- and its seat is known by its index
+pub next-at : (c d : CoreState) (what : Event) (i : ℕ) (seat : Seat) → KeepsCore c → c ≡ d → CoreRefuses d what None → is_event what ≡ true → i ≡ process_of what → seat ≡ slice_index_or c.seats i seat → IsNext c what seat
+next-at c d what i seat k is ok given index at = record {
+  given = given;
+  there = let l = core_in c d what k is ok in seat-indexed c.seats i (process_of what) seat index (omega (arith, l, index)) at;
+  allowed = subst (λ (x : CoreState). CoreRefuses x what None) (sym is) ok;
 }
 
--- where a world keeps its room, no more calls are pending
-pub fewer_pending : (seats new : List Seat) (h : List Taken) (n : ℕ) → length h + pending_in new ≤ length h + pending_in seats → pending_in seats ≡ n → pending_in new ≤ n
-fewer_pending seats new h n room is = omega (arith, room, is)
+-- it keeps what a core keeps
+pub next-keeps : (c new : CoreState) (what : Event) (seat : Seat) → KeepsCore c → IsNext c what seat → new ≡ core_after c seat what → KeepsCore new
+next-keeps c new what seat k n is = subst KeepsCore (sym is) (keeps_core _ _ _ (next-shows c k.taken k.events what seat k.shows n))
 
--- a command that is taken makes the history longer by one
-pub taken_length : (h : List Taken) (p : ℕ) (command : Command) (number : ℕ) (o : Option Reply) → length (with_taken h p command number o) ≡ length h + elim o as (λ _. ℕ) [ None ↦ 0 | Some r ↦ 1 ]
-taken_length h p command number None = omega arith
-taken_length h p command number (Some r) = length_push h (record { process = p; command = command; reply = r; number = number })
-
--- the last call of a process whose seat was put in its place, and told
-pub call_set : (seats new : List Seat) (waited waits : Bool) (i p : ℕ) (then : Seat) → new ≡ map (told p waited waits) (slice_set seats i then) → i ≡ p → i < length seats → call_in new p ≡ (then.process.command, then.process.number)
-call_set seats new waited waits i p then is index l = ap (λ seats. call_in seats p) is ∙ subst (λ q. call_in (map (told p waited waits) (slice_set seats i then)) q ≡ (then.process.command, then.process.number)) index (there seats i l)
-  where
-    there : (seats : List Seat) (i : ℕ) → i < length seats → call_in (map (told p waited waits) (slice_set seats i then)) i ≡ (then.process.command, then.process.number)
-    there [] i l = absurd (omega (arith, l))
-    there (x ∷ seats) zero l = refl
-    there (x ∷ seats) (suc i) l = there seats i (omega (arith, l))
-
-pub there_set : (seats new : List Seat) (f : Seat → Seat) (i p : ℕ) (then : Seat) → new ≡ map f (slice_set seats i then) → p < length seats → p < length new
-there_set seats new f i p then is l =
-    let all = ap length is in
-    let mapped = length-map (slice_set seats i then) f in
-    let set = length-set seats i then in
-    omega (arith, all, mapped, set, l)
-
--- steps after steps
-pub core_walks : (n : ℕ) (old mid new : CoreState) (f g h : FlickState) (p made : ℕ) → CoreWalks old f p made mid g → CoreWalks mid g p n new h → CoreWalks old f p (made + n) new h
-core_walks n old mid new f g h p made first more = record {
-  walks = λ taken. walks-then n (with_history old taken) (with_history mid taken) (with_history new taken) f g h p made (first.walks taken) (more.walks taken);
-  pending = let a = first.pending in let b = more.pending in omega (arith, a, b);
-}
+-- and goes on by the event
+pub next-goes : (c d new : CoreState) (what : Event) (effect : Effect) (access : Option Access) (seat : Seat) → c ≡ d → IsNext c what seat →
+    access ≡ access_made c seat what → marks_of effect ≡ marks_made c seat what → new ≡ core_after c seat what → CoreGoes d what effect access new
+next-goes c d new what effect access seat view n access_is marks is =
+    subst (λ (d : CoreState). CoreGoes d what effect access new) view (subst (CoreGoes c what effect access) (sym is) (record {
+      adds = λ taken events shows. next-adds c taken events what seat shows n ∙ (λ i. let e : Entry = record { process = process_of what; access = sym access_is i; marks = map (placed (length taken)) (sym marks i) } in Some e);
+      makes = record {
+        there = let l = seat-below c.seats (process_of what) seat n.there in let many = many-after c seat what in omega (arith, l, many);
+        goes = λ taken events shows. subst (λ o. Shows (with_history (core_after c seat what) (history_with taken (core_after c seat what) (process_of what) o)) (what ∷ events)) (ap reply_taken (sym marks)) (next-shows c taken events what seat shows n);
+      };
+      pending = λ other. subst (λ o. pending_in (core_after c seat what).seats + taking_of o ≤ pending_in c.seats) (ap reply_taken (sym marks)) (next-fewer c seat what n.there other);
+      few = subst (λ o. pending_in (core_after c seat what).seats + taking_of o ≤ length c.seats) (ap reply_taken (sym marks)) (next-few c seat what n.there);
+      setup = refl;
+    }))

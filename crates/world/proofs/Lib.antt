@@ -1,39 +1,31 @@
 pub use Rattle.history_laws.proofs as history_laws_proofs
 -- The registers of all processes
-pub mod RowsCells
-pub mod RowsKept
-pub mod RowsChange
-pub mod RowsAccess
-pub mod RowsDrops
-pub mod RowsNewest
+pub mod WorldRegisters
 -- Who waits before whom
 pub mod QueueBegun
 pub mod QueueAfter
 pub mod QueueLists
 pub mod QueueListed
 -- What is kept of each process
-pub mod WorldSeats
 pub mod WorldLists
-pub mod WorldTelling
-pub mod WorldPending
--- The world after an event
-pub mod WorldNew
+pub mod WorldStages
 pub mod WorldOpen
-pub mod WorldMarks
-pub mod WorldHeadline
-pub mod WorldWalks
-pub mod WithinStages
-pub mod WorldRows
+pub mod WorldSeats
+pub mod WorldTelling
+-- The world after an event
 pub mod WorldShows
-pub mod WorldGoes
-pub mod WorldGoesMarked
-pub mod WorldEnds
--- A world without its history
+pub mod CoreGoes
+pub mod WorldPending
 pub mod CoreKeeps
-pub mod CoreWithin
-pub mod CoreRows
+pub mod WorldHeadline
+pub mod CoreRefused
+pub mod CoreWalks
+pub mod CoreCode
+-- A world is a core with its history
+pub mod CoreNew
 pub mod CoreCopies
 pub mod WorldKeeps
 -- What a world is asked
 pub mod WorldAsks
+pub mod WithinStages
 pub mod WorldNewest

@@ -10,7 +10,7 @@ use Rattle.plain_store.specs.declared.Setup.{Setup}
 use Rattle.record.specs.declared.events.Event.{Event}
 use Rattle.record.specs.Closings.{Closing, Withdraws, Settles, Frees, Quit, Ended, no_ticket, is_last_written, is_last_settled, freeing, closing_after, closing_next}
 use Rattle.record.specs.Closings as closing
-use Rattle.record.specs.Doorways.{begins_doorway, doorway_begin, first_of, number_in_call, raises}
+use Rattle.record.specs.Doorways.{begins_doorway, doorway_begin, first_of, is_queued, number_in_call, raises}
 use Rattle.record.specs.Entries.{Entry, Past, has, is_called}
 use Rattle.record.specs.Induction.{past-induction}
 use Rattle.record.specs.Parts.{Part, Raises, Asks, TakesTicket, Refuses, Waits, AsksCommit, AsksStamp, AsksImage, WritesImage, WritesStamp, WritesCommit, Clears, Over, is_over}
@@ -30,8 +30,7 @@ use Rattle.laws.proofs.FrameEvents.{accepted}
 use Rattle.laws.proofs.FrameMarks.{is_raising, is_resting, is_running, called-is}
 use Rattle.laws.proofs.FrameSteps.{step_of}
 use Rattle.laws.proofs.Numbers.{NumbersAt, numbers, number-own}
-use Rattle.process.specs.Processes.{kept_at, kept_in}
-use Rattle.process.specs.Steps.{is_at_door}
+use Rattle.process.specs.Places.{stage_doing}
 
 -- Looking up.
 
@@ -182,22 +181,23 @@ announced-is s g events p = past-induction AllAnnounced s (λ g p. tt) more even
 -- What one entry makes of it.
 
 -- of a part: the first access begins it, and past that it has begun
-door-part : (c : Call) (at : Place) (x : Part) (fresh begun : Bool) → (has_begun x fresh ≡ true → begun ≡ true) → (begun || (is_raising x && fresh)) ≡ (begun || is_at_door (kept_in c at x))
-door-part c at Raises true begun h = refl
-door-part c at Raises false begun h = ap (λ b. b || false) (h refl) ∙ sym (ap (λ b. b || true) (h refl))
-door-part c at (Asks j js ts) fresh begun h = ap (λ b. b || false) (h refl) ∙ sym (ap (λ b. b || true) (h refl))
-door-part c at (TakesTicket t) fresh begun h = ap (λ b. b || false) (h refl) ∙ sym (ap (λ b. b || true) (h refl))
-door-part c at (part.Lowers t) fresh begun h = ap (λ b. b || false) (h refl) ∙ sym (ap (λ b. b || true) (h refl))
-door-part c at (Refuses q) fresh begun h = ap (λ b. b || false) (h refl) ∙ sym (ap (λ b. b || true) (h refl))
-door-part c at (Waits t w ws) fresh begun h = ap (λ b. b || false) (h refl) ∙ sym (ap (λ b. b || true) (h refl))
-door-part c at (AsksCommit k ks vs) fresh begun h = refl
-door-part c at (AsksStamp k ks vs b) fresh begun h = refl
-door-part c at (AsksImage vs) fresh begun h = refl
-door-part c at (WritesImage vs st) fresh begun h = refl
-door-part c at (WritesStamp vs st) fresh begun h = refl
-door-part c at (WritesCommit vs st) fresh begun h = refl
-door-part c at (Clears a) fresh begun h = refl
-door-part c at Over fresh begun h = refl
+door-part : (x : Part) (fresh begun : Bool) → (has_begun x fresh ≡ true → begun ≡ true) → (begun || (is_raising x && fresh)) ≡ (begun || is_queued (part.stage_of x fresh))
+door-part Raises true begun h = refl
+door-part Raises false begun h = ap (λ b. b || false) (h refl) ∙ sym (ap (λ b. b || true) (h refl))
+door-part (Asks j js ts) fresh begun h = ap (λ b. b || false) (h refl) ∙ sym (ap (λ b. b || true) (h refl))
+door-part (TakesTicket t) fresh begun h = ap (λ b. b || false) (h refl) ∙ sym (ap (λ b. b || true) (h refl))
+door-part (part.Lowers t) fresh begun h = ap (λ b. b || false) (h refl) ∙ sym (ap (λ b. b || true) (h refl))
+door-part (Refuses q) fresh begun h = ap (λ b. b || false) (h refl) ∙ sym (ap (λ b. b || true) (h refl))
+door-part (Waits t w ws) fresh begun h = ap (λ b. b || false) (h refl) ∙ sym (ap (λ b. b || true) (h refl))
+door-part (AsksCommit k ks vs) fresh begun h = refl
+door-part (AsksStamp k ks vs b) fresh begun h = refl
+door-part (AsksImage vs) fresh begun h = refl
+door-part (WritesImage vs st) fresh begun h = refl
+door-part (WritesStamp vs st) fresh begun h = refl
+door-part (WritesCommit vs st) fresh begun h = refl
+door-part (Clears a) true begun h = refl
+door-part (Clears a) false begun h = refl
+door-part Over fresh begun h = refl
 
 -- of another register it begins none
 other-raises : (f : Field) (m : Move) (first begun : Bool) → (f ≡ Choosing → begun ≡ true) → (begun || (first && raises f m)) ≡ (begun || false)
@@ -212,7 +212,7 @@ other-raises _ m false begun h = refl
 
 -- of a closing: it begins none that has not begun
 closing-part : (s : Setup) (p : ℕ) (command : Command) (number : ℕ) (at : Closing) (a : Access) (begun : Bool) → Announced (Closes command number at) begun →
-    (begun || begins_at (Closes command number at) a) ≡ (begun || is_at_door (kept_at s p (Closes command number at)))
+    (begun || begins_at (Closes command number at) a) ≡ (begun || is_queued (stage_doing (Closes command number at)))
 closing-part s p command number (Withdraws w) a begun h = refl
 closing-part s p command number (Settles f bit by taken is t) a begun h = other-raises f a.how (a.reader == 0) begun h
 closing-part s p command number (Frees is w) a begun h = refl
@@ -224,7 +224,7 @@ closing-part s p command number Ended a begun h = refl
 begun-happens : (s : Setup) → IsGood s → (events : List Event) (e : Entry) (d d' : Doing)
     → let past : Past = past_of s events in
     let begun : Bool = is_some (doorway_begin e.process past) in
-    d ≡ doing s e.process past → Announced d begun → Happens s past e.process e d d' → (begun || begins_with e.access d) ≡ (begun || (is_some e.access && is_at_door (kept_at s e.process d)))
+    d ≡ doing s e.process past → Announced d begun → Happens s past e.process e d d' → (begun || begins_with e.access d) ≡ (begun || (is_some e.access && is_queued (stage_doing d)))
 begun-happens s g events e d d' at a h = go h
   where
     past : Past
@@ -234,7 +234,7 @@ begun-happens s g events e d d' at a h = go h
     begun = is_some (doorway_begin e.process past)
 
     door : Bool
-    door = is_at_door (kept_at s e.process d)
+    door = is_queued (stage_doing d)
 
     none : e.access ≡ None → (begun || begins_with e.access d) ≡ (begun || (is_some e.access && door))
     none k = ap (λ o. begun || begins_with o d) k ∙ sym (ap (λ (o : Option Access). begun || (is_some o && door)) k)
@@ -249,18 +249,18 @@ begun-happens s g events e d d' at a h = go h
     go (a_restart was unmade marks then) = none unmade
     go (a_step command number here x flick was over access is marks then) = some x access
         (ap (λ d. begun || begins_at d x) was
-        ∙ door-part (call s e.process command number) here here.part (is_fresh here.run) begun (begun-at s g events e.process command number here (sym at ∙ was))
-        ∙ sym (ap (λ d. begun || is_at_door (kept_at s e.process d)) was))
+        ∙ door-part here.part (is_fresh here.run) begun (begun-at s g events e.process command number here (sym at ∙ was))
+        ∙ sym (ap (λ d. begun || is_queued (stage_doing d)) was))
     go (a_closing command number here flick n was next access same marks then) = some n.access access
         (ap (λ d. begun || begins_at d n.access) was
         ∙ closing-part s e.process command number here n.access begun (subst (λ d. Announced d begun) was a)
-        ∙ sym (ap (λ d. begun || is_at_door (kept_at s e.process d)) was))
+        ∙ sym (ap (λ d. begun || is_queued (stage_doing d)) was))
 
 -- A call begins it anew; a step at the door begins it, if it has not begun; nothing else makes anything of it.
 pub begun-after : (s : Setup) → IsGood s → (events : List Event) (what : Event) (e : Entry) → entry_of s (past_of s events) what ≡ Some e
     → let past : Past = past_of s events in
     let p : ℕ = e.process in
-    is_some (doorway_begin p (e ∷ past)) ≡ cond (has is_called e) false (is_some (doorway_begin p past) || (is_some e.access && is_at_door (kept_at s p (doing s p past))))
+    is_some (doorway_begin p (e ∷ past)) ≡ cond (has is_called e) false (is_some (doorway_begin p past) || (is_some e.access && is_queued (stage_doing (doing s p past))))
 begun-after s g events what e h =
     let past : Past = past_of s events in
     let p : ℕ = e.process in

@@ -1,28 +1,30 @@
 -- A world is a core and a history: what it keeps after what its core does.
-use Rattle.std.proofs.Common.{◌≡◌, ℕ, zero, suc, ◌+◌, ◌<◌, ◌≤◌, Bool, true, false, List, [], ◌∷◌, Option, None, Some, length, refl, sym, ap, subst, ◌∙◌, arith}
-use Rattle.plain_store.specs.declared.Reply.{Reply}
+use Rattle.std.proofs.Common.{◌≡◌, ℕ, zero, suc, ◌+◌, ◌≤◌, Bool, true, false, List, [], ◌∷◌, Option, None, length, map, refl, sym, ap, subst, ◌∙◌, arith}
+use Rattle.std.specs.List.{range_with_len}
 use Rattle.plain_store.specs.declared.Setup.{Setup}
 use Rattle.record.specs.declared.events.Event.{Event}
 use Rattle.record.specs.declared.events.Event.TheVariants.{Step}
 use Rattle.record.specs.declared.history.Taken.{Taken}
 use Rattle.record.specs.declared.refusals.Refusal.{Refusal}
-use Rattle.record.specs.Entries.{Entry, Past}
-use Rattle.record.specs.Records.{added, entry_of, is_call, past_of, process_of, refused}
+use Rattle.record.specs.Records.{is_call, process_of}
 use Rattle.record.specs.Histories.{reply_taken}
 use Rattle.process.specs.declared.told.Effect.{Effect}
 use Rattle.process.specs.declared.told.Effect.TheVariants.{Steps}
 use Rattle.process.specs.declared.told.StepTold.{StepTold}
-use Rattle.process.specs.Telling.{act_of, marks_of, marks_told}
+use Rattle.process.specs.Telling.{marks_of, marks_told}
 use Rattle.world.specs.Changes.{pending_in, with_taken}
-use Rattle.world.specs.Cores.{CoreGoesOn, CoreMakes, CoreRefuses, CoreState, CoreSteps, CoreStepsQuietly, CoreWalks, KeepsCore, call_in, taking, with_history}
-use Rattle.world.specs.Events.{Adds, GoesOn, KeepsWorld, entry_with}
-use Rattle.flicks.specs.Flicks.{FlickState}
-use Rattle.world.specs.Seats.{Seat}
+use Rattle.world.specs.Cores.{CoreMakes, CoreRefuses, CoreState, CoreSteps, CoreStepsQuietly, CoreWalks, call_in, taking, with_history}
+use Rattle.world.specs.Events.{KeepsWorld}
+use Rattle.flicks.specs.Flicks.{FlickState, flick_of}
+use Rattle.world.specs.Seats.{seat_of}
 use Rattle.world.specs.Shows.{Shows, WorldState}
 use Rattle.world.specs.Walks.{Walks}
-use Rattle.world.proofs.CoreKeeps.{core_there, taken_length}
-use Rattle.world.proofs.WorldNew.{new-pending}
-use Rattle.world.proofs.WorldPending.{pending-most}
+use Rattle.world.proofs.CoreKeeps.{taken_length}
+
+-- of a new one no call is pending
+new-pending : (s : Setup) (a n : ℕ) → pending_in (map (seat_of s []) (range_with_len a n)) ≡ 0
+new-pending s a zero = refl
+new-pending s a (suc n) = let more = new-pending s (a + 1) n in omega (arith, more)
 
 -- a new one
 pub new_keeps : (c : CoreState) (h : List Taken) (capacity : ℕ) → h ≡ [] → Shows (with_history c []) [] → KeepsWorld (with_history c h) capacity
@@ -72,7 +74,7 @@ walks-shown : (n : ℕ) (old new : WorldState) (f g : FlickState) (p : ℕ) (eve
 walks-shown zero old new f g p events (same, same_flicks) shows = (events, subst (λ w. Shows w events) (sym same) shows)
 walks-shown (suc n) old new f g p events (w, x, walks, quietly, after) shows =
     let before : (later : List Event) × Shows w later = walks-shown n old w f x p events walks shows in
-    (Step p (Rattle.flicks.specs.Flicks.flick_of x) ∷ before.0, quietly.shows before.0 before.1)
+    (Step p (flick_of x) ∷ before.0, quietly.shows before.0 before.1)
 
 pub walk_keeps : (n : ℕ) (c new : CoreState) (h : List Taken) (f g : FlickState) (p capacity : ℕ) → KeepsWorld (with_history c h) capacity → CoreWalks c f p n new g → KeepsWorld (with_history new h) capacity
 walk_keeps n c new h f g p capacity keeps walks =
@@ -84,25 +86,6 @@ pub quietly_keeps : (c new : CoreState) (h : List Taken) (p : ℕ) (flick : Bool
 quietly_keeps c new h p flick capacity keeps quietly =
     record { events = Step p flick ∷ keeps.events; shows = (quietly.steps h).shows keeps.events keeps.shows; room = let room = keeps.room in let fewer = quietly.pending in omega (arith, room, fewer) }
 
--- an event that is not refused adds its entry
-pub added_by : (s : Setup) (past : Past) (what : Event) (e : Entry) → refused s past what ≡ None → added s past what ≡ Some e → entry_of s past what ≡ Some e
-added_by s past what e ok is = (λ i. elim (ok i) as (λ _. Option Entry) [ Some r ↦ None | None ↦ added s past what ]) ∙ is
-
--- an event without an access that a core makes
+-- an event that its core does not refuse
 pub core_allowed : (d : CoreState) (what is : Event) (r : Option Refusal) → CoreRefuses d what r → r ≡ None → what ≡ is → CoreRefuses d is None
 core_allowed d what is r h none same = subst (λ e. CoreRefuses d e None) same (subst (λ r. CoreRefuses d what r) none h)
-
-pub core_added : (d : CoreState) (what is : Event) (effect : Effect) → CoreRefuses d is None → ((s : Setup) (past : Past) (n : ℕ) → added s past is ≡ Some (entry_with (process_of is) (act_of n (record { access = None; effect = effect })))) → what ≡ is →
-    (taken : List Taken) → Adds (with_history d taken) what (process_of what) (act_of (length taken) (record { access = None; effect = effect }))
-core_added d what is effect ok adds same taken = subst (λ e. Adds (with_history d taken) e (process_of e) (act_of (length taken) (record { access = None; effect = effect }))) (sym same)
-    (λ events shows. added_by d.setup (past_of d.setup events) is (entry_with (process_of is) (act_of (length taken) (record { access = None; effect = effect }))) (ok taken events shows) (adds d.setup (past_of d.setup events) (length taken)))
-
-pub core_made : (c d new : CoreState) (what is : Event) (effect : Effect) → KeepsCore c → c ≡ d → CoreRefuses d is None → CoreGoesOn d is new → new.setup ≡ d.setup → reply_taken (marks_of effect) ≡ None → what ≡ is → CoreMakes d what effect new
-core_made c d new what is effect keeps view ok goes setup none same = subst (λ e. CoreMakes d e effect new) (sym same) (record {
-  there = core_there c d new is keeps view ok goes setup;
-  goes = λ taken. subst (λ o. GoesOn (with_history d taken) is (with_history new (with_taken taken (process_of is) (call_in new.seats (process_of is)).0 (call_in new.seats (process_of is)).1 o))) (sym none) (goes taken);
-})
-
--- no more calls are pending than there are processes
-pub few_pending : (old new : List Seat) (n : ℕ) → pending_in new + n ≤ pending_in old → pending_in new + n ≤ length old
-few_pending old new n fewer = let most = pending-most old in omega (arith, most, fewer)

@@ -1,13 +1,13 @@
--- The newest store of a world in which nobody is inside is that after the history.
-use Rattle.std.proofs.Common.{◌≡◌, ◌||◌, Bool, true, false, List, [], ◌∷◌, Some, None, map, refl, sym, ap, subst, cond, ◌∙◌}
+-- The newest store of a core in which nobody is inside is that after the history.
+use Rattle.std.proofs.Common.{◌≡◌, ◌||◌, Bool, true, false, cond, List, [], ◌∷◌, Some, None, map, refl, sym, ap, ◌∙◌}
 use Rattle.std.specs.Prelude.{Ok}
 use Rattle.std.specs.List.{list_any}
 use Rattle.plain_store.specs.declared.Command.TheVariants.{Ask}
 use Rattle.plain_store.specs.declared.Setup.{Setup}
-use Rattle.record.specs.store_image.Image.{image_of}
-use Rattle.record.specs.store_image.Reading.{store_in}
 use Rattle.plain_store.specs.Setups.{callers_of, checked}
 use Rattle.plain_store.specs.Store.{Contents}
+use Rattle.record.specs.store_image.Image.{image_of}
+use Rattle.record.specs.store_image.Reading.{store_in}
 use Rattle.record.specs.declared.events.Event.{Event}
 use Rattle.record.specs.Entries.{Past}
 use Rattle.record.specs.Given.{AreGiven}
@@ -17,63 +17,50 @@ use Rattle.record.specs.Records.{past_of}
 use Rattle.record.specs.Registers.{processes}
 use Rattle.record.specs.Stages.{inside}
 use Rattle.record.proofs.Width.{is_good}
-use Rattle.process.specs.section.Newest.{IsQuiet, newest_store}
-use Rattle.process.specs.section.Registers.{DataRow, FitsSetup}
-use Rattle.laws.specs.Doings.{call, doing}
+use Rattle.laws.specs.Doings.{call, is_inside}
 use Rattle.laws.proofs.FrameInside.{inside-is}
 use Rattle.history_laws.proofs.Codec.{bytes_read, store_is_read}
 use Rattle.history_laws.proofs.DataAlways.{data_of}
 use Rattle.history_laws.proofs.DataHeadline as headline
 use Rattle.history_laws.proofs.Sound.{IsStoreOf}
+use Rattle.process.specs.Newest.{newest_store}
+use Rattle.process.proofs.NewestWith.{newest-with}
+use Rattle.world.specs.Cores.{CoreState, InEachCorePast, with_history}
 use Rattle.world.specs.Seats.{Seat, seat_of}
-use Rattle.process.specs.Processes.{inside_kept}
 use Rattle.world.specs.Shows.{Shows, WorldState}
-use Rattle.world.proofs.RowsCells.{row_at}
-use Rattle.world.proofs.RowsKept.{are_of}
-use Rattle.world.proofs.RowsNewest.{newest-is, quiet}
-use Rattle.process.proofs.Stages.{inside-kept}
+use Rattle.world.proofs.WorldOpen.{core-shown}
+use Rattle.world.proofs.WorldRegisters.{registers_at}
 
 any-mapped : {A B : Type 0} (f : A → B) (t : B → Bool) (u : A → Bool) (xs : List A) → ((x : A) → t (f x) ≡ u x) → list_any t (map f xs) ≡ list_any u xs
 any-mapped f t u [] same = refl
 any-mapped f t u (x ∷ xs) same = λ i. same x i || any-mapped f t u xs same i
 
 -- somebody is inside, by the seats
-pub inside-seats : (w : WorldState) (events : List Event) → Shows w events → list_any (λ (seat : Seat). inside_kept seat.process.kept) w.seats ≡ is_somebody_inside w.setup (past_of w.setup events)
+inside-seats : (w : WorldState) (events : List Event) → Shows w events → list_any (λ (seat : Seat). is_inside seat.process.doing) w.seats ≡ is_somebody_inside w.setup (past_of w.setup events)
 inside-seats w events shows =
     let s : Setup = w.setup in
     let past : Past = past_of s events in
-    ap (λ (w : WorldState). list_any (λ (seat : Seat). inside_kept seat.process.kept) w.seats) shows.shown
-    ∙ any-mapped (seat_of s past) (λ (seat : Seat). inside_kept seat.process.kept) (λ p. inside p past) (processes s)
-    (λ p. inside-kept s p (doing s p past) ∙ sym (inside-is s (is_good s shows.good) events p))
+    ap (λ (w : WorldState). list_any (λ (seat : Seat). is_inside seat.process.doing) w.seats) shows.shown
+    ∙ any-mapped (seat_of s past) (λ (seat : Seat). is_inside seat.process.doing) (λ p. inside p past) (processes s)
+    (λ p. sym (inside-is s (is_good s shows.good) events p))
 
 -- the store that the registers hold
-pub newest-store : (s : Setup) → checked s ≡ Ok tt → (events : List Event) → AreGiven s events → let past : Past = past_of s events in is_somebody_inside s past ≡ false → newest_store (row_at s past) ≡ store_after s (history s past)
+newest-store : (s : Setup) → checked s ≡ Ok tt → (events : List Event) → AreGiven s events → let past : Past = past_of s events in is_somebody_inside s past ≡ false → newest_store s (registers_at s past) ≡ store_after s (history s past)
 newest-store s good events given none =
     let past : Past = past_of s events in
     let store : Contents = store_after s (history s past) in
     let sound : IsStoreOf s store = (data_of s good events given).kept.sound in
-    newest-is s good past ∙ ap (store_in s.slots (callers_of s)) (headline.newest s good events given none ∙ sym (bytes_read s store sound)) ∙ store_is_read (call s 0 Ask 0) store sound
+    newest-with s good past
+    ∙ ap (store_in s.slots (callers_of s)) (headline.newest s good events given none ∙ sym (bytes_read s store sound)) ∙ store_is_read (call s 0 Ask 0) store sound
 
-pub row-fits : (w : WorldState) (events : List Event) → Shows w events → FitsSetup w.registers.versions.setup w.registers.versions
-row-fits w events shows =
-    let s : Setup = w.setup in
-    subst (λ (row : DataRow). FitsSetup row.setup row) (sym (ap (λ (w : WorldState). w.registers.versions) shows.shown)) (are_of s shows.good (past_of s events)).versions
+-- nothing is told while somebody is inside
+pub newest-none : (c : CoreState) → list_any (λ (seat : Seat). is_inside seat.process.doing) c.seats ≡ true → InEachCorePast c (λ s past. None ≡ newest s past)
+newest-none c h taken events shows = ap (λ b. cond b None (Some (image_of (store_after c.setup (history c.setup (past_of c.setup events)))))) (sym (sym (inside-seats (with_history c taken) events shows) ∙ h))
 
-pub row-quiet : (w : WorldState) (events : List Event) → Shows w events → list_any (λ (seat : Seat). inside_kept seat.process.kept) w.seats ≡ false → IsQuiet w.registers.versions
-row-quiet w events shows none =
-    let s : Setup = w.setup in
-    let past : Past = past_of s events in
-    subst IsQuiet (sym (ap (λ (w : WorldState). w.registers.versions) shows.shown)) (quiet s past (headline.whole s shows.good events (sym (inside-seats w events shows) ∙ none)))
-
-pub world-newest : (w : WorldState) (events : List Event) → Shows w events → list_any (λ (seat : Seat). inside_kept seat.process.kept) w.seats ≡ false → newest_store w.registers.versions ≡ store_after w.setup (history w.setup (past_of w.setup events))
-world-newest w events shows none =
-    ap newest_store (ap (λ (w : WorldState). w.registers.versions) shows.shown) ∙ newest-store w.setup shows.good events shows.given (sym (inside-seats w events shows) ∙ none)
-
--- what is asked for it: nothing while somebody is inside
-pub newest-inside : (w : WorldState) (events : List Event) → Shows w events → list_any (λ (seat : Seat). inside_kept seat.process.kept) w.seats ≡ true → None ≡ newest w.setup (past_of w.setup events)
-newest-inside w events shows h = ap (λ b. cond b None (Some (image_of (store_after w.setup (history w.setup (past_of w.setup events)))))) (sym (sym (inside-seats w events shows) ∙ h))
-
-pub newest-outside : (w : WorldState) (events : List Event) (store : Contents) → Shows w events → list_any (λ (seat : Seat). inside_kept seat.process.kept) w.seats ≡ false → store ≡ newest_store w.registers.versions → Some (image_of store) ≡ newest w.setup (past_of w.setup events)
-newest-outside w events store shows h is =
-    ap (λ store. Some (image_of store)) (is ∙ world-newest w events shows h)
-    ∙ ap (λ b. cond b None (Some (image_of (store_after w.setup (history w.setup (past_of w.setup events)))))) (sym (sym (inside-seats w events shows) ∙ h))
+-- and the store after the history, while nobody is
+pub newest-told : (c : CoreState) (store : Contents) → list_any (λ (seat : Seat). is_inside seat.process.doing) c.seats ≡ false → store ≡ newest_store c.setup c.registers → InEachCorePast c (λ s past. Some (image_of store) ≡ newest s past)
+newest-told c store h is taken events shows =
+    let s : Setup = c.setup in
+    let outside = sym (inside-seats (with_history c taken) events shows) ∙ h in
+    ap (λ store. Some (image_of store)) (is ∙ ap (λ (x : CoreState). newest_store s x.registers) (core-shown c taken events shows) ∙ newest-store s shows.good events shows.given outside)
+    ∙ ap (λ b. cond b None (Some (image_of (store_after s (history s (past_of s events)))))) (sym outside)

@@ -1,29 +1,27 @@
--- What a world that shows a record keeps for an event that is not refused.
-use Rattle.std.proofs.Common.{◌≡◌, ℕ, ◌<◌, Bool, true, false, cond, List, Option, Some, None, length, map, refl, ap, ◌∙◌, arith}
-use Rattle.std.specs.Prelude.{Ok, nat_lt, slice_index_or}
-use Rattle.std.proofs.lemmas.List.FromFn.{length-map-range_with_len, get_or-map-range_with_len}
+-- What a world that shows a record keeps: its core, its history and each of its seats are those of the past.
+use Rattle.std.proofs.Common.{◌≡◌, ℕ, zero, suc, ◌<◌, Bool, true, false, cond, List, [], ◌∷◌, Option, Some, None, length, map, refl, sym, ap, subst, ◌∙◌, arith}
+use Rattle.std.specs.Prelude.{nat_lt, slice_get, slice_index_or}
+use Rattle.std.proofs.lemmas.List.FromFn.{length-map-range_with_len}
 use Rattle.plain_store.specs.declared.Setup.{Setup}
-use Rattle.plain_store.specs.Setups.{checked}
+use Rattle.plain_store.proofs.GoodSetups.{few-processes}
 use Rattle.record.specs.declared.events.Event.{Event}
+use Rattle.record.specs.declared.history.Taken.{Taken}
 use Rattle.record.specs.declared.refusals.Refusal.{Refusal}
 use Rattle.record.specs.declared.refusals.Refusal.TheVariants.{NoProcess, CallsFull}
-use Rattle.record.specs.Doorways.{is_waiting_stage}
 use Rattle.record.specs.Entries.{Past}
-use Rattle.record.specs.Given.{AreGiven}
 use Rattle.record.specs.Histories.{history}
 use Rattle.record.specs.Records.{calls_full, past_of, process_of, refused, refused_at}
 use Rattle.record.specs.Registers.{processes}
 use Rattle.record.specs.Stages.{stage}
-use Rattle.record.proofs.Width.{is_good}
-use Rattle.process.proofs.section.Widths.{ranges}
 use Rattle.laws.proofs.Theorems.{less}
-use Rattle.world.specs.Events.{IsRefused}
+use Rattle.process.specs.Places.{left_at}
+use Rattle.process.specs.registers.Openings.{AreOf}
+use Rattle.world.specs.Cores.{CoreState, with_history}
 use Rattle.world.specs.Seats.{Seat, seat_of}
-use Rattle.process.specs.Processes.{stage_kept}
 use Rattle.world.specs.Shows.{Shows, WorldState}
-use Rattle.world.proofs.RowsCells.{registers_at}
-use Rattle.process.proofs.Stages.{stage-process}
-use Rattle.world.proofs.WorldSeats.{waited}
+use Rattle.world.specs.Walks.{left_in}
+use Rattle.world.proofs.WorldLists.{get-mapped}
+use Rattle.world.proofs.WorldRegisters.{are_of, registers_at}
 
 -- an event that is not refused is one of a process that there is, at a stage that allows it, and no call too many
 pub record IsAllowed (s : Setup) (past : Past) (what : Event) : Type 0 where
@@ -41,48 +39,70 @@ is-allowed s past what h = go (nat_lt (process_of what) s.processes) refl (refus
     go true i (Some x) j f k h = cc
     go false i r j f k h = cc
 
--- a world that shows events, at a process
-pub record IsOpen (w : WorldState) (events : List Event) (p : ℕ) : Type 0 where
-  pub good : checked w.setup ≡ Ok tt
-  pub given : AreGiven w.setup events
-  pub few : p < 16
-  pub inside : p < length w.seats
-  pub many : length w.seats ≡ w.setup.processes
-  pub registers : w.registers ≡ registers_at w.setup (past_of w.setup events)
-  pub seats : w.seats ≡ map (seat_of w.setup (past_of w.setup events)) (processes w.setup)
-  pub taken : w.history ≡ history w.setup (past_of w.setup events)
-  pub seat : (d : Seat) → slice_index_or w.seats p d ≡ seat_of w.setup (past_of w.setup events) p
-  pub waits : (d : Seat) → is_waiting_stage (stage_kept (slice_index_or w.seats p d).process.kept) ≡ waited (past_of w.setup events) p
+-- A seat that is there.
 
-pub is-open : (w : WorldState) (events : List Event) (p : ℕ) → Shows w events → p < w.setup.processes → IsOpen w events p
-is-open w events p shows below = record {
-  good = shows.good;
-  given = shows.given;
-  few = let r = (ranges s shows.good).few_processes in omega (arith, r, below);
-  inside = omega (arith, many, below);
-  many = many;
-  registers = ap (λ (w : WorldState). w.registers) shows.shown;
-  seats = seats;
-  taken = ap (λ (w : WorldState). w.history) shows.shown;
-  seat = seat;
-  waits = λ d. ap (λ (x : Seat). is_waiting_stage (stage_kept x.process.kept)) (seat d) ∙ ap is_waiting_stage (stage-process s (is_good s shows.good) events p);
+-- by its index
+pub seat-indexed : (seats : List Seat) (i p : ℕ) (seat : Seat) → i ≡ p → i < length seats → seat ≡ slice_index_or seats i seat → slice_get seats p ≡ Some seat
+seat-indexed seats i p seat index l is = ap (slice_get seats) (sym index) ∙ there seats i l is
+  where
+    there : (seats : List Seat) (i : ℕ) → i < length seats → seat ≡ slice_index_or seats i seat → slice_get seats i ≡ Some seat
+    there [] i l is = absurd (omega (arith, l))
+    there (x ∷ seats) zero l is = ap Some (sym is)
+    there (x ∷ seats) (suc i) l is = there seats i (omega (arith, l)) is
+
+pub seat-below : (seats : List Seat) (p : ℕ) (seat : Seat) → slice_get seats p ≡ Some seat → p < length seats
+seat-below [] p seat is = cc
+seat-below (x ∷ seats) zero seat is = omega arith
+seat-below (x ∷ seats) (suc p) seat is = let less = seat-below seats p seat is in omega (arith, less)
+
+-- a seat is there where accesses are left of its number access
+pub seat-there : (seats : List Seat) (p : ℕ) → 0 < left_in seats p → (seat : Seat) × (slice_get seats p ≡ Some seat) × (0 < left_at seat.process)
+seat-there [] p some = absurd (omega (arith, some))
+seat-there (x ∷ seats) zero some = (x, refl, some)
+seat-there (x ∷ seats) (suc p) some = seat-there seats p some
+
+pub seat-left : (seats : List Seat) (p : ℕ) (seat : Seat) → slice_get seats p ≡ Some seat → left_in seats p ≡ left_at seat.process
+seat-left seats p seat is = ap (λ (o : Option Seat). elim o as (λ _. ℕ) [ None ↦ 0 | Some x ↦ left_at x.process ]) is
+
+-- A world that shows a record.
+
+pub many-seats : (w : WorldState) (events : List Event) → Shows w events → length w.seats ≡ w.setup.processes
+many-seats w events shows = ap (λ (w : WorldState). length w.seats) shows.shown ∙ length-map-range_with_len (seat_of w.setup (past_of w.setup events)) 0 w.setup.processes
+
+-- a seat is that of its process
+pub seat-shown : (w : WorldState) (events : List Event) (p : ℕ) (seat : Seat) → Shows w events → slice_get w.seats p ≡ Some seat → seat ≡ seat_of w.setup (past_of w.setup events) p
+seat-shown w events p seat shows is =
+    let many = many-seats w events shows in
+    let l : p < w.setup.processes = let l = seat-below w.seats p seat is in omega (arith, l, many) in
+    let both : Some seat ≡ Some (seat_of w.setup (past_of w.setup events) p) =
+    sym is ∙ ap (λ (w : WorldState). slice_get w.seats p) shows.shown ∙ get-mapped (seat_of w.setup (past_of w.setup events)) 0 w.setup.processes p p l (omega arith) in
+    cc
+
+-- the core of a past
+abbrev pub core_of : Setup → Past → CoreState
+core_of s past = record { setup = s; registers = registers_at s past; seats = map (seat_of s past) (processes s) }
+
+-- it is that of a world which shows the record
+pub core-shown : (c : CoreState) (taken : List Taken) (events : List Event) → Shows (with_history c taken) events → c ≡ core_of c.setup (past_of c.setup events)
+core-shown c taken events shows = λ i. let core : CoreState = record { setup = c.setup; registers = (shows.shown i).registers; seats = (shows.shown i).seats } in core
+
+pub history-shown : (c : CoreState) (taken : List Taken) (events : List Event) → Shows (with_history c taken) events → taken ≡ history c.setup (past_of c.setup events)
+history-shown c taken events shows = ap (λ (w : WorldState). w.history) shows.shown
+
+-- a process that there is has a seat, and its number is below 16
+pub record IsSeated (c : CoreState) (p : ℕ) (seat : Seat) : Type 0 where
+  pub there : slice_get c.seats p ≡ Some seat
+  pub few : p < 16
+  pub setup : seat.process.setup ≡ c.setup
+  pub registers : AreOf seat.process.setup c.registers
+
+pub is-seated : (c : CoreState) (taken : List Taken) (events : List Event) (p : ℕ) (seat : Seat) → Shows (with_history c taken) events → slice_get c.seats p ≡ Some seat → IsSeated c p seat
+is-seated c taken events p seat shows there = record {
+  there = there;
+  few = let l = seat-below c.seats p seat there in let many = many-seats (with_history c taken) events shows in let most = few-processes c.setup shows.good in omega (arith, l, many, most);
+  setup = setup;
+  registers = subst (λ s. AreOf s c.registers) (sym setup) (subst (AreOf c.setup) (sym (ap (λ (w : WorldState). w.registers) shows.shown)) (are_of c.setup (past_of c.setup events)));
 }
   where
-    s : Setup
-    s = w.setup
-
-    past : Past
-    past = past_of s events
-
-    seats : w.seats ≡ map (seat_of s past) (processes s)
-    seats = ap (λ (w : WorldState). w.seats) shows.shown
-
-    many : length w.seats ≡ s.processes
-    many = ap length seats ∙ length-map-range_with_len (seat_of s past) 0 s.processes
-
-    seat : (d : Seat) → slice_index_or w.seats p d ≡ seat_of s past p
-    seat d = ap (λ seats. slice_index_or seats p d) seats ∙ get_or-map-range_with_len (seat_of s past) 0 s.processes p p d below (omega arith)
-
--- at the process of an event that is not refused
-pub opened : (w : WorldState) (events : List Event) (what : Event) → Shows w events → IsRefused w what None → IsOpen w events (process_of what)
-opened w events what shows ok = is-open w events (process_of what) shows (is-allowed w.setup (past_of w.setup events) what (ok events shows)).below
+    setup : seat.process.setup ≡ c.setup
+    setup = ap (λ (x : Seat). x.process.setup) (seat-shown (with_history c taken) events p seat shows there)

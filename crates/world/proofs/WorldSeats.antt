@@ -10,23 +10,22 @@ use Rattle.record.specs.declared.events.Event.{Event}
 use Rattle.record.specs.declared.marks.Mark.{Mark}
 use Rattle.record.specs.declared.marks.Mark.TheVariants.{Called}
 use Rattle.record.specs.Calls.{called_in, last_command, call_number, calls_in}
-use Rattle.record.specs.Doorways.{doorway_begin, is_ahead, is_waiting_stage}
+use Rattle.record.specs.Doorways.{doorway_begin, is_ahead, is_queued, is_waiting_stage}
 use Rattle.record.specs.Entries.{Entry, Past, own, has, is_called}
 use Rattle.record.specs.Records.{entry_of, past_of}
 use Rattle.record.specs.Registers.{processes}
 use Rattle.record.specs.Stages.{stage}
 use Rattle.plain_store.specs.Setups.{checked}
 use Rattle.record.proofs.Width.{IsGood, is_good}
-use Rattle.laws.specs.Doings.{doing}
+use Rattle.laws.specs.Doings.{Doing, doing}
 use Rattle.laws.proofs.Frame.{own-other, own-own, doing-other}
 use Rattle.laws.proofs.FrameEvents.{accepted}
 use Rattle.laws.proofs.Theorems.{not_ahead_of_itself}
-use Rattle.process.proofs.section.Widths.{ranges}
-use Rattle.world.specs.Seats.{Seat, seat_of, waiting_before, with_kept}
-use Rattle.process.specs.Processes.{Kept, kept_at}
+use Rattle.plain_store.proofs.GoodSetups.{few-processes}
+use Rattle.process.specs.Places.{ProcessState, process_after, stage_doing}
+use Rattle.world.specs.Seats.{Seat, seat_of, waiting_before}
 use Rattle.world.specs.Changes.{told, before_told}
 use Rattle.world.proofs.WorldLists.{map-changed}
-use Rattle.process.specs.Steps.{is_at_door}
 use Rattle.world.proofs.QueueAfter.{before-done, before-waits, before-kept}
 use Rattle.world.proofs.QueueBegun.{begun-after, begun-others}
 
@@ -34,22 +33,23 @@ use Rattle.world.proofs.QueueBegun.{begun-after, begun-others}
 abbrev pub waited : Past → ℕ → Bool
 waited past p = is_waiting_stage (stage p past)
 
--- the seat of a process with these parts
-abbrev seat_with : Setup → ℕ → Kept → Command → ℕ → Bool → List Bool → Seat
-seat_with s p kept command number begun before = record { process = record { setup = s; process = p; kept = kept; command = command; number = number }; begun = begun; before = before }
-
 -- what the seat of q is told of the others is what it then has, as its doorway stood
 abbrev pub IsTold : Past → ℕ → Entry → ℕ → Type 0
 IsTold past p e q = before_told p (waited past p) (waited (e ∷ past) p) (is_some (doorway_begin q past)) (waiting_before past q) ≡ waiting_before (e ∷ past) q
 
 -- another process keeps all else
-pub other-seat : (s : Setup) (past : Past) (p : ℕ) (e : Entry) (q : ℕ) → e.process ≢ q → IsTold past p e q → told p (waited past p) (waited (e ∷ past) p) (seat_of s past q) ≡ seat_of s (e ∷ past) q
-other-seat s past p e q ne before = λ i. seat_with s q
-    (kept_at s q (sym (doing-other s q e past ne) i))
-    (last_command (sym (own-other q e past ne) i))
-    (call_number s (sym (own-other q e past ne) i))
-    (is_some (sym (begun-others q e past ne) i))
-    (before i)
+other-seat : (s : Setup) (past : Past) (p : ℕ) (e : Entry) (q : ℕ) → e.process ≢ q → IsTold past p e q → told p (waited past p) (waited (e ∷ past) p) (seat_of s past q) ≡ seat_of s (e ∷ past) q
+other-seat s past p e q ne before = λ i. let seat : Seat = record {
+  process = record {
+    setup = s;
+    process = q;
+    doing = sym (doing-other s q e past ne) i;
+    command = last_command (sym (own-other q e past ne) i);
+    number = call_number s (sym (own-other q e past ne) i);
+  };
+  begun = is_some (sym (begun-others q e past ne) i);
+  before = before i;
+} in seat
 
 -- an entry that is no call leaves the last call as it is
 not-called : (ms : List Mark) → list_any is_called ms ≡ false → called_in ms ≡ None
@@ -62,6 +62,17 @@ command-kept e mine h = ap (λ o. elim o as (λ _. Command) [ None ↦ last_comm
 
 number-kept : (s : Setup) (e : Entry) (mine : Past) → has is_called e ≡ false → call_number s (e ∷ mine) ≡ call_number s mine
 number-kept s e mine h = ap (λ b. cond (s.version == 2) (elim b as (λ _. ℕ) [ true ↦ suc (calls_in mine) | false ↦ calls_in mine ]) 0) h
+
+-- so its process goes on in what it does alone
+pub process-goes : (s : Setup) (past : Past) (e : Entry) (d : Doing) → has is_called e ≡ false → d ≡ doing s e.process (e ∷ past) →
+    (let now : ProcessState = record (process_after s past e.process) { doing = d } in now) ≡ process_after s (e ∷ past) e.process
+process-goes s past e d called is = λ i. let now : ProcessState = record {
+  setup = s;
+  process = e.process;
+  doing = is i;
+  command = (sym (command-kept e (own e.process past) called) ∙ ap last_command (sym (own-own e.process e past refl))) i;
+  number = (sym (number-kept s e (own e.process past) called) ∙ ap (call_number s) (sym (own-own e.process e past refl))) i;
+} in now
 
 -- Of an entry that an event adds.
 
@@ -91,16 +102,16 @@ pub begun-kept : (s : Setup) → IsGood s → (events : List Event) (what : Even
 begun-kept s g events what e h none called =
     let past : Past = past_of s events in
     let was : Bool = is_some (doorway_begin e.process past) in
-    let door : Bool = is_at_door (kept_at s e.process (doing s e.process past)) in
+    let door : Bool = is_queued (stage_doing (doing s e.process past)) in
     sym (begun-after s g events what e h ∙ ap (λ b. cond b false (was || (is_some e.access && door))) called ∙ ap (λ a. was || (is_some a && door)) none ∙ or-false was)
 
 -- one with an access goes on with it
 pub begun-stepped : (s : Setup) → IsGood s → (events : List Event) (what : Event) (e : Entry) → entry_of s (past_of s events) what ≡ Some e → is_some e.access ≡ true → has is_called e ≡ false →
-    (is_some (doorway_begin e.process (past_of s events)) || is_at_door (kept_at s e.process (doing s e.process (past_of s events)))) ≡ is_some (doorway_begin e.process (e ∷ past_of s events))
+    (is_some (doorway_begin e.process (past_of s events)) || is_queued (stage_doing (doing s e.process (past_of s events)))) ≡ is_some (doorway_begin e.process (e ∷ past_of s events))
 begun-stepped s g events what e h some called =
     let past : Past = past_of s events in
     let was : Bool = is_some (doorway_begin e.process past) in
-    let door : Bool = is_at_door (kept_at s e.process (doing s e.process past)) in
+    let door : Bool = is_queued (stage_doing (doing s e.process past)) in
     sym (begun-after s g events what e h ∙ ap (λ b. cond b false (was || (is_some e.access && door))) called ∙ ap (λ a. was || (a && door)) some)
 
 -- nobody goes on to wait before itself: its doorway had begun
@@ -118,10 +129,10 @@ begun-before s g good events what e h called was is = begun ∙ sym (begun-after
     began = is_some (doorway_begin p past)
 
     door : Bool
-    door = is_at_door (kept_at s p (doing s p past))
+    door = is_queued (stage_doing (doing s p past))
 
     small : p < 16
-    small = let few = (ranges s good).few_processes in let below : p < s.processes = (accepted s g events what e h).below in omega (arith, few, below)
+    small = let few = few-processes s good in let below : p < s.processes = (accepted s g events what e h).below in omega (arith, few, below)
 
     after : past_of s (what ∷ events) ≡ e ∷ past
     after = ap (λ o. elim o as (λ _. Past) [ None ↦ past | Some x ↦ x ∷ past ]) h
@@ -142,16 +153,16 @@ begun-before s g good events what e h called was is = begun ∙ sym (begun-after
         from true k = refl
         from false k = absurd (true≢false k)
 
--- the seat of the process, where its cursor and its doorway went on and it is told where it stands
+-- the seat of the process, where the process and its doorway went on and it is told where it stands
 pub own-seat : (s : Setup) → checked s ≡ Ok tt → (events : List Event) (what : Event) (e : Entry) → entry_of s (past_of s events) what ≡ Some e → has is_called e ≡ false →
-    (kept : Kept) (begun : Bool) → let past : Past = past_of s events in let p : ℕ = e.process in
-    kept ≡ kept_at s p (doing s p (e ∷ past)) → begun ≡ is_some (doorway_begin p (e ∷ past)) →
-    told p (waited past p) (waited (e ∷ past) p) (record (with_kept kept (seat_of s past p)) { begun = begun }) ≡ seat_of s (e ∷ past) p
-own-seat s good events what e h called kept begun is_kept is_begun = λ i. seat_with s p (is_kept i)
-    ((sym (command-kept e (own p past) called) ∙ ap last_command (sym (own-own p e past refl))) i)
-    ((sym (number-kept s e (own p past) called) ∙ ap (call_number s) (sym (own-own p e past refl))) i)
-    (is_begun i)
-    ((go (waited past p) (waited (e ∷ past) p) refl refl ∙ is-told s g events what e h p (ap (λ b. b && (p == p)) called)) i)
+    (then : Seat) → let past : Past = past_of s events in let p : ℕ = e.process in
+    then.process ≡ process_after s (e ∷ past) p → then.begun ≡ is_some (doorway_begin p (e ∷ past)) → then.before ≡ waiting_before past p →
+    told p (waited past p) (waited (e ∷ past) p) then ≡ seat_of s (e ∷ past) p
+own-seat s good events what e h called then is_process is_begun is_before = λ i. let seat : Seat = record {
+  process = is_process i;
+  begun = is_begun i;
+  before = (ap (before_told p (waited past p) (waited (e ∷ past) p) then.begun) is_before ∙ go (waited past p) (waited (e ∷ past) p) refl refl ∙ is-told s g events what e h p (ap (λ b. b && (p == p)) called)) i;
+} in seat
   where
     g : IsGood s
     g = is_good s good
@@ -162,7 +173,7 @@ own-seat s good events what e h called kept begun is_kept is_begun = λ i. seat_
     p : ℕ
     p = e.process
 
-    go : (was is : Bool) → waited past p ≡ was → waited (e ∷ past) p ≡ is → before_told p was is begun (waiting_before past p) ≡ before_told p was is (is_some (doorway_begin p past)) (waiting_before past p)
+    go : (was is : Bool) → waited past p ≡ was → waited (e ∷ past) p ≡ is → before_told p was is then.begun (waiting_before past p) ≡ before_told p was is (is_some (doorway_begin p past)) (waiting_before past p)
     go true true k m = refl
     go true false k m = refl
     go false true k m = ap (λ b. slice_set (waiting_before past p) p (not b)) (is_begun ∙ sym (begun-before s g good events what e h called k m))

@@ -1,10 +1,8 @@
 -- Lists that are changed from the front on, and what is read of them.
 use Rattle.std.proofs.Common.{◌≡◌, ℕ, zero, suc, ◌+◌, ◌<◌, ◌≤◌, List, [], ◌∷◌, ◌++◌, length, map, take, drop, slice_set, slice_index_or, Bool, true, false, not, refl, sym, ap, ◌∙◌, arith}
 use Rattle.std.proofs.lemmas.List.{length-map}
-use Rattle.record.specs.Doorways.{is_waiting_stage}
 use Rattle.world.specs.Changes.{told, waits_in}
-use Rattle.world.specs.Seats.{Seat}
-use Rattle.process.specs.Processes.{stage_kept}
+use Rattle.world.specs.Seats.{Seat, is_waiting}
 use Rattle.world.proofs.WorldLists.{map-same}
 use mathlib.Core.Bool.{beq}
 
@@ -34,9 +32,9 @@ told-back f n new was items rest h same long =
     take-front n new rest (ap length told ∙ length-map items f ∙ long) ∙ told
 
 -- who waits, by its seat
-pub waits_seat : (seats : List Seat) (p : ℕ) (seat : Seat) → p < length seats → seat ≡ slice_index_or seats p seat → is_waiting_stage (stage_kept seat.process.kept) ≡ waits_in seats p
+pub waits_seat : (seats : List Seat) (p : ℕ) (seat : Seat) → p < length seats → seat ≡ slice_index_or seats p seat → is_waiting seat ≡ waits_in seats p
 waits_seat [] p seat l is = absurd (omega (arith, l))
-waits_seat (x ∷ xs) zero seat l is = ap (λ (y : Seat). is_waiting_stage (stage_kept y.process.kept)) is
+waits_seat (x ∷ xs) zero seat l is = ap is_waiting is
 waits_seat (x ∷ xs) (suc p) seat l is = waits_seat xs p seat (omega (arith, l)) is
 
 pub waits_none : (seats : List Seat) (p : ℕ) → length seats ≤ p → waits_in seats p ≡ false

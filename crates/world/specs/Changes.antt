@@ -1,12 +1,13 @@
--- What an event changes of what a world keeps, beside the cursor of its process.
+-- What an event changes of what a world keeps, beside the process whose event it is.
 use Rattle.std.specs.Prelude.{ℕ, ◌+◌, [], ◌∷◌, ◌++◌, Bool, true, false, not, cond, List, map, Option, None, Some, is_some, slice_get, slice_set}
 use Rattle.std.specs.List.{range_with_len}
 use Rattle.plain_store.specs.declared.Command.{Command}
 use Rattle.plain_store.specs.declared.Reply.{Reply}
 use Rattle.record.specs.declared.history.Taken.{Taken}
-use Rattle.record.specs.Doorways.{is_waiting_stage}
-use Rattle.world.specs.Seats.{Seat}
-use Rattle.process.specs.Processes.{Kept, AtDoor, AtData, Settles, stage_kept}
+use Rattle.record.specs.Closings.{Settles}
+use Rattle.record.specs.Parts.{Part, Clears, Over}
+use Rattle.laws.specs.Doings.{Doing, Runs, Closes}
+use Rattle.world.specs.Seats.{Seat, is_waiting}
 
 -- which processes are before a process, once p goes on to wait or not to wait; begun: the doorway of the process has begun
 abbrev pub before_told : (p : ℕ) (waited waits begun : Bool) → List Bool → List Bool
@@ -19,15 +20,20 @@ before_told p false false begun before = before
 abbrev pub told : (p : ℕ) (waited waits : Bool) → Seat → Seat
 told p waited waits seat = record seat { before = before_told p waited waits seat.begun seat.before }
 
--- the call may still be taken
-abbrev pub is_pending : Kept → Bool
-is_pending (AtDoor door) = true
-is_pending (AtData section) = true
-is_pending (Settles inside taken value unit) = is_some taken
+-- a call at this part may still be taken
+abbrev pub is_open_part : Part → Bool
+is_open_part (Clears answer) = false
+is_open_part Over = false
+is_open_part _ = true
+
+-- the call of a process may still be taken
+abbrev pub is_pending : Doing → Bool
+is_pending (Runs command number at) = is_open_part at.part
+is_pending (Closes command number (Settles field bit begun taken inside torn)) = is_some taken
 is_pending _ = false
 
 abbrev pub pending : Seat → ℕ
-pending seat = cond (is_pending seat.process.kept) 1 0
+pending seat = cond (is_pending seat.process.doing) 1 0
 
 -- how many calls may still be taken
 abbrev pub pending_in : List Seat → ℕ
@@ -36,7 +42,7 @@ pending_in (seat ∷ seats) = pending seat + pending_in seats
 
 -- a process waits, by its seat
 abbrev pub waits_in : List Seat → ℕ → Bool
-waits_in seats j = elim (slice_get seats j) [ None ↦ false | Some seat ↦ is_waiting_stage (stage_kept seat.process.kept) ]
+waits_in seats j = elim (slice_get seats j) [ None ↦ false | Some seat ↦ is_waiting seat ]
 
 -- which of 16 processes wait
 abbrev pub waiting_in : List Seat → List Bool

@@ -17,7 +17,7 @@ use Rattle.record.specs.Records.{is_call, process_of}
 use Rattle.process.specs.declared.told.Effect.{Effect}
 use Rattle.process.specs.declared.told.Effect.TheVariants.{Steps}
 use Rattle.process.specs.declared.told.StepTold.{StepTold}
-use Rattle.process.specs.Registers.{RegistersState}
+use Rattle.record.specs.safe_bit.Cell.{Cell}
 use Rattle.process.specs.Telling.{marks_of}
 use Rattle.world.specs.Changes.{pending_in, with_taken}
 use Rattle.world.specs.Events.{AddsEvent, GoesOn, InEachPast, IsRefused, IsTurnedAway, UnlessRefused}
@@ -29,7 +29,7 @@ use Rattle.world.specs.Walks.{AddsQuietly, StepsQuietly, Walks}
 -- the registers, and what is kept of each process: of fixed size
 pub record CoreState : Type 0 where
   pub setup : Setup
-  pub registers : RegistersState
+  pub registers : List (List Cell)
   pub seats : List Seat
 
 -- the world that has this core and this history

@@ -1,14 +1,11 @@
 -- What a world keeps of each process.
-use Rattle.std.specs.Prelude.{◌≡◌, ℕ, Bool, false, ◌||◌, List, is_some, map}
+use Rattle.std.specs.Prelude.{ℕ, Bool, false, ◌||◌, List, is_some, map}
 use Rattle.std.specs.List.{range_with_len}
 use Rattle.plain_store.specs.declared.Command.{Command}
 use Rattle.plain_store.specs.declared.Setup.{Setup}
-use Rattle.record.specs.Doorways.{doorway_begin, is_ahead}
+use Rattle.record.specs.Doorways.{doorway_begin, is_ahead, is_queued, is_waiting_stage}
 use Rattle.record.specs.Entries.{Past}
-use Rattle.laws.specs.Doings.{Doing}
-use Rattle.laws.specs.Steps.{does_then}
-use Rattle.process.specs.Processes.{Kept, ProcessState, kept_at, process_after}
-use Rattle.process.specs.Steps.{IsAt, called, is_at_door, kept_failing}
+use Rattle.process.specs.Places.{ProcessState, called, process_after, stage_doing}
 
 -- the process, whether the doorway of its last call has begun, and which processes wait in a doorway before it
 pub record Seat : Type 0 where
@@ -16,25 +13,25 @@ pub record Seat : Type 0 where
   pub begun : Bool
   pub before : List Bool
 
--- the seat where its process has this cursor
-abbrev pub with_kept : Kept → Seat → Seat
-with_kept kept seat = record seat { process = record seat.process { kept = kept } }
+-- its process waits
+abbrev pub is_waiting : Seat → Bool
+is_waiting seat = is_waiting_stage (stage_doing seat.process.doing)
 
--- the seat once a call has begun, before which these processes wait
+-- it is in its doorway, or waits
+abbrev pub is_at_door : Seat → Bool
+is_at_door seat = is_queued (stage_doing seat.process.doing)
+
+-- the seat once its process has become this one
+abbrev pub seat_with : ProcessState → Seat → Seat
+seat_with process seat = record seat { process = process }
+
+-- after a step of it: where it was at the door, the doorway has begun
+abbrev pub seat_stepped : ProcessState → Seat → Seat
+seat_stepped process seat = record seat { process = process; begun = seat.begun || is_at_door seat }
+
+-- once a call has begun, before which these processes wait
 abbrev pub seat_called : Seat → Command → ℕ → List Bool → Seat
 seat_called seat command number before = record { process = called seat.process command number; begun = false; before = before }
-
--- the seat once its process has become this one: where it was at the door, the doorway has begun
-abbrev pub seat_with : ProcessState → Seat → Seat
-seat_with process seat = record seat { process = process; begun = seat.begun || is_at_door seat.process.kept }
-
--- the process of a seat goes on by its next access, where it has this value
-abbrev pub SeatGoesBy : Seat → (flick value : Bool) → Seat → Type 0
-SeatGoesBy old flick value new = (d : Doing) → IsAt old.process d → new ≡ record (with_kept (kept_at old.process.setup old.process.process (does_then old.process.setup old.process.process d flick value)) old) { begun = old.begun || is_at_door old.process.kept }
-
--- it has failed
-abbrev pub SeatHasFailed : Seat → Seat → Type 0
-SeatHasFailed old new = (d : Doing) → IsAt old.process d → new ≡ with_kept (kept_failing old.process.setup old.process.process d) old
 
 -- for each of 16 processes, whether it waits and its doorway is before that of p
 abbrev pub waiting_before : Past → ℕ → List Bool

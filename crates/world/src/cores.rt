@@ -1,29 +1,28 @@
 //! N processes over one set of registers, without a history.
-ghost use Rattle.std.specs.Prelude.{◌≡◌, ◌+◌, ◌<◌, ◌≤◌, Bool, false, true, length, None, Some, IfOk, IfErr, IfSome, IsOk, OnErr, OnOk, Ok, [], option_map};
+ghost use Rattle.std.specs.Prelude.{◌≡◌, ◌<◌, ◌≤◌, Bool, length, true, None, Some, IfOk, IfErr, IfSome, IsOk, OnErr, OnOk, Ok, [], option_map};
 ghost use Rattle.plain_store.specs.Setups.{checked};
 ghost use Rattle.plain_store.specs.Commands.{is_command};
 ghost use Rattle.record.specs.store_image.Image.{image_of};
 ghost use Rattle.record.specs.declared.Event.TheVariants.{Call, Step, Fail, Withdraw, Restart};
 ghost use Rattle.record.specs.Doorways.{ahead};
 ghost use Rattle.record.specs.Newest.{newest};
-ghost use Rattle.record.specs.Records.{refused};
-ghost use Rattle.process.specs.declared.told.Effect.TheVariants.{Steps};
-ghost use Rattle.world.specs.Changes.{pending_in};
-ghost use Rattle.world.specs.Cores.{CoreAdds, CoreAddsQuietly, CoreAddsStep, CoreGoesOn, CoreMakes, CoreRefuses, CoreRefusesStep, CoreSteps, CoreStepsQuietly, CoreWalks, InEachCorePast, PendedBefore, PendedUnlessCall, UnlessCoreRefuses, pending_with, taken_by, with_history};
-ghost use Rattle.process.specs.Refusals.{WantsNoMemory};
+ghost use Rattle.process.specs.declared.told.Effect.TheVariants.{Calls, Fails, Restarts, Steps, Withdraws};
+ghost use Rattle.process.specs.Places.{WantsNoMemory};
+ghost use Rattle.world.specs.Cores.{CoreAdds, CoreAddsQuietly, CoreAddsStep, CoreMakes, CoreRefuses, CoreRefusesStep, CoreSteps, CoreStepsQuietly, CoreWalks, InEachCorePast, PendedBefore, PendedUnlessCall, UnlessCoreRefuses, pending_with, taken_by, with_history};
 ghost use Rattle.world.specs.Events.{stage_in};
+ghost use Rattle.world.specs.Going.{CoreGoes};
 ghost use Rattle.world.specs.Shows.{Shows};
-ghost use Rattle.world.specs.Walks.{HasOneFewerAtMost, KeepOthers, bits_within_at};
+ghost use Rattle.world.specs.Walks.{HasOneFewer, KeepOthers, left_in};
 
 mod copies;
 mod told;
 
 use crate::queue::listed;
 use crate::seat::Seat;
-use crate::seats::{is_occupied, is_queued, tell, waiting, waits};
+use crate::seats::{is_occupied, tell, waiting};
 use flicks::Flicks;
 use plain_store::{Command, NestedTypes, Reply, Setup};
-use process::{Effect, Image, Pace, Registers, StepTold};
+use process::{BitMemory, Effect, Image, StepTold, newest, open_memory};
 use record::{Access, Event, Refusal, Stage, Taken};
 use smallvec::SmallVec;
 use std::alloc::{AllocError, Global};
@@ -36,7 +35,7 @@ use std::marker::Model;
 #[derive(Drop)]
 pub struct Core {
     setup: Setup,
-    registers: Registers,
+    registers: BitMemory,
     seats: Vec<Seat>,
 }
 
@@ -60,11 +59,11 @@ impl Core {
         setup.opening.pairs_are_sound();
         let mut seats = Vec::new(alloc);
         for process in 0..setup.processes {
-            seats.push(Seat::new(alloc, process, setup)?)?;
+            seats.push(Seat::new(process, setup))?;
         }
         Ok(Core {
             setup: *setup,
-            registers: Registers::new(alloc, setup)?,
+            registers: open_memory(alloc, setup)?,
             seats,
         })
     }
@@ -97,7 +96,7 @@ impl Core {
             return SmallVec::new(alloc);
         }
         let seat = &self.seats[at];
-        if is_queued(seat) {
+        if seat.is_at_door() {
             listed(alloc, seat.before())
         } else {
             SmallVec::new(alloc)
@@ -111,7 +110,7 @@ impl Core {
         if is_occupied(&self.seats) {
             return None;
         }
-        Some(self.registers.newest())
+        Some(newest(&self.registers, &self.setup))
     }
 
     /// What a process takes, where its command is taken and this is the reply.
@@ -159,35 +158,7 @@ impl Core {
         if let Some(refusal) = self.refusal(event) {
             return Err(refusal);
         }
-        match event {
-            Event::Call(process, command) => {
-                command.operands_are_sound();
-                self.call(*process, command);
-                *effect = Effect::Calls(*command);
-                Ok(None)
-            }
-            Event::Step(process, flick) => {
-                let mut told = StepTold::Nothing;
-                let access = self.make_step(*process, *flick, &mut told);
-                *effect = Effect::Steps(told);
-                Ok(Some(access))
-            }
-            Event::Fail(process) => {
-                self.fail(*process);
-                *effect = Effect::Fails;
-                Ok(None)
-            }
-            Event::Withdraw(process) => {
-                self.withdraw(*process);
-                *effect = Effect::Withdraws;
-                Ok(None)
-            }
-            Event::Restart(process) => {
-                self.restart(*process);
-                *effect = Effect::Restarts;
-                Ok(None)
-            }
-        }
+        Ok(self.make_event(event, effect))
     }
 
     /// One step of a process, or of its memory unit: its access, and in `told` what it leads to. The command that it
@@ -205,10 +176,9 @@ impl Core {
         ensures through { UnlessCoreRefuses self.old (Step process flick) (IsOk result) }
         ensures others { KeepOthers self.old.seats process self.new.seats }
     {
-        if 0 < self.bits_within(process) {
+        if 0 < self.left(process) {
             *told = StepTold::Nothing;
-            // The access tells whether a read begins or ends, so a branch on that is foreseen here.
-            return Ok(self.make_step_told(process, flick, Pace::InARow));
+            return Ok(self.make_step_told(process, flick));
         }
         if let Some(refusal) = self.step_refusal(process) {
             return Err(refusal);
@@ -237,92 +207,112 @@ impl Core {
     #[inline]
     fn make_step(&mut self, process: u8, flick: bool, told: &mut StepTold) -> Access
         requires { CoreRefuses self.old (Step process flick) None }
-        ensures accepted { CoreAddsStep self.old process flick told.new result }
-        ensures shows { CoreSteps self.old process flick told.new self.new }
-        ensures pending { PendedBefore self.old (Steps told.new) self.new }
-        ensures setup { self.new.setup ≡ self.old.setup }
+        ensures goes { CoreGoes self.old (Step process flick) (Steps told.new) (Some result) self.new }
         ensures others { KeepOthers self.old.seats process self.new.seats }
     {
         let seat = &mut self.seats[usize::from(process)];
-        let waited = waits(seat);
+        let waited = seat.is_waiting();
         let access = seat.step(&mut self.registers, flick, told);
-        let now = waits(seat);
-        tell(&mut self.seats, process, waited, now);
+        let waits = seat.is_waiting();
+        tell(&mut self.seats, process, waited, waits);
         access
     }
 
-    /// Steps of a process while they are within a number access at the door or at the data, at most so many: each as
-    /// `step` makes it, by the flick that is next, and without a mark. It answers how many it has made, and stops where
-    /// the next access is of a last bit, clears a ticket or is of the memory unit, or where there is no such process.
+    /// Steps of a process while they are within a number access of its call, at most so many: each as `step` makes it, by
+    /// the flick that is next, and without a mark. It answers how many it has made: none where the next access is the last
+    /// of a number access, or has a mark, or is of the memory unit, or where there is no such process.
     #[inline]
     pub fn run(&mut self, process: u8, flicks: &mut Flicks, most: u32) -> u32
         ensures most { result ≤ most }
         ensures runs { CoreWalks self.old flicks.old process result self.new flicks.new }
-        ensures stops { result < most → bits_within_at self.new.seats process ≡ 0 }
+        ensures stops { result < most → left_in self.new.seats process ≡ 0 }
     {
-        let mut made = 0;
-        'parts: while made < most {
-            let bits = self.bits_within(process);
-            if bits == 0 {
-                return made;
-            }
-            let steps = u32::from(bits).min(most - made);
-            self.run_within(process, flicks, steps);
-            made += steps;
+        let steps = self.left(process).min(most);
+        if steps > 0 {
+            self.seats[usize::from(process)].run(&mut self.registers, flicks, steps);
         }
-        made
+        steps
     }
 
-    /// How many bits a process at the door or at the data has before the last one of its number access; 0, if it is
-    /// elsewhere, or there is no such process. So many of its next steps at least are within that access, whatever other
-    /// processes do.
+    /// How many of the next steps of a process are within a number access of its call, whatever other processes do: they
+    /// have no mark, and none is the last of the access. 0, if there is no such process.
     #[inline]
-    pub fn bits_within(&self, process: u8) -> u16
-        ensures { result ≡ bits_within_at self.now.seats process }
+    pub fn left(&self, process: u8) -> u32
+        ensures { result ≡ left_in self.now.seats process }
     {
         let at = usize::from(process);
         if self.seats.len() <= at {
             return 0;
         }
-        self.seats[at].process().bits_to_walk()
+        self.seats[at].process().left()
     }
 
-    /// One step, by this flick, of a process that is within a number access as those of `run` are: it has no mark. It answers
-    /// its access. So few words are looked at that it is quicker than a step which may lead to something.
+    /// One step, by this flick, of a process that is within a number access: it has no mark. So few words are looked at
+    /// that it is quicker than a step which may lead to something.
     #[inline(always)]
-    pub fn make_step_told(&mut self, process: u8, flick: bool, pace: Pace) -> Access
-        requires { 0 < bits_within_at self.old.seats process }
+    pub fn make_step_within(&mut self, process: u8, flick: bool)
+        requires { 0 < left_in self.old.seats process }
+        ensures quietly { CoreStepsQuietly self.old process flick self.new }
+        ensures fewer { HasOneFewer self.old.seats process self.new.seats }
+        ensures others { KeepOthers self.old.seats process self.new.seats }
+    {
+        self.seats[usize::from(process)].step_within(&mut self.registers, flick);
+    }
+
+    /// The same, with its access.
+    #[inline(always)]
+    pub fn make_step_told(&mut self, process: u8, flick: bool) -> Access
+        requires { 0 < left_in self.old.seats process }
         ensures quietly { CoreStepsQuietly self.old process flick self.new }
         ensures accepted { CoreAddsQuietly self.old process flick result }
         ensures there { process < length self.new.seats }
-        ensures fewer { HasOneFewerAtMost self.old.seats process self.new.seats }
+        ensures fewer { HasOneFewer self.old.seats process self.new.seats }
         ensures others { KeepOthers self.old.seats process self.new.seats }
     {
-        let at = usize::from(process);
-        let seat = &mut self.seats[at];
-        let access = seat.process().answered_within(&self.registers, flick);
-        seat.step_within(&mut self.registers, flick, pace);
-        access
+        self.seats[usize::from(process)].step_told(&mut self.registers, flick)
     }
 
-    /// So many steps of a process, one at least, that has as many bits at least before the last one.
-    #[inline]
-    fn run_within(&mut self, process: u8, flicks: &mut Flicks, steps: u32)
-        requires some { 0 < steps }
-        requires within { steps ≤ bits_within_at self.old.seats process }
-        ensures { CoreWalks self.old flicks.old process steps self.new flicks.new }
+    /// An event that is not refused, and in `effect` what it leads to; the access of a step.
+    fn make_event(&mut self, event: &Event, effect: &mut Effect) -> Option<Access>
+        requires { CoreRefuses self.old event.now None }
+        ensures { CoreGoes self.old event.now effect.new result self.new }
     {
-        let at = usize::from(process);
-        self.seats[at].run_within(&mut self.registers, flicks, steps);
+        match event {
+            Event::Call(process, command) => {
+                command.operands_are_sound();
+                self.call(*process, command);
+                *effect = Effect::Calls(*command);
+                None
+            }
+            Event::Step(process, flick) => {
+                let mut told = StepTold::Nothing;
+                let access = self.make_step(*process, *flick, &mut told);
+                *effect = Effect::Steps(told);
+                Some(access)
+            }
+            Event::Fail(process) => {
+                self.fail(*process);
+                *effect = Effect::Fails;
+                None
+            }
+            Event::Withdraw(process) => {
+                self.withdraw(*process);
+                *effect = Effect::Withdraws;
+                None
+            }
+            Event::Restart(process) => {
+                self.restart(*process);
+                *effect = Effect::Restarts;
+                None
+            }
+        }
     }
 
     /// A call begins.
     fn call(&mut self, process: u8, command: &Command)
         requires accepted { CoreRefuses self.old (Call process command.now) None }
         requires given { is_command command.now ≡ true }
-        ensures shows { CoreGoesOn self.old (Call process command.now) self.new }
-        ensures pending { pending_in self.new.seats ≤ length self.old.seats }
-        ensures setup { self.new.setup ≡ self.old.setup }
+        ensures { CoreGoes self.old (Call process command.now) (Calls command.now) None self.new }
     {
         let waiting = waiting(&self.seats);
         let seat = &mut self.seats[usize::from(process)];
@@ -333,12 +323,10 @@ impl Core {
     /// A process halts, and its memory unit takes over.
     fn fail(&mut self, process: u8)
         requires { CoreRefuses self.old (Fail process) None }
-        ensures shows { CoreGoesOn self.old (Fail process) self.new }
-        ensures pending { pending_in self.new.seats ≤ pending_in self.old.seats }
-        ensures setup { self.new.setup ≡ self.old.setup }
+        ensures { CoreGoes self.old (Fail process) Fails None self.new }
     {
         let seat = &mut self.seats[usize::from(process)];
-        let waited = waits(seat);
+        let waited = seat.is_waiting();
         seat.fail(&mut self.registers);
         tell(&mut self.seats, process, waited, false);
     }
@@ -346,9 +334,7 @@ impl Core {
     /// A process gives up waiting.
     fn withdraw(&mut self, process: u8)
         requires { CoreRefuses self.old (Withdraw process) None }
-        ensures shows { CoreGoesOn self.old (Withdraw process) self.new }
-        ensures pending { pending_in self.new.seats ≤ pending_in self.old.seats }
-        ensures setup { self.new.setup ≡ self.old.setup }
+        ensures { CoreGoes self.old (Withdraw process) Withdraws None self.new }
     {
         self.seats[usize::from(process)].withdraw(&mut self.registers);
         tell(&mut self.seats, process, true, false);
@@ -357,9 +343,7 @@ impl Core {
     /// A process that was down may call again.
     fn restart(&mut self, process: u8)
         requires { CoreRefuses self.old (Restart process) None }
-        ensures shows { CoreGoesOn self.old (Restart process) self.new }
-        ensures pending { pending_in self.new.seats ≤ pending_in self.old.seats }
-        ensures setup { self.new.setup ≡ self.old.setup }
+        ensures { CoreGoes self.old (Restart process) Restarts None self.new }
     {
         self.seats[usize::from(process)].restart();
     }

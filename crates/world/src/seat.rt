@@ -1,23 +1,20 @@
 //! What a world keeps of one process.
-ghost use Rattle.std.specs.Prelude.{◌≡◌, ◌<◌, ◌≤◌, ◌||◌, true, false, [], IfOk, Ok};
+ghost use Rattle.std.specs.Prelude.{◌≡◌, ◌<◌, ◌≤◌, true, [], Ok};
 ghost use Rattle.plain_store.specs.Setups.{checked};
 ghost use Rattle.record.specs.Places.{value_of};
 ghost use Rattle.record.specs.declared.Stage.TheVariants.{Waiting};
-ghost use Rattle.laws.specs.Doings.{Doing, call};
-ghost use Rattle.process.specs.Drops.{AreOf, DropsRead};
-ghost use Rattle.process.specs.Processes.{stage_kept};
-ghost use Rattle.process.specs.Processes as kept;
-ghost use Rattle.process.specs.Registers.{IsNextAnswered, MayStep, MayRun, StepsWithin, RunsWithin, made};
-ghost use Rattle.process.specs.Steps.{IsAt, bits_to_walk, may_fail, may_step, withdrawn};
-ghost use Rattle.process.specs.Telling.{TellsMarks};
+ghost use Rattle.process.specs.registers.Accesses.{applied};
+ghost use Rattle.process.specs.registers.Openings.{AreOf};
+ghost use Rattle.process.specs.Places.{failed, left_at, marks_on, may_fail, may_step, restarted, stage_doing, stepped, withdrawn};
+ghost use Rattle.process.specs.Serving.{answered_at, dropped, step_by, steps_of};
+ghost use Rattle.process.specs.Telling.{marks_told};
 ghost use Rattle.world.specs.Changes.{told};
-ghost use Rattle.world.specs.Seats.{SeatGoesBy, SeatHasFailed, seat_called, seat_of, seat_with, with_kept};
+ghost use Rattle.world.specs.Seats.{is_at_door, is_waiting, seat_called, seat_of, seat_stepped, seat_with};
 
 use flicks::Flicks;
 use plain_store::{Command, Setup};
-use process::{Pace, Process, Registers, StepTold};
+use process::{BitMemory, Process, StepTold};
 use record::Access;
-use std::alloc::{AllocError, Global};
 use std::marker::Model;
 
 /// One process of a world, whether the doorway of its last call has begun, and which of 16 processes wait in a
@@ -38,17 +35,17 @@ impl Model for Seat {
 }
 
 impl Seat {
-    /// A process that has made no call. The one fault is want of memory.
-    pub fn new(alloc: Global, process: u8, setup: &Setup) -> Result<Seat, AllocError>
+    /// A process that has made no call.
+    pub fn new(process: u8, setup: &Setup) -> Seat
         requires good { checked setup.now ≡ Ok tt }
         requires process { process < setup.now.processes }
-        ensures { IfOk result (λ seat. seat ≡ seat_of setup.now [] process) }
+        ensures { result ≡ seat_of setup.now [] process }
     {
-        Ok(Seat {
-            process: Process::new(alloc, process, setup)?,
+        Seat {
+            process: Process::new(process, setup),
             begun: false,
             before: [false; 16],
-        })
+        }
     }
 
     /// The process.
@@ -57,6 +54,20 @@ impl Seat {
         ensures { result.now ≡ self.now.process }
     {
         &self.process
+    }
+
+    /// Whether it waits.
+    pub fn is_waiting(&self) -> bool
+        ensures { result ≡ is_waiting self.now }
+    {
+        self.process.is_waiting()
+    }
+
+    /// Whether it is in its doorway, or waits.
+    pub fn is_at_door(&self) -> bool
+        ensures { result ≡ is_at_door self.now }
+    {
+        self.process.is_at_door()
     }
 
     /// Which processes wait in a doorway before it.
@@ -87,76 +98,81 @@ impl Seat {
 
     /// A process that was down may call again.
     pub fn restart(&mut self)
-        ensures { self.new ≡ with_kept kept.Rests self.old }
+        ensures { self.new ≡ seat_with (restarted self.old.process) self.old }
     {
         self.process.restart();
     }
 
     /// The process gives up waiting: its open read is dropped, and it begins to clear its ticket.
-    pub fn withdraw(&mut self, registers: &mut Registers)
-        requires waiting { stage_kept self.old.process.kept ≡ Waiting }
-        requires at { (d : Doing) × IsAt self.old.process d }
+    pub fn withdraw(&mut self, registers: &mut BitMemory)
+        requires waiting { stage_doing self.old.process.doing ≡ Waiting }
         requires registers { AreOf self.old.process.setup registers.old }
-        ensures seat { self.new ≡ record self.old { process = withdrawn self.old.process } }
-        ensures registers { DropsRead self.old.process registers.old registers.new }
+        ensures seat { self.new ≡ seat_with (withdrawn self.old.process) self.old }
+        ensures registers { registers.new ≡ dropped self.old.process registers.old }
     {
         self.process.withdraw(registers);
     }
 
     /// The process halts: its open read is dropped, and its memory unit takes over.
-    pub fn fail(&mut self, registers: &mut Registers)
-        requires may { may_fail self.old.process.kept ≡ true }
-        requires at { (d : Doing) × IsAt self.old.process d }
+    pub fn fail(&mut self, registers: &mut BitMemory)
+        requires may { may_fail self.old.process.doing ≡ true }
         requires registers { AreOf self.old.process.setup registers.old }
-        ensures seat { SeatHasFailed self.old self.new }
-        ensures registers { DropsRead self.old.process registers.old registers.new }
+        ensures seat { self.new ≡ seat_with (failed self.old.process) self.old }
+        ensures registers { registers.new ≡ dropped self.old.process registers.old }
     {
         self.process.fail(registers);
     }
 
     /// Makes the next access on the registers, of the process or of its memory unit; in `leads` is what it leads to.
     #[inline]
-    pub fn step(&mut self, registers: &mut Registers, flick: bool, leads: &mut StepTold) -> Access
-        requires goes { may_step self.old.process.kept ≡ true }
-        requires may { MayStep self.old.process registers.old flick }
-        ensures access { IsNextAnswered registers.old flick self.old.process result }
-        ensures seat { SeatGoesBy self.old flick (value_of result.how) self.new }
-        ensures marks { TellsMarks self.old.process flick (value_of result.how) leads.new }
-        ensures registers { registers.new ≡ made registers.old result }
+    pub fn step(&mut self, registers: &mut BitMemory, flick: bool, leads: &mut StepTold) -> Access
+        requires goes { may_step self.old.process.doing ≡ true }
+        requires registers { AreOf self.old.process.setup registers.old }
+        ensures access { result ≡ answered_at self.old.process registers.old flick }
+        ensures seat { self.new ≡ seat_stepped (stepped self.old.process flick (value_of result.how)) self.old }
+        ensures marks { marks_told leads.new ≡ marks_on self.old.process flick (value_of result.how) }
+        ensures registers { registers.new ≡ applied self.old.process.setup.processes registers.old result }
     {
         self.begun = self.begun || self.process.is_at_door();
         self.process.step(registers, flick, leads)
     }
 
-    /// Makes the next access, within a number access at the door or at the data.
+    /// Makes the next access, within a number access of a call.
     #[inline(always)]
-    pub fn step_within(&mut self, registers: &mut Registers, flick: bool, pace: Pace)
-        requires within { 0 < bits_to_walk self.old.process.kept }
-        requires may { MayStep self.old.process registers.old flick }
-        ensures seat { self.new ≡ seat_with self.new.process self.old }
-        ensures within { StepsWithin registers.old flick self.old.process
-            registers.new self.new.process }
+    pub fn step_within(&mut self, registers: &mut BitMemory, flick: bool)
+        requires within { 0 < left_at self.old.process }
+        requires registers { AreOf self.old.process.setup registers.old }
+        ensures seat { self.new ≡ seat_stepped (step_by flick (self.old.process, registers.old)).0 self.old }
+        ensures registers { registers.new ≡ (step_by flick (self.old.process, registers.old)).1 }
     {
-        if self.process.is_at_door() {
-            self.begun = true;
-        }
-        self.process.step_within(registers, flick, pace);
+        self.begun = self.begun || self.process.is_at_door();
+        self.process.step_within(registers, flick);
     }
 
-    /// Makes so many of the next accesses, one at least, within a number access at the door or at the data.
+    /// The same, with its access.
     #[inline(always)]
-    pub fn run_within(&mut self, registers: &mut Registers, flicks: &mut Flicks, steps: u32)
-        requires some { 0 < steps }
-        requires within { steps ≤ bits_to_walk self.old.process.kept }
-        requires may { MayRun self.old.process registers.old flicks.old steps }
-        ensures seat { self.new ≡ seat_with self.new.process self.old }
-        ensures within { RunsWithin registers.old flicks.old self.old.process steps
-            registers.new flicks.new self.new.process }
+    pub fn step_told(&mut self, registers: &mut BitMemory, flick: bool) -> Access
+        requires within { 0 < left_at self.old.process }
+        requires registers { AreOf self.old.process.setup registers.old }
+        ensures access { result ≡ answered_at self.old.process registers.old flick }
+        ensures seat { self.new ≡ seat_stepped (step_by flick (self.old.process, registers.old)).0 self.old }
+        ensures registers { registers.new ≡ (step_by flick (self.old.process, registers.old)).1 }
     {
-        if self.process.is_at_door() {
-            self.begun = true;
-        }
-        self.process.run_within(registers, flicks, steps);
+        self.begun = self.begun || self.process.is_at_door();
+        self.process.step_told(registers, flick)
+    }
+
+    /// Makes so many of the next accesses, one at least, within a number access of a call.
+    #[inline(always)]
+    pub fn run(&mut self, registers: &mut BitMemory, flicks: &mut Flicks, steps: u32)
+        requires within { steps ≤ left_at self.old.process }
+        requires registers { AreOf self.old.process.setup registers.old }
+        ensures seat { self.new ≡ seat_stepped (steps_of steps (self.old.process, registers.old, flicks.old)).0 self.old }
+        ensures registers { registers.new ≡ (steps_of steps (self.old.process, registers.old, flicks.old)).1 }
+        ensures flicks { flicks.new ≡ (steps_of steps (self.old.process, registers.old, flicks.old)).2 }
+    {
+        self.begun = self.begun || self.process.is_at_door();
+        self.process.run(registers, flicks, steps);
     }
 
     /// Becomes as the other, of the same setup. It takes no memory.

@@ -1,19 +1,10 @@
 //! What is asked of the seats of a world, and told to them.
 ghost use Rattle.std.specs.Prelude.{◌≡◌, ◌<◌, map};
 ghost use Rattle.std.specs.List.{list_any};
-ghost use Rattle.record.specs.Doorways.{is_waiting_stage, is_queued as queued};
+ghost use Rattle.laws.specs.Doings.{is_inside};
 ghost use Rattle.world.specs.Changes.{told, waiting_in, waits_in};
-ghost use Rattle.process.specs.Processes.{inside_kept, stage_kept};
 
 use crate::seat::Seat;
-use record::Stage;
-
-/// Whether a process waits.
-pub(crate) fn waits(seat: &Seat) -> bool
-    ensures { result ≡ is_waiting_stage (stage_kept seat.now.process.kept) }
-{
-    seat.process().is_waiting()
-}
 
 /// Whether there is such a process, and it waits.
 #[tactic(auto, using(crate::proofs::WorldTelling::waits_seat, crate::proofs::WorldTelling::waits_none))]
@@ -21,22 +12,15 @@ pub(crate) fn waits_at(seats: &[Seat], process: usize) -> bool
     ensures { result ≡ waits_in seats.now process }
 {
     if process < seats.len() {
-        waits(&seats[process])
+        seats[process].is_waiting()
     } else {
         false
     }
 }
 
-/// Whether a process is in its doorway or waits.
-pub(crate) fn is_queued(seat: &Seat) -> bool
-    ensures { result ≡ queued (stage_kept seat.now.process.kept) }
-{
-    matches!(seat.process().stage(), Stage::Doorway | Stage::Waiting)
-}
-
 /// Whether somebody is inside.
 pub(crate) fn is_occupied(seats: &[Seat]) -> bool
-    ensures { result ≡ list_any (λ seat. inside_kept seat.process.kept) seats.now }
+    ensures { result ≡ list_any (λ seat. is_inside seat.process.doing) seats.now }
 {
     seats.iter().any(|seat| seat.process().is_inside())
 }

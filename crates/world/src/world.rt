@@ -13,12 +13,12 @@ ghost use Rattle.world.specs.Events.{Adds, AddsEvent, AddsStep, EventKeepsHeadli
 ghost use Rattle.record.specs.Newest.{newest};
 ghost use Rattle.world.specs.Shows.{Shows};
 ghost use Rattle.process.specs.declared.told.Effect.TheVariants.{Steps};
-ghost use Rattle.world.specs.Walks.{HasOneFewerAtMost, KeepOthers, MakesQuietly, Walks, bits_within_at};
+ghost use Rattle.world.specs.Walks.{HasOneFewer, KeepOthers, MakesQuietly, StepsQuietly, Walks, left_in};
 
 use crate::cores::Core;
 use flicks::Flicks;
 use plain_store::{NestedTypes, Reply, Setup};
-use process::{Effect, EventMade, Image, Pace, StepTold};
+use process::{Effect, EventMade, Image, StepTold};
 use record::{Access, Act, Event, Refusal, Stage, Taken};
 use smallvec::SmallVec;
 use std::alloc::{AllocError, Global};
@@ -137,39 +137,49 @@ impl World {
         }
     }
 
-    /// Steps of a process while they are within a number access at the door or at the data, at most so many: each as
-    /// `step` makes it, by the flick that is next, and without a mark; of each the headline holds. It answers how many it
-    /// has made, and stops where the next access is of a last bit, clears a ticket or is of the memory unit, or where
-    /// there is no such process.
+    /// Steps of a process while they are within a number access of its call, at most so many: each as `step` makes it, by
+    /// the flick that is next, and without a mark; of each the headline holds. It answers how many it has made: none where
+    /// the next access is the last of a number access, or has a mark, or is of the memory unit, or where there is no such
+    /// process.
     #[inline(never)]
     pub fn run(&mut self, process: u8, flicks: &mut Flicks, most: u32) -> u32
         ensures most { result ≤ most }
         ensures runs { Walks self.old flicks.old process result self.new flicks.new }
-        ensures stops { result < most → bits_within_at self.new.seats process ≡ 0 }
+        ensures stops { result < most → left_in self.new.seats process ≡ 0 }
     {
         self.core.run(process, flicks, most)
     }
 
-    /// How many bits a process at the door or at the data has before the last one of its number access; 0, if it is
-    /// elsewhere, or there is no such process. So many of its next steps at least are within that access, whatever other
-    /// processes do.
+    /// How many of the next steps of a process are within a number access of its call, whatever other processes do: they
+    /// have no mark, and none is the last of the access. 0, if there is no such process.
     #[inline]
-    pub fn bits_within(&self, process: u8) -> u16
-        ensures { result ≡ bits_within_at self.now.seats process }
+    pub fn left(&self, process: u8) -> u32
+        ensures { result ≡ left_in self.now.seats process }
     {
-        self.core.bits_within(process)
+        self.core.left(process)
     }
 
     /// One step, by this flick, of a process that is within a number access as those of `run` are: as `step` makes it, and
-    /// without a mark; of it the headline holds. It answers its access.
+    /// without a mark; of it the headline holds.
     #[inline(always)]
-    pub fn make_step_within(&mut self, process: u8, flick: bool) -> Access
-        requires { 0 < bits_within_at self.old.seats process }
-        ensures quietly { MakesQuietly self.old process flick result self.new }
-        ensures fewer { HasOneFewerAtMost self.old.seats process self.new.seats }
+    pub fn make_step_within(&mut self, process: u8, flick: bool)
+        requires { 0 < left_in self.old.seats process }
+        ensures quietly { StepsQuietly self.old process flick self.new }
+        ensures fewer { HasOneFewer self.old.seats process self.new.seats }
         ensures others { KeepOthers self.old.seats process self.new.seats }
     {
-        self.core.make_step_told(process, flick, Pace::Single)
+        self.core.make_step_within(process, flick);
+    }
+
+    /// The same, for who hears each step: it answers its access, which takes as long again.
+    #[inline(always)]
+    pub fn make_step_told(&mut self, process: u8, flick: bool) -> Access
+        requires { 0 < left_in self.old.seats process }
+        ensures quietly { MakesQuietly self.old process flick result self.new }
+        ensures fewer { HasOneFewer self.old.seats process self.new.seats }
+        ensures others { KeepOthers self.old.seats process self.new.seats }
+    {
+        self.core.make_step_told(process, flick)
     }
 
     /// There are events whose record the world shows. Nothing to do: it hands over what every other clause takes for

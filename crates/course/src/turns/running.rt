@@ -7,7 +7,7 @@ ghost use Rattle.record.specs.Stages.{stage};
 ghost use Rattle.record.specs.declared.Event.TheVariants.{Step};
 ghost use Rattle.scenario.specs.declared.lines.Line.{Line as LineSeen};
 ghost use Rattle.scenario.specs.declared.lines.Line.TheVariants.{Go as GoLine, Wander as WanderLine};
-ghost use Rattle.world.specs.Walks.{KeepOthers, bits_within_at};
+ghost use Rattle.world.specs.Walks.{KeepOthers, left_in};
 ghost use Rattle.world.specs.process.declared.told.StepTold.TheVariants.{Nothing};
 ghost use Rattle.course.specs.Courses.{Follows, course};
 ghost use Rattle.course.specs.Happenings.{Happening, Tries};
@@ -46,20 +46,20 @@ impl Course {
         ensures cut { IfErr result
             (StopsAlone L.Stops self.old process floor listener.old listener.new) }
     {
-        let mut bits = 0;
+        let mut quiet = 0;
         'steps: while floor < self.left {
             pass_by(
                 &mut self.world,
                 &mut self.flicks,
                 &mut self.left,
-                &mut bits,
+                &mut quiet,
                 process,
                 floor,
                 listener,
             );
             self.left -= 1;
             let flick = self.flicks.flick();
-            if let Some(told) = step(&mut self.world, &mut bits, process, flick, listener)? {
+            if let Some(told) = step(&mut self.world, &mut quiet, process, flick, listener)? {
                 self.left = left_after(&told, self.left);
                 return Ok(Some(told));
             }
@@ -105,8 +105,8 @@ impl Course {
 
     /// Turns of `wander`: Steps of picked ones, if there is one to pick. Whose Step comes next is drawn before this one is
     /// made: nobody can foretell where in its access a picked process is, and so a processor that has foretold it wrongly
-    /// begins with what comes after anew, but not with that draw. For the same reason a process is asked once how many bits
-    /// it has before the last one of its number access, and these are counted down: most Steps ask nothing.
+    /// begins with what comes after anew, but not with that draw. For the same reason a process is asked once how many
+    /// of its next Steps are within its number access, and these are counted down: most Steps ask nothing.
     pub(super) fn run_random<L: Listener>(
         &mut self,
         listener: &mut L,
@@ -129,7 +129,7 @@ impl Course {
             return Ok(None);
         }
         let movers = movers.as_slice();
-        let mut within = [0_u16; 256];
+        let mut within = [0_u32; 256];
         let mut ahead = self.flicks.twin();
         let mut next = drawn(&mut ahead, movers);
         'steps: while 0 < self.left {
@@ -138,9 +138,9 @@ impl Course {
             self.flicks.copy_from(&ahead);
             next = drawn(&mut ahead, movers);
             let at = usize::from(process);
-            let mut bits = within[at];
-            let told = step(&mut self.world, &mut bits, process, flick, listener)?;
-            within[at] = bits;
+            let mut quiet = within[at];
+            let told = step(&mut self.world, &mut quiet, process, flick, listener)?;
+            within[at] = quiet;
             if let Some(told) = told {
                 return Ok(Some(told));
             }
@@ -181,15 +181,15 @@ fn pass_by<L: Listener>(
     world: &mut World,
     flicks: &mut Flicks,
     left: &mut u32,
-    bits: &mut u16,
+    quiet: &mut u32,
     process: u8,
     floor: u32,
     listener: &mut L,
 )
     requires floor { floor < left.old }
     requires room { L.HasRoom listener.old left.old }
-    requires within { bits.old ≤ bits_within_at world.old.seats process }
-    ensures within { bits.new ≤ bits_within_at world.new.seats process }
+    requires within { quiet.old ≤ left_in world.old.seats process }
+    ensures within { quiet.new ≤ left_in world.new.seats process }
     ensures fewer { left.new ≤ left.old }
     ensures above { floor < left.new }
     ensures setup { world.new.setup ≡ world.old.setup }
@@ -202,7 +202,7 @@ fn pass_by<L: Listener>(
     }
     let made = world.run(process, flicks, *left - floor - 1);
     *left -= made;
-    *bits = 0;
+    *quiet = 0;
     listener.pass(made);
 }
 
@@ -218,19 +218,19 @@ fn drawn(flicks: &mut Flicks, movers: &[u8]) -> (u8, bool)
     (process, flicks.flick())
 }
 
-/// A Step by this flick: it is heard or passed by, if it has no mark, and else it is told. `bits`: so many bits at least the
-/// process has before the last one of its number access, of which the Step takes one.
+/// A Step by this flick: it is heard or passed by, if it has no mark, and else it is told. `quiet`: so many of the process's
+/// next Steps, at least, are within its number access, of which this Step is one.
 #[inline(always)]
 fn step<L: Listener>(
     world: &mut World,
-    bits: &mut u16,
+    quiet: &mut u32,
     process: u8,
     flick: bool,
     listener: &mut L,
 ) -> Result<Option<Told>, Fault>
     requires room { L.HasRoom listener.old 1 }
-    requires within { bits.old ≤ bits_within_at world.old.seats process }
-    ensures within { bits.new ≤ bits_within_at world.new.seats process }
+    requires within { quiet.old ≤ left_in world.old.seats process }
+    ensures within { quiet.new ≤ left_in world.new.seats process }
     ensures ok { IfOk result (λ told.
         MakesStep L.Hears world.old process flick told world.new listener.old listener.new) }
     ensures room { IfOk result (LeavesRoom L.HasRoom listener.old 1 listener.new 0) }
@@ -239,50 +239,36 @@ fn step<L: Listener>(
     ensures setup { world.new.setup ≡ world.old.setup }
     ensures others { KeepOthers world.old.seats process world.new.seats }
 {
-    let known = bits_known(world, *bits, process);
+    let known = quiet_known(world, *quiet, process);
     if known == 0 {
-        *bits = 0;
+        *quiet = 0;
         return any_step(world, process, flick, listener);
     }
-    *bits = known - 1;
-    let access = world.make_step_within(process, flick);
-    unmarked_step(
-        Stepped {
+    *quiet = known - 1;
+    if listener.hears_steps() {
+        let access = world.make_step_told(process, flick);
+        listener.step(Stepped {
             process,
             flick,
             access,
-        },
-        listener,
-    )?;
+        })?;
+        return Ok(None);
+    }
+    world.make_step_within(process, flick);
+    listener.pass(1);
     Ok(None)
 }
 
-/// So many bits at least a process has before the last one of its number access: the world is asked, if none is known.
+/// So many of a process's next Steps, at least, are within its number access: the world is asked, if none is known.
 #[inline(always)]
-fn bits_known(world: &World, known: u16, process: u8) -> u16
-    requires { known ≤ bits_within_at world.now.seats process }
-    ensures { result ≤ bits_within_at world.now.seats process }
+fn quiet_known(world: &World, known: u32, process: u8) -> u32
+    requires { known ≤ left_in world.now.seats process }
+    ensures { result ≤ left_in world.now.seats process }
 {
     if known == 0 {
-        return world.bits_within(process);
+        return world.left(process);
     }
     known
-}
-
-/// A Step without a mark is heard, or passed by.
-#[inline(always)]
-fn unmarked_step<L: Listener>(made: Stepped, listener: &mut L) -> Result<(), Fault>
-    requires room { L.HasRoom listener.old 1 }
-    ensures ok { OnOk result (HearsUnmarked L.Hears made listener.old listener.new) }
-    ensures room { OnOk result (TakesRoom L.HasRoom listener.old 1 listener.new) }
-    ensures cut { IfErr result (λ fault.
-        HearsUnmarked (StopsBy L.Stops fault) made listener.old listener.new) }
-{
-    if listener.hears_steps() {
-        return listener.step(made);
-    }
-    listener.pass(1);
-    Ok(())
 }
 
 /// A Step by this flick, wherever its process is: it is heard, if it has no mark, and else it is told.

@@ -1,7 +1,7 @@
 //! Why an event is refused, by its process alone.
 ghost use Rattle.std.specs.Prelude.{◌≡◌, ◌<◌, IfSome};
 ghost use Rattle.record.specs.Records.{refused_at};
-ghost use Rattle.process.specs.Refusals.{WantsNoMemory, is_full, next_number, refusal_of};
+ghost use Rattle.process.specs.Places.{WantsNoMemory, is_full, next_number, refusal_of};
 
 use super::Process;
 use plain_store::Setup;
@@ -17,7 +17,7 @@ impl Process {
         if let Some(refusal) = refusal_at(event, self.stage()) {
             return Some(refusal);
         }
-        if is_full(event, &self.setup, self.number) {
+        if is_full(event, &self.called.setup(), self.called.number()) {
             return Some(Refusal::CallsFull);
         }
         None
@@ -28,8 +28,8 @@ impl Process {
         requires { self.now.setup.version ≡ 2 → self.now.number < 65535 }
         ensures { result ≡ next_number self.now.setup self.now.number }
     {
-        if self.setup.version == 2 {
-            self.number + 1
+        if self.called.setup().version == 2 {
+            self.called.number() + 1
         } else {
             0
         }

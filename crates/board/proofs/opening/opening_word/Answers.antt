@@ -1,4 +1,4 @@
-use Rattle.std.proofs.Common.{◌≡◌, ◌<◌, ◌≤◌, false, sym, ap, ◌∙◌, subst, arith}
+use Rattle.std.proofs.Common.{◌≡◌, ◌<◌, ◌≤◌, false, sym, ap, ◌∙◌, subst}
 use Rattle.std.specs.Prelude.{slice_index_or}
 use Rattle.record.specs.safe_number.Bytes.{bit_in}
 use Rattle.record.specs.declared.access.Field.TheVariants.{Image0}
@@ -6,7 +6,7 @@ use Rattle.record.proofs.safe_number.Numbers.{get-bits}
 use Rattle.plain_store.specs.Setups.{opening_store}
 use Rattle.store_image.specs.Image.{image_of}
 use Rattle.record.specs.Registers.{opening_bit, opening_bits, width}
-use Rattle.process.proofs.section.Widths.{ranges}
+use Rattle.board.proofs.Seats.{some_processes}
 use Rattle.board.specs.Words.{bit_of, closed_word}
 use Rattle.board.proofs.WordNumbers.{bit_there, byte_word, opens_late, opens_low}
 use Rattle.board.proofs.opening.opening_word.Goals as goal
@@ -19,7 +19,7 @@ returns-in-Image0 c =
     let is = c.bit_of-access.ensures.bit in
     let field : a.field ≡ Image0 = ap (λ (x : Rattle.record.specs.declared.access.Access.Access). x.field) (sym is) ∙ c.in-Image0.is in
     let owner : a.owner ≡ 0 = ap (λ (x : Rattle.record.specs.declared.access.Access.Access). x.owner) (sym is) ∙ c.if-access-ne0.false in
-    let there = bit_there s c.args.word (let r = (ranges s c.requires.good).some_processes in omega arith) c.requires.word in
+    let there = bit_there s c.args.word (some_processes s c.requires.good) c.requires.word in
     c.from.ensures ∙ byte_word c.bit_in.result
     ∙ ap closed_word (c.bit_in.ensures ∙ (λ i. bit_in (c.requires.image i) (is i).bit) ∙ sym (get-bits image (width s Image0) a.bit (subst (λ f. a.bit < width s f) field there.bit)) ∙ (λ i. slice_index_or (opening_bits s (sym owner i) (sym field i)) a.bit false))
 
@@ -30,4 +30,4 @@ returns-in_default c =
 
 pub returns-then-own-word : goal.returns-then-own-word
 returns-then-own-word c = let s = c.args.setup.now in
-    sym (opens_late s c.args.word (let r = (ranges s c.requires.good).some_processes in omega arith) c.requires.word (subst (λ k. k ≤ c.args.word) c.requires.own c.if-own-word.true))
+    sym (opens_late s c.args.word (some_processes s c.requires.good) c.requires.word (subst (λ k. k ≤ c.args.word) c.requires.own c.if-own-word.true))

@@ -1,31 +1,25 @@
 use Rattle.std.proofs.Common.{◌≡◌, inl, subst, sym}
+use Rattle.process.specs.Places.{marks_on, stepped}
+use Rattle.process.specs.Telling.{marks_told}
 use Rattle.board.specs.Listing.{Lists}
 use Rattle.board.specs.Ports.{with_pending}
 use Rattle.board.specs.WordSteps.{LeadsTo}
-use Rattle.board.proofs.Listings.{Tells, lists_loaded}
-use Rattle.board.proofs.Ties.{GoneOn, begun_at, is_at, leads_loaded, may_load, tied_loaded}
+use Rattle.board.proofs.Listings.{lists_loaded}
+use Rattle.board.proofs.Ties.{begins, leads_loaded, may_load, tied_loaded}
 use Rattle.board.proofs.steps.read.Goals as goal
 
 pub load-found-requires-clause-keeps : goal.load-found-requires-clause-keeps
 load-found-requires-clause-keeps c = let t = c.requires.tied in let n = c.requires.next in
     may_load c.args.words.now.key _ _ _ c.args.flick t.0 c.args.seat.now.me c.args.pending c.args.process.now n.0 t.1 n.1 n.2
 
-pub advance-begun-requires-clause-at : goal.advance-begun-requires-clause-at
-advance-begun-requires-clause-at c = let t = c.requires.tied in
-    ((with_pending c.args.words.now.key c.args.pending c.args.seat.now.me.0).own.doing, is_at c.args.words.now.key c.args.pending c.args.process.now t.0 c.args.seat.now.me.0 t.1)
-
-pub advance-requires-clause-goes : goal.advance-requires-clause-goes
-advance-requires-clause-goes c = let t = c.requires.tied in let n = c.requires.next in
-    (begun_at c.args.words.now.key c.args.pending c.args.process.now c.advance-begun.new.self t.0 c.args.flick c.args.word c.load-found.result n.0 c.args.seat.now.me.0 c.load-found.new.seat.me.0 t.1 n.1 n.2 c.load-found.ensures.told c.advance-begun.ensures.process).0
-
-pub advance-requires-clause-at : goal.advance-requires-clause-at
-advance-requires-clause-at c = let t = c.requires.tied in let n = c.requires.next in
-    (c.load-found.ensures.told.begun.doing, (begun_at c.args.words.now.key c.args.pending c.args.process.now c.advance-begun.new.self t.0 c.args.flick c.args.word c.load-found.result n.0 c.args.seat.now.me.0 c.load-found.new.seat.me.0 t.1 n.1 n.2 c.load-found.ensures.told c.advance-begun.ensures.process).1)
+pub advance-requires : goal.advance-requires
+advance-requires c = let t = c.requires.tied in let n = c.requires.next in
+    record { goes = (begins c.args.words.now.key c.args.pending c.args.process.now c.advance-begun.new.self t.0 c.args.flick c.args.word c.load-found.result n.0 c.args.seat.now.me.0 c.load-found.new.seat.me.0 t.1 n.1 n.2 c.load-found.ensures.told c.advance-begun.ensures.process).goes }
 
 pub returns-clause-tied : goal.returns-clause-tied
 returns-clause-tied c = λ value t. let n = c.requires.next in
     tied_loaded c.args.words.now.key c.args.pending c.args.process.now c.advance-begun.new.self c.advance.new.self value c.args.flick c.args.word c.load-found.result n.0 c.args.seat.now.me.0 c.load-found.new.seat.me.0 t n.1 n.2 c.load-found.ensures.told c.advance-begun.ensures.process
-    (subst (GoneOn c.advance-begun.new.self c.advance.new.self c.args.flick) c.loaded.ensures c.advance.ensures.process)
+    (subst (λ x. c.advance.new.self ≡ stepped c.advance-begun.new.self c.args.flick x) c.loaded.ensures c.advance.ensures.process)
 
 pub returns-clause-step : goal.returns-clause-step
 returns-clause-step c = inl (c.load-found.result, c.load-found.ensures.told)
@@ -34,10 +28,10 @@ pub returns-clause-leads : goal.returns-clause-leads
 returns-clause-leads c = let t = c.requires.tied in let n = c.requires.next in
     subst (λ told. LeadsTo c.args.words.now.key told (with_pending c.args.words.now.key c.args.pending c.args.seat.now.me.0).own c.load-found.new.seat.me.0.own) (sym c.briefly.ensures)
     (leads_loaded c.args.words.now.key c.args.pending c.args.process.now c.advance-begun.new.self t.0 c.args.flick c.args.word c.load-found.result n.0 c.args.seat.now.me.0 c.load-found.new.seat.me.0 c.advance.result t.1 n.1 n.2 c.load-found.ensures.told c.advance-begun.ensures.process
-    (subst (λ x. (d : Rattle.process.specs.laws.Doings.Doing) → Rattle.process.specs.Steps.IsAt c.advance-begun.new.self d → Rattle.process.specs.Telling.marks_told c.advance.result ≡ Rattle.process.specs.laws.Steps.marks_with c.advance-begun.new.self.setup c.advance-begun.new.self.process d c.args.flick x) c.loaded.ensures c.advance.ensures.marks))
+    (subst (λ x. marks_told c.advance.result ≡ marks_on c.advance-begun.new.self c.args.flick x) c.loaded.ensures c.advance.ensures.marks))
 
 pub returns-clause-lists : goal.returns-clause-lists
 returns-clause-lists c = λ stamp known. let t = c.requires.tied in let n = c.requires.next in
     subst (λ told. Lists stamp told (with_pending c.args.words.now.key c.args.pending c.args.seat.now.me.0) c.load-found.new.seat.me.0) (sym c.briefly.ensures)
     (lists_loaded c.args.words.now.key c.args.pending c.args.process.now c.advance-begun.new.self t.0 c.args.flick c.args.word c.load-found.result n.0 c.args.seat.now.me.0 c.load-found.new.seat.me.0 c.advance.result stamp t.1 n.1 n.2 c.load-found.ensures.told c.advance-begun.ensures.process
-    (subst (Tells c.advance.result c.advance-begun.new.self c.args.flick) c.loaded.ensures c.advance.ensures.marks) c.advance.ensures.changes known)
+    (subst (λ x. marks_told c.advance.result ≡ marks_on c.advance-begun.new.self c.args.flick x) c.loaded.ensures c.advance.ensures.marks) c.advance.ensures.changes known)

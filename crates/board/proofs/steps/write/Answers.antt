@@ -3,16 +3,12 @@ use Rattle.board.specs.Listing.{Lists}
 use Rattle.board.specs.Ports.{with_pending}
 use Rattle.board.specs.WordSteps.{LeadsTo, value_after}
 use Rattle.board.proofs.Listings.{lists_stored}
-use Rattle.board.proofs.Ties.{is_at, leads_stored, may_store, tied_stored}
+use Rattle.board.proofs.Ties.{leads_stored, may_store, tied_stored}
 use Rattle.board.proofs.steps.write.Goals as goal
 
 pub store-requires-clause-keeps : goal.store-requires-clause-keeps
 store-requires-clause-keeps c = let n = c.requires.next in
     may_store c.args.words.now.key _ _ _ _ c.args.flick n.0 c.args.seat.now.me c.args.pending c.args.process.now n.1.0 n.1.1 n.1.2 n.1.3 n.1.4
-
-pub advance-requires-clause-at : goal.advance-requires-clause-at
-advance-requires-clause-at c = let n = c.requires.next in
-    ((with_pending c.args.words.now.key c.args.pending c.args.seat.now.me.0).own.doing, is_at c.args.words.now.key c.args.pending c.args.process.now n.0 c.args.seat.now.me.0 n.1.1)
 
 pub returns-clause-tied : goal.returns-clause-tied
 returns-clause-tied c = λ value word access t next writes.

@@ -1,8 +1,8 @@
-use Rattle.std.proofs.Common.{◌≡◌, ◌≤◌, ℕ, length, refl, rules, ap, subst, ◌∙◌, arith}
-use Rattle.process.proofs.section.Widths.{ranges}
+use Rattle.std.proofs.Common.{◌≡◌, ℕ, length, refl, rules, ap, subst, ◌∙◌, arith}
 use Rattle.board.specs.Boards.{BoardState}
 use Rattle.board.specs.Closings.{AreOfAll, AreQuiet}
 use Rattle.board.proofs.Orders.{all_later, are_lists, first_leaves, first_ports, quiet_later}
+use Rattle.board.proofs.Seats.{some_processes}
 use Rattle.board.proofs.board.Board.close.Goals as goal
 
 pub put_in_order-requires : goal.put_in_order-requires
@@ -15,7 +15,7 @@ close_in_order-requires-clause-ports c =
 
 pub close_in_order-requires-clause-some : goal.close_in_order-requires-clause-some
 close_in_order-requires-clause-some c =
-    let many : 1 ≤ c.self.inside.setup.processes = (ranges c.self.inside.setup c.self.invariant.good).some_processes in
+    let many = some_processes c.self.inside.setup c.self.invariant.good in
     let every : length c.put_in_order.new.ports.items ≡ c.self.inside.setup.processes = all_later c.self.inside.setup.processes c.args.ports.items c.put_in_order.new.ports.items (c.are_of_all.ensures.0 (search rules)) c.put_in_order.ensures.moved in
     omega (arith, many, every)
 

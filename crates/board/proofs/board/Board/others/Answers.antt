@@ -1,5 +1,5 @@
 use Rattle.std.proofs.Common.{◌≡◌, ◌+◌, ℕ, suc, List, [], length, vec_len, sym, ap, ◌∙◌, subst, arith}
-use Rattle.process.specs.Processes.{ProcessState}
+use Rattle.process.specs.Places.{ProcessState}
 use Rattle.board.specs.Boards.{AreOthersIdle, BoardState, IsOf}
 use Rattle.board.specs.Closings.{AreMadeWith}
 use Rattle.board.specs.Ports.{PortState}
@@ -7,12 +7,12 @@ use Rattle.board.specs.Views.{ViewState, new_own, new_view, with_made}
 use Rattle.board.proofs.PortLists.{all_push}
 use Rattle.board.proofs.board.Board.others.Goals as goal
 
-pub new-requires-in-loop-number-clause-seat : goal.new-requires-in-loop-number-clause-seat
-new-requires-in-loop-number-clause-seat c = let i = c.loop-number.invariant in
-    (0, c.newcomer-seat.ensures.seat.1 ∙ ap (λ p. let m : ViewState × List (ℕ × Unit {0}) = (new_view p 0, []) in m) (ap (λ m. m.0.made) i.first ∙ sym (ap (λ (q : ProcessState). q.process) c.in_ok-process.ensures)))
+pub new-requires-clause-seat : goal.new-requires-clause-seat
+new-requires-clause-seat c = let i = c.loop-number.invariant in
+    (0, c.newcomer-seat.ensures.seat.1 ∙ ap (λ p. let m : ViewState × List (ℕ × Unit {0}) = (new_view p 0, []) in m) (ap (λ m. m.0.made) i.first ∙ sym (ap (λ (q : ProcessState). q.process) c.new-process.ensures)))
 
 pub loop-number-preserved : goal.loop-number-preserved
-loop-number-preserved c = let i = c.loop-number.invariant in let h = c.push_reserved.ensures in let q = c.new-in-loop-number in let n : vec_len c.loop-number.ports + 1 ≡ c.loop-number.number = i.len in
+loop-number-preserved c = let i = c.loop-number.invariant in let h = c.push_reserved.ensures in let q = c.new in let n : vec_len c.loop-number.ports + 1 ≡ c.loop-number.number = i.len in
     record {
       board = c.newcomer-seat.ensures.first.0;
       first = c.newcomer-seat.ensures.first.1 ∙ ap (λ m. let made : ViewState × List (ℕ × Unit {0}) = (with_made m.0, []) in made) i.first;
@@ -20,7 +20,7 @@ loop-number-preserved c = let i = c.loop-number.invariant in let h = c.push_rese
       room = h.capacity ∙ i.room;
       made_with = subst (AreMadeWith c.args.self.now) (sym h.items)
           (all_push (λ _ port. IsOf c.args.self.now port) c.loop-number.ports.items q.result i.made_with
-          (ap (λ (p : PortState). p.table_id) q.ensures ∙ c.newcomer-seat.ensures.seat.0, ap (λ (p : PortState). p.setup) q.ensures ∙ ap (λ (r : ProcessState). r.setup) c.in_ok-process.ensures ∙ ap (λ (b : BoardState). b.setup) c.self.view_is));
+          (ap (λ (p : PortState). p.table_id) q.ensures ∙ c.newcomer-seat.ensures.seat.0, ap (λ (p : PortState). p.setup) q.ensures ∙ ap (λ (r : ProcessState). r.setup) c.new-process.ensures ∙ ap (λ (b : BoardState). b.setup) c.self.view_is));
       idle = subst AreOthersIdle (sym h.items)
           (all_push (λ k (port : PortState). port.view.own ≡ new_own (suc k)) c.loop-number.ports.items q.result i.idle
           (ap (λ (p : PortState). p.view.own) q.ensures ∙ ap (λ m. m.0.own) c.newcomer-seat.ensures.seat.1

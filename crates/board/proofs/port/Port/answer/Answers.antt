@@ -1,5 +1,5 @@
 use Rattle.std.proofs.Common.{ap, sym, ◌∙◌}
-use Rattle.process.specs.Refusals.{refusal_of}
+use Rattle.process.specs.Places.{refusal_of}
 use Rattle.board.specs.Ports.{PortState}
 use Rattle.board.specs.Views.{refusal_in}
 use Rattle.board.proofs.Pendings.{answers_no}

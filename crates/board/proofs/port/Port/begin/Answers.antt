@@ -3,7 +3,7 @@ use Rattle.std.specs.Result.{is_err}
 use Rattle.plain_store.specs.declared.Setup.{Setup}
 use Rattle.record.specs.declared.Event.TheVariants.{Call}
 use Rattle.record.specs.declared.Mark.TheVariants.{Called}
-use Rattle.process.specs.Processes.{ProcessState}
+use Rattle.process.specs.Places.{ProcessState}
 use Rattle.board.specs.Calls.{Calls, calls_after}
 use Rattle.board.specs.Listing.{KnowsPlace}
 use Rattle.board.specs.Lists.{StandsInSeen}

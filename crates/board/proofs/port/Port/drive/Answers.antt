@@ -1,5 +1,5 @@
 use Rattle.std.proofs.Common.{◌≡◌, ◌+◌, ◌∙◌, suc, refl, sym, subst, true, arith}
-use Rattle.process.specs.Processes.{kept_at}
+use Rattle.board.specs.Views.{stage_in}
 use Rattle.board.specs.WordSteps.{LeadsTo, goes}
 use Rattle.board.proofs.Drives.{IsDriven, drives_down, drives_to_answer, driven_on, goes_unless, same_on}
 use Rattle.board.proofs.port.Port.drive.Goals as goal
@@ -11,7 +11,7 @@ loop-made-init c = let port = c.args.self.now in record {
     same = (refl, refl, refl, refl);
     walks = refl;
     taken = refl;
-    goes = goes_unless (kept_at port.setup port.view.own.process port.view.own.doing) (λ h. c.in_default.not-Idle (c.stage.ensures ∙ h)) (λ h. c.in_default.not-Down (c.stage.ensures ∙ h));
+    goes = goes_unless (stage_in port.setup port.view.own) (λ h. c.in_default.not-Idle (c.stage.ensures ∙ h)) (λ h. c.in_default.not-Down (c.stage.ensures ∙ h));
   };
 }
 

@@ -1,5 +1,5 @@
 use Rattle.std.proofs.Common.{ap, ◌∙◌}
-use Rattle.process.specs.Processes.{ProcessState}
+use Rattle.process.specs.Places.{ProcessState}
 use Rattle.board.specs.Ports.{PortState}
 use Rattle.board.proofs.port.Port.process.Goals as goal
 

@@ -19,7 +19,7 @@ steps-init g c =
       kept = record { are = c.self.invariant.are; few = c.self.invariant.few };
       left = omega (arith, left);
       floor = omega (arith, left, c.requires.floor);
-      bits = omega arith;
+      quiet = omega arith;
       room = λ more room. g.met.L.Listener.room_less c.args.listener.now (more + i.left) (more + c.args.self.now.left) (omega (arith, left)) room;
     }
 
@@ -56,7 +56,7 @@ steps-preserved g c =
       kept = record { are = c.steps.invariant.kept.are ∙ ap (λ s. s.processes) (sym setup); few = c.steps.invariant.kept.few };
       left = omega (arith, c.pass_by.ensures.fewer, c.steps.invariant.left);
       floor = omega (arith, c.pass_by.ensures.above);
-      bits = c.step.ensures.within;
+      quiet = c.step.ensures.within;
       room = λ more room.
           let wants = rw c.in_default.is at c.in_ok-told.ensures.room in
           laws.room_less c.step.new.listener (more + (left - 1)) (more + (left - 1) + 0) (omega arith) (wants (more + (left - 1)) (laws.room_less c.pass_by.new.listener (more + (left - 1) + 1) (more + left) (omega (arith, c.pass_by.ensures.above)) (c.pass_by.ensures.room more (c.steps.invariant.room more room))));

@@ -1,6 +1,6 @@
 use Rattle.std.proofs.Common.{◌-◌, ◌+◌, ◌≤◌, ℕ}
 use Rattle.scenario.specs.declared.lines.Line.{Line}
-use Rattle.world.specs.Walks.{bits_within_at}
+use Rattle.world.specs.Walks.{left_in}
 use Rattle.course.specs.Courses.{Follows, KeepsCourse, course}
 use Rattle.course.specs.Listening.{ComesOn}
 use Rattle.course.specs.Runs.{Run}
@@ -15,7 +15,7 @@ invariant-steps g l = record {
   kept : KeepsCourse l.self-inside.processes l.self-inside.world;
   left : l.self-inside.left ≤ l.fn.self.left;
   floor : l.floor ≤ l.self-inside.left;
-  bits : l.bits ≤ bits_within_at l.self-inside.world.seats l.process;
+  quiet : l.quiet ≤ left_in l.self-inside.world.seats l.process;
   room : (more : ℕ) → g.L.Listener.HasRoom l.fn.listener (more + l.fn.self.left) → g.L.Listener.HasRoom l.listener (more + l.self-inside.left);
 }
 

@@ -69,7 +69,7 @@ steps-preserved g c =
       process = c.drawn-next-in-steps.ensures.process ∙ ap (λ (f : FlickState). slice_index ps (pick_of (length ps) f)) same;
       flick = c.drawn-next-in-steps.ensures.flick ∙ ap (λ (f : FlickState). flick_of (after_pick f)) same;
       ahead = c.drawn-next-in-steps.ensures.after ∙ ap (λ (f : FlickState). after_flick (after_pick f)) same;
-      counted = subst (λ at. IsCounted (set c.steps.within at c.step.new.bits) c.step.new.world.seats) (sym c.from-at.ensures) (counted_put c.steps.within c.steps.next.0 c.step.new.bits i.world.seats c.step.new.world.seats c.steps.invariant.counted c.step.ensures.within c.step.ensures.others);
+      counted = subst (λ at. IsCounted (set c.steps.within at c.step.new.quiet) c.step.new.world.seats) (sym c.from-at.ensures) (counted_put c.steps.within c.steps.next.0 c.step.new.quiet i.world.seats c.step.new.world.seats c.steps.invariant.counted c.step.ensures.within c.step.ensures.others);
       room = λ more room.
           let wants = rw c.in_default.is at c.in_ok-told.ensures.room in
           laws.room_less c.step.new.listener (more + (i.left - 1)) (more + (i.left - 1) + 0) (omega arith) (wants (more + (i.left - 1)) (laws.room_less c.steps.listener (more + (i.left - 1) + 1) (more + i.left) (omega (arith, c.steps-test.true)) (c.steps.invariant.room more room)));

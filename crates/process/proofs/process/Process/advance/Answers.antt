@@ -1,54 +1,33 @@
--- A process goes on by an access, by its cursor.
-use Rattle.std.proofs.Common.{sym, ap}
-use Rattle.process.specs.Keeping.{is_at_data, is_clearing, is_unit_freeing, is_unit_settling, is_withdrawing}
-use Rattle.process.specs.Steps.{is_at_door}
-use Rattle.process.proofs.Turns.{kept-is}
+use Rattle.process.specs.declared.work.ProcessWork.TheVariants as work
+use Rattle.process.proofs.NextAt.{then-marks, then-stepped}
 use Rattle.process.proofs.process.Process.advance.Goals as goal
 
-pub advance_door-requires-clause-at_door : goal.advance_door-requires-clause-at_door
-advance_door-requires-clause-at_door c =
-    let f = c.self.inside in
-    sym (ap is_at_door (kept-is f.setup f.process f.command f.number f.work f.door f.section c.args.self.now c.self.view_is _ c.in-AtDoor.is))
+pub returns-in-Runs-clause-process : goal.returns-in-Runs-clause-process
+returns-in-Runs-clause-process c = then-stepped work.Runs c.args.flick c.args.value c.self.invariant c.self.view_is c.in-Runs.is c.given.ensures c.next-how.ensures c.advance.ensures c.is_fresh-fresh.ensures c.run_on.ensures.doing
 
-pub returns-in-AtDoor : goal.returns-in-AtDoor
-returns-in-AtDoor c = record { process = c.advance_door.ensures.process c.args.flick; marks = c.advance_door.ensures.marks c.args.flick; changes = λ d is. rw c.advance_door.ensures.changes tt }
+pub returns-in-Runs-clause-marks : goal.returns-in-Runs-clause-marks
+returns-in-Runs-clause-marks c = then-marks work.Runs c.args.flick c.args.value c.self.invariant c.self.view_is c.in-Runs.is c.given.ensures c.next-how.ensures c.advance.ensures c.is_fresh-fresh.ensures c.run_on.ensures.marks
 
-pub advance_at_data-requires-clause-at_data : goal.advance_at_data-requires-clause-at_data
-advance_at_data-requires-clause-at_data c =
-    let f = c.self.inside in
-    sym (ap is_at_data (kept-is f.setup f.process f.command f.number f.work f.door f.section c.args.self.now c.self.view_is _ c.in-AtData.is))
+pub returns-in-Withdraws-clause-process : goal.returns-in-Withdraws-clause-process
+returns-in-Withdraws-clause-process c = then-stepped work.Withdraws c.args.flick c.args.value c.self.invariant c.self.view_is c.in-Withdraws.is c.given.ensures c.next-how.ensures c.advance.ensures c.is_fresh-fresh.ensures (c.withdraw_on.ensures.doing c.is_fresh-fresh.result)
 
-pub returns-in-AtData : goal.returns-in-AtData
-returns-in-AtData c = record { process = c.advance_at_data.ensures.process c.args.flick; marks = c.advance_at_data.ensures.marks c.args.flick; changes = c.advance_at_data.ensures.changes }
+pub returns-in-Withdraws-clause-marks : goal.returns-in-Withdraws-clause-marks
+returns-in-Withdraws-clause-marks c = then-marks work.Withdraws c.args.flick c.args.value c.self.invariant c.self.view_is c.in-Withdraws.is c.given.ensures c.next-how.ensures c.advance.ensures c.is_fresh-fresh.ensures (c.withdraw_on.ensures.marks c.is_fresh-fresh.result)
 
-pub advance_leaves-requires-clause-clears : goal.advance_leaves-requires-clause-clears
-advance_leaves-requires-clause-clears c =
-    let f = c.self.inside in
-    sym (ap is_clearing (kept-is f.setup f.process f.command f.number f.work f.door f.section c.args.self.now c.self.view_is _ c.in-Leaves.is))
+pub returns-in-Settles-clause-process : goal.returns-in-Settles-clause-process
+returns-in-Settles-clause-process c = then-stepped (work.Settles c.in-Settles.inside c.in-Settles.taken) c.args.flick c.args.value c.self.invariant c.self.view_is c.in-Settles.is c.given.ensures c.next-how.ensures c.advance.ensures c.is_fresh-fresh.ensures (c.settle_on.ensures.doing c.is_fresh-fresh.result)
 
-pub returns-in-Leaves : goal.returns-in-Leaves
-returns-in-Leaves c = record { process = c.advance_leaves.ensures.process c.args.flick c.args.value; marks = c.advance_leaves.ensures.marks c.args.flick c.args.value; changes = λ d is. rw c.advance_leaves.ensures.changes tt }
+pub returns-in-Settles-clause-marks : goal.returns-in-Settles-clause-marks
+returns-in-Settles-clause-marks c = then-marks (work.Settles c.in-Settles.inside c.in-Settles.taken) c.args.flick c.args.value c.self.invariant c.self.view_is c.in-Settles.is c.given.ensures c.next-how.ensures c.advance.ensures c.is_fresh-fresh.ensures (c.settle_on.ensures.marks c.is_fresh-fresh.result)
 
-pub advance_withdraws-requires-clause-withdraws : goal.advance_withdraws-requires-clause-withdraws
-advance_withdraws-requires-clause-withdraws c =
-    let f = c.self.inside in
-    sym (ap is_withdrawing (kept-is f.setup f.process f.command f.number f.work f.door f.section c.args.self.now c.self.view_is _ c.in-Withdraws.is))
+pub returns-in-Frees-clause-process : goal.returns-in-Frees-clause-process
+returns-in-Frees-clause-process c = then-stepped (work.Frees c.in-Frees.inside) c.args.flick c.args.value c.self.invariant c.self.view_is c.in-Frees.is c.given.ensures c.next-how.ensures c.advance.ensures c.is_fresh-fresh.ensures c.free_on.ensures.doing
 
-pub returns-in-Withdraws : goal.returns-in-Withdraws
-returns-in-Withdraws c = record { process = c.advance_withdraws.ensures.process c.args.flick c.args.value; marks = c.advance_withdraws.ensures.marks c.args.flick c.args.value; changes = λ d is. rw c.advance_withdraws.ensures.changes tt }
+pub returns-in-Frees-clause-marks : goal.returns-in-Frees-clause-marks
+returns-in-Frees-clause-marks c = then-marks (work.Frees c.in-Frees.inside) c.args.flick c.args.value c.self.invariant c.self.view_is c.in-Frees.is c.given.ensures c.next-how.ensures c.advance.ensures c.is_fresh-fresh.ensures c.free_on.ensures.marks
 
-pub advance_settles-requires-clause-settles : goal.advance_settles-requires-clause-settles
-advance_settles-requires-clause-settles c =
-    let f = c.self.inside in
-    sym (ap is_unit_settling (kept-is f.setup f.process f.command f.number f.work f.door f.section c.args.self.now c.self.view_is _ c.in-Settles.is))
+pub returns-in-Lowers-clause-process : goal.returns-in-Lowers-clause-process
+returns-in-Lowers-clause-process c = then-stepped work.Lowers c.args.flick c.args.value c.self.invariant c.self.view_is c.in-Lowers.is c.given.ensures c.next-how.ensures c.advance.ensures c.is_fresh-fresh.ensures (c.lower_on.ensures.doing c.is_fresh-fresh.result)
 
-pub returns-in-Settles : goal.returns-in-Settles
-returns-in-Settles c = record { process = c.advance_settles.ensures.process c.args.value; marks = c.advance_settles.ensures.marks c.args.value; changes = λ d is. rw c.advance_settles.ensures.changes tt }
-
-pub advance_frees-requires-clause-frees : goal.advance_frees-requires-clause-frees
-advance_frees-requires-clause-frees c =
-    let f = c.self.inside in
-    sym (ap is_unit_freeing (kept-is f.setup f.process f.command f.number f.work f.door f.section c.args.self.now c.self.view_is _ c.in-Frees.is))
-
-pub returns-in-Frees : goal.returns-in-Frees
-returns-in-Frees c = record { process = c.advance_frees.ensures.process c.args.value; marks = c.advance_frees.ensures.marks c.args.value; changes = λ d is. rw c.advance_frees.ensures.changes tt }
+pub returns-in-Lowers-clause-marks : goal.returns-in-Lowers-clause-marks
+returns-in-Lowers-clause-marks c = then-marks work.Lowers c.args.flick c.args.value c.self.invariant c.self.view_is c.in-Lowers.is c.given.ensures c.next-how.ensures c.advance.ensures c.is_fresh-fresh.ensures (c.lower_on.ensures.marks c.is_fresh-fresh.result)

@@ -1,77 +1,27 @@
--- A failure: the memory unit settles the torn bit, or has none to settle.
-use Rattle.std.proofs.Common.{false, refl, sym, ap, ◌∙◌}
-use Rattle.std.specs.Prelude.{None, Some}
-use Rattle.plain_store.specs.declared.Command.TheVariants.{Ask}
-use Rattle.memory_unit.specs.Units.{UnitState}
-use Rattle.laws.specs.Doings.{call}
-use Rattle.process.specs.Halts.{kept_cut}
-use Rattle.process.specs.Processes as kept
-use Rattle.process.specs.Processes.{ProcessState}
-use Rattle.process.specs.Processes.{Kept}
+use Rattle.std.proofs.Common.{sym, ap, ◌∙◌, subst}
+use Rattle.laws.specs.Doings.{is_inside}
+use Rattle.process.specs.declared.work.ProcessWork.TheVariants as work
+use Rattle.process.specs.Places.{ProcessState, failed}
+use Rattle.process.specs.Working.{KeepsPlace, state_at}
+use Rattle.process.proofs.CutsAt.{cut-keeps, cut-torn}
 use Rattle.process.proofs.process.Process.cut.Goals as goal
 
 pub invariant_of-self : goal.invariant_of-self
 invariant_of-self c =
-    let f = c.self.inside in
-    let i = c.self.invariant in
-    let unit = c.start.ensures.unit (call f.setup f.process Ask 0) false None c.is_inside-inside.result refl refl in
+    let q = c.self.inside in
+    let inside = c.is_inside-inside.result in
+    let taken = c.takes-taken.result in
+    subst (KeepsPlace q.called (work.Settles inside taken)) (sym c.settle.ensures) (cut-keeps q.called q.work q.cursor inside taken c.self.invariant (sym c.is_torn.ensures ∙ c.if-is_torn.true) c.takes-taken.ensures.commit)
+
+pub returns-then-is_torn : goal.returns-then-is_torn
+returns-then-is_torn c =
+    let q = c.self.inside in
+    let inside = c.is_inside-inside.result in
+    let taken = c.takes-taken.result in
+    let is = c.is_inside-inside.ensures ∙ sym (ap (λ (s : ProcessState). is_inside s.doing) c.self.view_is) in
     record {
-      good = i.good;
-      process = i.process;
-      door_setup = i.door_setup;
-      door_process = i.door_process;
-      section_setup = i.section_setup;
-      section_process = i.section_process;
-      goes = record { setup = ap (λ (u : UnitState). u.setup) unit; process = ap (λ (u : UnitState). u.process) unit; going = c.start.ensures.going };
+      process =
+          ap (state_at q.called (work.Settles inside taken)) c.settle.ensures
+          ∙ cut-torn q.called q.work q.cursor inside taken c.self.invariant (sym c.is_torn.ensures ∙ c.if-is_torn.true) is c.takes-taken.ensures.reply
+          ∙ ap failed c.self.view_is;
     }
-
-pub invariant_of-self-in-None : goal.invariant_of-self-in-None
-invariant_of-self-in-None c =
-    let f = c.self.inside in
-    let i = c.self.invariant in
-    let unit = c.start-in-None.ensures.unit (call f.setup f.process Ask 0) false None c.is_inside-inside.result refl refl in
-    record {
-      good = i.good;
-      process = i.process;
-      door_setup = i.door_setup;
-      door_process = i.door_process;
-      section_setup = i.section_setup;
-      section_process = i.section_process;
-      goes = record { setup = ap (λ (u : UnitState). u.setup) unit; process = ap (λ (u : UnitState). u.process) unit; going = c.start-in-None.ensures.going };
-    }
-
-pub returns-in-Some : goal.returns-in-Some
-returns-in-Some c = record {
-  process = λ d is.
-      let f = c.self.inside in
-      let state = c.args.self.now in
-      let inside = c.is_inside-inside.result in
-      let taken = c.cut_off-torn.result.1 in
-      let same = c.self.view_is ∙ c.cut_off-torn.ensures.process in
-      let with_kept : Kept → ProcessState → ProcessState = λ kept state. record state { kept = kept } in
-      let unit = c.start.ensures.unit (call f.setup f.process Ask 0) false None inside refl refl in
-      ap (with_kept (kept.Settles inside taken None c.start.result)) same
-      ∙ ap (λ kept. with_kept kept state)
-      (ap (kept.Settles inside taken None) unit
-      ∙ ap (λ (state : ProcessState). kept_cut state.setup state.process (Some c.in-Some.torn) taken inside) same
-      ∙ (λ i. kept_cut state.setup state.process (sym c.in-Some.is i) taken (c.is_inside-inside.ensures i))
-      ∙ c.cut_off-torn.ensures.cut d is);
-}
-
-pub returns-in-None : goal.returns-in-None
-returns-in-None c = record {
-  process = λ d is.
-      let f = c.self.inside in
-      let state = c.args.self.now in
-      let inside = c.is_inside-inside.result in
-      let taken = c.cut_off-torn.result.1 in
-      let same = c.self.view_is ∙ c.cut_off-torn.ensures.process in
-      let with_kept : Kept → ProcessState → ProcessState = λ kept state. record state { kept = kept } in
-      let unit = c.start-in-None.ensures.unit (call f.setup f.process Ask 0) false None inside refl refl in
-      ap (with_kept (kept.Frees inside c.start-in-None.result)) same
-      ∙ ap (λ kept. with_kept kept state)
-      (ap (kept.Frees inside) unit
-      ∙ ap (λ (state : ProcessState). kept_cut state.setup state.process None taken inside) same
-      ∙ (λ i. kept_cut state.setup state.process (sym c.in-None.is i) taken (c.is_inside-inside.ensures i))
-      ∙ c.cut_off-torn.ensures.cut d is);
-}

@@ -1,12 +1,14 @@
-use Rattle.std.proofs.Common.{ap, sym, ◌∙◌}
+use Rattle.std.proofs.Common.{ap, sym, subst, ◌∙◌}
+use Rattle.process.specs.registers.Openings.{AreOf}
 use Rattle.world.specs.Cores.{CoreState}
 use Rattle.world.specs.Seats.{setups_in}
-use Rattle.world.proofs.CoreCopies.{registers-alike, seats-alike}
+use Rattle.world.proofs.CoreCopies.{registers-are, seats-alike}
 use Rattle.world.proofs.cores.Core.copy_from.Goals as goal
 
 pub copy_from-requires : goal.copy_from-requires
 copy_from-requires c =
-    registers-alike _ _ c.self.invariant c.other.invariant (ap (λ (core : CoreState). core.setup) c.self.view_is ∙ c.requires.setup ∙ sym (ap (λ (core : CoreState). core.setup) c.other.view_is))
+    let same = ap (λ (core : CoreState). core.setup) c.self.view_is ∙ c.requires.setup ∙ sym (ap (λ (core : CoreState). core.setup) c.other.view_is) in
+    (c.other.inside.setup, subst (λ s. AreOf s c.self.inside.registers) same (registers-are _ c.self.invariant), registers-are _ c.other.invariant)
 
 pub copy_seats-requires : goal.copy_seats-requires
 copy_seats-requires c =

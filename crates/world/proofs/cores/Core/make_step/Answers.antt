@@ -1,115 +1,85 @@
-use Rattle.std.proofs.Common.{◌≡◌, ◌<◌, ◌∷◌, length, map, drop, slice_set, sym, ap, subst, ◌∙◌, arith}
+use Rattle.std.proofs.Common.{◌≡◌, ◌∙◌, ap, Some, length, drop, refl, slice_set, arith}
 use Rattle.std.proofs.lemmas.List.{length-set}
+use Rattle.record.specs.declared.access.Access.{Access}
 use Rattle.record.specs.declared.events.Event.TheVariants.{Step}
-use Rattle.record.specs.Records.{entry_of, past_of}
-use Rattle.record.specs.Histories.{reply_taken}
-use Rattle.process.specs.Telling.{marks_told}
-use Rattle.world.specs.Changes.{pending_in, told, with_taken}
-use Rattle.world.specs.Cores.{CoreState, KeepsCore, with_history}
-use Rattle.world.specs.Shows.{Shows, WorldState}
-use Rattle.world.specs.Walks.{bits_within_at}
-use Rattle.world.proofs.CoreKeeps.{call_set, core_in, core_used, keeps_core, shows_of, taken_length, there_set}
-use Rattle.world.proofs.WorldShows.{SeatSteps, world_with}
+use Rattle.record.specs.Places.{value_of}
+use Rattle.process.specs.registers.Accesses.{applied}
+use Rattle.process.specs.declared.told.Effect.TheVariants.{Steps}
+use Rattle.process.specs.Places.{marks_on, stepped}
+use Rattle.world.specs.Changes.{told}
+use Rattle.world.specs.Cores.{CoreState}
+use Rattle.world.specs.Going.{registers_after, seat_after}
+use Rattle.world.specs.Seats.{is_waiting, seat_stepped}
+use Rattle.world.proofs.CoreCode.{seated, step-may, told-after}
+use Rattle.world.proofs.CoreKeeps.{IsNext, core_in, next-at, next-goes, next-keeps}
+use Rattle.world.proofs.CoreWalks.{next-others}
 use Rattle.world.proofs.WorldTelling.{told-back}
-use Rattle.world.proofs.WorldWalks.{bits-other, bits-told, room_of}
-use Rattle.world.proofs.WorldEnds.{IsUsed, step-adds, step-ends, step-on, used-steps, used-turns}
 use Rattle.world.proofs.cores.Core.make_step.Goals as goal
 
 pub index_mut-seat-requires : goal.index_mut-seat-requires
 index_mut-seat-requires c =
     let i = c.self.inside in
     let core : CoreState = record { setup = i.setup; registers = i.registers; seats = i.seats.items } in
-    let inside = (core_in core c.args.self.now (Step c.args.process c.args.flick) c.self.invariant c.self.view_is c.requires).0 in
+    let inside = core_in core c.args.self.now (Step c.args.process c.args.flick) c.self.invariant c.self.view_is c.requires in
     omega (arith, inside, c.from.ensures, i.seats.ok.0)
 
 pub step-access-requires : goal.step-access-requires
 step-access-requires c =
     let i = c.self.inside in
     let core : CoreState = record { setup = i.setup; registers = i.registers; seats = i.seats.items } in
-    let k : KeepsCore core = c.self.invariant in
-    let w : WorldState = with_history core k.taken in
-    let u : IsUsed w (room_of w) (Step c.args.process c.args.flick) c.from.result c.index_mut-seat.result.now = core_used core c.args.self.now (Step c.args.process c.args.flick) c.from.result c.index_mut-seat.result.now k.taken k.events k.shows c.self.view_is c.requires c.from.ensures c.index_mut-seat.ensures.value in
-    record {
-      goes = used-turns w _ c.args.process c.from.result c.args.flick c.index_mut-seat.result.now u;
-      may = used-steps w _ c.args.process c.from.result c.args.flick c.index_mut-seat.result.now u;
-    }
+    let seat = c.index_mut-seat.result.now in
+    let n : IsNext core (Step c.args.process c.args.flick) c.index_mut-seat.result.now = next-at core c.args.self.now (Step c.args.process c.args.flick) c.from.result c.index_mut-seat.result.now c.self.invariant c.self.view_is c.requires refl c.from.ensures c.index_mut-seat.ensures.value in
+    record { goes = step-may core c.args.process c.args.flick seat c.self.invariant n; registers = (seated core c.args.process seat c.self.invariant n.there).registers }
 
 pub tell-requires : goal.tell-requires
 tell-requires c =
     let i = c.self.inside in
     let core : CoreState = record { setup = i.setup; registers = i.registers; seats = i.seats.items } in
-    (core_in core c.args.self.now (Step c.args.process c.args.flick) c.self.invariant c.self.view_is c.requires).1
+    let seat = c.index_mut-seat.result.now in
+    let n : IsNext core (Step c.args.process c.args.flick) c.index_mut-seat.result.now = next-at core c.args.self.now (Step c.args.process c.args.flick) c.from.result c.index_mut-seat.result.now c.self.invariant c.self.view_is c.requires refl c.from.ensures c.index_mut-seat.ensures.value in
+    (seated core c.args.process seat c.self.invariant n.there).few
 
 pub invariant_of-self : goal.invariant_of-self
 invariant_of-self c =
     let i = c.self.inside in
     let core : CoreState = record { setup = i.setup; registers = i.registers; seats = i.seats.items } in
-    let k : KeepsCore core = c.self.invariant in
-    let w : WorldState = with_history core k.taken in
-    let u : IsUsed w (room_of w) (Step c.args.process c.args.flick) c.from.result c.index_mut-seat.result.now = core_used core c.args.self.now (Step c.args.process c.args.flick) c.from.result c.index_mut-seat.result.now k.taken k.events k.shows c.self.view_is c.requires c.from.ensures c.index_mut-seat.ensures.value in
-    let steps : SeatSteps i.registers c.args.flick c.index_mut-seat.result.now c.step-access.result c.step-access.new.leads c.step-access.new.self = record { access = c.step-access.ensures.access; seat_is = c.step-access.ensures.seat; marks = c.step-access.ensures.marks } in
-    let long = length-set i.seats.items c.from.result c.step-access.new.self in
-    let same = told-back (told c.args.process c.waits-waited.result c.waits-now.result) i.seats.len c.tell.new.seats c.deref_mut.result.now (slice_set i.seats.items c.from.result c.step-access.new.self) (drop (length c.tell.new.seats) (slice_set i.seats.items c.from.result c.step-access.new.self)) c.tell.ensures c.deref_mut.ensures.value (omega (arith, long, i.seats.ok.0)) in
-    let then = with_taken k.taken c.args.process c.step-access.new.self.process.command c.step-access.new.self.process.number (reply_taken (marks_told c.step-access.new.leads)) in
-    keeps_core _ then (Step c.args.process c.args.flick ∷ k.events) (subst (λ w. Shows w (Step c.args.process c.args.flick ∷ k.events)) (sym (λ m. world_with i.setup (c.step-access.ensures.registers m) ((same ∙ (λ n. map (told c.args.process (c.waits-waited.ensures n) (c.waits-now.ensures n)) (slice_set i.seats.items c.from.result c.step-access.new.self))) m) then))
-    (step-on w _ c.args.process c.from.result c.args.flick c.index_mut-seat.result.now c.step-access.result c.step-access.new.leads c.step-access.new.self u steps k.events k.shows))
+    let seat = c.index_mut-seat.result.now in
+    let n : IsNext core (Step c.args.process c.args.flick) c.index_mut-seat.result.now = next-at core c.args.self.now (Step c.args.process c.args.flick) c.from.result c.index_mut-seat.result.now c.self.invariant c.self.view_is c.requires refl c.from.ensures c.index_mut-seat.ensures.value in
+    let then = c.step-access.new.self in
+    let long = length-set i.seats.items c.from.result then in
+    let same = told-back (told c.args.process c.is_waiting-waited.result c.is_waiting-waits.result) i.seats.len c.tell.new.seats c.deref_mut.result.now (slice_set i.seats.items c.from.result then) (drop (length c.tell.new.seats) (slice_set i.seats.items c.from.result then)) c.tell.ensures c.deref_mut.ensures.value (omega (arith, long, i.seats.ok.0)) in
+    let a = c.step-access.ensures.access in
+    let stepped_is : then ≡ seat_after core seat (Step c.args.process c.args.flick) = c.step-access.ensures.seat ∙ ap (λ (a : Access). seat_stepped (stepped seat.process c.args.flick (value_of a.how)) seat) a in
+    let registers_are : c.step-access.new.registers ≡ registers_after core seat (Step c.args.process c.args.flick) = c.step-access.ensures.registers ∙ ap (applied seat.process.setup.processes i.registers) a in
+    let is = told-after core (Step c.args.process c.args.flick) seat then c.step-access.new.registers _ c.is_waiting-waited.result c.is_waiting-waits.result c.from.result c.args.process c.from.ensures refl stepped_is registers_are c.is_waiting-waited.ensures (c.is_waiting-waits.ensures ∙ ap is_waiting stepped_is) same in
+    next-keeps core _ (Step c.args.process c.args.flick) seat c.self.invariant n is
 
-pub returns-clause-accepted : goal.returns-clause-accepted
-returns-clause-accepted c = λ taken events shows.
+pub returns-clause-goes : goal.returns-clause-goes
+returns-clause-goes c =
     let i = c.self.inside in
     let core : CoreState = record { setup = i.setup; registers = i.registers; seats = i.seats.items } in
-    let w : WorldState = with_history core taken in
-    let sh : Shows w events = shows_of core c.args.self.now taken events c.self.view_is shows in
-    let u : IsUsed w (room_of w) (Step c.args.process c.args.flick) c.from.result c.index_mut-seat.result.now = core_used core c.args.self.now (Step c.args.process c.args.flick) c.from.result c.index_mut-seat.result.now taken events sh c.self.view_is c.requires c.from.ensures c.index_mut-seat.ensures.value in
-    let steps : SeatSteps i.registers c.args.flick c.index_mut-seat.result.now c.step-access.result c.step-access.new.leads c.step-access.new.self = record { access = c.step-access.ensures.access; seat_is = c.step-access.ensures.seat; marks = c.step-access.ensures.marks } in
-    ap (λ (x : CoreState). entry_of x.setup (past_of x.setup events) (Step c.args.process c.args.flick)) (sym c.self.view_is)
-    ∙ step-adds w _ c.args.process c.from.result c.args.flick c.index_mut-seat.result.now c.step-access.result c.step-access.new.leads c.step-access.new.self u steps events sh
-
-pub returns-clause-shows : goal.returns-clause-shows
-returns-clause-shows c =
-    let i = c.self.inside in
-    let core : CoreState = record { setup = i.setup; registers = i.registers; seats = i.seats.items } in
-    let inside = (core_in core c.args.self.now (Step c.args.process c.args.flick) c.self.invariant c.self.view_is c.requires).0 in
-    let long = length-set i.seats.items c.from.result c.step-access.new.self in
-    let same = told-back (told c.args.process c.waits-waited.result c.waits-now.result) i.seats.len c.tell.new.seats c.deref_mut.result.now (slice_set i.seats.items c.from.result c.step-access.new.self) (drop (length c.tell.new.seats) (slice_set i.seats.items c.from.result c.step-access.new.self)) c.tell.ensures c.deref_mut.ensures.value (omega (arith, long, i.seats.ok.0)) in
-    let own : c.from.result ≡ c.args.process = c.from.ensures in
-    let here : c.from.result < length i.seats.items = omega (arith, inside, own) in
-    let last = call_set i.seats.items _ c.waits-waited.result c.waits-now.result c.from.result c.args.process c.step-access.new.self same own here in
-    record {
-      there = there_set i.seats.items _ (told c.args.process c.waits-waited.result c.waits-now.result) c.from.result c.args.process c.step-access.new.self same inside;
-      goes = λ taken events shows.
-          let w : WorldState = with_history core taken in
-          let sh : Shows w events = shows_of core c.args.self.now taken events c.self.view_is shows in
-          let u : IsUsed w (room_of w) (Step c.args.process c.args.flick) c.from.result c.index_mut-seat.result.now = core_used core c.args.self.now (Step c.args.process c.args.flick) c.from.result c.index_mut-seat.result.now taken events sh c.self.view_is c.requires c.from.ensures c.index_mut-seat.ensures.value in
-          let steps : SeatSteps i.registers c.args.flick c.index_mut-seat.result.now c.step-access.result c.step-access.new.leads c.step-access.new.self = record { access = c.step-access.ensures.access; seat_is = c.step-access.ensures.seat; marks = c.step-access.ensures.marks } in
-          subst (λ w. Shows w (Step c.args.process c.args.flick ∷ events)) (sym (λ m. world_with i.setup (c.step-access.ensures.registers m) ((same ∙ (λ n. map (told c.args.process (c.waits-waited.ensures n) (c.waits-now.ensures n)) (slice_set i.seats.items c.from.result c.step-access.new.self))) m) (with_taken taken c.args.process (last m).0 (last m).1 (reply_taken (marks_told c.step-access.new.leads)))))
-          (step-on w _ c.args.process c.from.result c.args.flick c.index_mut-seat.result.now c.step-access.result c.step-access.new.leads c.step-access.new.self u steps events sh);
-    }
-
-pub returns-clause-pending : goal.returns-clause-pending
-returns-clause-pending c =
-    let i = c.self.inside in
-    let core : CoreState = record { setup = i.setup; registers = i.registers; seats = i.seats.items } in
-    let k : KeepsCore core = c.self.invariant in
-    let w : WorldState = with_history core k.taken in
-    let u : IsUsed w (room_of w) (Step c.args.process c.args.flick) c.from.result c.index_mut-seat.result.now = core_used core c.args.self.now (Step c.args.process c.args.flick) c.from.result c.index_mut-seat.result.now k.taken k.events k.shows c.self.view_is c.requires c.from.ensures c.index_mut-seat.ensures.value in
-    let steps : SeatSteps i.registers c.args.flick c.index_mut-seat.result.now c.step-access.result c.step-access.new.leads c.step-access.new.self = record { access = c.step-access.ensures.access; seat_is = c.step-access.ensures.seat; marks = c.step-access.ensures.marks } in
-    let long = length-set i.seats.items c.from.result c.step-access.new.self in
-    let same = told-back (told c.args.process c.waits-waited.result c.waits-now.result) i.seats.len c.tell.new.seats c.deref_mut.result.now (slice_set i.seats.items c.from.result c.step-access.new.self) (drop (length c.tell.new.seats) (slice_set i.seats.items c.from.result c.step-access.new.self)) c.tell.ensures c.deref_mut.ensures.value (omega (arith, long, i.seats.ok.0)) in
-    let o = (reply_taken (marks_told c.step-access.new.leads)) in
-    let room = (step-ends w _ c.args.process c.from.result c.args.flick c.index_mut-seat.result.now c.step-access.result c.step-access.new.leads c.step-access.new.self u steps (room_of w) (omega arith)).room in
-    let more = taken_length k.taken c.args.process c.step-access.new.self.process.command c.step-access.new.self.process.number o in
-    let seats = ap pending_in (same ∙ (λ n. map (told c.args.process (c.waits-waited.ensures n) (c.waits-now.ensures n)) (slice_set i.seats.items c.from.result c.step-access.new.self))) in
-    let before = ap (λ (x : CoreState). pending_in x.seats) c.self.view_is in
-    omega (arith, room, more, seats, before)
+    let seat = c.index_mut-seat.result.now in
+    let n : IsNext core (Step c.args.process c.args.flick) c.index_mut-seat.result.now = next-at core c.args.self.now (Step c.args.process c.args.flick) c.from.result c.index_mut-seat.result.now c.self.invariant c.self.view_is c.requires refl c.from.ensures c.index_mut-seat.ensures.value in
+    let then = c.step-access.new.self in
+    let long = length-set i.seats.items c.from.result then in
+    let same = told-back (told c.args.process c.is_waiting-waited.result c.is_waiting-waits.result) i.seats.len c.tell.new.seats c.deref_mut.result.now (slice_set i.seats.items c.from.result then) (drop (length c.tell.new.seats) (slice_set i.seats.items c.from.result then)) c.tell.ensures c.deref_mut.ensures.value (omega (arith, long, i.seats.ok.0)) in
+    let a = c.step-access.ensures.access in
+    let stepped_is : then ≡ seat_after core seat (Step c.args.process c.args.flick) = c.step-access.ensures.seat ∙ ap (λ (a : Access). seat_stepped (stepped seat.process c.args.flick (value_of a.how)) seat) a in
+    let registers_are : c.step-access.new.registers ≡ registers_after core seat (Step c.args.process c.args.flick) = c.step-access.ensures.registers ∙ ap (applied seat.process.setup.processes i.registers) a in
+    let is = told-after core (Step c.args.process c.args.flick) seat then c.step-access.new.registers _ c.is_waiting-waited.result c.is_waiting-waits.result c.from.result c.args.process c.from.ensures refl stepped_is registers_are c.is_waiting-waited.ensures (c.is_waiting-waits.ensures ∙ ap is_waiting stepped_is) same in
+    next-goes core c.args.self.now _ (Step c.args.process c.args.flick) (Steps c.step-access.new.leads) (Some c.step-access.result) seat c.self.view_is n (ap Some a)
+    (c.step-access.ensures.marks ∙ ap (λ (a : Access). marks_on seat.process c.args.flick (value_of a.how)) a) is
 
 pub returns-clause-others : goal.returns-clause-others
-returns-clause-others c = λ q apart.
+returns-clause-others c =
     let i = c.self.inside in
-    let seats = slice_set i.seats.items c.from.result c.step-access.new.self in
-    let long = length-set i.seats.items c.from.result c.step-access.new.self in
-    let same = told-back (told c.args.process c.waits-waited.result c.waits-now.result) i.seats.len c.tell.new.seats c.deref_mut.result.now seats (drop (length c.tell.new.seats) seats) c.tell.ensures c.deref_mut.ensures.value (omega (arith, long, i.seats.ok.0)) in
-    ap (λ seats. bits_within_at seats q) same
-    ∙ bits-told seats c.args.process q c.waits-waited.result c.waits-now.result
-    ∙ bits-other i.seats.items c.from.result c.args.process c.step-access.new.self c.from.ensures q apart
-    ∙ ap (λ (x : CoreState). bits_within_at x.seats q) c.self.view_is
+    let core : CoreState = record { setup = i.setup; registers = i.registers; seats = i.seats.items } in
+    let seat = c.index_mut-seat.result.now in
+    let then = c.step-access.new.self in
+    let long = length-set i.seats.items c.from.result then in
+    let same = told-back (told c.args.process c.is_waiting-waited.result c.is_waiting-waits.result) i.seats.len c.tell.new.seats c.deref_mut.result.now (slice_set i.seats.items c.from.result then) (drop (length c.tell.new.seats) (slice_set i.seats.items c.from.result then)) c.tell.ensures c.deref_mut.ensures.value (omega (arith, long, i.seats.ok.0)) in
+    let a = c.step-access.ensures.access in
+    let stepped_is : then ≡ seat_after core seat (Step c.args.process c.args.flick) = c.step-access.ensures.seat ∙ ap (λ (a : Access). seat_stepped (stepped seat.process c.args.flick (value_of a.how)) seat) a in
+    let registers_are : c.step-access.new.registers ≡ registers_after core seat (Step c.args.process c.args.flick) = c.step-access.ensures.registers ∙ ap (applied seat.process.setup.processes i.registers) a in
+    let is = told-after core (Step c.args.process c.args.flick) seat then c.step-access.new.registers _ c.is_waiting-waited.result c.is_waiting-waits.result c.from.result c.args.process c.from.ensures refl stepped_is registers_are c.is_waiting-waited.ensures (c.is_waiting-waits.ensures ∙ ap is_waiting stepped_is) same in
+    next-others core c.args.self.now _ c.args.process c.args.flick seat c.self.view_is is

@@ -1,22 +1,22 @@
-use Rattle.std.proofs.Common.{◌≡◌, ◌++◌, ◌∷◌, [], map, refl, sym, ap, ◌∙◌, arith}
+use Rattle.std.proofs.Common.{◌≡◌, ◌++◌, ◌∷◌, [], map, sym, ap, ◌∙◌, arith}
 use Rattle.std.specs.List.{range_with_len}
 use Rattle.std.proofs.lemmas.List.FromFn.{map-range_with_len_more}
 use Rattle.world.specs.Seats.{seat_of}
-use Rattle.world.proofs.WorldNew.{new-shows}
+use Rattle.world.proofs.CoreNew.{new-shows}
 use Rattle.world.proofs.cores.Core.new.Goals as goal
 
 pub loop-process-preserved : goal.loop-process-preserved
 loop-process-preserved c =
     let s = c.args.setup.now in
-    c.in_ok-push.ensures.items ∙ (λ i. c.loop-process.invariant i ++ c.in_ok-new.ensures i ∷ [])
+    c.in_ok-push.ensures.items ∙ (λ i. c.loop-process.invariant i ++ c.new.ensures i ∷ [])
     ∙ sym (map-range_with_len_more (seat_of s []) 0 c.loop-process.process c.loop-process.process (omega arith))
 
 pub returns-clause-shows : goal.returns-clause-shows
 returns-clause-shows c =
     let s = c.args.setup.now in
     let all : c.loop-process.process ≡ s.processes = omega (arith, c.loop-process-test.false, c.loop-process.auto.process-end) in
-    new-shows s c.requires.good c.pairs_are_sound.ensures c.in_ok-new-2.field-0 c.loop-process.seats.items [] c.in_ok-new-2.ensures
-    (c.loop-process.invariant ∙ ap (λ n. map (seat_of s []) (range_with_len 0 n)) all) refl
+    new-shows s c.requires.good c.pairs_are_sound.ensures c.in_ok-open_memory.field-0 c.loop-process.seats.items c.in_ok-open_memory.ensures
+    (c.loop-process.invariant ∙ ap (λ n. map (seat_of s []) (range_with_len 0 n)) all)
 
 pub invariant_of-result : goal.invariant_of-result
 invariant_of-result c =
@@ -25,6 +25,6 @@ invariant_of-result c =
     record {
       taken = [];
       events = [];
-      shows = new-shows s c.requires.good c.pairs_are_sound.ensures c.in_ok-new-2.field-0 c.loop-process.seats.items [] c.in_ok-new-2.ensures
-          (c.loop-process.invariant ∙ ap (λ n. map (seat_of s []) (range_with_len 0 n)) all) refl;
+      shows = new-shows s c.requires.good c.pairs_are_sound.ensures c.in_ok-open_memory.field-0 c.loop-process.seats.items c.in_ok-open_memory.ensures
+          (c.loop-process.invariant ∙ ap (λ n. map (seat_of s []) (range_with_len 0 n)) all);
     }

@@ -1,27 +1,25 @@
-use Rattle.std.proofs.Common.{ℕ, ◌<◌, ◌≤◌, length, slice_index_or, ap, ◌∙◌, arith, Some}
-use Rattle.record.specs.Records.{past_of}
+use Rattle.std.proofs.Common.{◌≡◌, ◌<◌, ◌≤◌, Some, None, length, subst, ap, ◌∙◌, arith}
+use Rattle.process.specs.Places.{ProcessState, stage_doing}
+use Rattle.world.specs.Cores.{CoreState, InEachCorePast}
 use Rattle.world.specs.Events.{stage_in}
-use Rattle.process.specs.Processes.{ProcessState, stage_kept}
-use Rattle.world.specs.Cores.{CoreState, with_history}
-use Rattle.world.specs.Shows.{WorldState}
-use Rattle.world.proofs.WorldAsks.{stage-there, stage-beyond}
-use Rattle.world.proofs.CoreKeeps.{shows_of}
+use Rattle.world.proofs.WorldAsks.{stage-beyond, stage-there}
+use Rattle.world.proofs.WorldOpen.{seat-indexed}
 use Rattle.world.proofs.cores.Core.stage.Goals as goal
 
 pub returns-then-len-at : goal.returns-then-len-at
 returns-then-len-at c =
     let i = c.self.inside in
     let core : CoreState = record { setup = i.setup; registers = i.registers; seats = i.seats.items } in
-    let p : ℕ = c.args.process in
-    let beyond : length i.seats.items ≤ p = omega (arith, c.from-at.ensures, c.if-len-at.true, c.len.ensures, i.seats.ok.0) in
-    λ taken events shows. let w : WorldState = with_history core taken in stage-beyond w events p (shows_of core c.args.self.now taken events c.self.view_is shows) beyond ∙ ap (λ (w : CoreState). stage_in w.setup (past_of w.setup events) p) c.self.view_is
+    let beyond : length i.seats.items ≤ c.args.process = omega (arith, c.from-at.ensures, c.if-len-at.true, c.len.ensures, i.seats.ok.0) in
+    subst (λ (d : CoreState). InEachCorePast d (λ s past. None ≡ stage_in s past c.args.process)) c.self.view_is (stage-beyond core c.args.process beyond)
 
 pub returns : goal.returns
 returns c =
     let i = c.self.inside in
     let core : CoreState = record { setup = i.setup; registers = i.registers; seats = i.seats.items } in
-    let p : ℕ = c.args.process in
-    let inside : p < length i.seats.items = omega (arith, c.from-at.ensures, c.if-len-at.false, c.len.ensures, i.seats.ok.0) in
+    let inside : c.from-at.result < length i.seats.items = omega (arith, c.if-len-at.false, c.len.ensures, i.seats.ok.0) in
     let seat = c.index.result.now in
-    let is = c.index.ensures ∙ ap (λ k. slice_index_or i.seats.items k seat) c.from-at.ensures in
-    λ taken events shows. let w : WorldState = with_history core taken in ap Some (c.stage.ensures ∙ ap (λ (now : ProcessState). stage_kept now.kept) c.process.ensures) ∙ stage-there w events p seat seat (shows_of core c.args.self.now taken events c.self.view_is shows) inside is ∙ ap (λ (w : CoreState). stage_in w.setup (past_of w.setup events) p) c.self.view_is
+    let there = seat-indexed i.seats.items c.from-at.result c.args.process seat c.from-at.ensures inside c.index.ensures in
+    let is = c.stage.ensures ∙ ap (λ (now : ProcessState). stage_doing now.doing) c.process.ensures in
+    subst (λ (d : CoreState). InEachCorePast d (λ s past. Some c.stage.result ≡ stage_in s past c.args.process)) c.self.view_is
+    (λ taken events shows. ap Some is ∙ stage-there core c.args.process seat there taken events shows)

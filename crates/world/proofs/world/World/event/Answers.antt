@@ -1,10 +1,22 @@
 use Rattle.std.proofs.Common.{rules, ◌≡◌, ◌∙◌, IfOk, ap, length, subst, sym}
 use Rattle.process.specs.Telling.{act_of}
 use Rattle.record.specs.Records.{process_of}
-use Rattle.world.specs.Events.{KeepsTheHeadline}
+use Rattle.world.specs.Events.{Adds, KeepsTheHeadline}
 use Rattle.world.specs.Shows.{WorldState}
 use Rattle.world.proofs.world.World.event.Goals.{in-Ok, in-Err}
 use Rattle.world.proofs.world.World.event.Goals as goal
+
+pub returns-clause-accepted : goal.returns-clause-accepted
+returns-clause-accepted c =
+    let old = c.args.self.now in
+    let p = process_of c.args.event in
+    let place : c.len-place.result ≡ length c.self.inside.history.items = search rules in
+    elim c.match-make.branch [
+      | in-Ok w ↦
+          let is = w.act.ensures ∙ ap (λ k. act_of k (record { access = w.in-Ok.access; effect = c.make.new.effect })) (place ∙ ap (λ (v : WorldState). length v.history) c.self.view_is) in
+          subst (λ r. IfOk r (λ act. Adds old c.args.event p act)) (sym w.result-is) (subst (Adds old c.args.event p) (sym is) w.in-Ok.ensures.accepted)
+      | in-Err w ↦ subst (λ r. IfOk r (λ act. Adds old c.args.event p act)) (sym w.result-is) tt
+    ]
 
 pub returns-clause-headline : goal.returns-clause-headline
 returns-clause-headline c =

@@ -1,0 +1,99 @@
+-- What a process does has not come to its end; and it has a next access where its stage allows a step.
+use Rattle.std.proofs.Common.{◌≡◌, ℕ, Bool, true, false, cond, List, ◌∷◌, [], ◌==◌, refl, sym, ◌∙◌, arith}
+use Rattle.std.specs.Prelude.{Option, None, Some}
+use Rattle.record.specs.declared.access.Access.{Access}
+use Rattle.plain_store.specs.declared.Command.{Command}
+use Rattle.plain_store.specs.declared.Setup.{Setup}
+use Rattle.record.specs.declared.events.Event.{Event}
+use Rattle.record.specs.declared.events.Event.TheVariants as event
+use Rattle.record.specs.declared.marks.Mark.{Mark}
+use Rattle.record.specs.declared.marks.Mark.TheVariants as mark
+use Rattle.record.specs.declared.stages.Stage.{Stage}
+use Rattle.record.specs.Closings.{settling_from}
+use Rattle.record.specs.Calls.{call_number, last_call, last_command}
+use Rattle.record.specs.Entries.{Entry, Past, own}
+use Rattle.record.specs.Records.{past_of, refused_at, start_in}
+use Rattle.record.specs.Scripts.{Call}
+use Rattle.record.specs.Unit.{last_write, unfinished}
+use Rattle.record.specs.Stages.{stage}
+use Rattle.record.proofs.Width.{IsGood}
+use Rattle.laws.proofs.Doings as laws
+use Rattle.laws.proofs.FrameInside.{stage-is}
+use Rattle.laws.specs.Doings.{Doing, Closes, does_after, doing, goes_on}
+use Rattle.laws.specs.Steps.{does_then, next_of}
+use Rattle.process.specs.Places.{may_step, stage_doing}
+use Rattle.process.specs.Serving.{next_at}
+use Rattle.board.specs.Ports.{IsUnended}
+use Rattle.board.specs.Views.{OwnView, process_at, with_event}
+use Rattle.board.specs.WordSteps.{goes_at}
+
+-- It has not come to its end.
+
+-- after its next access
+pub does_unended : (s : Setup) (p : ℕ) (d : Doing) (flick value : Bool) → IsUnended (does_then s p d flick value)
+does_unended s p d flick value = grind arith
+
+-- after an event without an access
+pub event_unended : (s : Setup) (o : OwnView) (event : Event) → IsUnended o.doing → IsUnended (with_event s o event).doing
+event_unended s o event h = grind arith
+
+failing-unended : (command : Command) (number : ℕ) (c : Call) (mine : Past) (a : Option Access) → IsUnended (Closes command number (settling_from c mine a))
+failing-unended command number c mine None = tt
+failing-unended command number c mine (Some a) = tt
+
+goes-unended : (s : Setup) (p : ℕ) (e : Entry) (a : Option Access) (d : Doing) → IsUnended (goes_on s p e a d)
+goes-unended s p e a d = grind arith
+
+after-unended : (s : Setup) (p : ℕ) (mine : Past) (e : Entry) (m : Option Mark) (d : Doing) → IsUnended (does_after s p mine e m d)
+after-unended s p mine e None d = goes-unended s p e e.access d
+after-unended s p mine e (Some (mark.Called command)) d = refl
+after-unended s p mine e (Some mark.Withdrew) d = tt
+after-unended s p mine e (Some mark.Failed) d = failing-unended (last_command mine) (call_number s mine) (last_call s p mine) mine (unfinished s.processes (last_write mine))
+after-unended s p mine e (Some (mark.Waiting t)) d = goes-unended s p e e.access d
+after-unended s p mine e (Some mark.Entered) d = goes-unended s p e e.access d
+after-unended s p mine e (Some (mark.Taken k r)) d = goes-unended s p e e.access d
+after-unended s p mine e (Some mark.Left) d = goes-unended s p e e.access d
+after-unended s p mine e (Some (mark.Answered a)) d = goes-unended s p e e.access d
+after-unended s p mine e (Some (mark.Settled v)) d = goes-unended s p e e.access d
+after-unended s p mine e (Some mark.Down) d = goes-unended s p e e.access d
+after-unended s p mine e (Some mark.Restarted) d = goes-unended s p e e.access d
+
+either : (b : Bool) (d then : Doing) → IsUnended d → IsUnended then → IsUnended (cond b d then)
+either true d then h k = h
+either false d then h k = k
+
+-- in a past
+pub known_unended : (s : Setup) (p : ℕ) (past : Past) → IsUnended (doing s p past)
+known_unended s p [] = tt
+known_unended s p (e ∷ past) = either (e.process == p) _ _ (after-unended s p (own p past) e (start_in e.marks) (doing s p past)) (known_unended s p past)
+
+-- Its next access.
+
+-- who may step has one
+pub next_there : (s : Setup) (o : OwnView) (flick : Bool) → IsUnended o.doing → may_step o.doing ≡ true → next_of s o.process o.doing flick ≡ Some (next_at (process_at s o) flick)
+next_there s o flick h k = grind arith
+
+-- and who has one may
+pub may_go : (s : Setup) (p : ℕ) (d : Doing) (flick : Bool) (n : Access) → next_of s p d flick ≡ Some n → may_step d ≡ true
+may_go s p d flick n h = grind arith
+
+-- Its stage.
+
+same-stage : (d : Doing) → stage_doing d ≡ laws.stage_of d
+same-stage d = grind arith
+
+-- it is that of the record
+pub stage_known : (s : Setup) → IsGood s → (events : List Event) (p : ℕ) → stage_doing (doing s p (past_of s events)) ≡ stage p (past_of s events)
+stage_known s g events p = same-stage (doing s p (past_of s events)) ∙ sym (stage-is s g events p)
+
+-- it tells that there is a next access
+pub next_goes : (s : Setup) (p : ℕ) (d : Doing) (flick : Bool) (n : Access) → IsUnended d → next_of s p d flick ≡ Some n → goes_at (stage_doing d) ≡ true
+next_goes s p d flick n h k = grind arith
+
+-- and then it allows a step
+pub step_allowed : (st : Stage) (p : ℕ) (flick : Bool) → goes_at st ≡ true → refused_at (event.Step p flick) st ≡ None
+step_allowed st p flick h = grind arith
+
+-- who goes may step
+pub goes_steps : (d : Doing) → goes_at (stage_doing d) ≡ true → may_step d ≡ true
+goes_steps d h = grind arith

@@ -1,0 +1,44 @@
+-- A process of a record is where its accesses lead, in the call that is kept of it.
+use Rattle.std.proofs.Common.{◌≡◌, ℕ, List, refl, sym, ap, subst, ◌∙◌}
+use Rattle.plain_store.specs.declared.Setup.{Setup}
+use Rattle.record.specs.declared.events.Event.{Event}
+use Rattle.record.specs.Calls.{last_command, call_number}
+use Rattle.record.specs.Entries.{Past, own, since, starts}
+use Rattle.record.specs.Parts.{is_over}
+use Rattle.record.specs.Places.{accesses_of}
+use Rattle.record.specs.Records.{past_of}
+use Rattle.record.specs.Stages.{stage}
+use Rattle.record.proofs.OpenSteps.{failing_at, leaving_at, place_at}
+use Rattle.record.proofs.Standing.{at_place}
+use Rattle.record.proofs.Width.{IsGood}
+use Rattle.laws.specs.Doings.{Doing, Rests, Lies, Runs, Closes, doing}
+use Rattle.laws.specs.Steps.{IsCallOf, IsLive, IsReached}
+use Rattle.laws.proofs.Frame.{Does, at_rest, lying, running, leaving, settling}
+use Rattle.laws.proofs.FrameEvents.{does_all}
+use Rattle.board.specs.Views.{own_view}
+use Rattle.board.specs.WordSteps.{IsWhere}
+
+pub known_where : (s : Setup) → IsGood s → (events : List Event) (p : ℕ) → IsWhere s (own_view s (past_of s events) p)
+known_where s g events p = facts (does_all s g events p)
+  where
+    past : Past
+    past = past_of s events
+
+    mine : Past
+    mine = own p past
+
+    is_known : (d : Doing) → doing s p past ≡ d → IsCallOf (last_command mine) (call_number s mine) d → IsReached s p d → IsLive d → IsWhere s (own_view s past p)
+    is_known d k its reached live = record {
+      reached = subst (IsReached s p) (sym k) reached;
+      call = subst (IsCallOf (last_command mine) (call_number s mine)) (sym k) its;
+      live = subst IsLive (sym k) live;
+    }
+
+    facts : Does s p mine (stage p past) (doing s p past) → IsWhere s (own_view s past p)
+    facts (at_rest i k) = is_known Rests k tt tt tt
+    facts (lying i k) = is_known Lies k tt tt tt
+    facts (running command b r k) =
+        let runs = at_place s g events p command b r in
+        is_known (Runs (last_command mine) (call_number s mine) (place_at s p mine)) k (refl, refl) (accesses_of (since starts mine), refl) (ap is_over (sym runs.tied.part) ∙ runs.not_over)
+    facts (leaving b i k) = is_known (Closes (last_command mine) (call_number s mine) (leaving_at s p mine)) k tt tt tt
+    facts (settling b i k) = is_known (Closes (last_command mine) (call_number s mine) (failing_at s p mine)) k tt tt tt

@@ -1,0 +1,220 @@
+-- The accesses that are left within a number access: each has no mark, leaves one fewer, and leaves the stage.
+use Rattle.std.proofs.Common.{◌≡◌, ℕ, zero, suc, ◌+◌, ◌-◌, ◌*◌, ◌<◌, ◌==◌, ◌&&◌, Bool, true, false, cond, List, [], ◌∷◌, ◌++◌, length, Option, None, Some, refl, sym, ap, ◌∙◌, arith}
+use Rattle.std.proofs.Math.Nat.{mul-suc}
+use Rattle.std.proofs.lemmas.Bool.{ne_eqb, eqb-true}
+use Rattle.std.proofs.lemmas.List.{length_push}
+use Rattle.plain_store.specs.declared.Command.{Command}
+use Rattle.plain_store.specs.declared.Setup.{Setup}
+use Rattle.record.specs.declared.marks.Mark.{Mark}
+use Rattle.record.specs.reader_copies.Runs as copies
+use Rattle.record.specs.safe_number.Runs.{NumberWrite, write_on}
+use Rattle.record.specs.declared.stages.Stage.{Stage}
+use Rattle.record.specs.declared.stages.Stage.TheVariants as stage
+use Rattle.record.specs.Doorways.{is_queued, is_waiting_stage}
+use Rattle.record.specs.Parts.{Part, Raises, Asks, TakesTicket, Lowers, Refuses, Waits, AsksCommit, AsksStamp, AsksImage, WritesImage, WritesStamp, WritesCommit, Clears, Over, first_marks, is_over, last_marks, part_after, read_at, stage_of, written_at}
+use Rattle.record.specs.Places.{Place, Run, Reading, Writing, bit_written, bits_with, enter, is_fresh, is_last, place_after, run_after}
+use Rattle.record.specs.Registers.{width}
+use Rattle.record.specs.Scripts.{Call}
+use Rattle.laws.specs.Doings.{Doing, Rests, Lies, Runs, Closes, call, runs}
+use Rattle.laws.specs.Steps.{does_then, marks_with}
+use Rattle.process.specs.Places.{ProcessState, left_at, left_of, marks_on, rest_of, stage_doing, stepped}
+
+-- WITHIN A NUMBER ACCESS
+
+-- the next access is not the last one, and leaves one fewer
+pub record Within (c : Call) (part : Part) (run : Run) (v : Bool) : Type 0 where
+  pub last : is_last c part run ≡ false
+  pub fewer : rest_of c part (run_after c part run v) + 1 ≡ rest_of c part run
+  pub goes : is_fresh (run_after c part run v) ≡ false
+
+read-within : (c : Call) (part : Part) (bits : List Bool) (begun v : Bool) → 1 < rest_of c part (Reading bits begun) → Within c part (Reading bits begun) v
+read-within c part bits false v more = record { last = refl; fewer = omega arith; goes = refl }
+read-within c part bits true v more =
+    let w : ℕ = width c.setup (read_at c part).1 in
+    let inside : length bits + 1 < w = omega (arith, more) in
+    let long : length (bits ++ v ∷ []) ≡ length bits + 1 = length_push bits v in
+    record {
+      last = ne_eqb (length bits + 1) w (omega (arith, inside));
+      fewer = omega (arith, long, inside);
+      goes = ne_eqb (length (bits ++ v ∷ [])) 0 (omega (arith, long));
+    }
+
+-- how much a write has made of its present bit
+abbrev made_of : NumberWrite → ℕ
+made_of w = elim w.run as (λ _. ℕ) [ None ↦ 0 | Some bit ↦ bit.made ]
+
+-- bits that are left
+two-left : (n d : ℕ) → n < n * d → 1 < d
+two-left n zero more = absurd (omega (arith, more))
+two-left n (suc zero) more = absurd (omega (arith, more))
+two-left n (suc (suc d)) more = omega arith
+
+one-left : (n d : ℕ) → 0 < n * d → 0 < d
+one-left n zero more = absurd (omega (arith, more))
+one-left n (suc d) more = omega arith
+
+one-fewer : (n width bit : ℕ) → bit < width → n * (width - bit) ≡ n * (width - (bit + 1)) + n
+one-fewer n width bit inside = let e : width - bit ≡ suc (width - (bit + 1)) = omega (arith, inside) in ap (λ d. n * d) e ∙ mul-suc n (width - (bit + 1))
+
+-- what the write is after its next access, by whether that is the bit's last
+abbrev goes_to : NumberWrite → copies.Writing → Bool → NumberWrite
+goes_to w bit ends = write_on w (record { value = bit.value; made = bit.made + 1; ended = ends })
+
+module _ (c : Call) (part : Part) (w : NumberWrite) (v : Bool) where
+  -- so many copies, and so many bits are left
+  abbrev n : ℕ
+  n = c.setup.processes
+
+  abbrev d : ℕ
+  d = w.width - w.bit
+
+  abbrev now : copies.Writing
+  now = bit_written (written_at c part).1 w
+
+  -- the number access after it
+  abbrev then_rest : NumberWrite → ℕ
+  then_rest next = 2 * (n * (next.width - next.bit)) - made_of next
+
+  write-by : (ends : Bool) → (now.made + 1 == 2 * n) ≡ ends → 1 < 2 * (n * d) - now.made →
+      ((goes_to w now ends).bit == w.width) ≡ false × (then_rest (goes_to w now ends) + 1 ≡ 2 * (n * d) - now.made) × (is_fresh (Writing (goes_to w now ends)) ≡ false)
+  write-by true ends more =
+      let all : now.made + 1 ≡ 2 * n = eqb-true (now.made + 1) (2 * n) ends in
+      let many : 1 < d = two-left n d (omega (arith, more, all)) in
+      let fewer : n * d ≡ n * (w.width - (w.bit + 1)) + n = one-fewer n w.width w.bit (omega (arith, many)) in
+      (ne_eqb (w.bit + 1) w.width (omega (arith, many)), omega (arith, fewer, all), ap (λ b. b && true) (ne_eqb (w.bit + 1) 0 (omega arith)))
+  write-by false ends more =
+      let some : 0 < d = one-left n d (omega (arith, more)) in
+      (ne_eqb w.bit w.width (omega (arith, some)), omega (arith, more), none (w.bit == 0))
+    where
+      none : (b : Bool) → (b && false) ≡ false
+      none true = refl
+      none false = refl
+
+-- what is made, by how the write is told
+made-same : (bits : List Bool) (width bit : ℕ) (run : Option copies.Writing) → (bit_written bits (record { width = width; bit = bit; run = run })).made ≡ made_of (record { width = width; bit = bit; run = run })
+made-same bits width bit None = refl
+made-same bits width bit (Some x) = refl
+
+write-within : (c : Call) (part : Part) (w : NumberWrite) (v : Bool) → 1 < rest_of c part (Writing w) → Within c part (Writing w) v
+write-within c part w v more =
+    let m : ℕ = (bit_written (written_at c part).1 w).made in
+    let same : m ≡ made_of w = made-same (written_at c part).1 w.width w.bit w.run in
+    let by = write-by c part w v (m + 1 == 2 * c.setup.processes) refl (omega (arith, more, same)) in
+    record { last = by.0; fewer = by.1 ∙ (let e : 2 * (c.setup.processes * (w.width - w.bit)) - m ≡ rest_of c part (Writing w) = omega (arith, same) in e); goes = by.2 }
+
+pub within : (c : Call) (part : Part) (run : Run) (v : Bool) → 1 < rest_of c part run → Within c part run v
+within c part (Reading bits begun) v more = read-within c part bits begun v more
+within c part (Writing w) v more = write-within c part w v more
+
+-- WHAT IS LEFT
+
+-- where some are left, they are those before the last one, and the next one has no mark
+left-by : (fresh : Bool) (marks : List Mark) (rest : ℕ) → 0 < cond fresh (elim marks as (λ _. ℕ) [ [] ↦ rest - 1 | mark ∷ more ↦ 0 ]) (rest - 1) →
+    (1 < rest) × (cond fresh marks [] ≡ []) × (cond fresh (elim marks as (λ _. ℕ) [ [] ↦ rest - 1 | mark ∷ more ↦ 0 ]) (rest - 1) ≡ rest - 1)
+left-by true [] rest more = (omega (arith, more), refl, refl)
+left-by true (mark ∷ marks) rest more = absurd (omega (arith, more))
+left-by false marks rest more = (omega (arith, more), refl, refl)
+
+pub left-some : (c : Call) (part : Part) (run : Run) → 0 < left_of c part run → (1 < rest_of c part run) × (cond (is_fresh run) (first_marks part) [] ≡ []) × (left_of c part run ≡ rest_of c part run - 1)
+left-some c part run more = left-by (is_fresh run) (first_marks part) (rest_of c part run) more
+
+-- a call of which some are left is not over
+pub live-by : (over : Bool) (left : ℕ) → 0 < cond over 0 left → (over ≡ false) × (0 < left)
+live-by true left more = absurd (omega (arith, more))
+live-by false left more = (refl, more)
+
+-- the place after the next one is at the same part
+pub left-place : (c : Call) (at : Place) (v : Bool) → 0 < left_of c at.part at.run → (let same : Place = record { part = at.part; run = run_after c at.part at.run v } in place_after c at v ≡ same)
+left-place c at v more =
+    let same : Place = record { part = at.part; run = run_after c at.part at.run v } in
+    ap (λ b. cond b (enter c (part_after c at.part (bits_with at.run v))) same) (within c at.part at.run v (left-some c at.part at.run more).0).last
+
+-- what is done then
+pub left-runs : (s : Setup) (p : ℕ) (command : Command) (number : ℕ) (at : Place) (flick v : Bool) → is_over at.part ≡ false → 0 < left_of (call s p command number) at.part at.run →
+    (let same : Place = record { part = at.part; run = run_after (call s p command number) at.part at.run v } in does_then s p (Runs command number at) flick v ≡ Runs command number same)
+left-runs s p command number at flick v going more =
+    let same : Place = record { part = at.part; run = run_after (call s p command number) at.part at.run v } in
+    ap (runs command number) (left-place (call s p command number) at v more) ∙ ap (λ b. cond b Rests (Runs command number same)) going
+
+-- a process of this doing
+abbrev does : ProcessState → Doing → ProcessState
+does now d = record now { doing = d }
+
+-- NO MARK
+
+quiet-by : (now : ProcessState) (d : Doing) (flick v : Bool) → 0 < left_at (does now d) → marks_with now.setup now.process d flick v ≡ []
+quiet-by now Rests flick v more = refl
+quiet-by now Lies flick v more = refl
+quiet-by now (Closes command number at) flick v more = absurd (omega (arith, more))
+quiet-by now (Runs command number at) flick v more =
+    let c : Call = call now.setup now.process command number in
+    let live = live-by (is_over at.part) (left_of c at.part at.run) more in
+    let left = left-some c at.part at.run live.1 in
+    let last : is_last c at.part at.run ≡ false = (within c at.part at.run v left.0).last in
+    (λ i. left.1 i ++ cond (last i) (last_marks c at.part (bits_with at.run v)) [])
+
+-- none of the accesses that are left has a mark
+pub left-quiet : (now : ProcessState) (flick v : Bool) → 0 < left_at now → marks_on now flick v ≡ []
+left-quiet now flick v more = quiet-by now now.doing flick v more
+
+-- ONE FEWER
+
+fewer-by : (now : ProcessState) (d : Doing) (flick v : Bool) → 0 < left_at (does now d) → left_at (does now (does_then now.setup now.process d flick v)) + 1 ≡ left_at (does now d)
+fewer-by now Rests flick v more = absurd (omega (arith, more))
+fewer-by now Lies flick v more = absurd (omega (arith, more))
+fewer-by now (Closes command number at) flick v more = absurd (omega (arith, more))
+fewer-by now (Runs command number at) flick v more =
+    let c : Call = call now.setup now.process command number in
+    let live = live-by (is_over at.part) (left_of c at.part at.run) more in
+    let left = left-some c at.part at.run live.1 in
+    let w = within c at.part at.run v left.0 in
+    let next : Run = run_after c at.part at.run v in
+    let then : left_of c at.part next ≡ rest_of c at.part next - 1 = ap (λ b. cond b (elim (first_marks at.part) as (λ _. ℕ) [ [] ↦ rest_of c at.part next - 1 | mark ∷ marks ↦ 0 ]) (rest_of c at.part next - 1)) w.goes in
+    ap (λ d. left_at (does now d) + 1) (left-runs now.setup now.process command number at flick v live.0 live.1)
+    ∙ ap (λ b. cond b 0 (left_of c at.part next) + 1) live.0
+    ∙ (let e : left_of c at.part next + 1 ≡ left_of c at.part at.run = omega (arith, then, left.0, left.2, w.fewer) in e)
+    ∙ ap (λ b. cond b 0 (left_of c at.part at.run)) (sym live.0)
+
+-- after each there is one fewer
+pub left-fewer : (now : ProcessState) (flick v : Bool) → 0 < left_at now → left_at (stepped now flick v) + 1 ≡ left_at now
+left-fewer now flick v more = fewer-by now now.doing flick v more
+
+-- THE STAGE
+
+-- what does not tell a process inside from one that leaves, does not tell how far a part has come
+stage-same : (f : Stage → Bool) → f stage.Inside ≡ f stage.Leaving → (part : Part) (a b : Bool) → f (stage_of part a) ≡ f (stage_of part b)
+stage-same f same Raises a b = refl
+stage-same f same (Asks j js ts) a b = refl
+stage-same f same (TakesTicket t) a b = refl
+stage-same f same (Lowers t) a b = refl
+stage-same f same (Refuses full) a b = refl
+stage-same f same (Waits t w ws) a b = refl
+stage-same f same (AsksCommit k ks vs) a b = refl
+stage-same f same (AsksStamp k ks vs commit) a b = refl
+stage-same f same (AsksImage vs) a b = refl
+stage-same f same (WritesImage vs st) a b = refl
+stage-same f same (WritesStamp vs st) a b = refl
+stage-same f same (WritesCommit vs st) a b = refl
+stage-same f same (Clears answer) true true = refl
+stage-same f same (Clears answer) true false = same
+stage-same f same (Clears answer) false true = sym same
+stage-same f same (Clears answer) false false = refl
+stage-same f same Over a b = refl
+
+stays-by : (now : ProcessState) (d : Doing) (flick v : Bool) → 0 < left_at (does now d) →
+    (is_waiting_stage (stage_doing (does_then now.setup now.process d flick v)) ≡ is_waiting_stage (stage_doing d)) × (is_queued (stage_doing (does_then now.setup now.process d flick v)) ≡ is_queued (stage_doing d))
+stays-by now Rests flick v more = (refl, refl)
+stays-by now Lies flick v more = (refl, refl)
+stays-by now (Closes command number at) flick v more = absurd (omega (arith, more))
+stays-by now (Runs command number at) flick v more =
+    let c : Call = call now.setup now.process command number in
+    let live = live-by (is_over at.part) (left_of c at.part at.run) more in
+    let then = left-runs now.setup now.process command number at flick v live.0 live.1 in (
+      ap (λ d. is_waiting_stage (stage_doing d)) then ∙ stage-same is_waiting_stage refl at.part (is_fresh (run_after c at.part at.run v)) (is_fresh at.run),
+      ap (λ d. is_queued (stage_doing d)) then ∙ stage-same is_queued refl at.part (is_fresh (run_after c at.part at.run v)) (is_fresh at.run),
+    )
+
+-- and it waits after it if it waited before, and is at the door if it was
+pub left-stays : (now : ProcessState) (flick v : Bool) → 0 < left_at now →
+    (is_waiting_stage (stage_doing (stepped now flick v).doing) ≡ is_waiting_stage (stage_doing now.doing)) × (is_queued (stage_doing (stepped now flick v).doing) ≡ is_queued (stage_doing now.doing))
+left-stays now flick v more = stays-by now now.doing flick v more

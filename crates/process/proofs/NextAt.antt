@@ -1,0 +1,59 @@
+-- The next access of a process is that of its cursor.
+use Rattle.std.proofs.Common.{◌≡◌, ◌+◌, Bool, true, false, List, [], ◌∷◌, Option, sym, ap, ◌∙◌, subst, arith}
+use Rattle.plain_store.specs.declared.Reply.{Reply}
+use Rattle.record.specs.declared.access.Access.{Access}
+use Rattle.record.specs.declared.access.Field.TheVariants.{Choosing, Ticket}
+use Rattle.record.specs.declared.marks.Mark.{Mark}
+use Rattle.record.specs.Closings.{no_ticket}
+use Rattle.laws.specs.Doings.{Closes}
+use Rattle.registers.specs.Accesses.{cursor_after, move_by, next_access}
+use Rattle.registers.specs.Begins.{is_fresh}
+use Rattle.registers.specs.Cursors.{CursorState}
+use Rattle.registers.proofs.ClosingMoves.{ends}
+use Rattle.registers.proofs.CursorRuns.{moves}
+use Rattle.process.specs.declared.work.ProcessWork.{ProcessWork}
+use Rattle.process.specs.declared.work.ProcessWork.TheVariants as work
+use Rattle.process.specs.CallParts.{PartState}
+use Rattle.process.specs.Places.{ProcessState, marks_on, may_step, stepped}
+use Rattle.process.specs.Serving.{next_at}
+use Rattle.process.specs.Working.{AreMarksOn, IsStepped, HasMoved, KeepsPlace, SettlesAt, doing_at, given, reply_taken, settling_at, state_at, with_doing}
+
+settling-next : (k : PartState) (inside flick : Bool) (taken : Option (Bool × Reply)) (cur : CursorState) → SettlesAt k.call.setup k.call.process taken cur →
+    next_access cur flick ≡ next_at (state_at k (work.Settles inside taken) cur) flick
+settling-next k inside flick taken cur at =
+    let reader : cur.reader + cur.copy ≡ cur.copy = omega (arith, at.reader) in
+    (λ i. record { owner = at.owner i; field = cur.register.field; bit = cur.bit; reader = reader i; how = move_by (at.run i) cur flick })
+    ∙ sym (ap (λ r. next_at (with_doing k (Closes k.call.command k.call.number (settling_at r inside (reply_taken taken) cur))) flick) at.run)
+
+pub next-is : (k : PartState) (w : ProcessWork) (cur : CursorState) (flick : Bool) → KeepsPlace k w cur → may_step (doing_at k w cur) ≡ true → next_access cur (given w flick false) ≡ next_at (state_at k w cur) flick
+next-is k work.Rests cur flick keeps goes = absurd (cc)
+next-is k work.Lies cur flick keeps goes = absurd (cc)
+next-is k work.Runs cur flick keeps goes = let m = moves k.call k.part cur false keeps.working.at in sym m.access
+next-is k work.Withdraws cur flick keeps goes = let e = ends k.call.setup k.call.process (Ticket, no_ticket k.call) cur false keeps.working in sym e.access
+next-is k (work.Settles inside taken) cur flick keeps goes = settling-next k inside flick taken cur keeps.working
+next-is k (work.Frees inside) cur flick keeps goes = let e = ends k.call.setup k.call.process (Ticket, no_ticket k.call) cur false keeps.working in sym e.access
+next-is k work.Lowers cur flick keeps goes = let e = ends k.call.setup k.call.process (Choosing, false ∷ []) cur false keeps.working in sym e.access
+
+-- the cursor has made it, at work that is this
+has-moved : {k : PartState} {was : ProcessWork} {g fresh : Bool} {a : Access} {before cur : CursorState} (w : ProcessWork) (flick value : Bool) → KeepsPlace k was before → was ≡ w → g ≡ given was flick value → a ≡ next_access before g → cur ≡ cursor_after before a.how → fresh ≡ is_fresh before →
+    HasMoved k w flick value before cur fresh
+has-moved {k} {was} {g} {fresh} {a} {before} {cur} w flick value keeps same gives is goes first = record {
+  keeps = subst (λ w. KeepsPlace k w before) same keeps;
+  moves = goes ∙ ap (λ (b : Access). cursor_after before b.how) (is ∙ ap (next_access before) (gives ∙ ap (λ w. given w flick value) same));
+  first = first;
+}
+
+-- so the process has gone on from what it was
+pub then-stepped : {k : PartState} {was : ProcessWork} {g fresh : Bool} {a : Access} {before cur : CursorState} {now next : ProcessState} (w : ProcessWork) (flick value : Bool) → KeepsPlace k was before → state_at k was before ≡ now → was ≡ w → g ≡ given was flick value → a ≡ next_access before g → cur ≡ cursor_after before a.how → fresh ≡ is_fresh before →
+    IsStepped k w cur fresh next → next ≡ stepped now flick value
+then-stepped {k} {was} {g} {fresh} {a} {before} {cur} {now} {next} w flick value keeps shows same gives is goes first steps =
+    steps flick value before (has-moved w flick value keeps same gives is goes first)
+    ∙ ap (λ w. stepped (state_at k w before) flick value) (sym same)
+    ∙ ap (λ (s : ProcessState). stepped s flick value) shows
+
+pub then-marks : {k : PartState} {was : ProcessWork} {g fresh : Bool} {a : Access} {before cur : CursorState} {now : ProcessState} {marks : List Mark} (w : ProcessWork) (flick value : Bool) → KeepsPlace k was before → state_at k was before ≡ now → was ≡ w → g ≡ given was flick value → a ≡ next_access before g → cur ≡ cursor_after before a.how → fresh ≡ is_fresh before →
+    AreMarksOn k w cur fresh marks → marks ≡ marks_on now flick value
+then-marks {k} {was} {g} {fresh} {a} {before} {cur} {now} {marks} w flick value keeps shows same gives is goes first are =
+    are flick value before (has-moved w flick value keeps same gives is goes first)
+    ∙ ap (λ w. marks_on (state_at k w before) flick value) (sym same)
+    ∙ ap (λ (s : ProcessState). marks_on s flick value) shows

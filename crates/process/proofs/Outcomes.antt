@@ -1,0 +1,19 @@
+-- What a read of a part has given.
+use Rattle.std.proofs.Common.{◌≡◌, ℕ, ◌^◌, ◌<◌, ◌≤◌, Bool, true, false, List, refl, subst, arith}
+use Rattle.record.specs.safe_number.Bytes.{number_of_bits}
+use Rattle.record.proofs.safe_number.Bits.{number-fits}
+use Rattle.record.specs.Parts.{Part, is_read, read_at}
+use Rattle.plain_store.specs.declared.Setup.{Setup}
+use Rattle.record.specs.Program.{max_of, stamp_field}
+use Rattle.record.specs.Registers.{width}
+use Rattle.record.specs.Scripts.{Call}
+use Rattle.process.specs.CallParts.{IsOutcome}
+
+pub outcome-fits : (c : Call) (part : Part) (bits : List Bool) (number : ℕ) → IsOutcome c part bits number → is_read part ≡ true → number ≤ max_of (width c.setup (read_at c part).1)
+outcome-fits c part bits number out reads =
+    let fits : number_of_bits bits < 2 ^ width c.setup (read_at c part).1 = subst (λ w. number_of_bits bits < 2 ^ w) (out.whole reads) (number-fits bits) in
+    omega (arith, fits, out.makes)
+
+pub width-stamp : (s : Setup) (b : Bool) → width s (stamp_field b) ≡ s.stamp_bits
+width-stamp s true = refl
+width-stamp s false = refl

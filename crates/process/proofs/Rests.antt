@@ -1,0 +1,63 @@
+-- How many accesses are left, by the cursor.
+use Rattle.std.proofs.Common.{◌≡◌, ℕ, ◌-◌, ◌*◌, Bool, true, false, cond, List, [], ◌∷◌, get_or, None, Some, refl, sym, ap, ◌∙◌, arith, inl, inr}
+use Rattle.std.proofs.Math.Nat.{mul-sub}
+use Rattle.std.proofs.lemmas.Bool.{cases_eq, eq-eqb, ne_eqb}
+use Rattle.record.specs.reader_copies.Runs.{Writing}
+use Rattle.record.specs.declared.marks.Mark.{Mark}
+use Rattle.record.specs.Parts.{Part, first_marks, is_read, read_at, written_at}
+use Rattle.record.specs.Places as places
+use Rattle.record.specs.Scripts.{Call}
+use Rattle.registers.specs.AtParts.{IsAtPart, ReadsAt, WritesAt, run_at, run_by}
+use Rattle.registers.specs.Begins.{is_fresh, made_of_bit}
+use Rattle.registers.specs.Cursors.{CursorState, rest_by}
+use Rattle.registers.specs.Cursors as cursors
+use Rattle.registers.specs.Rows.{bit_begun}
+use Rattle.registers.specs.declared.cursor.NumberRun.TheVariants.{Reads, Writes}
+use Rattle.registers.proofs.CursorRuns.{Moves, moves}
+use Rattle.process.specs.Places.{left_of, rest_of}
+
+-- what is made of the present bit
+begun-made : (made : ℕ) (value : Bool) → elim (bit_begun made value) as (λ _. ℕ) [ None ↦ 0 | Some bit ↦ bit.made ] ≡ made
+begun-made made value = elim (cases_eq made 0) [
+  | inl none ↦ ap (λ b. elim (cond b None (Some (bit value))) as (λ _. ℕ) [ None ↦ 0 | Some bit ↦ bit.made ]) (eq-eqb made 0 none) ∙ sym none
+  | inr some ↦ ap (λ b. elim (cond b None (Some (bit value))) as (λ _. ℕ) [ None ↦ 0 | Some bit ↦ bit.made ]) (ne_eqb made 0 some)
+]
+  where
+    bit : Bool → Writing
+    bit v = record { value = v; made = made; ended = false }
+
+rest-read : (c : Call) (part : Part) (cur : CursorState) → ReadsAt c.setup c.process (read_at c part) cur → rest_of c part (run_at cur) ≡ cursors.rest_of cur
+rest-read c part cur at =
+    ap (λ r. rest_of c part (run_by r cur)) at.run
+    ∙ (let e : rest_of c part (places.Reading cur.bits cur.begun) ≡ rest_by Reads cur = omega (arith, at.wide, at.bits) in e)
+    ∙ sym (ap (λ r. rest_by r cur) at.run)
+
+rest-write : (c : Call) (part : Part) (cur : CursorState) → WritesAt c.setup c.process (written_at c part) cur → rest_of c part (run_at cur) ≡ cursors.rest_of cur
+rest-write c part cur at =
+    let n : ℕ = c.setup.processes in
+    let made : elim (bit_begun (made_of_bit cur) (get_or cur.bits cur.bit false)) as (λ _. ℕ) [ None ↦ 0 | Some bit ↦ bit.made ] ≡ made_of_bit cur = begun-made (made_of_bit cur) (get_or cur.bits cur.bit false) in
+    ap (λ r. rest_of c part (run_by r cur)) at.run
+    ∙ ap (λ m. 2 * (n * (cur.width - cur.bit)) - m) made
+    ∙ ap (λ k. 2 * (k * (cur.width - cur.bit)) - made_of_bit cur) (sym at.copies)
+    ∙ (let e : 2 * (cur.copies * (cur.width - cur.bit)) - made_of_bit cur ≡ rest_by Writes cur = omega (arith, mul-sub cur.copies cur.width cur.bit) in e)
+    ∙ sym (ap (λ r. rest_by r cur) at.run)
+
+-- as many as the cursor has left
+pub rest-is : (c : Call) (part : Part) (cur : CursorState) → IsAtPart c part cur → rest_of c part (run_at cur) ≡ cursors.rest_of cur
+rest-is c part cur at = by (is_read part) at
+  where
+    by : (b : Bool) → elim b as (λ _. Type 0) [ true ↦ ReadsAt c.setup c.process (read_at c part) cur | false ↦ WritesAt c.setup c.process (written_at c part) cur ] → rest_of c part (run_at cur) ≡ cursors.rest_of cur
+    by true reads = rest-read c part cur reads
+    by false writes = rest-write c part cur writes
+
+-- those before the last one
+before-last : (fresh : Bool) (marks : List Mark) (rest : ℕ) → cond fresh marks [] ≡ [] → cond fresh (elim marks as (λ _. ℕ) [ [] ↦ rest - 1 | mark ∷ more ↦ 0 ]) (rest - 1) ≡ rest - 1
+before-last true [] rest none = refl
+before-last true (mark ∷ marks) rest none = absurd (cc)
+before-last false marks rest none = refl
+
+pub left-before : (c : Call) (part : Part) (cur : CursorState) → IsAtPart c part cur → cond (is_fresh cur) (first_marks part) [] ≡ [] → left_of c part (run_at cur) ≡ cursors.rest_of cur - 1
+left-before c part cur at none =
+    let m : Moves c part cur false = moves c part cur false at in
+    before-last (places.is_fresh (run_at cur)) (first_marks part) (rest_of c part (run_at cur)) (ap (λ b. cond b (first_marks part) []) m.fresh ∙ none)
+    ∙ ap (λ n. n - 1) (rest-is c part cur at)

@@ -1,0 +1,117 @@
+-- What a memory makes of a process, by what contracts see of it.
+use Rattle.std.proofs.Common.{◌≡◌, ◌<◌, ◌≤◌, ℕ, Bool, true, false, cond, List, None, Some, is_some, refl, sym, ap, ◌∙◌, subst, arith}
+use Rattle.registers.specs.safe_bit.Cell.{Cell}
+use Rattle.flicks.specs.Flicks.{FlickState}
+use Rattle.plain_store.specs.declared.Setup.{Setup}
+use Rattle.record.specs.declared.access.Access.{Access}
+use Rattle.record.specs.Parts.{Part, is_over, is_read, read_at, written_at}
+use Rattle.record.specs.Scripts.{Call}
+use Rattle.laws.specs.Doings.{Doing, Rests, Lies, Runs, Closes}
+use Rattle.laws.specs.Steps.{reads_of}
+use Rattle.registers.specs.Accesses.{applied, cursor_after, next_answered, run_of}
+use Rattle.registers.specs.AtParts.{ReadsAt, WritesAt, run_at}
+use Rattle.registers.specs.Cursors.{CursorState, Fits, first_lane, lane_number, rest_of}
+use Rattle.registers.specs.Memory.{without_reads}
+use Rattle.registers.specs.Openings.{AreOf}
+use Rattle.process.specs.declared.work.ProcessWork.{ProcessWork}
+use Rattle.process.specs.declared.work.ProcessWork.TheVariants as work
+use Rattle.process.specs.CallParts.{PartState}
+use Rattle.process.specs.Places.{ProcessState, left_at, left_of, may_step}
+use Rattle.process.specs.Serving.{answered_at, dropped, step_by, steps_of}
+use Rattle.process.specs.Working.{KeepsPlace, state_at}
+use Rattle.process.proofs.Left.{left-some, live-by}
+use Rattle.process.proofs.Rests.{rest-is}
+use Rattle.process.proofs.Serves.{answered-is, left-works, served, serves-one, serves-step, stands, stands-fit}
+
+-- a process of which accesses are left goes
+goes-by : (now : ProcessState) (d : Doing) → 0 < left_at (record now { doing = d }) → may_step d ≡ true
+goes-by now Rests more = absurd (omega (arith, more))
+goes-by now Lies more = absurd (omega (arith, more))
+goes-by now (Runs command number at) more = refl
+goes-by now (Closes command number at) more = refl
+
+pub left-goes : (now : ProcessState) → 0 < left_at now → may_step now.doing ≡ true
+left-goes now more = goes-by now now.doing more
+
+-- its cursor fits a memory of its setup
+pub shown-fits : (k : PartState) (w : ProcessWork) (cur : CursorState) (now : ProcessState) (memory : List (List Cell)) → KeepsPlace k w cur → state_at k w cur ≡ now → may_step now.doing ≡ true → AreOf now.setup memory → Fits memory cur
+shown-fits k w cur now memory keeps shown goes of =
+    stands-fit k.call.setup memory cur (subst (λ s. AreOf s memory) (sym (ap (λ (x : ProcessState). x.setup) shown)) of)
+    (stands k w cur keeps (ap (λ (x : ProcessState). may_step x.doing) shown ∙ goes))
+
+-- it is answered as its cursor is
+pub shown-answered : (k : PartState) (w : ProcessWork) (cur : CursorState) (now : ProcessState) (memory : List (List Cell)) (flick : Bool) → KeepsPlace k w cur → state_at k w cur ≡ now → may_step now.doing ≡ true →
+    next_answered cur memory flick ≡ answered_at now memory flick
+shown-answered k w cur now memory flick keeps shown goes =
+    answered-is k w cur memory flick keeps (ap (λ (x : ProcessState). may_step x.doing) shown ∙ goes)
+    ∙ ap (λ x. answered_at x memory flick) shown
+
+-- a step within a number access
+pub shown-step : (k : PartState) (w : ProcessWork) (cur : CursorState) (now : ProcessState) (memory : List (List Cell)) (flick : Bool) → KeepsPlace k w cur → state_at k w cur ≡ now → 0 < left_at now →
+    let a : Access = next_answered cur memory flick in
+    KeepsPlace k w (cursor_after cur a.how) × (let then : ProcessState × List (List Cell) = (state_at k w (cursor_after cur a.how), applied cur.copies memory a) in then ≡ step_by flick (now, memory))
+shown-step k w cur now memory flick keeps shown more =
+    let here : 0 < left_at (state_at k w cur) = omega (arith, more, ap left_at shown) in
+    let a : Access = next_answered cur memory flick in
+    let P : ProcessWork → Type 0 = λ w. KeepsPlace k w cur → 0 < left_at (state_at k w cur) →
+    KeepsPlace k w (cursor_after cur a.how) × (let then : ProcessState × List (List Cell) = (state_at k w (cursor_after cur a.how), applied cur.copies memory a) in then ≡ step_by flick (state_at k w cur, memory)) in
+    let runs : P work.Runs = λ keeps more. ((serves-one k cur memory flick keeps more).0, serves-step k cur memory flick keeps more) in
+    let one = subst P (sym (left-works k w cur here)) runs keeps here in
+    (one.0, one.1 ∙ ap (λ (x : ProcessState). step_by flick (x, memory)) shown)
+
+-- and so many
+pub shown-run : (steps : ℕ) (k : PartState) (w : ProcessWork) (cur : CursorState) (now : ProcessState) (memory : List (List Cell)) (flicks : FlickState) → KeepsPlace k w cur → state_at k w cur ≡ now → 0 < steps → steps ≤ left_at now →
+    let x : CursorState × List (List Cell) × FlickState = run_of steps (cur, memory, flicks) in
+    KeepsPlace k w x.0 × (let then : ProcessState × List (List Cell) × FlickState = (state_at k w x.0, x.1, x.2) in then ≡ steps_of steps (now, memory, flicks)) × (steps ≤ rest_of cur)
+shown-run steps k w cur now memory flicks keeps shown some within =
+    let here : steps ≤ left_at (state_at k w cur) = omega (arith, within, ap left_at shown) in
+    let x : CursorState × List (List Cell) × FlickState = run_of steps (cur, memory, flicks) in
+    let P : ProcessWork → Type 0 = λ w. KeepsPlace k w cur → steps ≤ left_at (state_at k w cur) →
+    KeepsPlace k w x.0 × (let then : ProcessState × List (List Cell) × FlickState = (state_at k w x.0, x.1, x.2) in then ≡ steps_of steps (state_at k w cur, memory, flicks)) × (steps ≤ rest_of cur) in
+    let runs : P work.Runs = λ keeps within.
+    let all = served steps k cur memory flicks keeps within in
+    let live = live-by (is_over k.part) (left_of k.call k.part (run_at cur)) (omega (arith, some, within)) in
+    let left = left-some k.call k.part (run_at cur) live.1 in
+    let same : left_at (state_at k work.Runs cur) ≡ left_of k.call k.part (run_at cur) = ap (λ b. cond b 0 (left_of k.call k.part (run_at cur))) live.0 in
+    (all.keeps, all.now, omega (arith, within, same, left.2, rest-is k.call k.part cur keeps.working.at)) in
+    let one = subst P (sym (left-works k w cur (omega (arith, some, here)))) runs keeps here in
+    (one.0, one.1 ∙ ap (λ (x : ProcessState). steps_of steps (x, memory, flicks)) shown, one.2)
+
+-- A DROPPED READ
+
+-- a process that reads goes
+pub reads-goes : (s : Setup) (p : ℕ) (d : Doing) → is_some (reads_of s p d) ≡ true → may_step d ≡ true
+reads-goes s p Rests some = absurd (cc)
+reads-goes s p Lies some = absurd (cc)
+reads-goes s p (Runs command number at) some = refl
+reads-goes s p (Closes command number at) some = refl
+
+drop-part : (c : Call) (part : Part) (cur : CursorState) (memory : List (List Cell)) (b : Bool) → is_read part ≡ b →
+    elim b as (λ _. Type 0) [ true ↦ ReadsAt c.setup c.process (read_at c part) cur | false ↦ WritesAt c.setup c.process (written_at c part) cur ] →
+    is_some (cond (is_read part) (Some (read_at c part)) None) ≡ true →
+    without_reads memory (first_lane cur) ≡ elim (cond (is_read part) (Some (read_at c part)) None) as (λ _. List (List Cell)) [
+      | None ↦ memory
+      | Some register ↦ without_reads memory (lane_number c.setup.processes (record { owner = register.0; field = register.1 }) c.process)
+    ]
+drop-part c part cur memory true reads at some =
+    (λ i. without_reads memory (lane_number (at.copies i) (at.at i) (at.reader i)))
+    ∙ sym (ap (λ b. elim (cond b (Some (read_at c part)) None) as (λ _. List (List Cell)) [
+      | None ↦ memory
+      | Some register ↦ without_reads memory (lane_number c.setup.processes (record { owner = register.0; field = register.1 }) c.process)
+    ]) reads)
+drop-part c part cur memory false writes at some = absurd (let no : is_some (cond false (Some (read_at c part)) None) ≡ true = sym (ap (λ b. is_some (cond b (Some (read_at c part)) None)) writes) ∙ some in cc)
+
+drop-works : (k : PartState) (w : ProcessWork) (cur : CursorState) (memory : List (List Cell)) → KeepsPlace k w cur → is_some (reads_of k.call.setup k.call.process (state_at k w cur).doing) ≡ true →
+    without_reads memory (first_lane cur) ≡ dropped (state_at k w cur) memory
+drop-works k work.Rests cur memory keeps some = absurd (cc)
+drop-works k work.Lies cur memory keeps some = absurd (cc)
+drop-works k work.Runs cur memory keeps some = drop-part k.call k.part cur memory (is_read k.part) refl keeps.working.at some
+drop-works k work.Withdraws cur memory keeps some = absurd (cc)
+drop-works k (work.Settles inside taken) cur memory keeps some = absurd (cc)
+drop-works k (work.Frees inside) cur memory keeps some = absurd (cc)
+drop-works k work.Lowers cur memory keeps some = absurd (cc)
+
+pub shown-drop : (k : PartState) (w : ProcessWork) (cur : CursorState) (now : ProcessState) (memory : List (List Cell)) → KeepsPlace k w cur → state_at k w cur ≡ now → is_some (reads_of now.setup now.process now.doing) ≡ true →
+    without_reads memory (first_lane cur) ≡ dropped now memory
+shown-drop k w cur now memory keeps shown some =
+    drop-works k w cur memory keeps (ap (λ (x : ProcessState). is_some (reads_of x.setup x.process x.doing)) shown ∙ some) ∙ ap (λ x. dropped x memory) shown

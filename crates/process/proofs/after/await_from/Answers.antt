@@ -1,0 +1,7 @@
+use Rattle.std.proofs.Common.{sym}
+use Rattle.process.specs.Seen.{call_of}
+use Rattle.process.proofs.AfterParts.{awaits-some}
+use Rattle.process.proofs.after.await_from.Goals as goal
+
+pub returns-in-Some-clause-part : goal.returns-in-Some-clause-part
+returns-in-Some-clause-part c = λ seen. awaits-some (call_of c.args.call.now) seen c.args.ticket c.args.first c.in-Some.owner c.requires.first (sym c.in-Some.ensures)

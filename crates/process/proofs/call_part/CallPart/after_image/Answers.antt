@@ -1,0 +1,22 @@
+use Rattle.std.proofs.Common.{sym, ap, ◌∙◌}
+use Rattle.record.specs.Parts.{Part, last_marks}
+use Rattle.record.specs.Program.{store_read}
+use Rattle.process.specs.CallParts.{PartState, marks_to, reads_image}
+use Rattle.process.specs.Seen.{call_of, part_at}
+use Rattle.process.specs.declared.seen.Seen.{Seen}
+use Rattle.process.proofs.MarksTo.{after-image, marks-to}
+use Rattle.process.proofs.call_part.CallPart.after_image.Goals as goal
+
+pub returns-clause-marks : goal.returns-clause-marks
+returns-clause-marks c = λ bits is.
+    let i = c.self.inside in
+    let call = call_of i.call in
+    let old : Part = part_at call i.seen i.part in
+    let then : Seen = record i.seen { store = c.args.store.now } in
+    let next : Part = part_at call then c.after_image-self-inside.result in
+    let reads = ap (λ (s : PartState). reads_image s.part) c.self.view_is ∙ c.requires.image in
+    let given = ap (λ (s : PartState). store_read s.call bits) c.self.view_is ∙ is in
+    c.told_to.ensures.marks call i.seen then
+    ∙ ap (marks_to old) (after-image call i.seen i.part bits c.args.store.now next reads given c.after_image-self-inside.ensures.part)
+    ∙ sym (marks-to call old bits)
+    ∙ ap (λ (s : PartState). last_marks s.call s.part bits) c.self.view_is

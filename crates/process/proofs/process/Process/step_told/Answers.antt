@@ -1,0 +1,31 @@
+use Rattle.std.proofs.Common.{List, sym, ap, subst, ◌∙◌}
+use Rattle.registers.specs.safe_bit.Cell.{Cell}
+use Rattle.record.specs.declared.access.Access.{Access}
+use Rattle.registers.specs.Accesses.{applied, cursor_after}
+use Rattle.process.specs.Places.{ProcessState}
+use Rattle.process.specs.Working.{KeepsPlace, state_at}
+use Rattle.process.proofs.Shown.{left-goes, shown-answered, shown-fits, shown-step}
+use Rattle.process.proofs.process.Process.step_told.Goals as goal
+
+pub make-access-requires-clause-fits : goal.make-access-requires-clause-fits
+make-access-requires-clause-fits c = shown-fits c.self.inside.called c.self.inside.work c.self.inside.cursor c.args.self.now c.args.memory.now c.self.invariant c.self.view_is (left-goes c.args.self.now c.requires.left) c.requires.memory
+
+pub invariant_of-self : goal.invariant_of-self
+invariant_of-self c =
+    let cur = c.self.inside.cursor in
+    let one = shown-step c.self.inside.called c.self.inside.work cur c.args.self.now c.args.memory.now c.args.flick c.self.invariant c.self.view_is c.requires.left in
+    subst (KeepsPlace c.self.inside.called c.self.inside.work) (sym (c.advance.ensures ∙ ap (λ (a : Access). cursor_after cur a.how) c.make-access.ensures.access)) one.0
+
+pub returns-clause-access : goal.returns-clause-access
+returns-clause-access c =
+    c.make-access.ensures.access
+    ∙ shown-answered c.self.inside.called c.self.inside.work c.self.inside.cursor c.args.self.now c.args.memory.now c.args.flick c.self.invariant c.self.view_is (left-goes c.args.self.now c.requires.left)
+
+pub returns-clause-step : goal.returns-clause-step
+returns-clause-step c =
+    let cur = c.self.inside.cursor in
+    let memory = c.args.memory.now in
+    let one = shown-step c.self.inside.called c.self.inside.work cur c.args.self.now memory c.args.flick c.self.invariant c.self.view_is c.requires.left in
+    (λ i. (state_at c.self.inside.called c.self.inside.work (c.advance.ensures i), c.make-access.ensures.memory i))
+    ∙ ap (λ (a : Access). let then : ProcessState × List (List Cell) = (state_at c.self.inside.called c.self.inside.work (cursor_after cur a.how), applied cur.copies memory a) in then) c.make-access.ensures.access
+    ∙ one.1

@@ -1,0 +1,38 @@
+-- The committed store with the greatest stamp, off the memory, as reader 0's copies have it.
+use Rattle.std.specs.Prelude.{ℕ, Bool, false, List, map, slice_index_or}
+use Rattle.registers.specs.safe_bit.Cell.{Cell}
+use Rattle.plain_store.specs.declared.Setup.{Setup}
+use Rattle.plain_store.specs.Setups.{callers_of}
+use Rattle.plain_store.specs.Store.{Contents}
+use Rattle.record.specs.declared.access.Field.{Field}
+use Rattle.record.specs.declared.access.Field.TheVariants.{Commit}
+use Rattle.record.specs.Program.{Version, image_field, newest_process, stamp_field, version_of}
+use Rattle.record.specs.Registers.{bytes_of_bits, image_bytes, processes}
+use Rattle.record.specs.safe_number.Bytes.{number_of_bits}
+use Rattle.store_image.specs.Reading.{store_in}
+use Rattle.registers.specs.Rows.{values_held}
+
+-- what a register of a process holds
+abbrev pub register_held : Setup → List (List Cell) → ℕ → Field → List Bool
+register_held s memory p field = values_held s.processes memory (record { owner = p; field = field })
+
+-- the version that a process has committed: its commit bit, and the stamp that this chooses
+abbrev pub version_in : Setup → List (List Cell) → ℕ → Version
+version_in s memory p =
+    let commit = slice_index_or (register_held s memory p Commit) 0 false in
+    (commit, number_of_bits (register_held s memory p (stamp_field commit)))
+
+-- those of all processes
+abbrev pub versions_in : Setup → List (List Cell) → List Version
+versions_in s memory = map (version_in s memory) (processes s)
+
+-- the bits of the committed image with the greatest stamp, of the lowest process on a tie
+abbrev pub newest_bits : Setup → List (List Cell) → List Bool
+newest_bits s memory =
+    let versions = versions_in s memory in
+    let newest = newest_process versions in
+    register_held s memory newest (image_field (version_of versions newest))
+
+-- the store whose image it is; the empty one, if it is none
+abbrev pub newest_store : Setup → List (List Cell) → Contents
+newest_store s memory = store_in s.slots (callers_of s) (bytes_of_bits (image_bytes s) (newest_bits s memory))

@@ -1,0 +1,136 @@
+-- A process: what it does, and its last call; and what becomes of it.
+use Rattle.std.specs.Prelude.{◌≡◌, ℕ, Bool, true, false, ◌&&◌, ◌==◌, nat_le, cond, if◌then◌else◌, ◌*◌, ◌+◌, ◌-◌, List, [], ◌∷◌, length, Option, None, Some, option_map}
+use Rattle.plain_store.specs.declared.Command.{Command}
+use Rattle.plain_store.specs.declared.Setup.{Setup}
+use Rattle.record.specs.declared.events.Event.{Event}
+use Rattle.record.specs.declared.marks.Mark.{Mark}
+use Rattle.record.specs.declared.refusals.Refusal.{Refusal}
+use Rattle.record.specs.declared.refusals.Refusal.TheVariants.{CallsFull, Memory}
+use Rattle.record.specs.declared.stages.Stage.{Stage}
+use Rattle.record.specs.declared.stages.Stage.TheVariants as stage
+use Rattle.record.specs.Calls.{call_number, last_command}
+use Rattle.record.specs.Closings.{closing_stage, withdrawing}
+use Rattle.record.specs.Cuts.{Change, pending_at}
+use Rattle.record.specs.Entries.{Past, own}
+use Rattle.record.specs.Parts.{Part, AsksImage, Raises, WritesCommit, first_marks, is_over, read_at}
+use Rattle.record.specs.Places.{Run, Reading, Writing, enter, is_fresh, stage_at}
+use Rattle.record.specs.Program.{newest_stamp}
+use Rattle.record.specs.Records.{is_call, refused_at}
+use Rattle.record.specs.Registers.{width}
+use Rattle.record.specs.Scripts.{Call}
+use Rattle.laws.specs.Doings.{Doing, Closes, Lies, Rests, Runs, call, doing}
+use Rattle.laws.specs.Steps.{cut_of, does_then, marks_with}
+
+-- a process: what it does, and its last call
+pub record ProcessState : Type 0 where
+  pub setup : Setup
+  pub process : ℕ
+  pub doing : Doing
+  pub command : Command
+  pub number : ℕ
+
+-- of a process after a past
+abbrev pub process_after : Setup → Past → ℕ → ProcessState
+process_after s past p = record { setup = s; process = p; doing = doing s p past; command = last_command (own p past); number = call_number s (own p past) }
+
+-- its stage
+abbrev pub stage_doing : Doing → Stage
+stage_doing Rests = stage.Idle
+stage_doing Lies = stage.Down
+stage_doing (Runs command number at) = stage_at at
+stage_doing (Closes command number at) = closing_stage at
+
+-- it has an access to make: it runs, or its memory unit works
+abbrev pub may_step : Doing → Bool
+may_step Rests = false
+may_step Lies = false
+may_step _ = true
+
+-- it may fail: it rests, or it has not failed
+abbrev pub may_fail : Doing → Bool
+may_fail d = elim (stage_doing d) [ stage.Settling ↦ false | stage.Down ↦ false | _ ↦ true ]
+
+-- THE PROCESS AFTER AN EVENT OF ITS OWN
+
+-- once a call has begun
+abbrev pub called : ProcessState → Command → ℕ → ProcessState
+called now command number = record now {
+  doing = Runs command number (enter (call now.setup now.process command number) Raises);
+  command = command;
+  number = number;
+}
+
+-- after its next access
+abbrev pub stepped : ProcessState → (flick value : Bool) → ProcessState
+stepped now flick value = record now { doing = does_then now.setup now.process now.doing flick value }
+
+-- and the marks on it
+abbrev pub marks_on : ProcessState → (flick value : Bool) → List Mark
+marks_on now flick value = marks_with now.setup now.process now.doing flick value
+
+-- once it gave up waiting
+abbrev pub withdrawn : ProcessState → ProcessState
+withdrawn now = record now { doing = Closes now.command now.number (withdrawing (call now.setup now.process now.command now.number)) }
+
+-- once it has failed: its memory unit goes on
+abbrev pub failed : ProcessState → ProcessState
+failed now = record now { doing = Closes now.command now.number (cut_of now.setup now.process now.doing) }
+
+-- once it was restarted
+abbrev pub restarted : ProcessState → ProcessState
+restarted now = record now { doing = Rests }
+
+-- WHY AN EVENT IS REFUSED
+
+-- a call of a process whose last one has this number would be one too many
+abbrev pub is_full : Setup → ℕ → Event → Bool
+is_full s number event = is_call event && (s.version == 2) && nat_le 65535 number
+
+-- why an event of the process is refused, if it is: the first of the refusals that applies
+abbrev pub refusal_of : ProcessState → Event → Option Refusal
+refusal_of now event = elim (refused_at event (stage_doing now.doing)) [ Some refusal ↦ Some refusal | None ↦ cond (is_full now.setup now.number event) (Some CallsFull) None ]
+
+-- a refusal that no memory would have spared
+abbrev pub WantsNoMemory : Refusal → Type 0
+WantsNoMemory refusal = refusal ≡ Memory → ⊥
+
+-- the number of the call after the one with this number: in version 2 one more; in version 1 always 0
+abbrev pub next_number : Setup → ℕ → ℕ
+next_number s number = cond (s.version == 2) (number + 1) 0
+
+-- WHAT IT HAS READ
+
+-- the greatest stamp that was read, where the next access may take the command: so many changes were taken before it
+abbrev pub changes_at : Part → ℕ
+changes_at (AsksImage versions) = newest_stamp versions
+changes_at (WritesCommit versions store) = newest_stamp versions
+changes_at _ = 0
+
+abbrev pub changes_read : Doing → ℕ
+changes_read (Runs command number at) = changes_at at.part
+changes_read _ = 0
+
+-- the greatest stamp that was read, while a change is being written
+abbrev pub changes_pending : Setup → ℕ → Doing → Option ℕ
+changes_pending s p (Runs command number at) = option_map (λ (change : Change). change.1) (pending_at (call s p command number) at.part)
+changes_pending s p _ = None
+
+-- HOW FAR ITS NUMBER ACCESS IS FROM ITS END
+
+-- how many accesses are left of a number access
+abbrev pub rest_of : Call → Part → Run → ℕ
+rest_of c part (Reading bits begun) = 2 * width c.setup (read_at c part).1 - (2 * length bits + (if begun then 1 else 0))
+rest_of c part (Writing w) = 2 * (c.setup.processes * (w.width - w.bit)) - elim w.run as (λ _. ℕ) [ None ↦ 0 | Some bit ↦ bit.made ]
+
+-- how many accesses a place has before the last one; none, where the next one has a mark
+abbrev pub left_of : Call → Part → Run → ℕ
+left_of c part run = cond (is_fresh run) (elim (first_marks part) [ [] ↦ rest_of c part run - 1 | mark ∷ marks ↦ 0 ]) (rest_of c part run - 1)
+
+-- how many of its next accesses are within a number access of its call: they have no mark, and none is the last
+abbrev pub left_at : ProcessState → ℕ
+left_at now = elim now.doing as (λ _. ℕ) [
+  | Rests ↦ 0
+  | Lies ↦ 0
+  | Runs command number at ↦ cond (is_over at.part) 0 (left_of (call now.setup now.process command number) at.part at.run)
+  | Closes command number at ↦ 0
+]

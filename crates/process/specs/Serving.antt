@@ -1,0 +1,45 @@
+-- A process that is served by a memory: a step, and so many of them.
+use Rattle.std.specs.Prelude.{ℕ, zero, suc, Bool, List, None, Some, unwrap_or}
+use Rattle.registers.specs.safe_bit.Cell.{Cell}
+use Rattle.registers.specs.safe_bit.declared.moves.Move.TheVariants.{BeginRead}
+use Rattle.flicks.specs.Flicks.{FlickState, after_flick, flick_of}
+use Rattle.record.specs.declared.access.Access.{Access}
+use Rattle.record.specs.declared.access.Field.TheVariants.{Choosing}
+use Rattle.record.specs.Places.{value_of}
+use Rattle.laws.specs.Steps.{next_of, reads_of}
+use Rattle.registers.specs.Accesses.{answered, applied}
+use Rattle.registers.specs.Cursors.{lane_number}
+use Rattle.registers.specs.Memory.{without_reads}
+use Rattle.process.specs.Places.{ProcessState, stepped}
+
+-- the next access of a process that has one, a read's end with its value left open
+abbrev pub next_at : ProcessState → Bool → Access
+next_at now flick = unwrap_or (next_of now.setup now.process now.doing flick) (record { owner = 0; field = Choosing; bit = 0; reader = 0; how = BeginRead })
+
+-- the same, as the memory answers it
+abbrev pub answered_at : ProcessState → List (List Cell) → Bool → Access
+answered_at now memory flick = answered now.setup.processes memory flick (next_at now flick)
+
+-- the process goes on by that access, and the memory by it
+abbrev pub going_by : ProcessState → List (List Cell) → Bool → Access → ProcessState × List (List Cell)
+going_by now memory flick a = (stepped now flick (value_of a.how), applied now.setup.processes memory a)
+
+-- ONE STEP, by this flick
+abbrev pub step_by : Bool → ProcessState × List (List Cell) → ProcessState × List (List Cell)
+step_by flick (now, memory) = going_by now memory flick (answered_at now memory flick)
+
+-- by the flick that is next
+abbrev pub step_of : ProcessState × List (List Cell) × FlickState → ProcessState × List (List Cell) × FlickState
+step_of (now, memory, flicks) = ((step_by (flick_of flicks) (now, memory)).0, (step_by (flick_of flicks) (now, memory)).1, after_flick flicks)
+
+-- SO MANY
+abbrev pub steps_of : ℕ → ProcessState × List (List Cell) × FlickState → ProcessState × List (List Cell) × FlickState
+steps_of zero now = now
+steps_of (suc k) now = step_of (steps_of k now)
+
+-- the memory without the open read of the process, if it has one
+abbrev pub dropped : ProcessState → List (List Cell) → List (List Cell)
+dropped now memory = elim (reads_of now.setup now.process now.doing) [
+  | None ↦ memory
+  | Some register ↦ without_reads memory (lane_number now.setup.processes (record { owner = register.0; field = register.1 }) now.process)
+]

@@ -1,0 +1,138 @@
+-- What a process does, as its call, its work and its cursor show it.
+use Rattle.std.specs.Prelude.{◌≡◌, ◌<◌, ℕ, Bool, true, false, List, [], ◌∷◌, IfSome, Option, None, Some, option_map, slice_index_or}
+use Rattle.plain_store.specs.declared.Reply.{Reply}
+use Rattle.plain_store.specs.declared.Setup.{Setup}
+use Rattle.record.specs.declared.access.Field.TheVariants.{Choosing, Commit, Ticket}
+use Rattle.record.specs.declared.marks.Mark.{Mark}
+use Rattle.record.specs.Closings as closing
+use Rattle.record.specs.Closings.{Closing, no_ticket}
+use Rattle.record.specs.Cuts.{pending_at}
+use Rattle.record.specs.Failures.{taken_with}
+use Rattle.record.specs.Parts.{is_over, written_at}
+use Rattle.record.specs.Registers.{width}
+use Rattle.laws.specs.Doings as doings
+use Rattle.laws.specs.Doings.{Doing}
+use Rattle.registers.specs.AtParts.{IsAtPart, WritesAt, moved, place_at}
+use Rattle.registers.specs.Begins.{is_fresh, is_torn}
+use Rattle.registers.specs.Cursors.{CursorState}
+use Rattle.registers.specs.Rows.{settling_kept, write_kept}
+use Rattle.registers.specs.declared.cursor.NumberRun.{NumberRun}
+use Rattle.registers.specs.declared.cursor.NumberRun.TheVariants as run
+use Rattle.process.specs.declared.work.ProcessWork.{ProcessWork}
+use Rattle.process.specs.declared.work.ProcessWork.TheVariants as work
+use Rattle.process.specs.CallParts.{PartState}
+use Rattle.process.specs.Places.{ProcessState, marks_on, stepped}
+use Rattle.process.specs.Seen.{IsCall}
+
+-- WHAT IT DOES
+
+-- the reply of the command that the settling of a commit bit may take
+abbrev pub reply_taken : Option (Bool × Reply) → Option Reply
+reply_taken taken = option_map (λ (t : Bool × Reply). t.1) taken
+
+-- the unit settles the present bit of a cursor
+abbrev pub settling_at : NumberRun → Bool → Option Reply → CursorState → Closing
+settling_at (run.Settles cut value) inside taken cur = closing.Settles cur.register.field cur.bit (slice_index_or cur.bits cur.bit false) taken inside (settling_kept cut value cur)
+settling_at _ inside taken cur = closing.Ended
+
+-- what is done to end a call
+abbrev pub closing_at : ProcessWork → CursorState → Closing
+closing_at work.Withdraws cur = closing.Withdraws (write_kept cur)
+closing_at (work.Settles inside taken) cur = settling_at cur.run inside (reply_taken taken) cur
+closing_at (work.Frees inside) cur = closing.Frees inside (write_kept cur)
+closing_at work.Lowers cur = closing.Lowers (write_kept cur)
+closing_at _ cur = closing.Ended
+
+-- what a process does
+abbrev pub doing_at : PartState → ProcessWork → CursorState → Doing
+doing_at k work.Rests cur = doings.Rests
+doing_at k work.Lies cur = doings.Lies
+doing_at k work.Runs cur = doings.Runs k.call.command k.call.number (place_at k.part cur)
+doing_at k w cur = doings.Closes k.call.command k.call.number (closing_at w cur)
+
+-- a process with this last call, that does this
+abbrev pub with_doing : PartState → Doing → ProcessState
+with_doing k d = record { setup = k.call.setup; process = k.call.process; doing = d; command = k.call.command; number = k.call.number }
+
+-- what contracts see of the fields
+abbrev pub state_at : PartState → ProcessWork → CursorState → ProcessState
+state_at k w cur = with_doing k (doing_at k w cur)
+
+-- WHERE THE CURSOR IS
+
+-- at the part of the call
+pub record RunsAt (k : PartState) (cur : CursorState) : Type 0 where
+  pub going : is_over k.part ≡ false
+  pub at : IsAtPart k.call k.part cur
+  pub there : cur.register.owner < k.call.setup.processes
+
+-- the unit of p settles a bit of a register; a commit bit that is settled at what was being written takes the command
+pub record SettlesAt (s : Setup) (p : ℕ) (taken : Option (Bool × Reply)) (cur : CursorState) : Type 0 where
+  pub cut : ℕ
+  pub value : Option Bool
+  pub run : cur.run ≡ run.Settles cut value
+  pub owner : cur.register.owner ≡ p
+  pub reader : cur.reader ≡ 0
+  pub copies : cur.copies ≡ s.processes
+  pub wide : cur.width ≡ width s cur.register.field
+  pub copy : cur.copy < cur.copies
+  pub going : cur.bit < cur.width
+  pub settled : cur.begun ≡ true → (v : Bool) × (value ≡ Some v)
+  pub written : IfSome taken (λ (t : Bool × Reply). t.0 ≡ slice_index_or cur.bits cur.bit false)
+
+-- where the work is
+abbrev pub IsWorking : PartState → ProcessWork → CursorState → Type 0
+IsWorking k work.Runs cur = RunsAt k cur
+IsWorking k work.Withdraws cur = WritesAt k.call.setup k.call.process (Ticket, no_ticket k.call) cur
+IsWorking k (work.Settles inside taken) cur = SettlesAt k.call.setup k.call.process taken cur
+IsWorking k (work.Frees inside) cur = WritesAt k.call.setup k.call.process (Ticket, no_ticket k.call) cur
+IsWorking k work.Lowers cur = WritesAt k.call.setup k.call.process (Choosing, false ∷ []) cur
+IsWorking k _ cur = Unit {0}
+
+-- what the fields keep
+pub record KeepsPlace (k : PartState) (w : ProcessWork) (cur : CursorState) : Type 0 where
+  pub call : IsCall k.call
+  pub working : IsWorking k w cur
+
+-- ITS NEXT ACCESS
+
+-- with what it is made: the flick by the unit that settles, else the value that a read gave
+abbrev pub given : ProcessWork → (flick value : Bool) → Bool
+given (work.Settles inside taken) flick value = flick
+given _ flick value = value
+
+-- the cursor has made its next access; before it, it was this one
+pub record HasMoved (k : PartState) (w : ProcessWork) (flick value : Bool) (before cur : CursorState) (fresh : Bool) : Type 0 where
+  pub keeps : KeepsPlace k w before
+  pub moves : cur ≡ moved before (given w flick value)
+  pub first : fresh ≡ is_fresh before
+
+-- from some cursor on, with some flick and value
+abbrev pub IsMoved : PartState → ProcessWork → CursorState → (fresh : Bool) → Type 0
+IsMoved k w cur fresh = (flick value : Bool) × (before : CursorState) × HasMoved k w flick value before cur fresh
+
+-- then this is the process
+abbrev pub IsStepped : PartState → ProcessWork → CursorState → (fresh : Bool) → ProcessState → Type 0
+IsStepped k w cur fresh next = (flick value : Bool) (before : CursorState) → HasMoved k w flick value before cur fresh → next ≡ stepped (state_at k w before) flick value
+
+-- and these are the marks
+abbrev pub AreMarksOn : PartState → ProcessWork → CursorState → (fresh : Bool) → List Mark → Type 0
+AreMarksOn k w cur fresh marks = (flick value : Bool) (before : CursorState) → HasMoved k w flick value before cur fresh → marks ≡ marks_on (state_at k w before) flick value
+
+-- WHAT A FAILURE FINDS
+
+-- the process writes, and its present bit has begun and has not ended on every copy
+abbrev pub is_torn_at : ProcessWork → CursorState → Bool
+is_torn_at work.Runs cur = is_torn cur
+is_torn_at work.Withdraws cur = is_torn cur
+is_torn_at _ cur = false
+
+-- the reply with which the settling of its bit may take the command
+abbrev pub taken_at : PartState → ProcessWork → Option Reply
+taken_at k work.Runs = taken_with (written_at k.call k.part).0 (pending_at k.call k.part)
+taken_at k _ = None
+
+-- the process writes this new value to its commit bit
+abbrev pub IsOfCommit : PartState → ProcessWork → Bool × Reply → Type 0
+IsOfCommit k work.Runs taken = written_at k.call k.part ≡ (Commit, taken.0 ∷ [])
+IsOfCommit k _ taken = ⊥

@@ -1,0 +1,188 @@
+//! What comes after a number access.
+ghost use Rattle.std.specs.Prelude.{◌≡◌, ◌<◌, ◌≤◌, ◌+◌, ◌-◌, ◌==◌, ◌||◌, ◌++◌, ◌∷◌, [], Bool, List, false, length};
+ghost use Rattle.plain_store.specs.Setups.{callers_of};
+ghost use Rattle.record.specs.Parts.{is_over, part_after, to_b, to_c, to_d, to_e, to_g};
+ghost use Rattle.record.specs.Program.{greatest, is_below, max_of};
+ghost use Rattle.record.specs.safe_number.Bytes.{number_of_bits};
+ghost use Rattle.process.specs.CallParts.{IsOutcome, reads_image};
+ghost use Rattle.process.specs.Others.{others_below};
+ghost use Rattle.process.specs.Seen.{Fit, HasRoom, Holds, IsCall, KeepsPart, all_from, call_of, others_of, part_at, tickets_seen, versions_seen, waits_from};
+ghost use Rattle.process.specs.declared.seen.Seen.{Seen};
+
+use crate::numbers::{greatest, most_of, place_of};
+use crate::others::{first_other, other_numbered, others_below};
+use crate::part::{ProcessCall, ProcessPart};
+use crate::seen::Seen;
+use crate::store::{applied, is_change};
+use plain_store::Answer;
+use store_image::Image;
+
+/// All tickets are read: one more than the greatest is taken, if it fits.
+fn choose(call: &ProcessCall, tickets: &[u32]) -> ProcessPart
+    requires call { IsCall (call_of call.now) }
+    requires all { length tickets.now + 1 ≡ call.now.setup.processes }
+    requires fits { greatest tickets.now ≤ max_of call.now.setup.ticket_bits }
+    ensures part { (seen : Seen) → part_at (call_of call.now) seen result ≡ to_c (call_of call.now) tickets.now }
+    ensures holds { (seen : Seen) → Holds (call_of call.now) seen result }
+{
+    let most = greatest(tickets);
+    if most == most_of(call.setup.ticket_bits) {
+        ProcessPart::Refuses(other_numbered(call, place_of(most, tickets)))
+    } else {
+        ProcessPart::TakesTicket(most + 1)
+    }
+}
+
+/// On to the ticket of the first of the others from `first` on, or of none.
+fn ask_from(call: &ProcessCall, seen: &Seen, first: u8) -> ProcessPart
+    requires call { IsCall (call_of call.now) }
+    requires room { HasRoom seen.now }
+    requires first { first ≤ call.now.setup.processes }
+    requires fits { Fit (others_below call.now.process first) call.now.setup.ticket_bits seen.now }
+    ensures part { part_at (call_of call.now) seen.now result ≡ to_b (call_of call.now) (others_of (call_of call.now) first) (tickets_seen call.now.process first seen.now) }
+    ensures holds { Holds (call_of call.now) seen.now result }
+{
+    match first_other(call, first) {
+        Some(owner) => ProcessPart::Asks { owner },
+        None => choose(call, &seen.numbers[..usize::from(call.setup.processes) - 1]),
+    }
+}
+
+/// The ticket of another process was read.
+fn after_ticket(call: &ProcessCall, seen: &mut Seen, owner: u8, number: u32) -> ProcessPart
+    requires keeps { KeepsPart (call_of call.now) seen.old (ProcessPart.Asks owner) }
+    requires fits { number ≤ max_of call.now.setup.ticket_bits }
+    ensures part { part_at (call_of call.now) seen.new result ≡ to_b (call_of call.now) (others_of (call_of call.now) (owner + 1)) (tickets_seen call.now.process owner seen.old ++ number ∷ []) }
+    ensures keeps { KeepsPart (call_of call.now) seen.new result }
+{
+    seen.numbers[others_below(call, owner)] = number;
+    ask_from(call, seen, owner + 1)
+}
+
+/// On to the version of this process, or of none: then to the image.
+fn version_from(call: &ProcessCall, first: u8) -> ProcessPart
+    requires first { first ≤ call.now.setup.processes }
+    ensures part { (seen : Seen) → part_at (call_of call.now) seen result ≡ to_e (all_from (call_of call.now) first) (versions_seen first seen) }
+    ensures holds { (seen : Seen) → Fit first call.now.setup.stamp_bits seen → Holds (call_of call.now) seen result }
+{
+    if first == call.setup.processes {
+        ProcessPart::AsksImage
+    } else {
+        ProcessPart::AsksCommit { of: first }
+    }
+}
+
+/// On to the wait for the first of the others from `first` on, or for none: then the process is inside.
+fn await_from(call: &ProcessCall, ticket: u32, first: u8) -> ProcessPart
+    requires call { IsCall (call_of call.now) }
+    requires first { first ≤ call.now.setup.processes }
+    ensures part { (seen : Seen) → part_at (call_of call.now) seen result ≡ to_d (call_of call.now) ticket (waits_from (call_of call.now) first) }
+    ensures holds { (seen : Seen) → Holds (call_of call.now) seen result }
+{
+    match first_other(call, first) {
+        Some(owner) => ProcessPart::AwaitsChoosing { ticket, owner },
+        None => version_from(call, 0),
+    }
+}
+
+/// The stamp of a process was read.
+fn after_stamp(
+    call: &ProcessCall,
+    seen: &mut Seen,
+    of: u8,
+    commit: bool,
+    number: u32,
+) -> ProcessPart
+    requires keeps { KeepsPart (call_of call.now) seen.old (ProcessPart.AsksStamp of commit) }
+    requires fits { number ≤ max_of call.now.setup.stamp_bits }
+    ensures part { part_at (call_of call.now) seen.new result ≡ to_e (all_from (call_of call.now) (of + 1)) (versions_seen of seen.old ++ (commit, number) ∷ []) }
+    ensures keeps { KeepsPart (call_of call.now) seen.new result }
+{
+    let place = usize::from(of);
+    seen.commits[place] = commit;
+    seen.numbers[place] = number;
+    version_from(call, of + 1)
+}
+
+/// The newest store was read. A command that changes nothing is taken; a change is written, where its stamp fits.
+pub(crate) fn after_image(call: &ProcessCall, seen: &Seen) -> ProcessPart
+    requires call { IsCall (call_of call.now) }
+    requires room { HasRoom seen.now }
+    requires fits { Fit call.now.setup.processes call.now.setup.stamp_bits seen.now }
+    requires slots { seen.now.store.slots ≡ call.now.setup.slots }
+    requires numbers { length seen.now.store.numbers ≡ callers_of call.now.setup }
+    ensures part { part_at (call_of call.now) seen.now result ≡ to_g (call_of call.now) (versions_seen call.now.setup.processes seen.now) seen.now.store }
+    ensures holds { Holds (call_of call.now) seen.now result }
+{
+    if !is_change(call, &seen.store) {
+        return ProcessPart::Clears(Answer::Reply(applied(call, &seen.store).1));
+    }
+    let stamps = &seen.numbers[..usize::from(call.setup.processes)];
+    if greatest(stamps) == most_of(call.setup.stamp_bits) {
+        ProcessPart::Clears(Answer::StampsFull)
+    } else {
+        ProcessPart::WritesImage
+    }
+}
+
+/// Whether a ticket that was read lets by.
+fn lets_by(call: &ProcessCall, ticket: u32, owner: u8, number: u32) -> bool
+    ensures { result ≡ ((number == 0) || is_below ticket call.now.process number owner) }
+{
+    number == 0 || ticket < number || ticket == number && call.process < owner
+}
+
+/// A wait's read has given this number: it goes on, or to what comes after it.
+fn after_wait(call: &ProcessCall, ticket: u32, owner: u8, number: u32) -> ProcessPart
+    requires call { IsCall (call_of call.now) }
+    requires owner { owner < call.now.setup.processes }
+    ensures part { (seen : Seen) (bits : List Bool) → number_of_bits bits ≡ number → part_at (call_of call.now) seen result ≡ part_after (call_of call.now) (part_at (call_of call.now) seen (ProcessPart.AwaitsTicket ticket owner)) bits }
+    ensures holds { (seen : Seen) → Holds (call_of call.now) seen result }
+{
+    if lets_by(call, ticket, owner, number) {
+        await_from(call, ticket, owner + 1)
+    } else {
+        ProcessPart::AwaitsTicket { ticket, owner }
+    }
+}
+
+/// What comes after a number access that is over, where it has not read the image; a read gave `number`.
+pub(crate) fn part_after(
+    call: &ProcessCall,
+    seen: &mut Seen,
+    part: &ProcessPart,
+    number: u32,
+) -> ProcessPart
+    requires keeps { KeepsPart (call_of call.now) seen.old part.now }
+    requires small { reads_image (part_at (call_of call.now) seen.old part.now) ≡ false }
+    requires number { (bits : List Bool) × IsOutcome (call_of call.now) (part_at (call_of call.now) seen.old part.now) bits number }
+    ensures part { (bits : List Bool) → IsOutcome (call_of call.now) (part_at (call_of call.now) seen.old part.now) bits number → part_at (call_of call.now) seen.new result ≡ part_after (call_of call.now) (part_at (call_of call.now) seen.old part.now) bits }
+    ensures keeps { KeepsPart (call_of call.now) seen.new result }
+{
+    match *part {
+        ProcessPart::Raises => ask_from(call, seen, 0),
+        ProcessPart::Asks { owner } => after_ticket(call, seen, owner, number),
+        ProcessPart::TakesTicket(ticket) => ProcessPart::Lowers(ticket),
+        ProcessPart::Lowers(ticket) => await_from(call, ticket, 0),
+        ProcessPart::AwaitsChoosing { ticket, owner } if number == 0 => {
+            ProcessPart::AwaitsTicket { ticket, owner }
+        }
+        ProcessPart::AwaitsChoosing { ticket, owner } => ProcessPart::AwaitsChoosing {
+            ticket,
+            owner,
+        },
+        ProcessPart::AwaitsTicket { ticket, owner } => after_wait(call, ticket, owner, number),
+        ProcessPart::AsksCommit { of } => ProcessPart::AsksStamp {
+            of,
+            commit: number == 1,
+        },
+        ProcessPart::AsksStamp { of, commit } => after_stamp(call, seen, of, commit, number),
+        ProcessPart::WritesImage => ProcessPart::WritesStamp,
+        ProcessPart::WritesStamp => ProcessPart::WritesCommit,
+        ProcessPart::WritesCommit => {
+            ProcessPart::Clears(Answer::Reply(applied(call, &seen.store).1))
+        }
+        ProcessPart::Refuses(_) | ProcessPart::Clears(_) | ProcessPart::Over => ProcessPart::Over,
+        ProcessPart::AsksImage => unreachable!(),
+    }
+}

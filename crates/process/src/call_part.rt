@@ -1,0 +1,261 @@
+//! A call at one of its parts.
+ghost use Rattle.std.specs.Prelude.{◌≡◌, ◌<◌, ◌≤◌, ◌∷◌, [], Bool, IfSome, List, Ok, cond, false, length, option_map, true};
+ghost use Rattle.plain_store.specs.Setups.{callers_of, checked};
+ghost use Rattle.record.specs.declared.marks.Mark.TheVariants.{Left};
+ghost use Rattle.laws.specs.Doings.{is_inside_at};
+ghost use Rattle.record.specs.Cuts.{Change, pending_at};
+ghost use Rattle.record.specs.Failures.{taken_with};
+ghost use Rattle.record.specs.Parts.{Raises, first_marks, is_over, is_read, last_marks, part_after, read_at, stage_of, written_at};
+ghost use Rattle.record.specs.Program.{store_read};
+ghost use Rattle.record.specs.Registers.{width};
+ghost use Rattle.record.specs.safe_number.Bytes.{bits_in};
+ghost use Rattle.store_image.specs.Image.{image_of};
+ghost use Rattle.process.specs.CallParts.{IsAsked, IsOutcome, reads_image, writes_image};
+ghost use Rattle.process.specs.Places.{changes_at};
+ghost use Rattle.process.specs.Telling.{changes_told, marks_told};
+ghost use Rattle.process.specs.Working.{reply_taken};
+
+use crate::after;
+use crate::asked::{Asked, asks_at, newest_stamp, other_commit};
+use crate::marks::told_to;
+use crate::part::{ProcessCall, ProcessPart};
+use crate::seen::Seen;
+use crate::store::applied;
+use crate::told::StepTold;
+use plain_store::{Command, Reply, Setup};
+use record::{Field, Stage};
+use std::marker::Model;
+use store_image::Image;
+
+/// A call of a process, the part of it that the process is at, and what it has read before that.
+#[derive(Drop)]
+pub struct CallPart {
+    call: ProcessCall,
+    part: ProcessPart,
+    seen: Seen,
+}
+
+impl Model for CallPart {
+    ghost use Rattle.process.specs.CallParts.{PartState};
+
+    ghost Value = { PartState };
+
+    ghost use Rattle.process.specs.Seen.{KeepsPart, call_of, part_at};
+
+    ghost view = { λ k. record { call = call_of k.call; part = part_at (call_of k.call) k.seen k.part } };
+
+    ghost invariant = { λ k. KeepsPart (call_of k.call) k.seen k.part };
+}
+
+impl CallPart {
+    /// A call, at its begin.
+    pub fn new(setup: &Setup, process: u8, command: Command, number: u16) -> CallPart
+        requires good { checked setup.now ≡ Ok tt }
+        requires process { process < setup.now.processes }
+        ensures { result ≡ record { call = record { setup = setup.now; process = process; command = command; number = number }; part = Raises } }
+    {
+        CallPart {
+            call: ProcessCall {
+                setup: *setup,
+                process,
+                command,
+                number,
+            },
+            part: ProcessPart::Raises,
+            seen: Seen {
+                numbers: [0; 16],
+                commits: [false; 16],
+                store: Image::empty(1, 0),
+            },
+        }
+    }
+
+    /// Another call of the same process, at its begin.
+    pub fn start(&mut self, command: Command, number: u16)
+        ensures { self.new ≡ record { call = record self.old.call { command = command; number = number }; part = Raises } }
+    {
+        self.call.command = command;
+        self.call.number = number;
+        self.part = ProcessPart::Raises;
+    }
+
+    /// The setup.
+    pub fn setup(&self) -> Setup
+        ensures { result ≡ self.now.call.setup }
+    {
+        self.call.setup
+    }
+
+    /// Whose call it is.
+    pub fn process(&self) -> u8
+        ensures { result ≡ self.now.call.process }
+    {
+        self.call.process
+    }
+
+    /// Its command.
+    pub fn command(&self) -> Command
+        ensures { result ≡ self.now.call.command }
+    {
+        self.call.command
+    }
+
+    /// Its number.
+    pub fn number(&self) -> u16
+        ensures { result ≡ self.now.call.number }
+    {
+        self.call.number
+    }
+
+    /// Whether the call was answered.
+    pub fn is_over(&self) -> bool
+        ensures { result ≡ is_over self.now.part }
+    {
+        matches!(self.part, ProcessPart::Over)
+    }
+
+    /// Whether its first access has the mark `Left`.
+    #[inline]
+    pub fn leaves(&self) -> bool
+        ensures { first_marks self.now.part ≡ cond result (Left ∷ []) [] }
+    {
+        matches!(self.part, ProcessPart::Clears(_))
+    }
+
+    /// Whether it reads the image; any other register that it reads has at most 32 bits.
+    pub fn reads_image(&self) -> bool
+        ensures image { result ≡ reads_image self.now.part }
+        ensures narrow { result ≡ false → is_read self.now.part ≡ true → width self.now.call.setup (read_at self.now.call self.now.part).1 ≤ 32 }
+    {
+        matches!(self.part, ProcessPart::AsksImage)
+    }
+
+    /// The stage of its process, which has made no access of this part, or has.
+    pub fn stage(&self, fresh: bool) -> Stage
+        ensures { result ≡ stage_of self.now.part fresh }
+    {
+        match self.part {
+            ProcessPart::AwaitsChoosing { .. } | ProcessPart::AwaitsTicket { .. } => Stage::Waiting,
+            ProcessPart::AsksCommit { .. }
+            | ProcessPart::AsksStamp { .. }
+            | ProcessPart::AsksImage
+            | ProcessPart::WritesImage
+            | ProcessPart::WritesStamp
+            | ProcessPart::WritesCommit => Stage::Inside,
+            ProcessPart::Clears(_) if fresh => Stage::Inside,
+            ProcessPart::Clears(_) => Stage::Leaving,
+            ProcessPart::Over => Stage::Idle,
+            _ => Stage::Doorway,
+        }
+    }
+
+    /// Whether its process is inside, which has made no access of this part, or has.
+    pub fn is_inside(&self, fresh: bool) -> bool
+        ensures { result ≡ is_inside_at self.now.part fresh }
+    {
+        match self.part {
+            ProcessPart::AsksCommit { .. }
+            | ProcessPart::AsksStamp { .. }
+            | ProcessPart::AsksImage
+            | ProcessPart::WritesImage
+            | ProcessPart::WritesStamp
+            | ProcessPart::WritesCommit => true,
+            ProcessPart::Clears(_) => fresh,
+            _ => false,
+        }
+    }
+
+    /// The greatest stamp that was read, while a change is being written.
+    pub fn changes_pending(&self) -> Option<u32>
+        ensures { result ≡ option_map (λ (change : Change). change.1) (pending_at self.now.call self.now.part) }
+    {
+        match self.part {
+            ProcessPart::WritesImage | ProcessPart::WritesStamp | ProcessPart::WritesCommit => {
+                Some(newest_stamp(&self.call, &self.seen))
+            }
+            _ => None,
+        }
+    }
+
+    /// The greatest stamp that was read, where its last access may take the command: so many changes were taken before it.
+    fn changes_read(&self) -> u32
+        ensures { result ≡ changes_at self.now.part }
+    {
+        match self.part {
+            ProcessPart::AsksImage | ProcessPart::WritesCommit => newest_stamp(
+                &self.call, &self.seen,
+            ),
+            _ => 0,
+        }
+    }
+
+    /// While it writes the commit bit, the bit's new value, at which it takes the command, and the reply.
+    pub fn takes(&self) -> Option<(bool, Reply)>
+        ensures reply { reply_taken result ≡ taken_with (written_at self.now.call self.now.part).0 (pending_at self.now.call self.now.part) }
+        ensures commit { IfSome result (λ (taken : Bool × Reply). written_at self.now.call self.now.part ≡ (Field.Commit, taken.0 ∷ [])) }
+    {
+        match self.part {
+            ProcessPart::WritesCommit => Some((
+                other_commit(&self.call, &self.seen),
+                applied(&self.call, &self.seen.store).1,
+            )),
+            _ => None,
+        }
+    }
+
+    /// The store whose image it writes.
+    pub fn image(&self) -> Image
+        requires { writes_image self.now.part ≡ true }
+        ensures { bits_in (image_of result) (width self.now.call.setup Field.Image0) ≡ (written_at self.now.call self.now.part).1 }
+    {
+        applied(&self.call, &self.seen.store).0
+    }
+
+    /// What it does.
+    pub fn asks(&self) -> Asked
+        ensures { IsAsked self.now.call self.now.part result }
+    {
+        asks_at(&self.call, &self.seen, &self.part)
+    }
+
+    /// Goes on to the part that comes next, once its number access is over and has not read the image; a read has given
+    /// `number`. It tells what the last access leads to.
+    pub fn after(&mut self, number: u32) -> StepTold
+        requires going { is_over self.old.part ≡ false }
+        requires small { reads_image self.old.part ≡ false }
+        requires number { (bits : List Bool) × IsOutcome self.old.call self.old.part bits number }
+        ensures part { (bits : List Bool) → IsOutcome self.old.call self.old.part bits number → self.new ≡ record self.old { part = part_after self.old.call self.old.part bits } }
+        ensures marks { (bits : List Bool) → IsOutcome self.old.call self.old.part bits number → marks_told result ≡ last_marks self.old.call self.old.part bits }
+        ensures changes { IfSome (changes_told result) (λ changes. changes ≡ changes_at self.old.part) }
+    {
+        let part = self.part;
+        let changes = self.changes_read();
+        self.part = after::part_after(&self.call, &mut self.seen, &part, number);
+        told_to(&part, &self.part, changes)
+    }
+
+    /// The same, once it has read the image, which is that of `store`.
+    pub fn after_image(&mut self, store: &Image) -> StepTold
+        requires image { reads_image self.old.part ≡ true }
+        requires slots { store.now.slots ≡ self.old.call.setup.slots }
+        requires numbers { length store.now.numbers ≡ callers_of self.old.call.setup }
+        ensures part { (bits : List Bool) → store_read self.old.call bits ≡ store.now → self.new ≡ record self.old { part = part_after self.old.call self.old.part bits } }
+        ensures marks { (bits : List Bool) → store_read self.old.call bits ≡ store.now → marks_told result ≡ last_marks self.old.call self.old.part bits }
+        ensures changes { IfSome (changes_told result) (λ changes. changes ≡ changes_at self.old.part) }
+    {
+        let part = self.part;
+        let changes = self.changes_read();
+        self.seen.store = *store;
+        self.part = after::after_image(&self.call, &self.seen);
+        told_to(&part, &self.part, changes)
+    }
+
+    /// Becomes as the other. It takes no memory.
+    pub fn copy_from(&mut self, other: &CallPart)
+        ensures { self.new ≡ other.now }
+    {
+        self.call = other.call;
+        self.part = other.part;
+        self.seen = other.seen;
+    }
+}

@@ -1,0 +1,92 @@
+//! The cursor of a part: where it begins, and where it is over.
+ghost use Rattle.std.specs.Prelude.{◌≡◌, ◌<◌, ◌≤◌, IfSome, false};
+ghost use Rattle.record.specs.Parts.{is_over, last_marks, part_after};
+ghost use Rattle.record.specs.Registers.{width};
+ghost use Rattle.record.specs.safe_number.Bytes.{bits_of_number, number_of_bits};
+ghost use Rattle.registers.specs.AtParts.{IsDone, entered};
+ghost use Rattle.registers.specs.Begins.{writing};
+ghost use Rattle.process.specs.Places.{changes_at};
+ghost use Rattle.process.specs.Seen.{IsCall};
+ghost use Rattle.process.specs.Telling.{changes_told, marks_told};
+
+use crate::asked::Asked;
+use crate::call_part::CallPart;
+use crate::image::image_read;
+use crate::told::StepTold;
+use plain_store::pad;
+use record::Field;
+use registers::{Cursor, NumberRun, RegisterName};
+
+/// Puts the cursor at the begin of a part.
+pub(crate) fn enter(called: &CallPart, cursor: &mut Cursor)
+    requires call { IsCall called.now.call }
+    requires going { is_over called.now.part ≡ false }
+    ensures cursor { cursor.new ≡ entered called.now.call called.now.part }
+    ensures there { cursor.new.register.owner < called.now.call.setup.processes }
+{
+    let setup = called.setup();
+    let process = called.process();
+    match called.asks() {
+        Asked::Nothing => unreachable!(),
+        Asked::Reads { owner, field } => {
+            cursor.begin_read(&setup, RegisterName { owner, field }, process);
+        }
+        Asked::Writes(field, number) => {
+            let register = RegisterName {
+                owner: process,
+                field,
+            };
+            cursor.begin_write(&setup, register, number);
+        }
+        Asked::WritesImage(field) => {
+            let register = RegisterName {
+                owner: process,
+                field,
+            };
+            let image = called.image();
+            let bytes: [u8; 216] = pad(image.bytes());
+            cursor.begin_write_bytes(&setup, register, &bytes);
+        }
+    }
+}
+
+/// Puts the cursor at the begin of a write of 0 to a register of the process, of at most 32 bits.
+pub(crate) fn clear(called: &CallPart, cursor: &mut Cursor, field: Field)
+    requires call { IsCall called.now.call }
+    requires narrow { width called.now.call.setup field ≤ 32 }
+    ensures { cursor.new ≡ writing called.now.call.setup (record { owner = called.now.call.process; field = field }) (bits_of_number (width called.now.call.setup field) 0) }
+{
+    let setup = called.setup();
+    let owner = called.process();
+    cursor.begin_write(&setup, RegisterName { owner, field }, 0);
+}
+
+/// The number that was read, 0 of a write.
+fn number_read(cursor: &Cursor) -> u32
+    requires { cursor.now.run ≡ NumberRun.Reads → cursor.now.width ≤ 32 }
+    ensures reads { cursor.now.run ≡ NumberRun.Reads → result ≡ number_of_bits cursor.now.bits }
+    ensures writes { cursor.now.run ≡ NumberRun.Writes → result ≡ 0 }
+{
+    match cursor.run() {
+        NumberRun::Reads => cursor.number(),
+        _ => 0,
+    }
+}
+
+/// A call's part whose number access is over goes on to the next one. It tells what the last access leads to.
+pub(crate) fn part_over(called: &mut CallPart, cursor: &Cursor) -> StepTold
+    requires call { IsCall called.old.call }
+    requires going { is_over called.old.part ≡ false }
+    requires done { IsDone called.old.call called.old.part cursor.now }
+    ensures part { called.new ≡ record called.old { part = part_after called.old.call called.old.part cursor.now.bits } }
+    ensures marks { marks_told result ≡ last_marks called.old.call called.old.part cursor.now.bits }
+    ensures changes { IfSome (changes_told result) (λ changes. changes ≡ changes_at called.old.part) }
+{
+    if called.reads_image() {
+        let store = image_read(&called.setup(), &cursor.bytes());
+        called.after_image(&store)
+    } else {
+        let number = number_read(cursor);
+        called.after(number)
+    }
+}

@@ -1,0 +1,34 @@
+//! The greatest of some numbers, and where it stands.
+ghost use Rattle.std.specs.Prelude.{◌≡◌, ◌≤◌, length};
+ghost use Rattle.record.specs.Program.{greatest, max_of, place_of};
+
+/// The greatest of some numbers, 0 of none.
+pub(crate) fn greatest(numbers: &[u32]) -> u32
+    ensures { result ≡ greatest numbers.now }
+{
+    let mut most = 0;
+    for number in numbers {
+        most = most.max(*number);
+    }
+    most
+}
+
+/// The first place of a number among some; how many there are, if it is none of them.
+pub(crate) fn place_of(number: u32, numbers: &[u32]) -> usize
+    ensures { result ≡ place_of number numbers.now }
+{
+    for place in 0..numbers.len() {
+        if numbers[place] == number {
+            return place;
+        }
+    }
+    numbers.len()
+}
+
+/// The greatest number of so many bits.
+pub(crate) fn most_of(bits: u8) -> u32
+    requires { bits ≤ 32 }
+    ensures { result ≡ max_of bits }
+{
+    ((1u64 << bits) - 1) as u32
+}

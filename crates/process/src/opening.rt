@@ -1,0 +1,28 @@
+//! The memory as it opens.
+ghost use Rattle.std.specs.Prelude.{◌≡◌, IfOk, Ok};
+ghost use Rattle.plain_store.specs.Setups.{checked, opening_store};
+ghost use Rattle.process.specs.Memories.{cells_opening, memory_with};
+
+use plain_store::{Setup, opened, pad};
+use registers::{BitMemory, words_of};
+use std::alloc::{AllocError, Global};
+use store_image::Image;
+
+/// The registers of all processes as they open: the first image of process 0 holds the opening store, and all else is 0.
+/// The one fault is want of memory.
+pub fn open_memory(alloc: Global, setup: &Setup) -> Result<BitMemory, AllocError>
+    requires { checked setup.now ≡ Ok tt }
+    ensures { IfOk result (λ memory. memory ≡ memory_with (cells_opening setup.now) setup.now) }
+{
+    let image = opening_image(setup)?;
+    let bytes: [u8; 216] = pad(image.bytes());
+    BitMemory::new(alloc, setup, &words_of(&bytes))
+}
+
+/// The image of the opening store.
+fn opening_image(setup: &Setup) -> Result<Image, AllocError>
+    requires { checked setup.now ≡ Ok tt }
+    ensures { IfOk result (λ image. image ≡ opening_store setup.now) }
+{
+    opened(Image::empty(setup.slots, setup.callers()), setup)
+}

@@ -1,0 +1,126 @@
+//! A process that is served by a memory.
+ghost use Rattle.std.specs.Prelude.{◌≡◌, ℕ, ◌<◌, ◌≤◌, IfSome, false, true};
+ghost use Rattle.record.specs.Places.{value_of};
+ghost use Rattle.record.specs.declared.stages.Stage.TheVariants.{Waiting};
+ghost use Rattle.registers.specs.Accesses.{applied};
+ghost use Rattle.registers.specs.AtParts.{IsAtPart, run_at};
+ghost use Rattle.registers.specs.Openings.{AreOf};
+ghost use Rattle.process.specs.Places.{changes_read, failed, left_at, left_of, marks_on, may_fail, may_step, stage_doing, stepped, withdrawn};
+ghost use Rattle.process.specs.Serving.{answered_at, dropped, step_by, steps_of};
+ghost use Rattle.process.specs.Telling.{changes_told, marks_told};
+
+use super::Process;
+use crate::call_part::CallPart;
+use crate::told::StepTold;
+use crate::work::ProcessWork;
+use flicks::Flicks;
+use record::Access;
+use registers::{BitMemory, Cursor, given};
+
+impl Process {
+    /// How many of its next accesses are within a number access of its call: they have no mark, and none is the last.
+    #[inline]
+    pub fn left(&self) -> u32
+        ensures { result ≡ left_at self.now }
+    {
+        match self.work {
+            ProcessWork::Runs => left_of(&self.called, &self.cursor),
+            _ => 0,
+        }
+    }
+
+    /// Makes its next access on the memory, by this flick, and tells it and what it leads to.
+    #[inline]
+    pub fn step(&mut self, memory: &mut BitMemory, flick: bool, told: &mut StepTold) -> Access
+        requires goes { may_step self.old.doing ≡ true }
+        requires memory { AreOf self.old.setup memory.old }
+        ensures access { result ≡ answered_at self.old memory.old flick }
+        ensures process { self.new ≡ stepped self.old flick (value_of result.how) }
+        ensures marks { marks_told told.new ≡ marks_on self.old flick (value_of result.how) }
+        ensures changes { IfSome (changes_told told.new) (λ changes. changes ≡ changes_read self.old.doing) }
+        ensures memory { memory.new ≡ applied self.old.setup.processes memory.old result }
+    {
+        let access = memory.make(&self.cursor, flick);
+        *told = self.advance(flick, given(access.how));
+        access
+    }
+
+    /// The same within a number access, where it leads to nothing. The access is not told.
+    #[inline(always)]
+    pub fn step_within(&mut self, memory: &mut BitMemory, flick: bool)
+        requires left { 0 < left_at self.old }
+        requires memory { AreOf self.old.setup memory.old }
+        ensures { (self.new, memory.new) ≡ step_by flick (self.old, memory.old) }
+    {
+        memory.step(&mut self.cursor, flick);
+    }
+
+    /// The same, with the access told.
+    #[inline(always)]
+    pub fn step_told(&mut self, memory: &mut BitMemory, flick: bool) -> Access
+        requires left { 0 < left_at self.old }
+        requires memory { AreOf self.old.setup memory.old }
+        ensures access { result ≡ answered_at self.old memory.old flick }
+        ensures step { (self.new, memory.new) ≡ step_by flick (self.old, memory.old) }
+    {
+        let access = memory.make(&self.cursor, flick);
+        self.cursor.advance(access.how);
+        access
+    }
+
+    /// So many steps within a number access, each by the flick that is next.
+    pub fn run(&mut self, memory: &mut BitMemory, flicks: &mut Flicks, steps: u32)
+        requires left { steps ≤ left_at self.old }
+        requires memory { AreOf self.old.setup memory.old }
+        ensures { (self.new, memory.new, flicks.new) ≡ steps_of steps (self.old, memory.old, flicks.old) }
+    {
+        if steps > 0 {
+            memory.run(&mut self.cursor, flicks, steps);
+        }
+    }
+
+    /// It gives up waiting: its open read is dropped, and it will clear its ticket.
+    pub fn withdraw(&mut self, memory: &mut BitMemory)
+        requires waits { stage_doing self.old.doing ≡ Waiting }
+        requires memory { AreOf self.old.setup memory.old }
+        ensures process { self.new ≡ withdrawn self.old }
+        ensures memory { memory.new ≡ dropped self.old memory.old }
+    {
+        self.drop_read(memory);
+        self.give_up();
+    }
+
+    /// It fails: its open read is dropped, and its memory unit goes on.
+    pub fn fail(&mut self, memory: &mut BitMemory)
+        requires fails { may_fail self.old.doing ≡ true }
+        requires memory { AreOf self.old.setup memory.old }
+        ensures process { self.new ≡ failed self.old }
+        ensures memory { memory.new ≡ dropped self.old memory.old }
+    {
+        self.drop_read(memory);
+        self.cut();
+    }
+
+    /// Drops its open read, if it has one.
+    fn drop_read(&self, memory: &mut BitMemory)
+        requires { AreOf self.now.setup memory.old }
+        ensures { memory.new ≡ dropped self.now memory.old }
+    {
+        if self.reads().is_some() {
+            memory.drop_read(&self.cursor);
+        }
+    }
+}
+
+/// How many accesses of a part come before its last one; none, where the next one has a mark.
+#[inline]
+fn left_of(called: &CallPart, cursor: &Cursor) -> u32
+    requires { IsAtPart called.now.call called.now.part cursor.now }
+    ensures { result ≡ left_of called.now.call called.now.part (run_at cursor.now) }
+{
+    if cursor.is_fresh() && called.leaves() {
+        0
+    } else {
+        cursor.left().saturating_sub(1)
+    }
+}

@@ -1,0 +1,34 @@
+//! A call's command and the store that was read.
+ghost use Rattle.std.specs.Prelude.{◌≡◌};
+ghost use Rattle.plain_store.specs.Store.{after, changes};
+ghost use Rattle.record.specs.Program.{reply};
+ghost use Rattle.record.specs.Scripts.{caller};
+ghost use Rattle.process.specs.Seen.{call_of};
+
+use crate::part::ProcessCall;
+use plain_store::{Caller, Reply, Store, Value};
+use store_image::Image;
+
+/// Whether the command would change the store.
+#[tactic(auto, using(plain_store::proofs::Changes::changes_differs))]
+pub(crate) fn is_change(call: &ProcessCall, store: &Image) -> bool
+    ensures { result ≡ changes store.now call.now.command }
+{
+    store.would_change(&call.command)
+}
+
+/// The store after the command, and the reply.
+pub(crate) fn applied(call: &ProcessCall, read: &Image) -> (Image, Reply)
+    ensures store { result.0 ≡ after read.now call.now.command (caller (call_of call.now)) }
+    ensures reply { result.1 ≡ reply (call_of call.now) read.now }
+{
+    // The prover has to be told of this type, which lies within others here.
+    let _value: Option<Value> = None;
+    let mut store = *read;
+    let caller = Caller {
+        process: call.process,
+        number: call.number,
+    };
+    let reply = store.apply(&call.command, caller).unwrap();
+    (store, reply)
+}

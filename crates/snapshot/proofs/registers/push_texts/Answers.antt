@@ -1,9 +1,0 @@
-use Rattle.snapshot.specs.Copies.{copy_text, line_of_first}
-use Rattle.snapshot.proofs.Ranges.{text_more}
-use Rattle.snapshot.proofs.registers.push_texts.Goals as goal
-
-pub loop-reader-preserved : goal.loop-reader-preserved
-loop-reader-preserved c = λ past heard.
-    let k = c.args.copies.now in
-    text_more (line_of_first c.args.name.now (copy_text k.setup.now past k.owner k.field) k.setup.now.processes) c.loop-reader.reader c.args.text.now.items c.loop-reader.text.items c.push_if_first.new.text.items (c.loop-reader.invariant past heard)
-    (c.in_ok-push_if_first.ensures past heard)

@@ -1,0 +1,165 @@
+-- What a method of a core leaves is the core after its event.
+use Rattle.std.proofs.Common.{◌≡◌, ℕ, zero, suc, ◌+◌, ◌<◌, ◌≤◌, ◌&&◌, Bool, true, false, List, None, Some, length, map, refl, sym, ap, subst, ◌∙◌, arith, eq-eqb}
+use Rattle.std.proofs.lemmas.Bool.Decides.{nat_tests}
+use Rattle.std.specs.Prelude.{nat_le, slice_get, slice_index_or, slice_set}
+use Rattle.plain_store.specs.declared.Command.{Command}
+use Rattle.record.specs.safe_bit.Cell.{Cell}
+use Rattle.record.specs.declared.events.Event.{Event}
+use Rattle.record.specs.declared.events.Event.TheVariants as event
+use Rattle.record.specs.declared.stages.Stage.{Stage}
+use Rattle.record.specs.declared.stages.Stage.TheVariants as stages
+use Rattle.record.specs.Closings.{Closing, Withdraws, Settles, Frees, Lowers, Quit, Ended, closing_stage}
+use Rattle.record.specs.Doorways.{is_waiting_stage}
+use Rattle.record.specs.Places.{value_of}
+use Rattle.record.specs.Records.{past_of, process_of, refused_at}
+use Rattle.record.proofs.World.{refused-idle}
+use Rattle.laws.specs.Steps.{cut_of}
+use Rattle.laws.proofs.FrameEvents.{is-waiting}
+use Rattle.process.specs.Places.{is_full, left_at, may_fail, may_step, stage_doing}
+use Rattle.world.specs.Changes.{told}
+use Rattle.world.specs.Cores.{CoreState, CoreWalks, KeepsCore}
+use Rattle.world.specs.Going.{core_after, registers_after, seat_after}
+use Rattle.world.specs.Seats.{Seat, is_waiting, seat_stepped}
+use Rattle.world.specs.Walks.{left_in}
+use Rattle.world.proofs.CoreKeeps.{IsNext}
+use Rattle.world.proofs.CoreRefused.{full-is, stage-told}
+use Rattle.flicks.specs.Flicks.{FlickState}
+use Rattle.process.specs.Serving.{answered_at, steps_of}
+use Rattle.world.proofs.CoreWalks.{core_ran, has-run, left-core, told-same, within-after, within-fewer}
+use Rattle.process.proofs.Left.{left-stays}
+use Rattle.world.proofs.WorldOpen.{IsSeated, is-allowed, is-seated, seat-below, seat-indexed, seat-left, seat-there}
+use Rattle.world.proofs.WorldStages.{fails-may, steps-may}
+
+-- a process that there is, by its seat
+pub seated : (c : CoreState) (p : ℕ) (seat : Seat) → KeepsCore c → slice_get c.seats p ≡ Some seat → IsSeated c p seat
+seated c p seat k there = is-seated c k.taken k.events p seat k.shows there
+
+-- one whose number access has accesses left
+pub record IsLeft (c : CoreState) (p : ℕ) (seat : Seat) : Type 0 where
+  pub there : slice_get c.seats p ≡ Some seat
+  pub some : 0 < left_at seat.process
+
+pub left-there : (c d : CoreState) (p : ℕ) → c ≡ d → 0 < left_in d.seats p → p < length c.seats
+left-there c d p view some = let some : 0 < left_in c.seats p = subst (λ (x : CoreState). 0 < left_in x.seats p) (sym view) some in below c.seats p some
+  where
+    below : (seats : List Seat) (p : ℕ) → 0 < left_in seats p → p < length seats
+    below seats p some = let found = seat-there seats p some in seat-below seats p found.0 found.1
+
+pub is-left : (c d : CoreState) (p i : ℕ) (seat : Seat) → c ≡ d → 0 < left_in d.seats p → i ≡ p → seat ≡ slice_index_or c.seats i seat → IsLeft c p seat
+is-left c d p i seat view some index at = record {
+  there = there;
+  some = let same = seat-left c.seats p seat there in let left = ap (λ (x : CoreState). left_in x.seats p) view in omega (arith, some, same, left);
+}
+  where
+    there : slice_get c.seats p ≡ Some seat
+    there = let l = left-there c d p view some in seat-indexed c.seats i p seat index (omega (arith, l, index)) at
+
+-- What is known of the process of an event that is not refused.
+
+module _ (c : CoreState) (what : Event) (seat : Seat) (k : KeepsCore c) (n : IsNext c what seat) where
+  stage-allows : refused_at what (stage_doing seat.process.doing) ≡ None
+  stage-allows =
+      ap (refused_at what) (stage-told c k.taken k.events what seat k.shows n.there)
+      ∙ (is-allowed c.setup (past_of c.setup k.events) what (n.allowed k.taken k.events k.shows)).at
+
+  not-full : is_full seat.process.setup seat.process.number what ≡ false
+  not-full =
+      full-is c k.taken k.events what seat k.shows n.there
+      ∙ (is-allowed c.setup (past_of c.setup k.events) what (n.allowed k.taken k.events k.shows)).counted
+
+pub step-may : (c : CoreState) (p : ℕ) (flick : Bool) (seat : Seat) → KeepsCore c → IsNext c (event.Step p flick) seat → may_step seat.process.doing ≡ true
+step-may c p flick seat k n = steps-may p flick seat.process.doing (stage-allows c (event.Step p flick) seat k n)
+
+pub fail-may : (c : CoreState) (p : ℕ) (seat : Seat) → KeepsCore c → IsNext c (event.Fail p) seat → may_fail seat.process.doing ≡ true
+fail-may c p seat k n = fails-may p seat.process.doing (stage-allows c (event.Fail p) seat k n)
+
+pub withdraw-waits : (c : CoreState) (p : ℕ) (seat : Seat) → KeepsCore c → IsNext c (event.Withdraw p) seat → stage_doing seat.process.doing ≡ stages.Waiting
+withdraw-waits c p seat k n = is-waiting p (stage_doing seat.process.doing) (stage-allows c (event.Withdraw p) seat k n)
+
+pub call-idle : (c : CoreState) (p : ℕ) (command : Command) (seat : Seat) → KeepsCore c → IsNext c (event.Call p command) seat → is_waiting seat ≡ false
+call-idle c p command seat k n = ap is_waiting_stage (refused-idle p command (stage_doing seat.process.doing) (stage-allows c (event.Call p command) seat k n))
+
+pub restart-down : (c : CoreState) (p : ℕ) (seat : Seat) → KeepsCore c → IsNext c (event.Restart p) seat → is_waiting seat ≡ false
+restart-down c p seat k n = go (stage_doing seat.process.doing) (stage-allows c (event.Restart p) seat k n)
+  where
+    go : (st : Stage) → refused_at (event.Restart p) st ≡ None → is_waiting_stage st ≡ false
+    go stages.Waiting h = cc
+    go stages.Down h = refl
+    go stages.Idle h = refl
+    go stages.Doorway h = refl
+    go stages.Inside h = refl
+    go stages.Leaving h = refl
+    go stages.Settling h = refl
+
+-- the number of a call fits in version 2
+pub call-counts : (c : CoreState) (p : ℕ) (command : Command) (seat : Seat) → KeepsCore c → IsNext c (event.Call p command) seat → seat.process.setup.version ≡ 2 → seat.process.number < 65535
+call-counts c p command seat k n two = few seat.process.number (sym (ap (λ b. b && nat_le 65535 seat.process.number) (eq-eqb seat.process.setup.version 2 two)) ∙ not-full c (event.Call p command) seat k n)
+  where
+    few : (n : ℕ) → nat_le 65535 n ≡ false → n < 65535
+    few n h = grind (arith, nat_tests)
+
+-- who failed waits no more
+closing-waits : (at : Closing) → is_waiting_stage (closing_stage at) ≡ false
+closing-waits (Withdraws w) = refl
+closing-waits (Settles field bit begun taken is t) = refl
+closing-waits (Frees is w) = refl
+closing-waits (Lowers w) = refl
+closing-waits Quit = refl
+closing-waits Ended = refl
+
+pub fail-waits : (c : CoreState) (p : ℕ) (seat : Seat) → is_waiting (seat_after c seat (event.Fail p)) ≡ false
+fail-waits c p seat = closing-waits (cut_of seat.process.setup seat.process.process seat.process.doing)
+
+-- The core that is left: the seat was put in its place, and all were told.
+pub told-after : (c : CoreState) (what : Event) (seat then : Seat) (registers : List (List Cell)) (seats : List Seat) (waited waits : Bool) (i p : ℕ) → i ≡ p → p ≡ process_of what → then ≡ seat_after c seat what → registers ≡ registers_after c seat what →
+    waited ≡ is_waiting seat → waits ≡ is_waiting (seat_after c seat what) → seats ≡ map (told p waited waits) (slice_set c.seats i then) →
+    (let core : CoreState = record c { registers = registers; seats = seats } in core) ≡ core_after c seat what
+told-after c what seat then registers seats waited waits i p index own then_is registers_is was is seats_are =
+    λ k. let core : CoreState = record c { registers = registers_is k; seats = (seats_are ∙ (λ m. map (told (own m) (was m) (is m)) (slice_set c.seats ((index ∙ own) m) (then_is m)))) k } in core
+
+-- where nobody goes on to wait, nobody need be told
+pub untold-after : (c : CoreState) (what : Event) (seat then : Seat) (registers : List (List Cell)) (waits : Bool) (i p : ℕ) → i ≡ p → p ≡ process_of what → then ≡ seat_after c seat what → registers ≡ registers_after c seat what →
+    waits ≡ is_waiting seat → waits ≡ is_waiting (seat_after c seat what) →
+    (let core : CoreState = record c { registers = registers; seats = slice_set c.seats i then } in core) ≡ core_after c seat what
+untold-after c what seat then registers waits i p index own then_is registers_is was is =
+    told-after c what seat then registers (slice_set c.seats i then) waits waits i p index own then_is registers_is was is (sym (told-same p waits (slice_set c.seats i then)))
+
+-- of a step within a number access
+pub within-code : (c : CoreState) (p : ℕ) (flick : Bool) (seat : Seat) → 0 < left_at seat.process → (i : ℕ) (then : Seat) (registers : List (List Cell)) → i ≡ p → then ≡ seat_after c seat (event.Step p flick) → registers ≡ registers_after c seat (event.Step p flick) →
+    (let core : CoreState = record c { registers = registers; seats = slice_set c.seats i then } in core) ≡ core_after c seat (event.Step p flick)
+within-code c p flick seat some i then registers index then_is registers_is =
+    untold-after c (event.Step p flick) seat then registers (is_waiting seat) i p index refl then_is registers_is refl
+    (sym (left-stays seat.process flick (value_of (answered_at seat.process c.registers flick).how) some).0)
+
+pub fewer-code : (c d new : CoreState) (p : ℕ) (flick : Bool) (seat : Seat) → c ≡ d → slice_get c.seats p ≡ Some seat → 0 < left_at seat.process → new ≡ core_after c seat (event.Step p flick) → left_in d.seats p ≡ left_in new.seats p + 1
+fewer-code c d new p flick seat view there some is =
+    within-fewer c d p flick seat c.registers view there some
+    ∙ ap (λ (x : CoreState). left_in x.seats p + 1) (within-after c p flick seat some ∙ sym is)
+
+-- Of so many of them.
+
+pub run-within : (c d : CoreState) (p : ℕ) (seat : Seat) (n : ℕ) → c ≡ d → slice_get c.seats p ≡ Some seat → n ≤ left_in d.seats p → n ≤ left_at seat.process
+run-within c d p seat n view there l = let same = seat-left c.seats p seat there in let left = ap (λ (x : CoreState). left_in x.seats p) view in omega (arith, l, same, left)
+
+module _ (c : CoreState) (p : ℕ) (seat : Seat) (f : FlickState) (there : slice_get c.seats p ≡ Some seat) where
+  pub run-code : (n : ℕ) → 0 < n → (i : ℕ) (then : Seat) (registers : List (List Cell)) → i ≡ p → then ≡ seat_stepped (steps_of n (seat.process, c.registers, f)).0 seat → registers ≡ (steps_of n (seat.process, c.registers, f)).1 →
+      (let core : CoreState = record c { registers = registers; seats = slice_set c.seats i then } in core) ≡ core_ran c p seat f there n
+  run-code zero some i then registers index then_is registers_is = absurd (omega (arith, some))
+  run-code (suc n) some i then registers index then_is registers_is = λ k. let core : CoreState = record c { registers = registers_is k; seats = slice_set c.seats (index k) (then_is k) } in core
+
+pub run-keeps : (c new : CoreState) (p : ℕ) (seat : Seat) (f : FlickState) (there : slice_get c.seats p ≡ Some seat) (n : ℕ) → KeepsCore c → n ≤ left_at seat.process → new ≡ core_ran c p seat f there n → KeepsCore new
+run-keeps c new p seat f there n k within is = subst KeepsCore (sym is) (has-run c p seat f there k n within).keeps
+
+pub run-walks : (c d new : CoreState) (p : ℕ) (seat : Seat) (f g : FlickState) (there : slice_get c.seats p ≡ Some seat) (n : ℕ) → KeepsCore c → c ≡ d → n ≤ left_at seat.process → new ≡ core_ran c p seat f there n →
+    g ≡ (steps_of n (seat.process, c.registers, f)).2 → CoreWalks d f p n new g
+run-walks c d new p seat f g there n k view within is flicks =
+    subst (λ (d : CoreState). CoreWalks d f p n new g) view (subst (λ g. CoreWalks c f p n new g) (sym flicks) (subst (λ (new : CoreState). CoreWalks c f p n new (steps_of n (seat.process, c.registers, f)).2) (sym is)
+    (has-run c p seat f there k n within).walks))
+
+pub run-left : (c d new : CoreState) (p : ℕ) (seat : Seat) (f : FlickState) (there : slice_get c.seats p ≡ Some seat) (n : ℕ) → c ≡ d → n ≤ left_at seat.process → new ≡ core_ran c p seat f there n → left_in new.seats p + n ≡ left_in d.seats p
+run-left c d new p seat f there n view within is =
+    let was = seat-left c.seats p seat there in
+    let left = ap (λ (x : CoreState). left_in x.seats p) view in
+    let now = ap (λ (x : CoreState). left_in x.seats p) is in
+    let ran = left-core c p seat f there n within in
+    omega (arith, was, left, now, ran)

@@ -1,0 +1,90 @@
+-- Why an event is refused, by the seat of its process.
+use Rattle.std.proofs.Common.{◌≡◌, ℕ, ◌<◌, ◌≤◌, ◌==◌, ◌&&◌, Bool, true, false, cond, List, Option, Some, None, length, refl, sym, ap, subst, ◌∙◌, arith}
+use Rattle.std.proofs.lemmas.Bool.Decides.{nat_tests}
+use Rattle.std.specs.Prelude.{nat_le, nat_lt, slice_get}
+use Rattle.plain_store.specs.declared.Setup.{Setup}
+use Rattle.record.specs.declared.events.Event.{Event}
+use Rattle.record.specs.declared.events.Event.TheVariants.{Step}
+use Rattle.record.specs.declared.history.Taken.{Taken}
+use Rattle.record.specs.declared.refusals.Refusal.{Refusal}
+use Rattle.record.specs.declared.refusals.Refusal.TheVariants.{NoProcess, NotRunning, CallsFull}
+use Rattle.record.specs.Calls.{calls_in}
+use Rattle.record.specs.Entries.{Past, own}
+use Rattle.record.specs.Records.{calls_full, is_call, past_of, process_of, refused, refused_at}
+use Rattle.record.specs.Stages.{stage}
+use Rattle.record.proofs.Width.{is_good}
+use Rattle.process.specs.Places.{is_full, left_at, may_step, refusal_of, stage_doing}
+use Rattle.world.specs.Cores.{CoreRefuses, CoreState, with_history}
+use Rattle.world.specs.Seats.{Seat, seat_of}
+use Rattle.world.specs.Shows.{Shows}
+use Rattle.world.proofs.WorldOpen.{many-seats, seat-below, seat-shown}
+use Rattle.world.proofs.WorldStages.{left-may, stage-process, step-refused}
+
+refused-by : (s : Setup) (past : Past) (what : Event) (b : Bool) (r : Option Refusal) (f : Bool) → nat_lt (process_of what) s.processes ≡ b → refused_at what (stage (process_of what) past) ≡ r → calls_full s past what ≡ f →
+    refused s past what ≡ cond b (elim r as (λ _. Option Refusal) [ Some x ↦ Some x | None ↦ cond f (Some CallsFull) None ]) (Some NoProcess)
+refused-by s past what b r f i j k = λ n. cond (i n) (elim (j n) as (λ _. Option Refusal) [ Some x ↦ Some x | None ↦ cond (k n) (Some CallsFull) None ]) (Some NoProcess)
+
+pub is-above : (p n : ℕ) → n ≤ p → nat_lt p n ≡ false
+is-above p n h = grind (arith, nat_tests)
+
+pub is-below : (p n : ℕ) → p < n → nat_lt p n ≡ true
+is-below p n h = grind (arith, nat_tests)
+
+-- of a process that there is not
+pub refused-beyond : (c : CoreState) (what : Event) → length c.seats ≤ process_of what → CoreRefuses c what (Some NoProcess)
+refused-beyond c what beyond taken events shows =
+    let many = many-seats (with_history c taken) events shows in
+    let past : Past = past_of c.setup events in
+    refused-by c.setup past what false (refused_at what (stage (process_of what) past)) (calls_full c.setup past what) (is-above (process_of what) c.setup.processes (omega (arith, many, beyond))) refl refl
+
+-- of one that there is, with one history
+module _ (c : CoreState) (taken : List Taken) (events : List Event) (what : Event) (seat : Seat) (shows : Shows (with_history c taken) events) (there : slice_get c.seats (process_of what) ≡ Some seat) where
+  abbrev s : Setup
+  s = c.setup
+
+  abbrev past : Past
+  past = past_of s events
+
+  abbrev p : ℕ
+  p = process_of what
+
+  seat_is : seat ≡ seat_of s past p
+  seat_is = seat-shown (with_history c taken) events p seat shows there
+
+  pub below-is : nat_lt p s.processes ≡ true
+  below-is = let many = many-seats (with_history c taken) events shows in let l = seat-below c.seats p seat there in is-below p s.processes (omega (arith, many, l))
+
+  pub stage-told : stage_doing seat.process.doing ≡ stage p past
+  stage-told = ap (λ (x : Seat). stage_doing x.process.doing) seat_is ∙ stage-process s (is_good s shows.good) events p
+
+  pub full-is : is_full seat.process.setup seat.process.number what ≡ calls_full s past what
+  full-is = ap (λ (x : Seat). is_full x.process.setup x.process.number what) seat_is ∙ by (is_call what) (s.version == 2)
+    where
+      by : (b v : Bool) → (b && v && nat_le 65535 (cond v (calls_in (own p past)) 0)) ≡ (b && v && nat_le 65535 (calls_in (own p past)))
+      by true true = refl
+      by true false = refl
+      by false v = refl
+
+  told-refused : refused s past what ≡ refusal_of seat.process what
+  told-refused = refused-by s past what true (refused_at what (stage_doing seat.process.doing)) (is_full seat.process.setup seat.process.number what) below-is (ap (refused_at what) (sym stage-told)) (sym full-is)
+
+-- so it is refused as its process tells
+pub refused-told : (c : CoreState) (what : Event) (seat : Seat) → slice_get c.seats (process_of what) ≡ Some seat → CoreRefuses c what (refusal_of seat.process what)
+refused-told c what seat there taken events shows = told-refused c taken events what seat shows there
+
+-- and a step by whether it has one to make
+pub refused-step : (c : CoreState) (p : ℕ) (flick : Bool) (seat : Seat) → slice_get c.seats p ≡ Some seat → CoreRefuses c (Step p flick) (cond (may_step seat.process.doing) None (Some NotRunning))
+refused-step c p flick seat there taken events shows =
+    let s : Setup = c.setup in
+    let past : Past = past_of s events in
+    refused-by s past (Step p flick) true (cond (may_step seat.process.doing) None (Some NotRunning)) false (below-is c taken events (Step p flick) seat shows there)
+    (step-refused s (is_good s shows.good) events p flick ∙ ap (λ (x : Seat). cond (may_step x.process.doing) None (Some NotRunning)) (sym (seat-shown (with_history c taken) events p seat shows there))) refl
+    ∙ by (may_step seat.process.doing)
+  where
+    by : (b : Bool) → (elim (cond b None (Some NotRunning)) as (λ _. Option Refusal) [ Some x ↦ Some x | None ↦ None ]) ≡ cond b None (Some NotRunning)
+    by true = refl
+    by false = refl
+
+-- so within a number access it is not refused
+pub step-within : (c : CoreState) (p : ℕ) (flick : Bool) (seat : Seat) → slice_get c.seats p ≡ Some seat → 0 < left_at seat.process → CoreRefuses c (Step p flick) None
+step-within c p flick seat there some = subst (λ b. CoreRefuses c (Step p flick) (cond b None (Some NotRunning))) (left-may seat.process some) (refused-step c p flick seat there)

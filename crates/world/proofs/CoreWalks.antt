@@ -1,0 +1,223 @@
+-- Steps of a process within a number access, and the core that they leave.
+use Rattle.std.proofs.Common.{◌≡◌, ℕ, zero, suc, ◌+◌, ◌<◌, ◌≤◌, ◌||◌, Bool, true, false, List, [], ◌∷◌, Some, map, refl, sym, ap, subst, ◌∙◌, arith}
+use Rattle.std.specs.Prelude.{slice_get, slice_set}
+use Rattle.std.proofs.lemmas.List.{set-set}
+use Rattle.record.specs.safe_bit.Cell.{Cell}
+use Rattle.record.specs.declared.access.Access.{Access}
+use Rattle.record.specs.declared.events.Event.TheVariants.{Step}
+use Rattle.record.specs.Doorways.{is_queued}
+use Rattle.record.specs.Places.{value_of}
+use Rattle.flicks.specs.Flicks.{FlickState, flick_of}
+use Rattle.process.specs.declared.told.Effect.TheVariants.{Steps}
+use Rattle.process.specs.declared.told.StepTold.TheVariants.{Nothing}
+use Rattle.process.specs.Places.{ProcessState, left_at, stage_doing}
+use Rattle.process.specs.Serving.{answered_at, step_by, steps_of}
+use Rattle.world.specs.Changes.{pending_in, told}
+use Rattle.world.specs.Cores.{CoreState, CoreStepsQuietly, CoreWalks, KeepsCore, with_history}
+use Rattle.world.specs.Going.{CoreGoes, core_after}
+use Rattle.world.specs.Seats.{Seat, is_at_door, is_waiting, seat_stepped}
+use Rattle.world.specs.Walks.{KeepOthers, left_in}
+use Rattle.world.proofs.CoreKeeps.{IsNext, next-goes, next-keeps}
+use Rattle.world.proofs.CoreRefused.{step-within}
+use Rattle.process.proofs.Left.{left-fewer, left-quiet, left-stays}
+use Rattle.world.proofs.WorldHeadline.{keeps_headline}
+use Rattle.world.proofs.WorldLists.{map-same}
+use Rattle.world.proofs.WorldOpen.{seat-left}
+
+-- How many accesses are left to another process.
+
+-- as many as before, once a seat was put in the place of this one's
+left-other : (seats : List Seat) (p : ℕ) (then : Seat) → KeepOthers seats p (slice_set seats p then)
+left-other [] p then q apart = refl
+left-other (x ∷ seats) zero then zero apart = absurd (apart refl)
+left-other (x ∷ seats) zero then (suc q) apart = refl
+left-other (x ∷ seats) (suc p) then zero apart = refl
+left-other (x ∷ seats) (suc p) then (suc q) apart = left-other seats p then q (λ same. apart (ap suc same))
+
+-- and once all were told who waits
+left-told : (seats : List Seat) (p q : ℕ) (waited waits : Bool) → left_in (map (told p waited waits) seats) q ≡ left_in seats q
+left-told [] p q waited waits = refl
+left-told (x ∷ seats) p zero waited waits = refl
+left-told (x ∷ seats) p (suc q) waited waits = left-told seats p q waited waits
+
+pub next-others : (c d new : CoreState) (p : ℕ) (flick : Bool) (seat : Seat) → c ≡ d → new ≡ core_after c seat (Step p flick) → KeepOthers d.seats p new.seats
+next-others c d new p flick seat view is = subst (λ (d : CoreState). KeepOthers d.seats p new.seats) view (subst (λ (new : CoreState). KeepOthers c.seats p new.seats) (sym is)
+    (λ q apart. let then : Seat = seat_stepped (step_by flick (seat.process, c.registers)).0 seat in left-told (slice_set c.seats p then) p q (is_waiting seat) (is_waiting then) ∙ left-other c.seats p then q apart))
+
+-- One step.
+
+-- nobody is told where nothing has changed
+pub told-same : (p : ℕ) (b : Bool) (seats : List Seat) → map (told p b b) seats ≡ seats
+told-same p true seats = map-same (told p true true) seats (λ seat. refl)
+told-same p false seats = map-same (told p false false) seats (λ seat. refl)
+
+-- the core after it
+abbrev pub core_within : CoreState → ℕ → Seat → List (List Cell) → CoreState
+core_within c p then registers = record c { registers = registers; seats = slice_set c.seats p then }
+
+-- is that after any step, since nobody goes on to wait
+pub within-after : (c : CoreState) (p : ℕ) (flick : Bool) (seat : Seat) → 0 < left_at seat.process →
+    core_within c p (seat_stepped (step_by flick (seat.process, c.registers)).0 seat) (step_by flick (seat.process, c.registers)).1 ≡ core_after c seat (Step p flick)
+within-after c p flick seat some = λ i. let core : CoreState = record c { registers = (step_by flick (seat.process, c.registers)).1; seats = sym seats i } in core
+  where
+    v : Bool
+    v = value_of (answered_at seat.process c.registers flick).how
+
+    then : Seat
+    then = seat_stepped (step_by flick (seat.process, c.registers)).0 seat
+
+    seats : map (told p (is_waiting seat) (is_waiting then)) (slice_set c.seats p then) ≡ slice_set c.seats p then
+    seats = ap (λ b. map (told p (is_waiting seat) b) (slice_set c.seats p then)) (left-stays seat.process flick v some).0 ∙ told-same p (is_waiting seat) (slice_set c.seats p then)
+
+-- a step that tells nothing has no mark
+pub quietly-by : (c new : CoreState) (p : ℕ) (flick : Bool) (access : Access) → CoreGoes c (Step p flick) (Steps Nothing) (Some access) new → CoreStepsQuietly c p flick new
+quietly-by c new p flick access g = record {
+  steps = λ taken. record {
+    access = access;
+    adds = g.adds taken;
+    shows = g.makes.goes taken;
+    headline = keeps_headline (with_history c taken) (with_history new taken) (Step p flick) p _ (g.adds taken) (g.makes.goes taken) g.setup;
+    setup = g.setup;
+  };
+  pending = let fewer = g.pending refl in omega (arith, fewer);
+}
+
+-- such is one within a number access
+pub within-next : (c : CoreState) (p : ℕ) (flick : Bool) (seat : Seat) → slice_get c.seats p ≡ Some seat → 0 < left_at seat.process → IsNext c (Step p flick) seat
+within-next c p flick seat there some = record { given = refl; there = there; allowed = step-within c p flick seat there some }
+
+pub within-goes : (c d new : CoreState) (p : ℕ) (flick : Bool) (access : Access) (seat : Seat) → c ≡ d → slice_get c.seats p ≡ Some seat → 0 < left_at seat.process → access ≡ answered_at seat.process c.registers flick →
+    new ≡ core_after c seat (Step p flick) → CoreGoes d (Step p flick) (Steps Nothing) (Some access) new
+within-goes c d new p flick access seat view there some access_is is =
+    next-goes c d new (Step p flick) (Steps Nothing) (Some access) seat view (within-next c p flick seat there some) (ap Some access_is)
+    (sym (left-quiet seat.process flick (value_of (answered_at seat.process c.registers flick).how) some)) is
+
+-- a seat that was put there
+seat-set : (seats : List Seat) (p : ℕ) (then seat : Seat) → slice_get seats p ≡ Some seat → slice_get (slice_set seats p then) p ≡ Some then
+seat-set [] p then seat is = cc
+seat-set (x ∷ seats) zero then seat is = refl
+seat-set (x ∷ seats) (suc p) then seat is = seat-set seats p then seat is
+
+seat-again : (seats : List Seat) (p : ℕ) (seat : Seat) → slice_get seats p ≡ Some seat → slice_set seats p seat ≡ seats
+seat-again [] p seat is = cc
+seat-again (x ∷ seats) zero seat is = let item : seat ≡ x = let both : Some x ≡ Some seat = is in cc in ap (λ x. x ∷ seats) item
+seat-again (x ∷ seats) (suc p) seat is = ap (λ seats. x ∷ seats) (seat-again seats p seat is)
+
+-- its process has one access less left
+pub within-fewer : (c d : CoreState) (p : ℕ) (flick : Bool) (seat : Seat) (registers : List (List Cell)) → c ≡ d → slice_get c.seats p ≡ Some seat → 0 < left_at seat.process →
+    left_in d.seats p ≡ left_in (core_within c p (seat_stepped (step_by flick (seat.process, c.registers)).0 seat) registers).seats p + 1
+within-fewer c d p flick seat registers view there some =
+    let then : Seat = seat_stepped (step_by flick (seat.process, c.registers)).0 seat in
+    let was = seat-left c.seats p seat there in
+    let now = seat-left (slice_set c.seats p then) p then (seat-set c.seats p then seat there) in
+    let fewer = left-fewer seat.process flick (value_of (answered_at seat.process c.registers flick).how) some in
+    subst (λ (d : CoreState). left_in d.seats p ≡ left_in (slice_set c.seats p then) p + 1) view (omega (arith, was, now, fewer))
+
+-- So many of them.
+
+module _ (c : CoreState) (p : ℕ) (seat : Seat) (f : FlickState) (there : slice_get c.seats p ≡ Some seat) where
+  -- the process, the registers and the flicks after so many
+  abbrev ran : ℕ → ProcessState × List (List Cell) × FlickState
+  ran n = steps_of n (seat.process, c.registers, f)
+
+  -- the seat: once a step was made, the doorway has begun where it was at the door
+  abbrev seat_ran : ℕ → Seat
+  seat_ran zero = seat
+  seat_ran (suc n) = seat_stepped (ran (suc n)).0 seat
+
+  abbrev pub core_ran : ℕ → CoreState
+  core_ran n = core_within c p (seat_ran n) (ran n).1
+
+  seat-ran : (n : ℕ) → (seat_ran n).process ≡ (ran n).0
+  seat-ran zero = refl
+  seat-ran (suc n) = refl
+
+  pub left-ran : (n : ℕ) → n ≤ left_at seat.process → left_at (ran n).0 + n ≡ left_at seat.process
+  left-ran zero l = omega arith
+  left-ran (suc n) l =
+      let before = left-ran n (omega (arith, l)) in
+      let flick = flick_of (ran n).2 in
+      let fewer = left-fewer (ran n).0 flick (value_of (answered_at (ran n).0 (ran n).1 flick).how) (omega (arith, before, l)) in
+      omega (arith, before, fewer)
+
+  door-ran : (n : ℕ) → n ≤ left_at seat.process → is_queued (stage_doing (ran n).0.doing) ≡ is_at_door seat
+  door-ran zero l = refl
+  door-ran (suc n) l =
+      let before = left-ran n (omega (arith, l)) in
+      let flick = flick_of (ran n).2 in
+      (left-stays (ran n).0 flick (value_of (answered_at (ran n).0 (ran n).1 flick).how) (omega (arith, before, l))).1 ∙ door-ran n (omega (arith, l))
+
+  -- the doorway has begun once one of its steps was made
+  begun-again : (begun d e : Bool) → e ≡ d → (begun || d) || e ≡ begun || d
+  begun-again true d e same = refl
+  begun-again false true e same = refl
+  begun-again false false e same = same
+
+  seat-more : (n : ℕ) → n ≤ left_at seat.process → seat_stepped (ran (suc n)).0 (seat_ran n) ≡ seat_ran (suc n)
+  seat-more zero l = refl
+  seat-more (suc n) l = λ i. let x : Seat = record seat { process = (ran (suc (suc n))).0; begun = begun-again seat.begun (is_at_door seat) (is_queued (stage_doing (ran (suc n)).0.doing)) (door-ran (suc n) l) i } in x
+
+  -- one more step
+  core-more : (n : ℕ) → suc n ≤ left_at seat.process → core_after (core_ran n) (seat_ran n) (Step p (flick_of (ran n).2)) ≡ core_ran (suc n)
+  core-more n l = sym (within-after (core_ran n) p flick (seat_ran n) some) ∙ (λ i. let core : CoreState = record c { registers = (step_by flick (seat-ran n i, (ran n).1)).1; seats = seats i } in core)
+    where
+      flick : Bool
+      flick = flick_of (ran n).2
+
+      some : 0 < left_at (seat_ran n).process
+      some = let before = left-ran n (omega (arith, l)) in let same = ap left_at (seat-ran n) in omega (arith, before, same, l)
+
+      seats : slice_set (slice_set c.seats p (seat_ran n)) p (seat_stepped (step_by flick ((seat_ran n).process, (ran n).1)).0 (seat_ran n)) ≡ slice_set c.seats p (seat_ran (suc n))
+      seats = set-set c.seats p (seat_ran n) (seat_stepped (step_by flick ((seat_ran n).process, (ran n).1)).0 (seat_ran n))
+          ∙ ap (slice_set c.seats p) (ap (λ now. seat_stepped (step_by flick (now, (ran n).1)).0 (seat_ran n)) (seat-ran n) ∙ seat-more n (omega (arith, l)))
+
+  core-zero : core_ran zero ≡ c
+  core-zero = λ i. let core : CoreState = record c { seats = seat-again c.seats p seat there i } in core
+
+  -- how many are left then
+  pub left-core : (n : ℕ) → n ≤ left_at seat.process → left_in (core_ran n).seats p + n ≡ left_at seat.process
+  left-core n l =
+      let at = seat-left (core_ran n).seats p (seat_ran n) (seat-set c.seats p (seat_ran n) seat there) in
+      let same = ap left_at (seat-ran n) in
+      let left = left-ran n l in
+      omega (arith, at, same, left)
+
+  -- each is a step without a mark
+  pub record HasRun (n : ℕ) : Type 0 where
+    pub keeps : KeepsCore (core_ran n)
+    pub walks : CoreWalks c f p n (core_ran n) (ran n).2
+
+  run-more : (n : ℕ) → suc n ≤ left_at seat.process → HasRun n → HasRun (suc n)
+  run-more n l before = record {
+    keeps = next-keeps (core_ran n) (core_ran (suc n)) (Step p flick) (seat_ran n) before.keeps next (sym (core-more n l));
+    walks = record {
+      walks = λ taken. (with_history (core_ran n) taken, (ran n).2, before.walks.walks taken, quietly.steps taken, refl);
+      pending = let was = before.walks.pending in let now = quietly.pending in omega (arith, was, now);
+    };
+  }
+    where
+      flick : Bool
+      flick = flick_of (ran n).2
+
+      is : slice_get (core_ran n).seats p ≡ Some (seat_ran n)
+      is = seat-set c.seats p (seat_ran n) seat there
+
+      some : 0 < left_at (seat_ran n).process
+      some = let left = left-ran n (omega (arith, l)) in let same = ap left_at (seat-ran n) in omega (arith, left, same, l)
+
+      next : IsNext (core_ran n) (Step p flick) (seat_ran n)
+      next = within-next (core_ran n) p flick (seat_ran n) is some
+
+      quietly : CoreStepsQuietly (core_ran n) p flick (core_ran (suc n))
+      quietly = quietly-by (core_ran n) (core_ran (suc n)) p flick (answered_at (seat_ran n).process (core_ran n).registers flick)
+          (within-goes (core_ran n) (core_ran n) (core_ran (suc n)) p flick (answered_at (seat_ran n).process (core_ran n).registers flick) (seat_ran n) refl is some refl (sym (core-more n l)))
+
+  pub has-run : KeepsCore c → (n : ℕ) → n ≤ left_at seat.process → HasRun n
+  has-run k zero l = record {
+    keeps = subst KeepsCore (sym core-zero) k;
+    walks = record {
+      walks = λ taken. (ap (λ (x : CoreState). with_history x taken) core-zero, refl);
+      pending = let same = ap (λ (x : CoreState). pending_in x.seats) core-zero in omega (arith, same);
+    };
+  }
+  has-run k (suc n) l = run-more n l (has-run k n (omega (arith, l)))

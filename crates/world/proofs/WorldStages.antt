@@ -1,0 +1,90 @@
+-- What a process does tells its stage, and whether it may step or fail.
+use Rattle.std.proofs.Common.{◌≡◌, ℕ, ◌<◌, Bool, true, false, cond, List, None, Some, refl, sym, ap, ◌∙◌, arith}
+use Rattle.plain_store.specs.declared.Setup.{Setup}
+use Rattle.record.specs.declared.events.Event.{Event}
+use Rattle.record.specs.declared.events.Event.TheVariants as event
+use Rattle.record.specs.declared.Refusal.TheVariants.{NotRunning}
+use Rattle.record.specs.declared.stages.Stage.{Stage}
+use Rattle.record.specs.declared.stages.Stage.TheVariants as stages
+use Rattle.record.specs.Entries.{Past, own}
+use Rattle.record.specs.Places.{is_running}
+use Rattle.record.specs.Records.{past_of, refused_at}
+use Rattle.record.specs.Stages.{stage}
+use Rattle.record.proofs.Width.{IsGood}
+use Rattle.laws.specs.Doings.{Doing, Rests, Lies, Runs, Closes, doing}
+use Rattle.laws.proofs.Doings.{stage_of}
+use Rattle.laws.proofs.Frame.{Does, at_rest, lying, running, leaving, settling}
+use Rattle.laws.proofs.FrameEvents.{does_all}
+use Rattle.laws.proofs.FrameInside.{stage-is}
+use Rattle.process.specs.Places.{ProcessState, left_at, may_fail, may_step, stage_doing}
+
+-- the stage of what is done
+stage-doing : (d : Doing) → stage_doing d ≡ stage_of d
+stage-doing Rests = refl
+stage-doing Lies = refl
+stage-doing (Runs command number at) = refl
+stage-doing (Closes command number at) = refl
+
+-- the stage of a process of a record
+pub stage-process : (s : Setup) → IsGood s → (events : List Event) (p : ℕ) → stage_doing (doing s p (past_of s events)) ≡ stage p (past_of s events)
+stage-process s g events p = stage-doing (doing s p (past_of s events)) ∙ sym (stage-is s g events p)
+
+-- a step of a process that runs, or closes its call, is not refused
+running-steps : (p : ℕ) (flick : Bool) (st : Stage) → is_running st ≡ true → refused_at (event.Step p flick) st ≡ None
+running-steps p flick stages.Idle h = cc
+running-steps p flick stages.Doorway h = refl
+running-steps p flick stages.Waiting h = refl
+running-steps p flick stages.Inside h = refl
+running-steps p flick stages.Leaving h = refl
+running-steps p flick stages.Settling h = cc
+running-steps p flick stages.Down h = cc
+
+-- a step is refused where there is none to make
+pub step-refused : (s : Setup) → IsGood s → (events : List Event) (p : ℕ) (flick : Bool) → refused_at (event.Step p flick) (stage p (past_of s events)) ≡ cond (may_step (doing s p (past_of s events))) None (Some NotRunning)
+step-refused s g events p flick = go (does_all s g events p)
+  where
+    past : Past
+    past = past_of s events
+
+    by : (d : Doing) (b : Bool) → doing s p past ≡ d → may_step d ≡ b → refused_at (event.Step p flick) (stage p past) ≡ cond b None (Some NotRunning) → refused_at (event.Step p flick) (stage p past) ≡ cond (may_step (doing s p past)) None (Some NotRunning)
+    by d b is may h = h ∙ sym (ap (λ b. cond b None (Some NotRunning)) (ap may_step is ∙ may))
+
+    go : Does s p (own p past) (stage p past) (doing s p past) → refused_at (event.Step p flick) (stage p past) ≡ cond (may_step (doing s p past)) None (Some NotRunning)
+    go (at_rest st d) = by _ false d refl (ap (refused_at (event.Step p flick)) st)
+    go (lying st d) = by _ false d refl (ap (refused_at (event.Step p flick)) st)
+    go (running command b r d) = by _ true d refl (running-steps p flick (stage p past) r)
+    go (leaving b st d) = by _ true d refl (ap (refused_at (event.Step p flick)) st)
+    go (settling b st d) = by _ true d refl (ap (refused_at (event.Step p flick)) st)
+
+-- and who is not refused it may
+pub steps-may : (p : ℕ) (flick : Bool) (d : Doing) → refused_at (event.Step p flick) (stage_doing d) ≡ None → may_step d ≡ true
+steps-may p flick Rests h = cc
+steps-may p flick Lies h = cc
+steps-may p flick (Runs command number at) h = refl
+steps-may p flick (Closes command number at) h = refl
+
+-- nor who fails
+pub fails-may : (p : ℕ) (d : Doing) → refused_at (event.Fail p) (stage_doing d) ≡ None → may_fail d ≡ true
+fails-may p d h = go (stage_doing d) h
+  where
+    go : (st : Stage) → refused_at (event.Fail p) st ≡ None → elim st as (λ _. Bool) [ stages.Settling ↦ false | stages.Down ↦ false | _ ↦ true ] ≡ true
+    go stages.Idle h = refl
+    go stages.Doorway h = refl
+    go stages.Waiting h = refl
+    go stages.Inside h = refl
+    go stages.Leaving h = refl
+    go stages.Settling h = cc
+    go stages.Down h = cc
+
+-- a process within a number access has a step to make
+pub left-may : (now : ProcessState) → 0 < left_at now → may_step now.doing ≡ true
+left-may now some = go now.doing refl
+  where
+    none : (d : Doing) → now.doing ≡ d → (n : ℕ) → left_at (record now { doing = d }) ≡ n → 0 < n
+    none d is n h = let all : left_at now ≡ n = ap (λ d. left_at (record now { doing = d })) is ∙ h in omega (arith, some, all)
+
+    go : (d : Doing) → now.doing ≡ d → may_step now.doing ≡ true
+    go Rests is = absurd (omega (arith, none Rests is 0 refl))
+    go Lies is = absurd (omega (arith, none Lies is 0 refl))
+    go (Runs command number at) is = ap may_step is
+    go (Closes command number at) is = ap may_step is
