@@ -1,10 +1,12 @@
 #!/usr/bin/env python3
-"""Opens three pages of runs in headless Chromium, moves the slider of each, and reads what it says.
+"""Opens four pages of runs in headless Chromium, moves the slider of each, and reads what it says.
 
-The proved program draws the pages of three worked examples. In a copy of each a script moves the slider to each place, goes on by
+The proved program draws the pages of four worked examples. In a copy of each a script moves the slider to each place, goes on by
 an event with the arrow keys, and then opens the place of an event by the page's address; what the page has said each time stands
-at its end. In a window of 390 pixels it measures letters, moves the picture within its frame, and looks where the names of the
-lanes are then. By hand: it needs Chromium, and says so where there is none.
+at its end. In a narrow window it measures letters, moves the picture within its frame, and looks where the names of the lanes are
+then. The pages of all records of other locks, judged by the laws of any lock, are measured alike, 390 and 1280 pixels wide: the
+names of the lanes are seen above all else at the left, an address leads to its event, and the line that is run is marked and seen in
+the list. By hand: it needs Chromium, and says so where there is none.
 """
 
 import html
@@ -19,7 +21,7 @@ import tempfile
 sys.path.insert(0, str(pathlib.Path(__file__).resolve().parents[1]))
 
 from lib.counting import Counter
-from lib.places import PROGRAM, WORKED
+from lib.places import OTHER_LOCKS, PROGRAM, WORKED
 
 NAMES = ["chromium", "chromium-browser", "google-chrome", "chrome"]
 OPTIONS = ["--headless", "--no-sandbox", "--disable-gpu", "--virtual-time-budget=10000", "--dump-dom"]
@@ -48,6 +50,7 @@ function left(name) { return name.getBoundingClientRect().left - frame.getBoundi
 var lane = band.querySelector('.lane'), before = left(lane), slider = document.getElementById('at'), told = [];
 frame.scrollLeft = 300;
 frame.dispatchEvent(new Event('scroll'));
+var moved = frame.scrollLeft, stays = Math.abs(left(lane) - before) < 2;
 slider.value = 0;
 slider.dispatchEvent(new Event('input'));
 ['ArrowRight', 'ArrowRight', 'ArrowLeft'].forEach(function (key) {
@@ -57,10 +60,61 @@ slider.dispatchEvent(new Event('input'));
 var end = document.createElement('pre');
 end.id = 'heard';
 end.textContent = JSON.stringify([
-  Math.min.apply(null, sizes) * scale >= 11, frame.scrollLeft, Math.abs(left(lane) - before) < 2,
+  Math.min.apply(null, sizes) * scale >= 11, moved, stays,
   document.documentElement.scrollWidth <= innerWidth, document.querySelector('h2').textContent, told
 ]);
 document.body.appendChild(end);
+</script>
+"""
+# measures a page that stands in a frame of another one, and tells that one what is wrong
+VIEWS = """<script>
+addEventListener('load', function () {
+  var bands = document.querySelectorAll('.band'), frame = bands[0].parentNode, list = document.querySelector('ol'), wrong = [];
+  var slider = document.getElementById('at'), marks = document.querySelectorAll('g.m');
+  var names = frame.querySelectorAll('.lane,.thin,.name');
+  function check(holds, words) { if (!holds && wrong.indexOf(words) < 0) wrong.push(words); }
+  function place(element) { return element.getBoundingClientRect(); }
+  function within(inner, outer) { return place(inner).top > place(outer).top - 2 && place(inner).bottom < place(outer).bottom + 2; }
+  document.querySelectorAll('svg text').forEach(function (text) {
+    var height = parseFloat(getComputedStyle(text).fontSize) * place(text.ownerSVGElement).width / 1200;
+    check(innerWidth > 500 || height >= 11, 'small letters');
+  });
+  check(document.documentElement.scrollWidth <= innerWidth, 'the page scrolls sideways');
+  for (var n = 0; n <= +slider.max; n++) {
+    slider.value = n;
+    slider.dispatchEvent(new Event('input'));
+    var lines = document.querySelectorAll('li.on'), x = marks[n].getAttribute('data-x');
+    check(lines.length === 1 && within(lines[0], list), 'the line that is run is not seen');
+    x = x * place(bands[0]).width / 1200 - frame.scrollLeft;
+    check(x > 0 && x < frame.clientWidth, 'the mark is not seen');
+    names.forEach(function (name) {
+      check(Math.abs(place(name).left - place(frame).left - 8 * place(bands[0]).width / 1200) < 2, 'a name has moved');
+      check(!(name.compareDocumentPosition(marks[n]) & 4) || name.ownerSVGElement !== marks[n].ownerSVGElement, 'a name is covered');
+    });
+  }
+  var to = document.querySelectorAll('g.m[id]')[Math.min(3, document.querySelectorAll('g.m[id]').length - 1)];
+  location.hash = to.id;
+  setTimeout(function () {
+    check(to.classList.contains('on'), 'the address leads elsewhere');
+    parent.postMessage(wrong.join(', '), '*');
+  }, 100);
+});
+</script>
+"""
+# lays one page after the other into a frame, and gathers what each tells
+FRAMES = """<!doctype html><body><iframe style="width:WIDTHpx;height:844px;border:0"></iframe><script>
+var names = NAMES, told = {}, at = -1;
+function next(said) {
+  if (at >= 0) told[names[at]] = said;
+  at++;
+  if (at < names.length) return document.querySelector('iframe').src = names[at];
+  var end = document.createElement('pre');
+  end.id = 'heard';
+  end.textContent = JSON.stringify(told);
+  document.body.appendChild(end);
+}
+addEventListener('message', function (message) { next(message.data); });
+next();
 </script>
 """
 # what is measured of a page: letters are large enough, the picture has moved and the name of its lane has not, nor does the page
@@ -71,51 +125,55 @@ MEASURED = {
         ["event 1, behind 0 0 call read a", "event 2, behind 0 0 call read a", "event 1, behind 0 0 call read a"],
     ],
 }
-# what the slider says of the places of each page, beside the line of the run: the line of the scenario, the store after the
-# history so far, and who stands in line
+# what the slider says of the places of each page, beside the line of the run: the line of the file with its number, the store after
+# the history so far, and who stands in line
 SAID = {
     "failure-commit-settled-new": [
-        ("call 0 write a c:5", "empty", "nobody"),
-        ("step 0 1152", "empty", "0"),
-        ("step 0 1152", "empty", "0"),
-        ("fail 0", "empty", "0"),
-        ("go 0 down", "empty", "0"),
-        ("go 0 down", "a=c:5", "0"),
-        ("go 0 down", "a=c:5", "nobody"),
-        ("go 0 down", "a=c:5", "nobody"),
-        ("call 1 read a", "a=c:5", "nobody"),
-        ("go 1 idle", "a=c:5", "1"),
-        ("go 1 idle", "a=c:5", "1"),
-        ("go 1 idle", "a=c:5", "1"),
-        ("go 1 idle", "a=c:5", "nobody"),
-        ("go 1 idle", "a=c:5", "nobody"),
+        ("4: call 0 write a c:5", "empty", "nobody"),
+        ("5: step 0 1152", "empty", "0"),
+        ("5: step 0 1152", "empty", "0"),
+        ("6: fail 0", "empty", "0"),
+        ("8: go 0 down", "empty", "0"),
+        ("8: go 0 down", "a=c:5", "0"),
+        ("8: go 0 down", "a=c:5", "nobody"),
+        ("8: go 0 down", "a=c:5", "nobody"),
+        ("9: call 1 read a", "a=c:5", "nobody"),
+        ("10: go 1 idle", "a=c:5", "1"),
+        ("10: go 1 idle", "a=c:5", "1"),
+        ("10: go 1 idle", "a=c:5", "1"),
+        ("10: go 1 idle", "a=c:5", "nobody"),
+        ("10: go 1 idle", "a=c:5", "nobody"),
         ("(end)", "a=c:5", "nobody"),
     ],
     "withdrawal-show-while-inside": [
-        ("call 0 read a", "empty", "nobody"),
-        ("go 0 wait", "empty", "0"),
-        ("call 1 read a", "empty", "0"),
-        ("go 1 wait", "empty", "0 1"),
-        ("withdraw 0", "empty", "0 1"),
-        ("go 0 idle", "empty", "1"),
-        ("go 1 inside", "empty", "1"),
-        ("show", "empty", "1"),
-        ("withdraw 1", "empty", "1"),
+        ("4: call 0 read a", "empty", "nobody"),
+        ("5: go 0 wait", "empty", "0"),
+        ("6: call 1 read a", "empty", "0"),
+        ("7: go 1 wait", "empty", "0 1"),
+        ("9: withdraw 0", "empty", "0 1"),
+        ("10: go 0 idle", "empty", "1"),
+        ("11: go 1 inside", "empty", "1"),
+        ("12: show", "empty", "1"),
+        ("13: withdraw 1", "empty", "1"),
         ("(end)", "empty", "1"),
     ],
+    "comments-and-spaces": [
+        ("4:   call 0  add a -3", "empty", "nobody"),
+        ("(end)", "empty", "nobody"),
+    ],
     "two-processes-wander": [
-        ("call 0 write a c:5", "empty", "nobody"),
-        ("call 1 add a 3", "empty", "nobody"),
-        ("wander 5000", "empty", "1"),
-        ("wander 5000", "empty", "0 1"),
-        ("wander 5000", "empty", "0 1"),
-        ("wander 5000", "a=c:5", "0 1"),
-        ("wander 5000", "a=c:5", "1"),
-        ("wander 5000", "a=c:5", "1"),
-        ("wander 5000", "a=c:5", "1"),
-        ("wander 5000", "a=c:8", "1"),
-        ("wander 5000", "a=c:8", "nobody"),
-        ("wander 5000", "a=c:8", "nobody"),
+        ("2: call 0 write a c:5", "empty", "nobody"),
+        ("3: call 1 add a 3", "empty", "nobody"),
+        ("5: wander 5000", "empty", "1"),
+        ("5: wander 5000", "empty", "0 1"),
+        ("5: wander 5000", "empty", "0 1"),
+        ("5: wander 5000", "a=c:5", "0 1"),
+        ("5: wander 5000", "a=c:5", "1"),
+        ("5: wander 5000", "a=c:5", "1"),
+        ("5: wander 5000", "a=c:5", "1"),
+        ("5: wander 5000", "a=c:8", "1"),
+        ("5: wander 5000", "a=c:8", "nobody"),
+        ("5: wander 5000", "a=c:8", "nobody"),
         ("(end)", "a=c:8", "nobody"),
     ],
 }
@@ -123,6 +181,7 @@ SAID = {
 EVENTS = {
     "failure-commit-settled-new": (1157, 4, ""),
     "withdrawal-show-while-inside": (44, 4, "event44 has no mark: it is behind that line\n"),
+    "comments-and-spaces": (0, 0, ""),
     "two-processes-wander": (2451, 7, ""),
 }
 
@@ -153,6 +212,29 @@ def measured(browser, name):
     return told_by(browser, name, MEASURES, "--window-size=390,844")
 
 
+def drawn_records():
+    """The pages of the records of other locks, by their names; none of a record with a fault, whose page breaks off."""
+    for file in sorted(OTHER_LOCKS.glob("*/record")):
+        page = subprocess.run([PROGRAM, "draw", "--judge", "--any-lock", file], capture_output=True).stdout.decode()
+        if "</body>" in page:
+            yield f"{file.parent.name}.html", page
+
+
+def viewed(browser, pages, width):
+    """What is wrong with each page in a frame so many pixels wide."""
+    with tempfile.TemporaryDirectory() as folder:
+        place = pathlib.Path(folder)
+        for name, page in pages.items():
+            (place / name).write_text(page.replace("</body>", VIEWS + "</body>"))
+        outer = place / "outer.html"
+        outer.write_text(FRAMES.replace("WIDTH", str(width)).replace("NAMES", json.dumps(list(pages))))
+        size = ["--virtual-time-budget=600000", "--window-size=1400,1000"]
+        words = [browser, *OPTIONS, *size, f"--user-data-dir={folder}/user", outer.as_uri()]
+        page = subprocess.run(words, capture_output=True, text=True, timeout=600).stdout
+    end = re.search(r'<pre id="heard">(.*?)</pre>', page, re.S)
+    return json.loads(html.unescape(end.group(1))) if end else dict.fromkeys(pages, "nothing was told")
+
+
 def wanted(name):
     """What it is to say: the line told, with one line of the scenario marked, and the line as the slider's value."""
     lines = (WORKED / name / "replay").read_text().splitlines()
@@ -174,6 +256,10 @@ def main():
         counter.compare(name, heard(browser, name), wanted(name))
     for name, told in MEASURED.items():
         counter.compare(f"{name}, in a narrow window", measured(browser, name), told)
+    pages = dict(drawn_records())
+    for width in (390, 1280):
+        for name, wrong in viewed(browser, pages, width).items():
+            counter.count(not wrong, f"{name}, {width} pixels wide: {wrong}")
     counter.end()
 
 

@@ -5,10 +5,10 @@ pictures.py [--made-up N] [--first K]: so many files that lib/random_scenarios.p
 number K on, 1 if not said. The picture that README.md shows is the one that the program draws.
 
 A parser of HTML reads the pages, and one of XML the pictures; both know nothing of this repository. The titles of the marks
-are the lines of the run, in their order. Each word of a picture stands within it, and on no other one. Right of each mark the
-bar of each process is the stage that the marks so far give it, and all lanes are shaded from each `enter` to its `leave`; no
-two bars stand side by side as `inside`. The places in the history are numbered from 0 on, and each is filled where a command
-changed the store.
+are the lines of the run, in their order, and a page lists the lines of its file, as they are. Each word of a picture stands
+within it, and on no other one. Right of each mark the bar of each process is the stage that the marks so far give it, and all
+lanes are shaded from each `enter` to its `leave`; no two bars stand side by side as `inside`. The places in the history are
+numbered from 0 on, and each is filled where a command changed the store.
 
 With `--reads` both show beside all this the reads that a write overlapped, which are looked up in what `record` prints: of those
 that end between two lines of the run the first three, each with a bracket that ends at its column.
@@ -65,11 +65,11 @@ class Group(NamedTuple):
 
 
 class Groups(html.parser.HTMLParser):
-    """The groups of a page."""
+    """The groups of a page, and the lines that it lists."""
 
     def __init__(self):
         super().__init__()
-        self.groups, self.is_open, self.part = [], False, None
+        self.groups, self.listed, self.is_open, self.part = [], [], False, None
 
     def handle_starttag(self, tag, attributes):
         if tag == "g":
@@ -78,9 +78,12 @@ class Groups(html.parser.HTMLParser):
         if tag in ("title", "text") and self.is_open:
             self.part = self.groups[-1].title if tag == "title" else self.groups[-1].words
             self.part.append("")
+        if tag == "li":
+            self.part = self.listed
+            self.part.append("")
 
     def handle_endtag(self, tag):
-        if tag in ("title", "text"):
+        if tag in ("title", "text", "li"):
             self.part = None
         if tag == "g":
             self.is_open = False
@@ -112,8 +115,9 @@ class Read(NamedTuple):
 
 
 class Run(NamedTuple):
-    """A run: its lines, and the reads that a picture of it shows."""
+    """A run: the lines of its file, its own lines, and the reads that a picture of it shows."""
 
+    file: list
     lines: list
     reads: list
 
@@ -177,6 +181,8 @@ def page_faults(page, run):
     parser.feed(page)
     if [group.title[0] for group in parser.groups if group.style == "m"] != run.lines:
         yield "other lines than replay's"
+    if parser.listed != [*run.file, "(end)"]:
+        yield "other lines than the file's"
     yield from read_faults(parser.groups, run.reads)
     if "<script src" in page or "http" in page.replace("http://www.w3.org/2000/svg", ""):
         yield "something that is not in the file"
@@ -309,6 +315,12 @@ def picture_faults(picture, run):
             state = state.after(title(mark))
 
 
+def lines_in(file):
+    """The lines of a file, without their ends."""
+    *ended, rest = file.decode().split("\n")
+    return [line.removesuffix("\r") for line in ended] + [rest] * bool(rest)
+
+
 def files(made_up, first):
     """The worked examples that are drawn, the lessons, and the files that are made up, by name."""
     for folder in sorted(WORKED.iterdir()):
@@ -333,7 +345,7 @@ def main():
         overlapped = list(overlapped_in(printed(file, "record").splitlines()))
         for options, reads in [([], []), (["--reads"], overlapped)]:
             for command, faults_of in [("draw", page_faults), ("draw-svg", picture_faults)]:
-                faults = list(faults_of(printed(file, command, *options), Run(lines, reads)))
+                faults = list(faults_of(printed(file, command, *options), Run(lines_in(file), lines, reads)))
                 counter.count(not faults, "\n".join(f"{command} {options} {name}: {fault}" for fault in faults[:5]))
     counter.end()
 

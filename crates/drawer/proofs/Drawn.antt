@@ -186,9 +186,9 @@ draws_bands plan first has a b c text ending marks gives ends height none new on
     }
 
 -- what stands before and behind tells nothing, and ends what it begins
-pub draws_framed : (reads : Mode) (form : Form) (said : Script) (plan : Plan) (a b c d : Option (List ℕ)) (head ending : List ℕ) (names : List (List ℕ)) (marks : List (ℕ × Mark)) (gives : List Gives) (height : ℕ) → lines_in head ≡ [] → opens_in head (Some []) ≡ Some names → lines_in ending ≡ [] → opens_in ending (Some names) ≡ Some [] →
-    Writes a b head → (bands : DrawsBands plan b c (replayed said) marks gives height) → Writes c d ending → IsPictureOf reads form said ((head ++ bands_told plan bands.items) ++ ending) → DrawsAll reads form said a d
-draws_framed reads form said plan a b c d head ending names marks gives height no_head begin no_ending end first bands last page =
+pub draws_framed : (reads : Mode) (form : Form) (file : List ℕ) (said : Script) (plan : Plan) (a b c d : Option (List ℕ)) (head ending : List ℕ) (names : List (List ℕ)) (marks : List (ℕ × Mark)) (gives : List Gives) (height : ℕ) → lines_in head ≡ [] → opens_in head (Some []) ≡ Some names → lines_in ending ≡ [] → opens_in ending (Some names) ≡ Some [] →
+    Writes a b head → (bands : DrawsBands plan b c (replayed said) marks gives height) → Writes c d ending → IsPictureOf reads form file said ((head ++ bands_told plan bands.items) ++ ending) → DrawsAll reads form file said a d
+draws_framed reads form file said plan a b c d head ending names marks gives height no_head begin no_ending end first bands last page =
     let markup : List ℕ = bands_told plan bands.items in
     let front = writes_both a b c head markup first bands.draws.writes in
     record {

@@ -1,6 +1,6 @@
 -- How `draw` ends that has read its input.
-use Rattle.std.proofs.Common.{◌≡◌, ℕ, ◌+◌, List, Option, None, Some, Result, Ok, Err, IfErr, IfSome, IsErrAnd, OnOk, ap, arith, sym, ◌∙◌}
-use Rattle.files.proofs.CutTexts.{input_tells}
+use Rattle.std.proofs.Common.{◌≡◌, ℕ, ◌+◌, List, [], ◌++◌, Option, None, Some, Result, Ok, Err, IfErr, IfSome, IsErrAnd, OnOk, ap, append-nil, arith, subst, sym, ◌∙◌}
+use Rattle.files.proofs.CutTexts.{input_ended}
 use Rattle.files.proofs.EngineEnds.{read_to_end}
 use Rattle.files.specs.Checks.{◌>>=◌}
 use Rattle.files.specs.Engines.{Ran, Streams}
@@ -25,19 +25,27 @@ drew_line reads form (Err Read) fault old new is ran = ran
 drew_line reads form (Err Write) fault old new is ran = absurd (cc)
 drew_line reads form (Err Memory) fault old new is ran = tt
 
+-- what is read and is a scenario is the whole input
+all_read : (input bytes : List ℕ) (new : Option (List ℕ)) (said : Script) → ReadsInput (Some input) new bytes → scenario_of bytes ≡ Ok said → bytes ≡ input
+all_read input bytes None said read good = absurd read.front
+all_read input bytes (Some left) said read good =
+    let none : left ≡ [] = input_ended scenario_of input bytes (Some left) said scenario_tells_at_limit read good in
+    sym (read.front ∙ ap (λ ys. bytes ++ ys) none ∙ append-nil bytes)
+
 -- what holds of what was read, of the whole input
-script_told : (old new : Option (List ℕ)) (bytes : List ℕ) (said : Script) (P : Script → Type 0) → ReadsInput old new bytes → scenario_of bytes ≡ Ok said → P said →
-    IfSome old (λ input. (said : Script) × (scenario_of input ≡ Ok said) × (replay_text input ≡ Ok (replayed said)) × P said)
+script_told : (old new : Option (List ℕ)) (bytes : List ℕ) (said : Script) (P : List ℕ → Script → Type 0) → ReadsInput old new bytes → scenario_of bytes ≡ Ok said → P bytes said →
+    IfSome old (λ input. (said : Script) × (scenario_of input ≡ Ok said) × (replay_text input ≡ Ok (replayed said)) × P input said)
 script_told None new bytes said P read good holds = tt
 script_told (Some input) new bytes said P read good holds =
-    let is : scenario_of input ≡ Ok said = sym (input_tells scenario_of input bytes new scenario_tells_at_limit read) ∙ good in
-    (said, is, ap (λ r. r >>= λ s. Ok (replayed s)) is, holds)
+    let whole : bytes ≡ input = all_read input bytes new said read good in
+    let is : scenario_of input ≡ Ok said = ap scenario_of (sym whole) ∙ good in
+    (said, is, ap (λ r. r >>= λ s. Ok (replayed s)) is, subst (λ file. P file said) whole holds)
 
 -- the end, once the input is read and is a scenario's
 pub drew_all : {A : Type 0} (reads : Mode) (form : Form) (result : Result A Fault) (bytes : List ℕ) (said : Script) (old new : Streams) → ReadsInput old.to_come new.to_come bytes → scenario_of bytes ≡ Ok said →
-    OnOk result (DrawsAll reads form said old.taken new.taken) → IfErr result IsWriteFault → new.write_failures ≡ old.write_failures + failed_write result → Drew reads form (ended result) old new
+    OnOk result (DrawsAll reads form bytes said old.taken new.taken) → IfErr result IsWriteFault → new.write_failures ≡ old.write_failures + failed_write result → Drew reads form (ended result) old new
 drew_all reads form (Ok answer) bytes said old new read good draws fault failures = (
-  script_told old.to_come new.to_come bytes said (λ said. DrawsAll reads form said old.taken new.taken) read good draws,
+  script_told old.to_come new.to_come bytes said (λ file said. DrawsAll reads form file said old.taken new.taken) read good draws,
   read_to_end scenario_of replayed scenario_tells_at_limit old.to_come new.to_come bytes said read good,
 )
 drew_all reads form (Err Write) bytes said old new read good draws fault failures = omega (arith, failures)

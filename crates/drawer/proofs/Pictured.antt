@@ -5,7 +5,6 @@ use Rattle.companions.specs.picture.Bandings.{bands_told}
 use Rattle.companions.specs.picture.Sheets.{page_back, page_front, picture_back, picture_front}
 use Rattle.companions.specs.picture.declared.page.Form.TheVariants as form
 use Rattle.companions.specs.picture.declared.reads.Reads.{Reads as Mode}
-use Rattle.scenario.specs.Printing.{scenario_text}
 use Rattle.scenario.specs.Reading.{Script}
 use Rattle.companions.specs.picture.columns.Stages.{marks_in}
 use Rattle.course.specs.Happenings.{past_after}
@@ -17,10 +16,10 @@ use Rattle.companions.specs.StoreChanges.{store_words}
 use Rattle.drawer.specs.Pictures.{plan_of}
 
 -- a page
-pub is_page : (reads : Mode) (said : Script) (printed opening head ending : List ℕ) (b c : Option (List ℕ)) (height : ℕ) → (bands : DrawsBands (plan_of form.Page said.setup) b c (replayed said) (marks_in (past_after said.setup (happenings said))) (run_given reads said) height) →
-    printed ≡ scenario_text said → opening ≡ store_words (opening_store said.setup) → head ≡ page_front said.setup printed reads → ending ≡ page_back opening →
-    IsPictureOf reads form.Page said ((head ++ bands_told (plan_of form.Page said.setup) bands.items) ++ ending)
-is_page reads said printed opening head ending b c height bands prints opens front back = record {
+pub is_page : (reads : Mode) (said : Script) (file opening head ending : List ℕ) (b c : Option (List ℕ)) (height : ℕ) → (bands : DrawsBands (plan_of form.Page said.setup) b c (replayed said) (marks_in (past_after said.setup (happenings said))) (run_given reads said) height) →
+    opening ≡ store_words (opening_store said.setup) → head ≡ page_front said.setup file reads → ending ≡ page_back opening →
+    IsPictureOf reads form.Page file said ((head ++ bands_told (plan_of form.Page said.setup) bands.items) ++ ending)
+is_page reads said file opening head ending b c height bands opens front back = record {
   items = bands.items;
   are = bands.are;
   lines = bands.lines;
@@ -29,14 +28,14 @@ is_page reads said printed opening head ending b c height bands prints opens fro
   same_items = bands.are;
   same_lines = bands.lines;
   same_marks = bands.says;
-  is = λ i. ((front ∙ ap (λ l. page_front said.setup l reads) prints) i ++ bands_told (plan_of form.Page said.setup) bands.items) ++ (back ∙ ap page_back opens) i;
+  is = λ i. (front i ++ bands_told (plan_of form.Page said.setup) bands.items) ++ (back ∙ ap page_back opens) i;
 }
 
 -- one picture, whose height was learnt first
-pub is_picture : (reads : Mode) (said : Script) (head ending : List ℕ) (a a' b c : Option (List ℕ)) (height height' : ℕ) → (first : DrawsBands (plan_of (form.Picture 34) said.setup) a a' (replayed said) (marks_in (past_after said.setup (happenings said))) (run_given reads said) height) → (bands : DrawsBands (plan_of (form.Picture 34) said.setup) b c (replayed said) (marks_in (past_after said.setup (happenings said))) (run_given reads said) height') →
+pub is_picture : (reads : Mode) (file : List ℕ) (said : Script) (head ending : List ℕ) (a a' b c : Option (List ℕ)) (height height' : ℕ) → (first : DrawsBands (plan_of (form.Picture 34) said.setup) a a' (replayed said) (marks_in (past_after said.setup (happenings said))) (run_given reads said) height) → (bands : DrawsBands (plan_of (form.Picture 34) said.setup) b c (replayed said) (marks_in (past_after said.setup (happenings said))) (run_given reads said) height') →
     head ≡ picture_front said.setup height reads → ending ≡ picture_back height reads →
-    IsPictureOf reads (form.Picture 34) said ((head ++ bands_told (plan_of (form.Picture 34) said.setup) bands.items) ++ ending)
-is_picture reads said head ending a a' b c height height' first bands front back = record {
+    IsPictureOf reads (form.Picture 34) file said ((head ++ bands_told (plan_of (form.Picture 34) said.setup) bands.items) ++ ending)
+is_picture reads file said head ending a a' b c height height' first bands front back = record {
   items = bands.items;
   are = bands.are;
   lines = bands.lines;

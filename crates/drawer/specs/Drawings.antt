@@ -50,8 +50,8 @@ pub record Draws (old new : Option (List ℕ)) (markup text : List ℕ) : Type 0
   pub read_back : ended_lines (lines_in markup) ≡ text
   pub writes : Writes old new markup
 
--- Markup is the picture of a run, and nothing else: that of items which are what the run gives, one by one. So their lines are the text of the run, in order, and say the marks of its record. The height of one picture is that of such a picture.
-pub record IsPictureOf (reads : Mode) (form : Form) (said : Script) (markup : List ℕ) : Type 0 where
+-- Markup is the picture of the run of a file, and nothing else: that of items which are what the run gives, one by one. So their lines are the text of the run, in order, and say the marks of its record. The height of one picture is that of such a picture.
+pub record IsPictureOf (reads : Mode) (form : Form) (file : List ℕ) (said : Script) (markup : List ℕ) : Type 0 where
   pub items : List Item
   pub are : given items ≡ run_given reads said
   pub lines : ended_lines (lines_told items) ≡ replayed said
@@ -60,12 +60,12 @@ pub record IsPictureOf (reads : Mode) (form : Form) (said : Script) (markup : Li
   pub same_items : given first ≡ run_given reads said
   pub same_lines : ended_lines (lines_told first) ≡ replayed said
   pub same_marks : flat_map marks_said (sayings first) ≡ marks_in (past_after said.setup (happenings said))
-  pub is : markup ≡ picture_of reads form said (heights_told (plan_of form said.setup) first) items
+  pub is : markup ≡ picture_of reads form file said (heights_told (plan_of form said.setup) first) items
 
--- A whole picture was written: it is the picture of a run, and nothing else; its tags fit, and no element is open at its end; and the titles of its marks, read back, are the lines of the run.
-pub record DrawsAll (reads : Mode) (form : Form) (said : Script) (old new : Option (List ℕ)) : Type 0 where
+-- A whole picture was written: it is the picture of the run of a file, and nothing else; its tags fit, and no element is open at its end; and the titles of its marks, read back, are the lines of the run.
+pub record DrawsAll (reads : Mode) (form : Form) (file : List ℕ) (said : Script) (old new : Option (List ℕ)) : Type 0 where
   pub markup : List ℕ
-  pub page : IsPictureOf reads form said markup
+  pub page : IsPictureOf reads form file said markup
   pub elements : opens_in markup (Some []) ≡ Some []
   pub read_back : ended_lines (lines_in markup) ≡ replayed said
   pub writes : Writes old new markup
@@ -179,7 +179,7 @@ DrawsLine line old new drawing drawings taken then =
 
 -- How `draw` ends: where it ends well, what was written is a picture of the whole run; after a fault of the input nothing was written.
 abbrev pub Drew : Mode → Form → Result (Unit {0}) Fault → Streams → Streams → Type 0
-Drew reads form (Ok done) old new = IfSome old.to_come (λ input. (said : Script) × (scenario_of input ≡ Ok said) × (replay_text input ≡ Ok (replayed said)) × DrawsAll reads form said old.taken new.taken) × IsAtEnd new.to_come
+Drew reads form (Ok done) old new = IfSome old.to_come (λ input. (said : Script) × (scenario_of input ≡ Ok said) × (replay_text input ≡ Ok (replayed said)) × DrawsAll reads form input said old.taken new.taken) × IsAtEnd new.to_come
 Drew reads form (Err (fault.Line f)) old new = Ran replay_text (Err (fault.Line f)) old new
 Drew reads form (Err fault.Read) old new = Ran replay_text (Err fault.Read) old new
 Drew reads form (Err fault.Write) old new = old.write_failures < new.write_failures

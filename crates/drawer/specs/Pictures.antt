@@ -2,7 +2,6 @@
 use Rattle.std.specs.Prelude.{ℕ, List, [], ◌∷◌, ◌++◌, codes, flat_map}
 use Rattle.plain_store.specs.Setups.{opening_store}
 use Rattle.plain_store.specs.declared.setups.Setup.{Setup}
-use Rattle.scenario.specs.Printing.{scenario_text}
 use Rattle.scenario.specs.Reading.{Script}
 use Rattle.companions.specs.picture.Bandings.{Item, Plan, Reads, Tells, bands_told}
 use Rattle.companions.specs.picture.Sheets.{page_back, page_front, picture_back, picture_front}
@@ -22,10 +21,10 @@ lines_told (Reads read ∷ before) = lines_told before
 abbrev pub plan_of : Form → Setup → Plan
 plan_of form s = record { form = form; processes = s.processes; opening = words_by (opening_store s).pairs }
 
--- a page, and one picture whose bands' heights come to so much
-abbrev pub picture_of : Mode → Form → Script → ℕ → List Item → List ℕ
-picture_of reads form.Page said height items = (page_front said.setup (scenario_text said) reads ++ bands_told (plan_of form.Page said.setup) items) ++ page_back (store_words (opening_store said.setup))
-picture_of reads (form.Picture top) said height items = (picture_front said.setup height reads ++ bands_told (plan_of (form.Picture top) said.setup) items) ++ picture_back height reads
+-- a page, which lists the lines of its file, and one picture whose bands' heights come to so much
+abbrev pub picture_of : Mode → Form → List ℕ → Script → ℕ → List Item → List ℕ
+picture_of reads form.Page file said height items = (page_front said.setup file reads ++ bands_told (plan_of form.Page said.setup) items) ++ page_back (store_words (opening_store said.setup))
+picture_of reads (form.Picture top) file said height items = (picture_front said.setup height reads ++ bands_told (plan_of (form.Picture top) said.setup) items) ++ picture_back height reads
 
 -- lines, each with its end
 abbrev pub ended_lines : List (List ℕ) → List ℕ

@@ -17,14 +17,14 @@ use crate::writing::write_markup;
 use companions::{FIRST_BAND, Form, Reads, page_end, page_head, picture_end, picture_head};
 use course::Summary;
 use files::progress::{Again, Onlooker};
-use scenario::{Fault, Scenario, Sink, Source, print_scenario, read_input, read_scenario};
+use scenario::{Fault, Scenario, Sink, Source, read_input, read_scenario};
 use std::alloc::Global;
 
 /// Reads a whole file, and writes the page of its run: a picture in bands, each written when it is full. Where it ends
 /// well, what was written is the page of what the run gives, item by item, and nothing else: of its lines, each with the
 /// line of the scenario that makes it and with what its command changed, and, if they are to be shown, of the reads that
-/// writes overlapped. The titles of the marks, read back, are the lines that `replay` writes for the file; and the tags
-/// fit, and no element is open at the end.
+/// writes overlapped. It lists the lines of the file, as they are. The titles of the marks, read back, are the lines that
+/// `replay` writes for the file; and the tags fit, and no element is open at the end.
 pub fn draw<R: Source, W: Sink, L: Onlooker>(
     alloc: Global,
     reads: Reads,
@@ -55,14 +55,13 @@ fn draw_page<W: Sink, L: Onlooker>(
     onlooker: &mut L,
 ) -> Result<Summary, Fault>
     requires { W.failures output.old < 2 ^ 64 - 1 }
-    ensures ok { OnOk result (DrawsAll reads form_variants.Page (script scenario.now) (W.taken output.old) (W.taken output.new)) }
+    ensures ok { OnOk result (DrawsAll reads form_variants.Page file.now (script scenario.now) (W.taken output.old) (W.taken output.new)) }
     ensures summary { IfOk result (λ summary. summary ≡ summary_of scenario.now.setup (happenings (script scenario.now))) }
     ensures fault { IfErr result IsWriteFault }
     ensures failures { W.failures output.new ≡ W.failures output.old + failed_write result }
 {
     let opening = Changes::new(alloc, &scenario.setup)?.store_words()?;
-    let printed = print_scenario(alloc, scenario)?;
-    let head = page_head(alloc, &scenario.setup, printed.as_slice(), reads)?;
+    let head = page_head(alloc, &scenario.setup, file, reads)?;
     let end = page_end(alloc, opening.as_slice())?;
     write_markup(&head, output)?;
     let (summary, _) = draw_bands(alloc, file, scenario, Form::Page, reads, output, onlooker)?;
@@ -102,7 +101,7 @@ fn draw_picture<W: Sink, L: Onlooker>(
     onlooker: &mut L,
 ) -> Result<Summary, Fault>
     requires { W.failures output.old < 2 ^ 64 - 1 }
-    ensures ok { OnOk result (DrawsAll reads (form_variants.Picture 34) (script scenario.now) (W.taken output.old) (W.taken output.new)) }
+    ensures ok { OnOk result (DrawsAll reads (form_variants.Picture 34) file.now (script scenario.now) (W.taken output.old) (W.taken output.new)) }
     ensures summary { IfOk result (λ summary. summary ≡ summary_of scenario.now.setup (happenings (script scenario.now))) }
     ensures fault { IfErr result IsWriteFault }
     ensures failures { W.failures output.new ≡ W.failures output.old + failed_write result }

@@ -27,9 +27,9 @@ path{fill:none;stroke:#111;stroke-width:1}\n\
 pub(crate) const PAGE_STYLE: &str = "html{background:#fff;color:#111}\n\
 body{font:15px/1.4 \"DejaVu Sans\",Verdana,sans-serif;margin:0 auto;max-width:1216px;padding:8px 8px 9.5em}\n\
 h1{font-size:18px;margin:.3em 0}svg{display:block;width:100%;height:auto}.band{margin:0 0 10px}\n\
-details{margin:.3em 0}summary{cursor:pointer}\n\
-ol{font:12px/1.35 \"DejaVu Sans Mono\",Menlo,Consolas,monospace;margin:.2em 0;columns:4 15em;column-gap:3.5em;padding-left:3em;max-height:11em;overflow:auto}\n\
-li.on{background:#111;color:#fff}li::marker{color:#555}\n\
+details{margin:.3em 0;position:sticky;top:0;background:#fff;border-bottom:1px solid #111;z-index:1}summary{cursor:pointer}\n\
+ol{font:12px/1.35 \"DejaVu Sans Mono\",Menlo,Consolas,monospace;margin:.2em 0;padding-left:3.5em;max-height:8.1em;overflow:auto}\n\
+li{white-space:pre-wrap}li:last-child{list-style:none}li.on{background:#111;color:#fff;font-weight:bold}li::marker{color:#555}\n\
 #now{position:fixed;left:0;right:0;bottom:0;background:#fff;border-top:2px solid #111;padding:6px 12px}\n\
 #now div{max-width:1200px;margin:auto}#now input{width:100%;margin:0}\n\
 #now output{display:block;font:13px/1.45 \"DejaVu Sans Mono\",Menlo,Consolas,monospace;white-space:pre-wrap}\n\
@@ -37,36 +37,43 @@ li.on{background:#111;color:#fff}li::marker{color:#555}\n\
 g.m{cursor:pointer}g.m.on text{text-decoration:underline}g.m:focus-visible{outline:2px solid #111}\n\
 .cur{stroke:#c00;stroke-width:2;opacity:.5;pointer-events:none}\n\
 h2{font-size:13px;margin:.2em 0;position:sticky;left:0;width:max-content}.frame{overflow-x:auto}\n\
-@media screen and (max-width:1199px){svg{width:1470px}.band .lane,.band .thin{paint-order:stroke;stroke:#fff;stroke-width:6px;stroke-linejoin:round}}\n\
-@media print{#now,.cur{display:none}.frame{overflow:visible}g.m.on text{text-decoration:none}li.on{background:none;color:inherit}ol{max-height:none;font-size:10px}h1{font-size:15px}body{padding:0;max-width:none}.band{break-inside:avoid}*{print-color-adjust:exact;-webkit-print-color-adjust:exact}}";
+@media screen and (max-width:1199px){svg{width:1470px}.band .lane,.band .thin,.band .name{paint-order:stroke;stroke:#fff;stroke-width:6px;stroke-linejoin:round}}\n\
+@media print{#now,.cur{display:none}.frame{overflow:visible}g.m.on text{text-decoration:none}details{position:static;border:0}li.on{background:none;color:inherit;font-weight:normal}ol{max-height:none;font-size:10px;columns:2;column-gap:3.5em}h1{font-size:15px}body{padding:0;max-width:none}.band{break-inside:avoid}*{print-color-adjust:exact;-webkit-print-color-adjust:exact}}";
 
 /// The script of a page.
 pub(crate) const SCRIPT: &str = "(function(){\n\
 var marks=[].slice.call(document.querySelectorAll('g.m')),at=document.getElementById('at'),\n\
-said=document.getElementById('said'),list=document.querySelector('ol'),items=list.querySelectorAll('li'),stores=[],queues=[],events=[],last=0,\n\
-store=at.getAttribute('data-s'),queue='',cur=document.createElementNS('http://www.w3.org/2000/svg','path'),k=-1,now=0;\n\
+said=document.getElementById('said'),list=document.querySelector('ol'),items=[].slice.call(list.children),stores=[],queues=[],events=[],last=0,\n\
+store=at.getAttribute('data-s'),queue='',cur=document.createElementNS('http://www.w3.org/2000/svg','path'),k=-1,now=0,\n\
+lines=items.filter(function(item){return !/^[ \\t]*(#|$)/.test(item.textContent);});\n\
 marks.forEach(function(m){var s=m.getAttribute('data-s'),q=m.getAttribute('data-q'),t=text(m);\n\
 if(s!==null)store=s;if(q!==null)queue=q;stores.push(store);queues.push(queue);\n\
 if(/^[0-9]/.test(t))last=parseInt(t,10);events.push(last);});\n\
 cur.setAttribute('class','cur');\n\
 function text(m){return m.querySelector('title').textContent;}\n\
 function place(m){return +m.getAttribute('data-x');}\n\
+function source(m){return +m.getAttribute('data-l');}\n\
+function by(m){return lines[lines.length-1+source(m)-source(marks[marks.length-1])];}\n\
+function spelled(item){var words=item.textContent;return (words[0]==='('?'':items.indexOf(item)+1+': ')+words;}\n\
 function line(name,value){var b=document.createElement('b');b.textContent=name;said.appendChild(b);\n\
 said.appendChild(document.createTextNode(value+'\\n'));}\n\
 function cursor(svg,x){cur.setAttribute('d','M'+x+' 0V'+svg.viewBox.baseVal.height);svg.appendChild(cur);}\n\
 function go(n,look){if(n<0||n>=marks.length)return;if(k>=0){marks[k].classList.remove('on');\n\
-items[marks[k].getAttribute('data-l')-1].classList.remove('on');}\n\
-k=n;now=events[n];at.value=n;var m=marks[n],svg=m.ownerSVGElement,item=items[m.getAttribute('data-l')-1];\n\
-m.classList.add('on');item.classList.add('on');cursor(svg,place(m));\n\
+by(marks[k]).classList.remove('on');by(marks[k]).removeAttribute('aria-current');}\n\
+k=n;now=events[n];at.value=n;var m=marks[n],svg=m.ownerSVGElement,item=by(m);\n\
+m.classList.add('on');item.classList.add('on');item.setAttribute('aria-current','true');cursor(svg,place(m));\n\
 list.scrollTop=item.offsetTop-list.offsetTop-40;\n\
-said.textContent='';line('told',text(m));line('by line',item.textContent);line('store',stores[n]);\n\
+said.textContent='';line('told',text(m));line('by line',spelled(item));line('store',stores[n]);\n\
 line('in line',queues[n]||'nobody');at.setAttribute('aria-valuetext',text(m));\n\
-if(look){var r=svg.getBoundingClientRect();if(r.top<0||r.bottom>innerHeight-150)svg.scrollIntoView({block:'center'});}}\n\
+if(look)show(svg,place(m));}\n\
+function show(svg,x){var r=svg.getBoundingClientRect(),to=x*r.width/1200;\n\
+if(r.top<list.getBoundingClientRect().bottom||r.bottom>innerHeight-150)svg.scrollIntoView({block:'center'});\n\
+if(to<frame.scrollLeft+70||to>frame.scrollLeft+frame.clientWidth-40)frame.scrollLeft=to-frame.clientWidth/2;hold();}\n\
 function event(e){var n=0,m,then,x;e=Math.max(0,Math.min(e,last));\n\
 while(n<marks.length-1&&!(events[n+1]>e))n++;while(n>0&&events[n-1]===e)n--;go(n,true);\n\
 if(events[n]===e)return;now=e;m=marks[n];then=marks[n+1];x=place(m);\n\
 if(then&&then.ownerSVGElement===m.ownerSVGElement)x+=(place(then)-x)*(e-events[n])/(events[n+1]-events[n]);\n\
-cursor(m.ownerSVGElement,Math.round(x));line('event',e+' has no mark: it is behind that line');\n\
+cursor(m.ownerSVGElement,Math.round(x));show(m.ownerSVGElement,x);line('event',e+' has no mark: it is behind that line');\n\
 at.setAttribute('aria-valuetext','event '+e+', behind '+text(m));}\n\
 at.max=marks.length-1;at.addEventListener('input',function(){go(+at.value,true);});\n\
 at.addEventListener('keydown',function(k){var by={ArrowLeft:-1,ArrowRight:1}[k.key];\n\
@@ -77,7 +84,8 @@ function named(look){var n=parseInt(location.hash.replace(/^#e?/,''),10);if(n>=0
 function framed(svgs){var f=document.createElement('div');f.className='frame';\n\
 svgs[0].parentNode.insertBefore(f,svgs[0]);svgs.forEach(function(svg){f.appendChild(svg);});return f;}\n\
 var bands=[].slice.call(document.querySelectorAll('.band')),frame=framed(bands),ends=new Map(),from=0,\n\
-names=frame.querySelectorAll('.lane,.thin');\n\
+names=frame.querySelectorAll('.lane,.thin,.name');\n\
+names.forEach(function(name){name.parentNode.appendChild(name);});\n\
 framed([document.querySelector('svg')]);\n\
 marks.forEach(function(m,n){ends.set(m.ownerSVGElement,events[n]);\n\
 if(/^[0-9]/.test(text(m))&&events[n]!==events[n-1])m.id='e'+events[n];});\n\

@@ -21,7 +21,7 @@ returns-in_err-scenario-clause-drew g c =
 pub returns-clause-drew : goal.returns-clause-drew
 returns-clause-drew g c =
     drew_all c.args.reads form.Page c.draw_page.result c.in_ok-file.file.items (script c.in_ok-scenario.scenario) _ _
-    c.in_ok-file.ensures.ok (rw c.as_slice.ensures.value at c.in_ok-scenario.ensures) c.draw_page.ensures.ok c.draw_page.ensures.fault c.draw_page.ensures.failures
+    c.in_ok-file.ensures.ok (rw c.as_slice.ensures.value at c.in_ok-scenario.ensures) (rw c.as_slice-2.ensures.value at c.draw_page.ensures.ok) c.draw_page.ensures.fault c.draw_page.ensures.failures
 
 pub returns-clause-summary : goal.returns-clause-summary
 returns-clause-summary g c =
