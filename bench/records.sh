@@ -1,6 +1,6 @@
 #!/usr/bin/env bash
-# Times `record`, `judge` and the two through a pipe, on records of some ten million entries, each six times: the least of
-# the processor times of `record` and of `judge`, and of the wall times of the pipe. And the most memory that `judge` takes,
+# Times `record`, `judge` and the two through a pipe, and `draw` of the scenario and of its record, on records of some ten million
+# entries, each six times: the least of the processor times, and of the wall times of the pipe. And the most memory that `judge` takes,
 # on the record of one call and on one of these.
 . "$(dirname "$0")/program.sh"
 
@@ -29,6 +29,8 @@ for run in lone-2 recorded-2 crowd-16; do
   entries=$("$program" judge "$folder/record" | awk '{ print $2 }')
   for _ in {1..6}; do processor_time record "$folder/$run"; done | least "record $run" "$entries"
   for _ in {1..6}; do processor_time judge "$folder/record"; done | least "judge $run" "$entries"
+  for _ in {1..6}; do processor_time draw "$folder/$run"; done | least "draw $run" "$entries"
+  for _ in {1..6}; do processor_time draw "$folder/record"; done | least "draw its record" "$entries"
   for _ in {1..6}; do piped "$folder/$run" 2>/dev/null; done | least "both $run" "$entries"
   printf 'judge %-14s %9d KiB\n' "$run" "$(memory "$folder/record")"
 done

@@ -60,8 +60,9 @@ impl OverlapsHeard {
         }))
     }
 
-    /// Hears an entry with this number by its access, if it has one.
-    #[inline]
+    /// Hears an entry with this number by its access, if it has one. It is a function of its own, so that where no reads are
+    /// shown nothing is called.
+    #[inline(never)]
     fn hear(&mut self, number: u64, access: Option<Access>) -> Result<(), AllocError>
         ensures { OnOk result ((s : Given) (past : Past) (reads : List Ended) (e : Entry) → e.access ≡ access → Hears s past reads self.old → number ≡ length past → Hears s (e ∷ past) (reads ++ overlapped_by s past e) self.new) }
     {
@@ -179,7 +180,7 @@ impl OverlapsHeard {
 }
 
 /// Hears an entry with this number by its access, if reads are shown.
-#[inline]
+#[inline(always)]
 pub fn hear(
     overlaps: &mut Option<OverlapsHeard>,
     number: u64,

@@ -70,7 +70,9 @@ impl Lines {
 
     /// Takes the next line; `false` if there is none. A line of more than 128 bytes is a fault. A file of 2^64 - 1 lines
     /// or more, whose numbers want more than 64 bits, ends with `Memory`. After an `Err` no more is to be taken. Once the
-    /// source has told its end it is not asked again, so a last line without an end asks a terminal no more than once.
+    /// source has told its end it is not asked again, so a last line without an end asks a terminal no more than once. With
+    /// what it calls it stands in its caller's loop, since lines are short, and calls would cost a tenth of hearing one.
+    #[inline(always)]
     pub fn next<R: Source>(&mut self, input: &mut R) -> Result<bool, Fault>
         requires { R.failures input.old < 2 ^ 64 - 1 }
         ensures next { GoesOn result self.old (R.to_come input.old) self.new (R.to_come input.new) }
@@ -115,6 +117,7 @@ impl Lines {
 }
 
 /// Takes the bytes of the first line without its end, or more than 128 of them; `false` if there is no line.
+#[inline(always)]
 fn take_line<R: Source>(input: &mut R, ahead: &mut Ahead, line: &mut Vec<u8>) -> Result<bool, Fault>
     requires { R.failures input.old < 2 ^ 64 - 1 }
     ensures line { TakesShort result ahead.old (R.to_come input.old) ahead.new (R.to_come input.new) line.new }

@@ -115,6 +115,7 @@ impl RecordDrawing {
     }
 
     /// The next entry, if it is one of this access and no mark: nothing is drawn of it.
+    #[inline(always)]
     pub fn hear_step(&mut self, access: Access) -> Result<(), Fault>
         requires few { self.old.entries < 2 ^ 64 - 1 }
         ensures page { self.new.page ≡ self.old.page }

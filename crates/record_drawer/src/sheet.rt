@@ -53,7 +53,9 @@ impl Sheet {
         }
     }
 
-    /// One more line, with its number, which is not too long.
+    /// One more line, with its number, which is not too long. It stands in its caller's loop: a call and its answer would cost
+    /// as much as hearing a Step.
+    #[inline(always)]
     pub fn read<W: Sink>(&mut self, number: u64, line: &[u8], output: &mut W) -> Result<(), Fault>
         requires short { length line.now ≤ 128 }
         requires few { entries_of self.old.drawing < 2 ^ 64 - 1 }
@@ -73,6 +75,7 @@ impl Sheet {
 
     /// Whether behind an entry the line is as it is printed for a Step with an access and no mark, as most lines are: then
     /// that was heard. Else nothing is changed, and nothing is known of the line.
+    #[inline(always)]
     fn hears_step(&mut self, line: &[u8]) -> Result<bool, Fault>
         requires short { length line.now ≤ 128 }
         requires few { entries_of self.old.drawing < 2 ^ 64 - 1 }
@@ -94,7 +97,9 @@ impl Sheet {
         Ok(true)
     }
 
-    /// Any line, by its words.
+    /// Any line, by its words. It is a function of its own, since nearly no line comes to it, and what it needs would else be
+    /// made ready for each.
+    #[inline(never)]
     fn any_line<W: Sink>(&mut self, number: u64, line: &[u8], output: &mut W) -> Result<(), Fault>
         requires short { length line.now ≤ 128 }
         requires few { entries_of self.old.drawing < 2 ^ 64 - 1 }

@@ -11,6 +11,7 @@ use safe_bit::Move;
 
 /// The process and the access of a line that is as it is printed for them. It is read once from its front to its end, and
 /// takes no room for words. `None` tells nothing of the line.
+#[inline(always)]
 #[tactic(auto, using(crate::proofs::StepWords::line_is))]
 pub fn read_step(line: &[u8]) -> Option<(u8, Access)>
     ensures line { IfSome result (λ r. line.now ≡ spaced (entry_words (step_entry r.0 r.1))) }

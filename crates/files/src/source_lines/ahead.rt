@@ -48,6 +48,7 @@ impl Ahead {
 
     /// Asks the source for a block, where all bytes are taken; `false` if it has none. A source that has told its end is
     /// not asked again.
+    #[inline(always)]
     #[tactic(auto, using(crate::proofs::Blocks::stays, crate::proofs::Blocks::some_left, crate::proofs::Blocks::more_come, crate::proofs::Blocks::some_came, crate::proofs::Blocks::none_come, crate::proofs::Blocks::none_left))]
     pub fn fill<R: Source>(&mut self, input: &mut R) -> Result<bool, Fault>
         requires { R.failures input.old < 2 ^ 64 - 1 }
@@ -87,6 +88,7 @@ impl Ahead {
 
     /// Moves the bytes before the first 0x0A behind those of a line, and drops it; or all, where there is none, and
     /// answers `false`.
+    #[inline(always)]
     #[tactic(auto, using(crate::proofs::Blocks::moves_ended, crate::proofs::Blocks::moves_all))]
     pub fn move_to(&mut self, line: &mut Vec<u8>) -> Result<bool, AllocError>
         ensures ended { MovesToEnd result self.old self.new line.old line.new }
