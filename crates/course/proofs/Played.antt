@@ -1,5 +1,5 @@
 -- A line that is being played: what was heard of it, and what is left.
-use Rattle.std.proofs.Common.{◌≡◌, ℕ, ◌<◌, ◌≤◌, List, [], ◌∷◌, ◌++◌, map, Option, None, Some, Result, Ok, Err, IfErr, IfOk, IsErrAnd, refl, ap, sym, subst, ◌∙◌, arith}
+use Rattle.std.proofs.Common.{◌≡◌, ℕ, Bool, ◌<◌, ◌≤◌, List, [], ◌∷◌, ◌++◌, map, Option, None, Some, Result, Ok, Err, IfErr, IfOk, IsErrAnd, refl, ap, sym, subst, ◌∙◌, arith}
 use Rattle.plain_store.specs.declared.setups.Setup.{Setup}
 use Rattle.plain_store.specs.Setups.{checked}
 use Rattle.record.specs.declared.events.Event.{Event}
@@ -8,9 +8,10 @@ use Rattle.record.specs.Given.{AreGiven}
 use Rattle.record.specs.Histories.{history}
 use Rattle.scenario.specs.declared.lines.Line.{Line}
 use Rattle.scenario.specs.files.declared.faults.Fault.{Fault}
+use Rattle.world.specs.Shows.{WorldState}
 use Rattle.course.specs.Courses.{CourseState, Follows}
 use Rattle.course.specs.Happenings.{Happening, Tries, past_after, tried}
-use Rattle.course.specs.Listening.{ComesTo, Happens, Plays, room_wanted}
+use Rattle.course.specs.Listening.{ComesTo, Happens, HearsStep, MakesStep, Plays, room_wanted}
 use Rattle.course.specs.Runs.{Run, past_in, run_after, run_at_start, runs}
 use Rattle.course.specs.Telling.{Tells}
 use Rattle.course.specs.Turns.{Turn, rest_of, turn_of, turns_in}
@@ -194,6 +195,10 @@ wanted_by (Err e) n m less = tt
 pub on_fault : {A : Type 0} (r : Result A Fault) (e : Fault) (P : Fault → Type 0) → IsErrAnd r (λ x. x ≡ e) → P e → IfErr r P
 on_fault (Ok a) e P is p = tt
 on_fault (Err x) e P is p = subst P (sym is) p
+
+-- a Step that tells nothing is heard
+pub untold : {L : Type 0} (Hears : L → Setup → List Happening → List Happening → L → Type 0) (old : WorldState) (p : ℕ) (flick : Bool) (told : Option Told) (new : WorldState) (was is : L) → told ≡ None → HearsStep Hears old p flick new was is → MakesStep Hears old p flick told new was is
+untold Hears old p flick told new was is none heard = subst (λ told. MakesStep Hears old p flick told new was is) (sym none) heard
 
 -- events alone are what was tried
 pub tried_all : (events : List Event) → tried (map Tries events) ≡ events

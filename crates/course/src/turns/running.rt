@@ -47,6 +47,7 @@ impl Course {
             (StopsAlone L.Stops self.old process floor listener.old listener.new) }
     {
         let mut quiet = 0;
+        let mut told = None;
         'steps: while floor < self.left {
             pass_by(
                 &mut self.world,
@@ -59,9 +60,17 @@ impl Course {
             );
             self.left -= 1;
             let flick = self.flicks.flick();
-            if let Some(told) = step(&mut self.world, &mut quiet, process, flick, listener)? {
-                self.left = left_after(&told, self.left);
-                return Ok(Some(told));
+            step(
+                &mut self.world,
+                &mut quiet,
+                process,
+                flick,
+                listener,
+                &mut told,
+            )?;
+            if let Some(answer) = &told {
+                self.left = left_after(answer, self.left);
+                return Ok(told);
             }
         }
         Ok(None)
@@ -132,6 +141,7 @@ impl Course {
         let mut within = [0_u32; 256];
         let mut ahead = self.flicks.twin();
         let mut next = drawn(&mut ahead, movers);
+        let mut told = None;
         'steps: while 0 < self.left {
             self.left -= 1;
             let (process, flick) = next;
@@ -139,10 +149,17 @@ impl Course {
             next = drawn(&mut ahead, movers);
             let at = usize::from(process);
             let mut quiet = within[at];
-            let told = step(&mut self.world, &mut quiet, process, flick, listener)?;
+            step(
+                &mut self.world,
+                &mut quiet,
+                process,
+                flick,
+                listener,
+                &mut told,
+            )?;
             within[at] = quiet;
-            if let Some(told) = told {
-                return Ok(Some(told));
+            if let Some(_answer) = &told {
+                return Ok(told);
             }
         }
         Ok(None)
@@ -218,8 +235,9 @@ fn drawn(flicks: &mut Flicks, movers: &[u8]) -> (u8, bool)
     (process, flicks.flick())
 }
 
-/// A Step by this flick: it is heard or passed by, if it has no mark, and else it is told. `quiet`: so many of the process's
-/// next Steps, at least, are within its number access, of which this Step is one.
+/// A Step by this flick: it is heard or passed by, if it has no mark, and else it is told in `told`, which is written then
+/// alone: it is large. `quiet`: so many of the process's next Steps, at least, are within its number access, of which this
+/// Step is one.
 #[inline(always)]
 fn step<L: Listener>(
     world: &mut World,
@@ -227,13 +245,15 @@ fn step<L: Listener>(
     process: u8,
     flick: bool,
     listener: &mut L,
-) -> Result<Option<Told>, Fault>
+    told: &mut Option<Told>,
+) -> Result<(), Fault>
     requires room { L.HasRoom listener.old 1 }
     requires within { quiet.old ≤ left_in world.old.seats process }
+    requires untold { told.old ≡ None }
     ensures within { quiet.new ≤ left_in world.new.seats process }
-    ensures ok { IfOk result (λ told.
-        MakesStep L.Hears world.old process flick told world.new listener.old listener.new) }
-    ensures room { IfOk result (LeavesRoom L.HasRoom listener.old 1 listener.new 0) }
+    ensures ok { OnOk result
+        (MakesStep L.Hears world.old process flick told.new world.new listener.old listener.new) }
+    ensures room { OnOk result (LeavesRoom L.HasRoom listener.old 1 listener.new 0 told.new) }
     ensures cut { IfErr result (λ fault.
         HearsStep (StopsBy L.Stops fault) world.old process flick world.new listener.old listener.new) }
     ensures setup { world.new.setup ≡ world.old.setup }
@@ -242,7 +262,8 @@ fn step<L: Listener>(
     let known = quiet_known(world, *quiet, process);
     if known == 0 {
         *quiet = 0;
-        return any_step(world, process, flick, listener);
+        *told = any_step(world, process, flick, listener)?;
+        return Ok(());
     }
     *quiet = known - 1;
     if listener.hears_steps() {
@@ -252,11 +273,11 @@ fn step<L: Listener>(
             flick,
             access,
         })?;
-        return Ok(None);
+        return Ok(());
     }
     world.make_step_within(process, flick);
     listener.pass(1);
-    Ok(None)
+    Ok(())
 }
 
 /// So many of a process's next Steps, at least, are within its number access: the world is asked, if none is known.

@@ -1,7 +1,7 @@
-use Rattle.std.proofs.Common.{Some, ◌≤◌, ◌+◌, ◌-◌, ◌∙◌, ℕ, ap, arith, subst, sym}
+use Rattle.std.proofs.Common.{Some, refl, ◌≤◌, ◌+◌, ◌-◌, ◌∙◌, ℕ, ap, arith, subst, sym}
 use Rattle.scenario.specs.declared.lines.Line.{Line}
 use Rattle.course.specs.Courses.{CourseState, Follows, course}
-use Rattle.course.specs.Listening.{ComesTo}
+use Rattle.course.specs.Listening.{ComesTo, RunsAlone}
 use Rattle.course.specs.Runs.{Run}
 use Rattle.course.specs.Steppers.{IsAlone}
 use Rattle.course.specs.Turns.{rest_of, turns_in}
@@ -20,6 +20,7 @@ steps-init g c =
       left = omega (arith, left);
       floor = omega (arith, left, c.requires.floor);
       quiet = omega arith;
+      untold = refl;
       room = λ more room. g.met.L.Listener.room_less c.args.listener.now (more + i.left) (more + c.args.self.now.left) (omega (arith, left)) room;
     }
 
@@ -45,7 +46,7 @@ steps-preserved g c =
     let w = c.pass_by.new.world in
     let flicks = c.pass_by.new.flicks in
     let left : ℕ = c.pass_by.new.left in
-    let heard = rw c.in_default.is at c.in_ok-told.ensures.ok in
+    let heard = rw c.in_default.is at c.in_ok-step.ensures.ok in
     let setup = c.step.ensures.setup ∙ c.pass_by.ensures.setup in
     record {
       on = λ line run follows next.
@@ -57,13 +58,14 @@ steps-preserved g c =
       left = omega (arith, c.pass_by.ensures.fewer, c.steps.invariant.left);
       floor = omega (arith, c.pass_by.ensures.above);
       quiet = c.step.ensures.within;
+      untold = c.in_default.is;
       room = λ more room.
-          let wants = rw c.in_default.is at c.in_ok-told.ensures.room in
+          let wants = rw c.in_default.is at c.in_ok-step.ensures.room in
           laws.room_less c.step.new.listener (more + (left - 1)) (more + (left - 1) + 0) (omega arith) (wants (more + (left - 1)) (laws.room_less c.pass_by.new.listener (more + (left - 1) + 1) (more + left) (omega (arith, c.pass_by.ensures.above)) (c.pass_by.ensures.room more (c.steps.invariant.room more room))));
     }
 
-pub returns-in_err-told-clause-cut : goal.returns-in_err-told-clause-cut
-returns-in_err-told-clause-cut g c =
+pub returns-in_err-step-clause-cut : goal.returns-in_err-step-clause-cut
+returns-in_err-step-clause-cut g c =
     let laws = g.met.L.Listener in
     let Hears = g.L.Listener.Hears in
     let Stops = g.L.Listener.Stops in
@@ -75,16 +77,16 @@ returns-in_err-told-clause-cut g c =
     let w = c.pass_by.new.world in
     let flicks = c.pass_by.new.flicks in
     let left : ℕ = c.pass_by.new.left in
-    on_fault c.from_residual.result c.in_err-told.field-0.0 (λ fault. (l : Line) (run : Run) → Follows c.args.self.now run → IsAlone p floor s l run → had ≤ turns_in l → Stops c.args.listener.now s run.happened (rest_of s l had run).happened fault c.step.new.listener) c.from_residual.ensures.1
+    on_fault c.from_residual.result c.in_err-step.field-0.0 (λ fault. (l : Line) (run : Run) → Follows c.args.self.now run → IsAlone p floor s l run → had ≤ turns_in l → Stops c.args.listener.now s run.happened (rest_of s l had run).happened fault c.step.new.listener) c.from_residual.ensures.1
     (λ l run follows next few.
     let u = c.steps.invariant.on l run follows next in
     let v = comes_then Hears laws.hears_on s l had run c.args.listener.now c.steps.listener c.pass_by.new.listener (course i.world i.flicks i.left) (IsAlone p floor) u (course w flicks left) (IsAlone p floor) (c.pass_by.ensures.on l) in
-    comes_stop Hears laws.hears_on s l had run c.args.listener.now c.pass_by.new.listener c.step.new.listener (course w flicks left) (IsAlone p floor) v Stops laws.stops_on c.in_err-told.field-0.0 few
-    (λ run follows next few. alone_stops w c.step.new.world l left p floor c.flick-flick.result run flicks c.flick-flick.new.self c.pass_by.ensures.above c.flick-flick.ensures.flick c.flick-flick.ensures.after follows next Stops c.pass_by.new.listener c.step.new.listener c.in_err-told.field-0.0 laws.stops_before
-    c.in_err-told.ensures.cut few))
+    comes_stop Hears laws.hears_on s l had run c.args.listener.now c.pass_by.new.listener c.step.new.listener (course w flicks left) (IsAlone p floor) v Stops laws.stops_on c.in_err-step.field-0.0 few
+    (λ run follows next few. alone_stops w c.step.new.world l left p floor c.flick-flick.result run flicks c.flick-flick.new.self c.pass_by.ensures.above c.flick-flick.ensures.flick c.flick-flick.ensures.after follows next Stops c.pass_by.new.listener c.step.new.listener c.in_err-step.field-0.0 laws.stops_before
+    c.in_err-step.ensures.cut few))
 
 pub returns-in-Some-clause-ok : goal.returns-in-Some-clause-ok
-returns-in-Some-clause-ok g c = λ l run follows next.
+returns-in-Some-clause-ok g c = subst (λ told. RunsAlone g.L.Listener.Hears c.args.self.now c.args.process c.args.floor (course c.step.new.world c.flick-flick.new.self c.left_after-self-inside.result) c.args.listener.now c.step.new.listener told) (sym c.in-Some.is) (λ l run follows next.
     let laws = g.met.L.Listener in
     let Hears = g.L.Listener.Hears in
     let s = c.args.self.now.world.setup in
@@ -96,10 +98,10 @@ returns-in-Some-clause-ok g c = λ l run follows next.
     let flicks = c.pass_by.new.flicks in
     let left : ℕ = c.pass_by.new.left in
     let left' : ℕ = c.left_after-self-inside.result in
-    let both = rw c.in-Some.is at c.in_ok-told.ensures.ok in
+    let both = rw c.in-Some.is at c.in_ok-step.ensures.ok in
     let u = c.steps.invariant.on l run follows next in
     let v = comes_then Hears laws.hears_on s l had run c.args.listener.now c.steps.listener c.pass_by.new.listener (course i.world i.flicks i.left) (IsAlone p floor) u (course w flicks left) (IsAlone p floor) (c.pass_by.ensures.on l) in
     let new : CourseState = course c.step.new.world c.flick-flick.new.self left' in
-    comes_to Hears laws.hears_on s l had run c.args.listener.now c.pass_by.new.listener c.step.new.listener (course w flicks left) (IsAlone p floor) v new (Some c.in-Some.told)
-    (λ run follows next. subst (λ b. ComesTo Hears w.setup l left run c.pass_by.new.listener b (Some c.in-Some.told) new) (sym both.1)
-    (alone_told w c.step.new.world l left p floor c.flick-flick.result run flicks c.flick-flick.new.self c.pass_by.ensures.above c.flick-flick.ensures.flick c.flick-flick.ensures.after follows next Hears c.pass_by.new.listener c.in-Some.told left' laws.hears_nothing both.0 c.left_after-self-inside.ensures))
+    comes_to Hears laws.hears_on s l had run c.args.listener.now c.pass_by.new.listener c.step.new.listener (course w flicks left) (IsAlone p floor) v new (Some c.in-Some.answer)
+    (λ run follows next. subst (λ b. ComesTo Hears w.setup l left run c.pass_by.new.listener b (Some c.in-Some.answer) new) (sym both.1)
+    (alone_told w c.step.new.world l left p floor c.flick-flick.result run flicks c.flick-flick.new.self c.pass_by.ensures.above c.flick-flick.ensures.flick c.flick-flick.ensures.after follows next Hears c.pass_by.new.listener c.in-Some.answer left' laws.hears_nothing both.0 c.left_after-self-inside.ensures)))

@@ -1,9 +1,9 @@
-use Rattle.std.proofs.Common.{Some, None, ◌≡◌, ◌<◌, ◌≤◌, ◌+◌, ◌-◌, ◌∙◌, ℕ, List, ap, arith, length, set, sym, subst, slice_index}
+use Rattle.std.proofs.Common.{Some, refl, None, ◌≡◌, ◌<◌, ◌≤◌, ◌+◌, ◌-◌, ◌∙◌, ℕ, List, ap, arith, length, set, sym, subst, slice_index}
 use Rattle.scenario.specs.declared.lines.Line.TheVariants.{Wander as WanderLine}
 use Rattle.world.specs.flicks.Flicks.{FlickState, after_flick, after_pick, flick_of, pick_of}
 use Rattle.course.specs.Counts.{IsCounted}
 use Rattle.course.specs.Courses.{CourseState, Follows, Makes, course}
-use Rattle.course.specs.Listening.{ComesTo}
+use Rattle.course.specs.Listening.{Comes, ComesTo}
 use Rattle.course.specs.Runs.{Run, movers, past_in}
 use Rattle.course.specs.Turns.{rest_of, turn_of}
 use Rattle.course.proofs.Counted.{counted_put, none_known}
@@ -36,6 +36,7 @@ steps-init g c =
       flick = c.drawn-next.ensures.flick ∙ ap (λ (f : FlickState). flick_of (after_pick f)) c.twin-ahead.ensures;
       ahead = c.drawn-next.ensures.after ∙ ap (λ (f : FlickState). after_flick (after_pick f)) c.twin-ahead.ensures;
       counted = λ p. let none = none_known 256 p in omega (arith, none);
+      untold = refl;
       room = λ more room. g.met.L.Listener.room_less c.args.listener.now (more + i.left) (more + c.args.self.now.left) (omega (arith, left)) room;
     }
 
@@ -55,7 +56,7 @@ steps-preserved g c =
     let laws = g.met.L.Listener in
     let Hears = g.L.Listener.Hears in
     let i = c.steps.self-inside in
-    let heard = rw c.in_default.is at c.in_ok-told.ensures.ok in
+    let heard = rw c.in_default.is at c.in_ok-step.ensures.ok in
     let same : c.steps.ahead ≡ c.copy_from.new.self = sym c.copy_from.ensures in
     let ps = c.as_slice-movers.result.now in
     let some : 0 < length ps = subst (λ (l : List ℕ). 0 < length l) (sym c.as_slice-movers.ensures) (some_left c.movers-movers.result.items (sym c.is_empty.ensures ∙ c.if-is_empty.false)) in
@@ -70,13 +71,14 @@ steps-preserved g c =
       flick = c.drawn-next-in-steps.ensures.flick ∙ ap (λ (f : FlickState). flick_of (after_pick f)) same;
       ahead = c.drawn-next-in-steps.ensures.after ∙ ap (λ (f : FlickState). after_flick (after_pick f)) same;
       counted = subst (λ at. IsCounted (set c.steps.within at c.step.new.quiet) c.step.new.world.seats) (sym c.from-at.ensures) (counted_put c.steps.within c.steps.next.0 c.step.new.quiet i.world.seats c.step.new.world.seats c.steps.invariant.counted c.step.ensures.within c.step.ensures.others);
+      untold = c.in_default.is;
       room = λ more room.
-          let wants = rw c.in_default.is at c.in_ok-told.ensures.room in
+          let wants = rw c.in_default.is at c.in_ok-step.ensures.room in
           laws.room_less c.step.new.listener (more + (i.left - 1)) (more + (i.left - 1) + 0) (omega arith) (wants (more + (i.left - 1)) (laws.room_less c.steps.listener (more + (i.left - 1) + 1) (more + i.left) (omega (arith, c.steps-test.true)) (c.steps.invariant.room more room)));
     }
 
-pub returns-in_err-told-clause-cut : goal.returns-in_err-told-clause-cut
-returns-in_err-told-clause-cut g c =
+pub returns-in_err-step-clause-cut : goal.returns-in_err-step-clause-cut
+returns-in_err-step-clause-cut g c =
     let laws = g.met.L.Listener in
     let Hears = g.L.Listener.Hears in
     let Stops = g.L.Listener.Stops in
@@ -85,27 +87,27 @@ returns-in_err-told-clause-cut g c =
     let i = c.steps.self-inside in
     let ps = c.as_slice-movers.result.now in
     let some : 0 < length ps = subst (λ (l : List ℕ). 0 < length l) (sym c.as_slice-movers.ensures) (some_left c.movers-movers.result.items (sym c.is_empty.ensures ∙ c.if-is_empty.false)) in
-    on_fault c.from_residual.result c.in_err-told.field-0.0 (λ fault. (steps : ℕ) (run : Run) → Follows c.args.self.now run → had ≤ steps → Stops c.args.listener.now s run.happened (rest_of s (WanderLine steps) had run).happened fault c.step.new.listener) c.from_residual.ensures.1
+    on_fault c.from_residual.result c.in_err-step.field-0.0 (λ fault. (steps : ℕ) (run : Run) → Follows c.args.self.now run → had ≤ steps → Stops c.args.listener.now s run.happened (rest_of s (WanderLine steps) had run).happened fault c.step.new.listener) c.from_residual.ensures.1
     (λ steps run follows few.
-    comes_stop Hears laws.hears_on s (WanderLine steps) had run c.args.listener.now c.steps.listener c.step.new.listener (course i.world i.flicks i.left) (ArePicked ps) (c.steps.invariant.on steps run follows) Stops laws.stops_on c.in_err-told.field-0.0 few
+    comes_stop Hears laws.hears_on s (WanderLine steps) had run c.args.listener.now c.steps.listener c.step.new.listener (course i.world i.flicks i.left) (ArePicked ps) (c.steps.invariant.on steps run follows) Stops laws.stops_on c.in_err-step.field-0.0 few
     (λ run follows are few. picked_stops i.world c.step.new.world steps i.left c.steps.next.0 ps c.steps.next.1 run i.flicks c.copy_from.new.self (λ none. omega (arith, none, c.steps-test.true)) some c.steps.invariant.process c.steps.invariant.flick (c.copy_from.ensures ∙ c.steps.invariant.ahead)
-    follows are Stops c.steps.listener c.step.new.listener c.in_err-told.field-0.0 laws.stops_before c.in_err-told.ensures.cut few))
+    follows are Stops c.steps.listener c.step.new.listener c.in_err-step.field-0.0 laws.stops_before c.in_err-step.ensures.cut few))
 
 pub returns-in-Some-clause-ok : goal.returns-in-Some-clause-ok
-returns-in-Some-clause-ok g c = λ steps run follows.
+returns-in-Some-clause-ok g c = subst (λ told. (steps : ℕ) → Comes g.L.Listener.Hears c.args.self.now (WanderLine steps) (course c.step.new.world c.copy_from.new.self (c.steps.self-inside.left - 1)) c.args.listener.now c.step.new.listener told) (sym c.in-Some.is) (λ steps run follows.
     let laws = g.met.L.Listener in
     let Hears = g.L.Listener.Hears in
     let s = c.args.self.now.world.setup in
     let had : ℕ = c.args.self.now.left in
     let i = c.steps.self-inside in
-    let both = rw c.in-Some.is at c.in_ok-told.ensures.ok in
+    let both = rw c.in-Some.is at c.in_ok-step.ensures.ok in
     let ps = c.as_slice-movers.result.now in
     let some : 0 < length ps = subst (λ (l : List ℕ). 0 < length l) (sym c.as_slice-movers.ensures) (some_left c.movers-movers.result.items (sym c.is_empty.ensures ∙ c.if-is_empty.false)) in
     let new : CourseState = course c.step.new.world c.copy_from.new.self (i.left - 1) in
-    comes_to Hears laws.hears_on s (WanderLine steps) had run c.args.listener.now c.steps.listener c.step.new.listener (course i.world i.flicks i.left) (ArePicked ps) (c.steps.invariant.on steps run follows) new (Some c.in-Some.told)
-    (λ run follows are. subst (λ b. ComesTo Hears i.world.setup (WanderLine steps) i.left run c.steps.listener b (Some c.in-Some.told) new) (sym both.1)
+    comes_to Hears laws.hears_on s (WanderLine steps) had run c.args.listener.now c.steps.listener c.step.new.listener (course i.world i.flicks i.left) (ArePicked ps) (c.steps.invariant.on steps run follows) new (Some c.in-Some._answer)
+    (λ run follows are. subst (λ b. ComesTo Hears i.world.setup (WanderLine steps) i.left run c.steps.listener b (Some c.in-Some._answer) new) (sym both.1)
     (picked_told i.world c.step.new.world steps i.left c.steps.next.0 ps c.steps.next.1 run i.flicks c.copy_from.new.self (λ none. omega (arith, none, c.steps-test.true)) some c.steps.invariant.process c.steps.invariant.flick (c.copy_from.ensures ∙ c.steps.invariant.ahead)
-    follows are Hears c.steps.listener c.in-Some.told laws.hears_nothing both.0))
+    follows are Hears c.steps.listener c.in-Some._answer laws.hears_nothing both.0)))
 
 pub returns-clause-ok : goal.returns-clause-ok
 returns-clause-ok g c = λ steps run follows.

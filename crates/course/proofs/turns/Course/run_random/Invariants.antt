@@ -1,4 +1,4 @@
-use Rattle.std.proofs.Common.{◌≡◌, ◌+◌, ◌≤◌, ℕ, length, slice_index}
+use Rattle.std.proofs.Common.{None, ◌≡◌, ◌+◌, ◌≤◌, ℕ, length, slice_index}
 use Rattle.scenario.specs.declared.lines.Line.TheVariants.{Wander as WanderLine}
 use Rattle.world.specs.flicks.Flicks.{after_flick, after_pick, flick_of, pick_of}
 use Rattle.course.specs.Counts.{IsCounted}
@@ -20,6 +20,7 @@ invariant-steps g l = record {
   flick : l.next.1 ≡ flick_of (after_pick l.self-inside.flicks);
   ahead : l.ahead ≡ after_flick (after_pick l.self-inside.flicks);
   counted : IsCounted l.within l.self-inside.world.seats;
+  untold : l.told ≡ None;
   room : (more : ℕ) → g.L.Listener.HasRoom l.fn.listener (more + l.fn.self.left) → g.L.Listener.HasRoom l.listener (more + l.self-inside.left);
 }
 
