@@ -1,9 +1,9 @@
 //! The commands that run a file, in one table.
 ghost use Rattle.std.specs.Prelude.{◌≡◌, find, map, option_map};
 ghost use Rattle.std.specs.Str.{bytes_eq};
-ghost use Rattle.command_line.specs.Meaning.{command_named, listed, says};
+ghost use Rattle.command_line.specs.Meaning.{command_named, commands, listed, says};
 
-use crate::help::{
+use crate::command_pages::{
     AUDIT, BITS, CALLS, DRAW, DRAW_SVG, JUDGE, PLAIN, RACE, RECORD, REPLAY, STATE, SWEEP,
 };
 use std::fmt::{self, Display, Formatter};
@@ -221,6 +221,13 @@ impl Display for CommandEntry {
     }
 }
 
+/// The rows of the table. Others ask for them here, since a function that names a constant of many texts is long to prove.
+pub fn command_rows() -> &'static [CommandRow]
+    ensures { map listed result.now ≡ commands }
+{
+    &COMMANDS
+}
+
 /// The first of some rows that has this name.
 fn first_named<'a>(rows: &'a [CommandRow], name: &str) -> Option<&'a CommandRow>
     ensures { option_map (λ e. e.now) result
@@ -242,6 +249,6 @@ fn first_listed<'a>(rows: &'a [CommandRow], name: &str) -> Option<&'a CommandRow
 pub fn command_named(name: &str) -> Option<CommandEntry>
     ensures { option_map says result ≡ command_named name.now }
 {
-    let row = first_listed(&COMMANDS, name)?;
+    let row = first_listed(command_rows(), name)?;
     Some(CommandEntry::of(row))
 }

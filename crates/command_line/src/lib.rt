@@ -1,6 +1,7 @@
 //! What stands between the program and who runs it: its words and pages, and how it writes to a terminal.
 #![tactic(auto)]
 
+mod command_pages;
 mod commands;
 mod help;
 mod notices;

@@ -2,7 +2,7 @@
 ghost use Rattle.std.specs.Prelude.{◌≡◌, option_map};
 ghost use Rattle.command_line.specs.Meaning.{page_named, told_by};
 
-use crate::commands::{COMMANDS, CommandEntry, command_named};
+use crate::commands::{CommandEntry, command_named, command_rows};
 use crate::help::{FAULTS, MORE_WORDS, RUN, WORDS};
 use crate::program::{file_command, program};
 use files::{DONE, Fault};
@@ -63,24 +63,41 @@ pub fn tell<T: Print>(rt: &T, text: &str) -> Result<u8, Fault> {
 
 /// The page of all words, with each command of the table.
 fn page_of_words(alloc: Global) -> Result<String, AllocError> {
-    let mut text = program(alloc)?.render_usage()?;
+    let mut text = usage(alloc)?;
     text.push_str("\n")?;
     text.push_str(WORDS)?;
-    for row in &COMMANDS {
-        let command = CommandEntry::of(row);
-        write!(text, "{command}")?;
-    }
+    add_commands(&mut text)?;
     text.push_str(MORE_WORDS)?;
     Ok(text)
 }
 
+/// The usage line of the program.
+fn usage(alloc: Global) -> Result<String, AllocError> {
+    program(alloc)?.render_usage()
+}
+
+/// Adds the lines of each command of the table.
+fn add_commands(text: &mut String) -> Result<(), AllocError> {
+    for row in command_rows() {
+        let command = CommandEntry::of(row);
+        write!(text, "{command}")?;
+    }
+    Ok(())
+}
+
 /// The page of a command.
 fn page_of(alloc: Global, command: CommandEntry) -> Result<String, AllocError> {
-    let name = command.name;
-    let name = format!(in alloc; "bakerystore {name}")?;
-    let mut alone = file_command(alloc, command)?.bin_name(name.as_str())?;
-    let mut text = alone.render_usage()?;
+    let mut text = usage_of(alloc, command)?;
     text.push_str("\n")?;
     text.push_str(command.page)?;
     Ok(text)
+}
+
+/// The usage line of a command.
+fn usage_of(alloc: Global, command: CommandEntry) -> Result<String, AllocError> {
+    let name = command.name;
+    let name = format!(in alloc; "bakerystore {name}")?;
+    file_command(alloc, command)?
+        .bin_name(name.as_str())?
+        .render_usage()
 }

@@ -5,7 +5,7 @@ ghost use Rattle.clap.specs.Words.{HasKind, app_of, fault_of, found_of, kind_of,
 ghost use Rattle.std.specs.String.{string_bytes};
 ghost use Rattle.command_line.specs.Meaning.{bakery, bare_app, command_app, flag_rule, help_app, option_rule, plain_app, says, with_option, with_row};
 
-use crate::commands::{COMMANDS, CommandEntry, CommandRow};
+use crate::commands::{CommandEntry, CommandRow, command_rows};
 use crate::help::VERSION;
 use clap::error::ErrorKind;
 use clap::{Arg, ArgAction, ArgMatches, Command, Error};
@@ -32,7 +32,7 @@ pub fn program<'a>(alloc: Global) -> Result<Command<'a>, AllocError>
 {
     with_help(
         alloc,
-        with_commands(alloc, bare_program(alloc)?, &COMMANDS)?,
+        with_commands(alloc, bare_program(alloc)?, command_rows())?,
     )
 }
 
@@ -97,11 +97,10 @@ fn plain_command<'a>(alloc: Global, name: &'static str) -> Result<Command<'a>, A
     ensures shape { IfOk result (λ c. app_of c ≡ plain_app name.now) }
     ensures local { IfOk result (λ c. (out-Command c).has_globals ≡ false) }
 {
-    Command::new(alloc, name)
+    let command = Command::new(alloc, name)
         .override_help(name)
-        .arg(Arg::new(alloc, "FILE").required(true))?
-        .arg(flag(alloc, "quiet"))?
-        .arg(flag(alloc, "explain"))
+        .arg(Arg::new(alloc, "FILE").required(true))?;
+    with_options(alloc, command, &["quiet", "explain"])
 }
 
 /// A command with these options.

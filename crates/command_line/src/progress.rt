@@ -99,6 +99,16 @@ impl<'a, S: Source + Drop, T: Clock + Eprint> WatchedInput<'a, S, T> {
         }
     }
 
+    /// Counts the line that ends with this byte.
+    fn count(&mut self, byte: Option<u8>)
+        ensures { self.new.source ≡ self.old.source }
+    {
+        if let Some(b'\n') = byte {
+            self.lines = self.lines.saturating_add(1);
+            self.show();
+        }
+    }
+
     /// Shows how many lines were read, if it is time to.
     fn show(&mut self)
         ensures { self.new.source ≡ self.old.source }
@@ -130,10 +140,7 @@ impl<'a, S: Source + Drop, T: Clock + Eprint> Source for WatchedInput<'a, S, T> 
 
     fn next_byte(&mut self) -> Result<Option<u8>, Failed> {
         let byte = self.source.next_byte()?;
-        if byte == Some(b'\n') {
-            self.lines = self.lines.saturating_add(1);
-            self.show();
-        }
+        self.count(byte);
         Ok(byte)
     }
 
@@ -157,7 +164,7 @@ fn ends_among(bytes: &[u8]) -> u64 {
 }
 
 /// Since when a run goes on, and when the line was shown.
-#[derive(Clone, Copy, Debug)]
+#[derive(Clone, Copy)]
 struct ShownProgress {
     begun: Duration,
     shown: Option<Duration>,
