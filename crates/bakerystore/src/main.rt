@@ -98,7 +98,7 @@ fn run_on<T: Print + Eprint + Clock + AllocGlobal + Threads + Wait + Sync, R: Re
     };
     let shows = terminals.error && !terminals.output && !request.quiet;
     let source = opened(rt.alloc(), request.command.engine, FromRead::new(reader))?;
-    let wanted = wanted_by(request, source.is_record(), at);
+    let wanted = wanted_by(request, source.is_record, at);
     let from_input = request.command.intake == Intake::Streamed || wanted.is_record;
     let explains = terminals.error || request.explain;
     let watched = WatchedInput::new(source, rt, shows && from_input);

@@ -11,8 +11,9 @@ mod Takings
 mod Hearing
 mod JudgedLines
 mod Lanes
--- A source that was looked at
+-- A source that was looked at, and what files it tells of
 pub mod Opening
+mod FilesTaken
 -- A file, line by line
 mod Lines
 mod Sheeted

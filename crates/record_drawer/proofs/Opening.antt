@@ -1,9 +1,21 @@
 -- The bytes to come of a source that was looked at.
-use Rattle.std.proofs.Common.{◌≡◌, ℕ, ◌+◌, ◌<◌, ◌≤◌, List, [], ◌++◌, length, take, drop, Option, None, Some, Result, Ok, Err, refl, ap, sym, subst, ◌∙◌, append_assoc}
-use Rattle.std.proofs.lemmas.List.{drop_all, drop-drop, take-append-drop}
-use Rattle.std.specs.Io.KnownBytes.{Consumes, Keeps, ReadConsumes, prepend_known}
+use Rattle.std.proofs.Common.{◌≡◌, ℕ, suc, ◌+◌, ◌-◌, ◌<◌, ◌≤◌, ◌==◌, ◌&&◌, not, Bool, true, false, cond, if◌then◌else◌, List, [], ◌∷◌, ◌++◌, filter, get_or, length, map, take, drop, Option, None, Some, IfSome, option_map, Result, Ok, Err, codes, refl, ap, sym, subst, ◌∙◌, append-nil, append_assoc, arith}
+use Rattle.std.proofs.lemmas.Bool.Decides.{nat_tests}
+use Rattle.std.proofs.lemmas.List.{drop_all, drop_more, drop-drop, length-take-le, map-append, take-append-drop, take-append-le, take_all}
+use Rattle.std.proofs.lemmas.List.Elements.{filter-append}
+use Rattle.std.proofs.Math.Seq.{take-append-add, take-suc}
+use Rattle.std.specs.Io.KnownBytes.{Consumes, IsAtEnd, Keeps, ReadConsumes, prepend_known}
+use Rattle.std.specs.Option.{is_some, unwrap_or}
+use Rattle.files.specs.Cuts.{input_limit}
+use Rattle.files.specs.Files.{words_read}
+use Rattle.files.specs.Limits.{is_said, said_words}
+use Rattle.files.specs.Words.{begins_with, lines, onto, words_of}
+use Rattle.files.specs.declared.faults.FaultKind.{FaultKind}
 use Rattle.files.specs.declared.streams.Failed.{Failed}
+use Rattle.std.specs.Str.{bytes_eq}
 use Rattle.files.specs.Streams.{GivesByte}
+use Rattle.record_drawer.specs.Openings.{first_line, is_record, record_opened}
+use Rattle.record_drawer.specs.declared.opened.FirstLine.{FirstLine}
 
 pub keeps_none : (o : Option (List ℕ)) → Keeps o (prepend_known [] o)
 keeps_none None = tt
@@ -32,6 +44,118 @@ none_looked front block old new r is came = by old new (subst (λ (r : Result �
     by None new came = tt
     by (Some text) None came = absurd came
     by (Some text) (Some rest) came = ap (λ l. front ++ l) (sym came)
+
+-- What its front tells.
+
+-- the lines of a text, by two tests of its first byte
+abbrev by_tests : Bool → Bool → ℕ → List (List ℕ) → List (List ℕ)
+by_tests feeds returns b known = if feeds then [] ∷ known else if returns then known else onto b known
+
+-- there is a line
+abbrev HasLine : List (List ℕ) → Type 0
+HasLine [] = ⊥
+HasLine (line ∷ known) = Unit {0}
+
+ended_some : (bs : List ℕ) → HasLine (lines (bs ++ 10 ∷ []))
+ended_some [] = tt
+ended_some (b ∷ bs) = by (b == 10) ((b == 13) && begins_with 10 (bs ++ 10 ∷ [])) (lines (bs ++ 10 ∷ [])) (ended_some bs)
+  where
+    by : (feeds returns : Bool) (known : List (List ℕ)) → HasLine known → HasLine (by_tests feeds returns b known)
+    by true returns known some = tt
+    by false true known some = some
+    by false false [] some = tt
+    by false false (line ∷ known) some = tt
+
+-- behind the end of a line there are the lines of what is behind it
+lines_behind_end : (bs more : List ℕ) → lines (bs ++ 10 ∷ more) ≡ lines (bs ++ 10 ∷ []) ++ lines more
+lines_behind_end [] more = refl
+lines_behind_end (b ∷ bs) more =
+    ap (λ t. by_tests (b == 10) ((b == 13) && t) b (lines (bs ++ 10 ∷ more))) (next bs)
+    ∙ ap (by_tests (b == 10) ((b == 13) && begins_with 10 (bs ++ 10 ∷ [])) b) (lines_behind_end bs more)
+    ∙ by (b == 10) ((b == 13) && begins_with 10 (bs ++ 10 ∷ [])) (lines (bs ++ 10 ∷ [])) (ended_some bs)
+  where
+    next : (bs : List ℕ) → begins_with 10 (bs ++ 10 ∷ more) ≡ begins_with 10 (bs ++ 10 ∷ [])
+    next [] = refl
+    next (c ∷ cs) = refl
+
+    by : (feeds returns : Bool) (known : List (List ℕ)) → HasLine known → by_tests feeds returns b (known ++ lines more) ≡ by_tests feeds returns b known ++ lines more
+    by true returns known some = refl
+    by false true known some = refl
+    by false false [] some = absurd some
+    by false false (line ∷ known) some = refl
+
+-- so it is behind any 0x0A
+pub lines_behind : (front more : List ℕ) (at : ℕ) → at < length front → (get_or front at 0 == 10) ≡ true → lines (front ++ more) ≡ lines (take (at + 1) front) ++ lines (drop (length (take (at + 1) front)) front ++ more)
+lines_behind front more at within ends =
+    let here : get_or front at 0 ≡ 10 = grind (arith, nat_tests) in
+    let cut : front ≡ take at front ++ 10 ∷ drop (at + 1) front = sym (take-append-drop at front) ∙ ap (λ l. take at front ++ l) (drop_more front at 0 within ∙ ap (λ b. b ∷ drop (at + 1) front) here) in
+    let long : length (take (at + 1) front) ≡ at + 1 = length-take-le (at + 1) front (omega (arith, within)) in
+    let one : at + 1 ≡ suc at = omega arith in
+    let part : take (at + 1) front ≡ take at front ++ 10 ∷ [] = ap (λ n. take n front) one ∙ take-suc front at 0 within ∙ ap (λ b. take at front ++ b ∷ []) here in
+    ap (λ l. lines (l ++ more)) cut ∙ ap lines (append_assoc (take at front) (10 ∷ drop (at + 1) front) more)
+    ∙ lines_behind_end (take at front) (drop (at + 1) front ++ more)
+    ∙ (λ i. lines (sym part i) ++ lines (drop (sym long i) front ++ more))
+
+-- what the first of some lines tells it tells of all
+opened_more : (some more : List (List ℕ)) → is_some (record_opened (filter is_said (map words_of some))) ≡ true → record_opened (filter is_said (map words_of (some ++ more))) ≡ record_opened (filter is_said (map words_of some))
+opened_more some more is = ap record_opened (ap (filter is_said) (map-append words_of some more) ∙ filter-append is_said (map words_of some) (map words_of more)) ∙ by (filter is_said (map words_of some)) is
+  where
+    by : (us : List (List (List ℕ))) → is_some (record_opened us) ≡ true → record_opened (us ++ filter is_said (map words_of more)) ≡ record_opened us
+    by [] is = absurd (cc)
+    by (u ∷ us) is = refl
+
+-- so what is told where it ends is so of all that comes behind
+pub opened_behind : (front rest : List ℕ) → is_some (record_opened (said_words (front ++ 10 ∷ []))) ≡ true → record_opened (said_words (front ++ 10 ∷ rest)) ≡ record_opened (said_words (front ++ 10 ∷ []))
+opened_behind front rest is = ap (λ l. record_opened (filter is_said (map words_of l))) (lines_behind_end front rest) ∙ opened_more (lines (front ++ 10 ∷ [])) (lines rest) is
+
+-- a front of so many bytes tells, whatever comes behind it
+pub told_by_length : (front rest : List ℕ) → input_limit ≤ length front → is_record (front ++ rest) ≡ is_record front
+told_by_length front rest long = ap (λ t. unwrap_or (record_opened (said_words t)) false) (take-append-le input_limit front rest long)
+
+-- and so does one in which a line that is not skipped has its end
+pub told_by_line : (front ended rest : List ℕ) → length front < input_limit → ((more : List ℕ) → lines (front ++ more) ≡ lines ended ++ lines (drop (length ended) front ++ more)) → is_some (record_opened (said_words ended)) ≡ true → is_record (front ++ rest) ≡ is_record front
+told_by_line front ended rest few splits is = ap (λ o. unwrap_or o false) (all (front ++ rest) (take-of rest) ∙ sym (all front (take-of-none)))
+  where
+    all : (text : List ℕ) → (more : List ℕ) × (take input_limit text ≡ front ++ more) → record_opened (said_words (take input_limit text)) ≡ record_opened (said_words ended)
+    all text more = ap (λ t. record_opened (said_words t)) more.1 ∙ ap (λ l. record_opened (filter is_said (map words_of l))) (splits more.0) ∙ opened_more (lines ended) (lines (drop (length ended) front ++ more.0)) is
+
+    take-of : (rest : List ℕ) → (more : List ℕ) × (take input_limit (front ++ rest) ≡ front ++ more)
+    take-of rest = let all : input_limit ≡ length front + (input_limit - length front) = omega (arith, few) in (take (input_limit - length front) rest, ap (λ n. take n (front ++ rest)) all ∙ take-append-add front rest (input_limit - length front))
+
+    take-of-none : (more : List ℕ) × (take input_limit front ≡ front ++ more)
+    take-of-none = ([], take_all input_limit front (omega (arith, few)) ∙ sym (append-nil front))
+
+-- what a front tells is so of all bytes to come: there are no others, or they don't count
+pub told_whole : (unseen rest : Option (List ℕ)) (front : List ℕ) (is : Bool) → is ≡ is_record front → Keeps unseen (prepend_known front rest) → IsAtEnd rest → IfSome unseen (λ text. is ≡ is_record text)
+told_whole None rest front is same keeps end = tt
+told_whole (Some text) None front is same keeps end = absurd keeps
+told_whole (Some text) (Some more) front is same keeps end = same ∙ ap is_record (sym (append-nil front) ∙ ap (λ l. front ++ l) (sym end) ∙ keeps)
+
+pub told_front : (unseen rest : Option (List ℕ)) (front : List ℕ) (is : Bool) → is ≡ is_record front → Keeps unseen (prepend_known front rest) → ((rest : List ℕ) → is_record (front ++ rest) ≡ is_record front) → IfSome unseen (λ text. is ≡ is_record text)
+told_front None rest front is same keeps tells = tt
+told_front (Some text) None front is same keeps tells = absurd keeps
+told_front (Some text) (Some more) front is same keeps tells = same ∙ sym (tells more) ∙ ap is_record keeps
+
+-- with each block the bytes that are left to look at are fewer, or their end was found
+pub fewer_left : (looked longer : ℕ) (some next : Bool) → some ≡ true → looked < input_limit → looked + cond next 1 0 ≤ longer → (input_limit - longer) + cond next 1 0 < (input_limit - looked) + cond some 1 0
+fewer_left looked longer true true is left more = omega (arith, left, more)
+fewer_left looked longer true false is left more = omega (arith, left, more)
+fewer_left looked longer false next is left more = absurd (cc)
+
+-- what is read of the first line that is not skipped
+pub line_tells : (line : List ℕ) (now : Option FirstLine) → words_read first_line (words_of line) None ≡ Ok now → option_map (λ (f : FirstLine). f.is_record) now ≡ record_opened (filter is_said (words_of line ∷ []))
+line_tells line now read = by (words_of line) read
+  where
+    by : (words : List (List ℕ)) → words_read first_line words None ≡ Ok now → option_map (λ (f : FirstLine). f.is_record) now ≡ record_opened (filter is_said (words ∷ []))
+    by [] read = let same : None ≡ now = cc in ap (option_map (λ (f : FirstLine). f.is_record)) (sym same)
+    by (first ∷ words) read = test (begins_with 35 first) read
+      where
+        said : Option FirstLine
+        said = Some (record { is_record = bytes_eq first (codes "record") })
+
+        test : (b : Bool) → (let r : Result (Option FirstLine) FaultKind = (if b then Ok None else Ok said) in r) ≡ Ok now → option_map (λ (f : FirstLine). f.is_record) now ≡ record_opened (if not b then (first ∷ words) ∷ [] else [])
+        test true read = let same : None ≡ now = cc in ap (option_map (λ (f : FirstLine). f.is_record)) (sym same)
+        test false read = let same : said ≡ now = cc in ap (option_map (λ (f : FirstLine). f.is_record)) (sym same)
 
 -- The next bytes of such a source.
 

@@ -1,21 +1,49 @@
-//! A source whose first bytes were looked at, to tell what kind of file it is.
-ghost use Rattle.std.specs.Prelude.{◌≡◌, ◌+◌, ◌-◌, ◌^◌, ◌<◌, drop, length, min, take, IfErr, IfOk};
-ghost use Rattle.std.specs.Io.KnownBytes.{Keeps, prepend_known};
+//! A source whose front was looked at, to tell what kind of file it is.
+ghost use Rattle.std.specs.Prelude.{◌≡◌, ◌+◌, ◌-◌, ◌^◌, ◌<◌, ◌≤◌, ◌++◌, cond, false, true, List, ℕ, drop, length, min, take, IfErr, IfOk, IfSome};
+ghost use Rattle.std.specs.Io.KnownBytes.{IsAtEnd, Keeps, prepend_known};
+ghost use Rattle.files.specs.Cuts.{input_limit};
+ghost use Rattle.files.specs.Limits.{said_words};
 ghost use Rattle.files.specs.Streams.{IsReadFault, failed_reading};
+ghost use Rattle.files.specs.Words.{lines};
+ghost use Rattle.record_drawer.specs.Openings.{is_record as taken_for_record, record_opened as opened_by};
 
-use files::{Failed, Fault, INPUT_LIMIT, Source};
+use bstr::ByteSlice;
+use files::{Failed, Fault, FaultKind, FromLines, INPUT_LIMIT, Source, read_any_line};
 use std::alloc::Global;
 
 /// How many bytes are asked for at once.
 const BLOCK: usize = 1024;
 
+/// The first line of a file that is not skipped: whether its first word is `record`.
+#[derive(Drop)]
+struct FirstLine {
+    is_record: bool,
+}
+
+impl FromLines for FirstLine {
+    ghost use Rattle.record_drawer.specs.Openings.{first_line};
+
+    ghost grammar = { first_line };
+
+    fn first(_alloc: Global, word: &[u8], _words: &[&[u8]]) -> Result<FirstLine, FaultKind> {
+        Ok(FirstLine {
+            is_record: word == b"record".as_slice(),
+        })
+    }
+
+    fn later(&mut self, _word: &[u8], _words: &[&[u8]]) -> Result<(), FaultKind> {
+        Ok(())
+    }
+}
+
 /// A source, the bytes of its front that were looked at, and how many of these were given.
 #[derive(Drop)]
 pub struct Opened<R: Source + Drop> {
+    /// Whether it is taken for a record.
+    pub is_record: bool,
     front: Vec<u8>,
     given: usize,
     source: R,
-    is_record: bool,
 }
 
 impl<R: Source + Drop> Opened<R> {
@@ -24,47 +52,38 @@ impl<R: Source + Drop> Opened<R> {
     #[tactic(auto, using(crate::proofs::Opening::keeps_none, crate::proofs::Opening::keeps_both))]
     pub fn new(alloc: Global, unseen: R) -> Result<Opened<R>, Fault>
         requires { R.failures unseen < 2 ^ 64 - 1 }
+        ensures record { IfOk result (λ opened. IfSome (R.to_come unseen) (λ text. opened.is_record ≡ taken_for_record text)) }
         ensures bytes { IfOk result (λ opened. Keeps (R.to_come unseen) (⟦<Opened<R> as Source>⟧.to_come opened)) }
         ensures failures { IfOk result (λ opened. ⟦<Opened<R> as Source>⟧.failures opened ≡ R.failures unseen) }
         ensures fault { IfErr result IsReadFault }
     {
         let mut source = unseen;
         let mut front = Vec::new(alloc);
-        let mut ended = false;
-        for _block in 0..INPUT_LIMIT {
-            if ended
-                || front.len() >= INPUT_LIMIT
-                || first_word(front.as_slice(), false).is_some()
-            {
-                break;
-            }
-            ended = !look(&mut source, &mut front)?;
+        let mut some = true;
+        let mut goal = 0;
+        'blocks: while some && !tells_now(alloc, front.as_slice(), &mut goal)? {
+            some = look(&mut source, &mut front)?;
         }
-        let is_record = begins_record(front.as_slice(), ended);
         Ok(Opened {
+            is_record: takes_for_record(alloc, front.as_slice())?,
             front,
             given: 0,
             source,
-            is_record,
         })
     }
 
-    /// Nothing is looked at: it is no record.
+    /// Nothing is looked at, and it is taken for no record.
     pub fn unseen(alloc: Global, source: R) -> Opened<R>
+        ensures record { result.is_record ≡ false }
         ensures bytes { Keeps (R.to_come source) (⟦<Opened<R> as Source>⟧.to_come result) }
         ensures failures { ⟦<Opened<R> as Source>⟧.failures result ≡ R.failures source }
     {
         Opened {
+            is_record: false,
             front: Vec::new(alloc),
             given: 0,
             source,
-            is_record: false,
         }
-    }
-
-    /// Whether the first word of the first line that is not skipped is `record`.
-    pub fn is_record(&self) -> bool {
-        self.is_record
     }
 }
 
@@ -109,6 +128,8 @@ fn put_front(bytes: &[u8], buffer: &mut [u8]) -> usize
 fn look<R: Source>(source: &mut R, front: &mut Vec<u8>) -> Result<bool, Fault>
     requires { R.failures source.old < 2 ^ 64 - 1 }
     ensures bytes { IfOk result (λ _. Keeps (prepend_known front.old.items (R.to_come source.old)) (prepend_known front.new.items (R.to_come source.new))) }
+    ensures more { IfOk result (λ some. length front.old.items + cond some 1 0 ≤ length front.new.items) }
+    ensures end { IfOk result (λ some. some ≡ false → IsAtEnd (R.to_come source.new)) }
     ensures fault { IfErr result IsReadFault }
     ensures failures { R.failures source.new ≡ R.failures source.old + failed_reading result }
 {
@@ -123,46 +144,73 @@ fn look<R: Source>(source: &mut R, front: &mut Vec<u8>) -> Result<bool, Fault>
     }
 }
 
-/// Whether the first word of the first line that is not skipped is `record`.
-fn begins_record(text: &[u8], ended: bool) -> bool {
-    match first_word(text, ended) {
-        Some(word) => word == b"record".as_slice(),
-        None => false,
+/// Whether a file that begins so is told by that, whatever comes behind it.
+fn is_told(alloc: Global, front: &[u8]) -> Result<bool, Fault>
+    ensures told { IfOk result (λ told. told ≡ true → (rest : List ℕ) → taken_for_record (front.now ++ rest) ≡ taken_for_record front.now) }
+    ensures not_yet { IfOk result (λ told. told ≡ false → length front.now < input_limit) }
+    ensures fault { IfErr result IsReadFault }
+    ensures failures { failed_reading result ≡ 0 }
+{
+    if front.len() >= INPUT_LIMIT {
+        return Ok(true);
+    }
+    Ok(record_opened(alloc, ended_lines(front))?.is_some())
+}
+
+/// The same, asked again only when the front is twice as long as when it was asked last: so of a long front all asking takes
+/// no longer than a few looks at it.
+fn tells_now(alloc: Global, front: &[u8], goal: &mut usize) -> Result<bool, Fault>
+    requires { goal.old ≤ input_limit }
+    ensures told { IfOk result (λ told. told ≡ true → (rest : List ℕ) → taken_for_record (front.now ++ rest) ≡ taken_for_record front.now) }
+    ensures not_yet { IfOk result (λ told. told ≡ false → length front.now < input_limit) }
+    ensures goal { goal.new ≤ input_limit }
+    ensures fault { IfErr result IsReadFault }
+    ensures failures { failed_reading result ≡ 0 }
+{
+    if front.len() < *goal {
+        return Ok(false);
+    }
+    if is_told(alloc, front)? {
+        return Ok(true);
+    }
+    *goal = front.len().saturating_mul(2).min(INPUT_LIMIT);
+    Ok(false)
+}
+
+/// The lines that have their end there.
+fn ended_lines(front: &[u8]) -> &[u8]
+    ensures { (more : List ℕ) → lines (front.now ++ more) ≡ lines result.now ++ lines (drop (length result.now) front.now ++ more) }
+{
+    match front.rfind_byte(b'\n') {
+        Some(at) => &front[..at + 1],
+        None => &front[..0],
     }
 }
 
-/// The first word of the first line that is not skipped, if that line has its end, or is the last one.
-fn first_word(text: &[u8], ended: bool) -> Option<&[u8]> {
-    let mut rest = text;
-    'lines: while !rest.is_empty() {
-        let end = match rest.iter().position(|byte| *byte == b'\n') {
-            Some(end) => end,
-            None if ended => rest.len(),
-            None => return None,
-        };
-        if let Some(word) = word_of(&rest[..end]) {
-            return Some(word);
+/// Whether a file is taken for a record, by its bytes as far as they may count.
+fn takes_for_record(alloc: Global, front: &[u8]) -> Result<bool, Fault>
+    ensures value { IfOk result (λ is. is ≡ taken_for_record front.now) }
+    ensures fault { IfErr result IsReadFault }
+    ensures failures { failed_reading result ≡ 0 }
+{
+    let counted = &front[..INPUT_LIMIT.min(front.len())];
+    Ok(record_opened(alloc, counted)?.unwrap_or(false))
+}
+
+/// Whether the first word of the first line that is not skipped is `record`, if there is such a line.
+fn record_opened(alloc: Global, text: &[u8]) -> Result<Option<bool>, Fault>
+    ensures value { IfOk result (λ opened. opened ≡ opened_by (said_words text.now)) }
+    ensures fault { IfErr result IsReadFault }
+    ensures failures { failed_reading result ≡ 0 }
+{
+    let mut first: Option<FirstLine> = None;
+    for line in text.lines() {
+        if read_any_line(alloc, line, &mut first).is_err() {
+            return Err(Fault::Memory);
         }
-        rest = &rest[(end + 1).min(rest.len())..];
+        if let Some(first) = &first {
+            return Ok(Some(first.is_record));
+        }
     }
-    None
-}
-
-/// The first word of a line, unless the line is skipped.
-fn word_of(line: &[u8]) -> Option<&[u8]> {
-    let from = line.iter().position(|byte| !is_blank(*byte))?;
-    let words = &line[from..];
-    let word = match words.iter().position(|byte| is_blank(*byte)) {
-        Some(end) => &words[..end],
-        None => words,
-    };
-    if word.first() == Some(&b'#') || word == b"\r".as_slice() {
-        return None;
-    }
-    Some(word)
-}
-
-/// Whether it stands between words.
-fn is_blank(byte: u8) -> bool {
-    byte == b' ' || byte == b'\t'
+    Ok(None)
 }

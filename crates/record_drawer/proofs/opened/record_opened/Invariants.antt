@@ -1,0 +1,12 @@
+use Rattle.std.proofs.Common.{◌≡◌, filter, map, None}
+use Rattle.files.specs.Limits.{is_said, said_words}
+use Rattle.files.specs.Words.{words_of}
+use Rattle.record_drawer.specs.Openings.{record_opened}
+use Rattle.record_drawer.proofs.opened.record_opened.Given as goal
+
+-- all lines so far were skipped, so those to come tell what all do
+abbrev pub invariant-loop-line : goal.invariant-loop-line
+invariant-loop-line l = record {
+  none : l.first ≡ None;
+  rest : record_opened (filter is_said (map words_of l.line-iterator)) ≡ record_opened (said_words l.fn.text);
+}
