@@ -1,71 +1,44 @@
--- The cursor of the clearing of the ticket: by a process that was inside, and by one that withdrew.
-use Rattle.std.specs.Prelude.{ℕ, ◌*◌, ◌<◌, ◌≤◌, ◌≡◌, nat_lt, Bool, [], None}
-use Rattle.record.specs.declared.access.Access.{Access}
-use Rattle.record.specs.declared.access.Field.TheVariants.{Ticket}
-use Rattle.record.specs.Accesses.{access_of}
-use Rattle.safe_number.specs.Bytes.{bits_of_number}
-use Rattle.safe_number.specs.Runs.{NumberWrite, new_write}
+-- The clearing of a ticket: it is that of a call that has come to its last part.
+use Rattle.std.specs.Prelude.{◌≡◌, ℕ, Bool, Option}
+use Rattle.plain_store.specs.declared.Answer.{Answer}
+use Rattle.plain_store.specs.declared.Command.TheVariants.{Ask}
 use Rattle.plain_store.specs.declared.Setup.{Setup}
-use Rattle.record.specs.Closings.{Closing, Withdraws}
+use Rattle.record.specs.declared.access.Access.{Access}
+use Rattle.record.specs.declared.access.TornBit.{TornBit}
+use Rattle.record.specs.Closings.{Withdraws}
+use Rattle.record.specs.Cuts.{torn_at}
 use Rattle.record.specs.Parts.{Part, Clears}
-use Rattle.record.specs.Places.{Run, Writing, Place, bit_written, next_written}
+use Rattle.record.specs.Places.{Place, Run, Writing, access_at, enter, place_after}
 use Rattle.record.specs.Scripts.{Call}
+use Rattle.process.specs.laws.Doings.{Doing, Closes, Rests}
+use Rattle.process.specs.Places.{ProcessState}
 
--- what a leaving keeps: whose ticket it is, with how many copies and bits, and how far the write of 0 has come
-pub record LeavingState : Type 0 where
-  pub process : ℕ
-  pub processes : ℕ
-  pub ticket_bits : ℕ
-  pub run : NumberWrite
+-- how far the clearing has come, as a withdrawal of some call has it
+abbrev pub clearing_by : Run → Doing
+clearing_by (Writing w) = Closes Ask 0 (Withdraws w)
+clearing_by _ = Rests
 
--- a ticket that is written
-abbrev pub cleared : Call → NumberWrite
-cleared c = record { width = c.setup.ticket_bits; bit = c.setup.ticket_bits; run = None }
+-- the same at a part of a call; nothing is cleared wherever it isn't the last one
+abbrev pub clearing_at : Part → Run → Doing
+clearing_at (Clears a) run = clearing_by run
+clearing_at _ run = Rests
 
--- how far the write of a number access has come
-abbrev pub written_by : Call → Run → NumberWrite
-written_by c (Writing w) = w
-written_by c _ = cleared c
+-- the clearing at a place of a call
+abbrev pub leaving_at : Call → Place → ProcessState
+leaving_at c at = record { setup = c.setup; process = c.process; doing = clearing_at at.part at.run; command = Ask; number = 0 }
 
--- how far the ticket is cleared at a part of a call; wherever it isn't being cleared, it is done
-abbrev pub clearing_at : Call → Part → Run → NumberWrite
-clearing_at c (Clears a) run = written_by c run
-clearing_at c _ run = cleared c
+-- each call of the process begins to clear its ticket there
+abbrev pub BeginsClearing : Setup → ℕ → ProcessState → Type 0
+BeginsClearing s p l = (c : Call) (a : Answer) → s ≡ c.setup → p ≡ c.process → l ≡ leaving_at c (enter c (Clears a))
 
--- the same of a withdrawal
-abbrev pub withdrawing_at : Call → Closing → NumberWrite
-withdrawing_at c (Withdraws w) = w
-withdrawing_at c _ = cleared c
+-- the next access of the call
+abbrev pub IsNextOfCall : ProcessState → Access → Type 0
+IsNextOfCall l access = (c : Call) (at : Place) → l ≡ leaving_at c at → access ≡ access_at c at.part at.run
 
--- a leaving that has come so far
-abbrev pub leaving_with : Call → NumberWrite → LeavingState
-leaving_with c w = record { process = c.process; processes = c.setup.processes; ticket_bits = c.setup.ticket_bits; run = w }
+-- the call goes on by its next access, whatever its value is
+abbrev pub CallGoesOn : ProcessState → ProcessState → Type 0
+CallGoesOn l then = (c : Call) (at : Place) (value : Bool) → l ≡ leaving_at c at → then ≡ leaving_at c (place_after c at value)
 
--- what a leaving keeps of a place of a call
-abbrev pub leaving_at : Call → Place → LeavingState
-leaving_at c at = leaving_with c (clearing_at c at.part at.run)
-
--- what a leaving keeps of a withdrawal
-abbrev pub leaving_of : Call → Closing → LeavingState
-leaving_of c at = leaving_with c (withdrawing_at c at)
-
--- a leaving of which nothing is made
-abbrev pub new_leaving : Setup → ℕ → LeavingState
-new_leaving s p = record { process = p; processes = s.processes; ticket_bits = s.ticket_bits; run = new_write s.ticket_bits }
-
--- accesses are left
-abbrev pub is_leaving : LeavingState → Bool
-is_leaving l = nat_lt l.run.bit l.run.width
-
--- the access that comes next
-abbrev pub next_of_leaving : LeavingState → Access
-next_of_leaving l = access_of l.process Ticket (next_written (bits_of_number l.ticket_bits 0) l.run)
-
--- what the fields of a leaving keep
-pub record KeepsLeaving (process processes ticket_bits : ℕ) (w : NumberWrite) : Type 0 where
-  pub process_in : process < processes
-  pub few_processes : processes ≤ 16
-  pub few_bits : ticket_bits ≤ 32
-  pub width : w.width ≡ ticket_bits
-  pub bit_in : w.bit ≤ w.width
-  pub made : (bit_written [] w).made < 2 * processes
+-- a halt of the call tears this bit, or none
+abbrev pub CallTears : ProcessState → Option TornBit → Type 0
+CallTears l torn = (c : Call) (at : Place) → l ≡ leaving_at c at → torn ≡ torn_at c at

@@ -1,8 +1,5 @@
-pub mod DoorCalls
-pub mod DoorRuns
+pub use Rattle.process.specs as process
 pub mod Doors
-pub mod LeavingCalls
 pub mod Leavings
 pub mod Lending
 pub mod Locks
-pub mod Standings

@@ -1,8 +1,8 @@
 -- The locks of all processes: their registers, and what one access makes of them.
-use Rattle.std.specs.Prelude.{◌≡◌, ℕ, ◌<◌, Bool, List, [], length, replicate, slice_index_or, slice_set}
+use Rattle.std.specs.Prelude.{ℕ, Bool, List, [], replicate, slice_index_or, slice_set}
 use Rattle.reader_copies.specs.safe_bit.Cell.{Cell}
 use Rattle.reader_copies.specs.declared.Made.{Made}
-use Rattle.reader_copies.specs.Row.{answer_at, row_after, without_reads, new_row, CanMake, HasCell, HaveOneShape}
+use Rattle.reader_copies.specs.Row.{answer_at, row_after, without_reads, new_row, CanMake, HasCell}
 use Rattle.record.specs.declared.access.Access.{Access}
 use Rattle.record.specs.declared.access.Field.{Field}
 use Rattle.record.specs.declared.access.Field.TheVariants.{Choosing, Ticket}
@@ -78,13 +78,3 @@ lock_without_reads lock field reader = with_row lock field (without_reads (row_i
 -- the locks with those of a process's register dropped
 abbrev pub locks_without_reads : List LockRows → ℕ → Field → ℕ → List LockRows
 locks_without_reads locks p field reader = slice_set locks p (lock_without_reads (lock_of locks p) field reader)
-
--- two locks of one shape: their registers have as many readers and bits
-pub record AreAlike (lock other : LockRows) : Type 0 where
-  pub choosing : HaveOneShape lock.choosing other.choosing
-  pub ticket : HaveOneShape lock.ticket other.ticket
-
--- so have the locks of as many processes
-pub record AreAllAlike (locks other : List LockRows) : Type 0 where
-  pub processes : length locks ≡ length other
-  pub each : (p : ℕ) → p < length locks → AreAlike (lock_of locks p) (lock_of other p)

@@ -2,7 +2,7 @@ ghost use Rattle.std.specs.Prelude.{◌≡◌, ◌<◌, ◌≤◌, Ok, IfOk, len
 ghost use Rattle.std.specs.Borrow.{sem};
 ghost use Rattle.reader_copies.specs.Row.{answer_at, new_row, HasCell};
 ghost use Rattle.plain_store.specs.Setups.{checked};
-ghost use Rattle.bakery.specs.Locks.{new_lock, new_locks, row_in, made_by, CanAccess, HasCopy, lock_after, lock_of, lock_without_reads, locks_after, answer_to, answered, locks_without_reads, AreAlike, AreAllAlike};
+ghost use Rattle.bakery.specs.Locks.{new_lock, new_locks, row_in, made_by, CanAccess, HasCopy, lock_after, lock_of, lock_without_reads, locks_after, answer_to, answered, locks_without_reads};
 ghost use Rattle.bakery.specs.Lending.{LendsLock};
 
 use plain_store::Setup;
@@ -16,7 +16,7 @@ use std::marker::Model;
 #[derive(Drop)]
 pub struct Lock {
     choosing: Register,
-    pub(crate) ticket: Register,
+    ticket: Register,
 }
 
 impl Model for Lock {
@@ -94,15 +94,6 @@ impl Lock {
             _ => self.ticket.drop_read(reader),
         }
     }
-
-    /// Becomes as the other, of the same setup. It takes no memory.
-    pub fn copy_from(&mut self, other: &Lock)
-        requires { AreAlike self.old other.now }
-        ensures { self.new ≡ other.now }
-    {
-        self.choosing.copy_from(&other.choosing);
-        self.ticket.copy_from(&other.ticket);
-    }
 }
 
 /// A register of a lock, which is 0.
@@ -175,16 +166,5 @@ impl Locks {
         ensures { self.new ≡ locks_without_reads self.old owner field reader }
     {
         self.own(owner).drop_read(field, reader);
-    }
-
-    /// Becomes as the other, of the same setup: the same copies, and the same accesses open on them. It takes no
-    /// memory.
-    pub fn copy_from(&mut self, other: &Locks)
-        requires { AreAllAlike self.old other.now }
-        ensures { self.new ≡ other.now }
-    {
-        for (p, lock) in other.locks.iter().enumerate() {
-            self.locks[p].copy_from(lock);
-        }
     }
 }

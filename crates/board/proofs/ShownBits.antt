@@ -1,5 +1,5 @@
 -- What words show of registers, as bits, numbers and bytes.
-use Rattle.std.proofs.Common.{◌≡◌, ℕ, zero, suc, ◌+◌, ◌*◌, ◌^◌, ◌<◌, ◌==◌, max, Bool, true, false, cond, List, [], ◌∷◌, ◌++◌, length, map, fold, take, drop, get_or, if◌then◌else◌, refl, sym, ap, ◌∙◌, add-one, pow_mono, eq-eqb, arith}
+use Rattle.std.proofs.Common.{◌≡◌, ℕ, zero, suc, ◌+◌, ◌*◌, ◌^◌, ◌<◌, ◌≤◌, ◌==◌, max, Bool, true, false, cond, List, [], ◌∷◌, ◌++◌, length, map, fold, take, drop, get_or, if◌then◌else◌, refl, sym, ap, ◌∙◌, add-one, pow_mono, eq-eqb, arith}
 use Rattle.std.proofs.lemmas.Bool.{ne_eqb}
 use Rattle.std.proofs.lemmas.List.{map-append, get_or-map, length-map, length-take, drop-drop}
 use Rattle.std.proofs.lemmas.List.Sums.{fold-append}
@@ -39,6 +39,10 @@ length-bits s words p field = length-map-range_with_len (λ k. slice_index words
 pub byte-is : (b : Bool) → bool_byte b ≡ (if b then 1 else 0)
 byte-is true = refl
 byte-is false = refl
+
+pub byte-small : (b : Bool) → bool_byte b ≤ 1
+byte-small true = omega arith
+byte-small false = omega arith
 
 -- the number of some bits from bit k on, and of one more
 pub number-more : (values : List Bool) (k n : ℕ) → k < length values → number_of_bits (take (n + 1) (drop k values)) ≡ (if get_or values k false then 1 else 0) + 2 * number_of_bits (take n (drop (k + 1) values))

@@ -1,6 +1,6 @@
 pub use Rattle.process.specs.flicks as flicks
 pub use Rattle.laws.specs as laws
-pub use Rattle.process.specs as place
+pub use Rattle.process.specs as process
 pub mod Agreement
 pub mod BoardLaws
 pub mod Boards

@@ -2,13 +2,14 @@
 //! is found by looking back over the entries; the table keeps the last call of each process.
 #![tactic(auto)]
 
+mod accesses;
 mod called;
 mod printed;
 mod standing;
 mod table;
 
+pub use accesses::holds_up;
 pub use called::{Accesses, Called, FinishedRead, Marked};
 pub use printed::{HEADER, print_call};
 pub use read_law::{Watch, width};
-pub use standing::holds_up;
 pub use table::CallTable;

@@ -1,13 +1,16 @@
 //! What is kept of a process, entry by entry.
-ghost use Rattle.std.specs.Prelude.{◌≡◌, ◌+◌, ◌-◌, ◌^◌, ◌<◌, ◌&&◌, not, cond, None, Some, Ok};
+ghost use Rattle.std.specs.Prelude.{◌≡◌, ◌-◌, ◌^◌, ◌<◌, ◌&&◌, not, cond, None, Some, Ok};
 ghost use Rattle.plain_store.specs.Setups.{checked};
 ghost use Rattle.record.specs.Calls.{called_in as command_in};
 ghost use Rattle.record.specs.Doorways.{first_of as first};
-ghost use Rattle.record.specs.Program.{is_below as below};
 ghost use Rattle.record.specs.Registers.{width};
-ghost use Rattle.calls.specs.Columns.{answer_after, begins_ticket, ends_number, ends_raising, holds_up as holds, is_read as begins_read, is_write as begins_write, is_write_end, more_if as one_more_if, newest_after, number_after as after, tells_waiting, with_bit as bit_with};
+ghost use Rattle.calls.specs.Columns.{begins_ticket, ends_number, ends_raising, newest_after, tells_waiting};
 ghost use Rattle.calls.specs.Stepping.{AreFew, accessed, heard, at_rest, begun, marked_all, marked_on, no_accesses, no_marks, with_access, with_mark};
 
+use crate::accesses::{
+    begins_ticket, ends_number, ends_raising, is_read, is_write, more_if, newest_after,
+    number_after, tells_waiting,
+};
 use crate::called::{Accesses, Called, FinishedRead, Marked};
 use plain_store::{Command, NestedTypes, Setup};
 use read_law::width;
@@ -248,30 +251,6 @@ impl Marked {
     }
 }
 
-/// One more, if a test holds.
-#[inline]
-fn more_if(count: u64, test: bool) -> u64
-    ensures { count < 2 ^ 64 - 1 → result ≡ one_more_if test count }
-{
-    if test { count.saturating_add(1) } else { count }
-}
-
-/// Whether a move begins a read.
-#[inline]
-fn is_read(how: Move) -> bool
-    ensures { result ≡ begins_read how }
-{
-    matches!(how, Move::BeginRead)
-}
-
-/// Whether a move begins a write.
-#[inline]
-fn is_write(how: Move) -> bool
-    ensures { result ≡ begins_write how }
-{
-    matches!(how, Move::BeginWrite(_))
-}
-
 /// The first of two numbers, of which there may be none before.
 #[inline]
 fn first_of(before: Option<u64>, number: u64) -> Option<u64>
@@ -281,126 +260,6 @@ fn first_of(before: Option<u64>, number: u64) -> Option<u64>
         Some(before) => Some(before),
         None => Some(number),
     }
-}
-
-/// The number that is read, once an access is made.
-#[inline]
-fn number_after(access: &Access, number: u64) -> u64
-    ensures { result ≡ after access.now.bit access.now.how number }
-{
-    match access.how {
-        Move::EndRead(value) => with_bit(access.bit, value, number),
-        _ => number,
-    }
-}
-
-/// The number with one more bit.
-#[inline]
-fn with_bit(bit: u16, value: bool, number: u64) -> u64
-    ensures { result ≡ bit_with bit value number }
-{
-    if bit == 0 {
-        u64::from(value)
-    } else if value && bit < 64 {
-        number | (1 << bit)
-    } else {
-        number
-    }
-}
-
-/// Whether a process waits, and an access, with which it has read this number, tells that it waits for the register's
-/// owner.
-#[inline]
-fn tells_waiting(setup: &Setup, process: u8, marks: &Marked, access: &Access, number: u64) -> bool
-    requires { checked setup.now ≡ Ok tt }
-    ensures { result ≡ tells_waiting setup.now process marks.now.ticket marks.now.wait_end access.now number }
-{
-    let Some(ticket) = marks.ticket else {
-        return false;
-    };
-    marks.wait_end.is_none()
-        && ends_number(setup, access)
-        && holds_up(process, ticket, access.owner, access.field, number)
-}
-
-/// Whether a number that was read of a register of this owner holds up a process with this ticket.
-pub fn holds_up(process: u8, ticket: u32, owner: u8, field: Field, number: u64) -> bool
-    ensures { result ≡ holds process ticket owner field number }
-{
-    match field {
-        Field::Choosing => number == 1,
-        Field::Ticket => number > 0 && is_below(number, owner, u64::from(ticket), process),
-        _ => false,
-    }
-}
-
-/// Whether an access ends the read of a number.
-#[inline]
-fn ends_number(setup: &Setup, access: &Access) -> bool
-    requires { checked setup.now ≡ Ok tt }
-    ensures { result ≡ ends_number (width setup.now access.now.field) access.now.bit access.now.how }
-{
-    match access.how {
-        Move::EndRead(_) => usize::from(access.bit) + 1 == width(setup, access.field),
-        _ => false,
-    }
-}
-
-/// Whether a choosing bit is written on its last copy.
-#[inline]
-fn ends_raising(setup: &Setup, access: &Access) -> bool
-    ensures { result ≡ ends_raising setup.now access.now }
-{
-    ends_write(access.how)
-        && u32::from(access.reader) + 1 == u32::from(setup.processes)
-        && matches!(access.field, Field::Choosing)
-}
-
-/// Whether a ticket begins to be written.
-#[inline]
-fn begins_ticket(access: &Access) -> bool
-    ensures { result ≡ begins_ticket access.now }
-{
-    is_write(access.how) && matches!(access.field, Field::Ticket)
-}
-
-/// Whether a move ends a write.
-#[inline]
-fn ends_write(how: Move) -> bool
-    ensures { result ≡ is_write_end how }
-{
-    matches!(how, Move::EndWrite)
-}
-
-/// The number that is read last, once an access is made with which this number is read.
-#[inline]
-fn newest_after(
-    setup: &Setup,
-    number: u64,
-    access: &Access,
-    found: Option<FinishedRead>,
-) -> Option<FinishedRead>
-    requires { checked setup.now ≡ Ok tt }
-    ensures { result ≡ newest_after setup.now number access.now found }
-{
-    if ends_write(access.how) {
-        return None;
-    }
-    if !ends_number(setup, access) {
-        return found;
-    }
-    Some(FinishedRead {
-        owner: access.owner,
-        field: access.field,
-        number,
-    })
-}
-
-/// Whether one ticket, with its process, is below another.
-fn is_below(ticket: u64, process: u8, other: u64, other_process: u8) -> bool
-    ensures { result ≡ below ticket process other other_process }
-{
-    ticket < other || (ticket == other && process < other_process)
 }
 
 /// The command with which marks begin a call, if they do.

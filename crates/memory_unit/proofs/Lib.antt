@@ -1,3 +1,2 @@
-mod Clearing
 mod Registers
-pub mod Steps
+pub mod UnitSteps

@@ -1,5 +1,5 @@
 -- A failure finds a torn bit, which the unit settles, or none.
-use Rattle.std.proofs.Common.{◌≡◌, ℕ, ◌+◌, ◌*◌, ◌==◌, ◌&&◌, ◌||◌, Bool, true, false, cond, not, List, [], ◌∷◌, get_or, Option, None, Some, option_map, refl, sym, ap, ◌∙◌, arith, inl, inr}
+use Rattle.std.proofs.Common.{◌≡◌, ℕ, ◌+◌, ◌*◌, ◌==◌, ◌&&◌, ◌||◌, Bool, true, false, cond, not, List, [], ◌∷◌, get_or, length, Option, None, Some, option_map, refl, sym, ap, ◌∙◌, arith, inl, inr}
 use Rattle.std.proofs.lemmas.Bool.{cases_eq, eq-eqb, ne_eqb}
 use Rattle.std.specs.Prelude.{IfSome}
 use Rattle.plain_store.specs.declared.Reply.{Reply}
@@ -14,6 +14,8 @@ use Rattle.record.specs.Failures.{begun_run, cut, taken_with}
 use Rattle.record.specs.Parts.{is_read, read_at, written_at}
 use Rattle.record.specs.Registers.{width}
 use Rattle.record.specs.safe_number.Runs as numbers
+use Rattle.record.proofs.Closing.{ticket_width}
+use Rattle.record.proofs.Ties.{written-width}
 use Rattle.laws.specs.Doings.{Closes, is_inside}
 use Rattle.registers.specs.AtParts.{ReadsAt, WritesAt, run_at, run_by}
 use Rattle.registers.specs.Begins.{is_torn, is_writing, made_of_bit, settling}
@@ -101,8 +103,8 @@ cut-torn k (work.Frees i) cur inside taken keeps torn is takes = absurd (cc)
 cut-torn k work.Lowers cur inside taken keeps torn is takes = absurd (cc)
 
 -- the unit is at that bit
-settles-torn : (s : Setup) (p : ℕ) (written : Field × List Bool) (taken : Option (Bool × Reply)) (cur : CursorState) → WritesAt s p written cur → IfSome taken (λ (t : Bool × Reply). t.0 ≡ get_or cur.bits cur.bit false) → SettlesAt s p taken (settling cur)
-settles-torn s p written taken cur at given = record {
+settles-torn : (s : Setup) (p : ℕ) (written : Field × List Bool) (taken : Option (Bool × Reply)) (cur : CursorState) → WritesAt s p written cur → width s written.0 ≡ length written.1 → IfSome taken (λ (t : Bool × Reply). t.0 ≡ get_or cur.bits cur.bit false) → SettlesAt s p taken (settling cur)
+settles-torn s p written taken cur at long given = record {
   cut = made_of_bit cur;
   value = None;
   run = refl;
@@ -112,6 +114,7 @@ settles-torn s p written taken cur at given = record {
   wide = at.wide ∙ sym (ap (λ (r : RegisterName). width s r.field) at.at);
   copy = omega (arith, at.copy);
   going = at.going;
+  known = omega (arith, at.going, at.wide, long, ap length at.bits);
   settled = λ begun. absurd (cc);
   written = given;
 }
@@ -123,14 +126,18 @@ of-commit s p written t cur at is =
     let bits : cur.bits ≡ t.0 ∷ [] = at.bits ∙ ap (λ (w : Field × List Bool). w.1) is in
     sym (λ i. get_or (bits i) (first i) false)
 
+-- what a part writes is as wide as its register
+wide-written : (k : PartState) (cur : CursorState) → KeepsPlace k work.Runs cur → is_torn cur ≡ true → width k.call.setup (written_at k.call k.part).0 ≡ length (written_at k.call k.part).1
+wide-written k cur keeps torn = written-width k.call k.part (torn-writes k cur keeps torn).0 keeps.working.going
+
 pub cut-keeps : (k : PartState) (w : ProcessWork) (cur : CursorState) (inside : Bool) (taken : Option (Bool × Reply)) → KeepsPlace k w cur → is_torn_at w cur ≡ true → IfSome taken (IsOfCommit k w) → KeepsPlace k (work.Settles inside taken) (settling cur)
 cut-keeps k work.Rests cur inside taken keeps torn commit = absurd (cc)
 cut-keeps k work.Lies cur inside taken keeps torn commit = absurd (cc)
-cut-keeps k work.Runs cur inside None keeps torn commit = record { call = keeps.call; working = settles-torn k.call.setup k.call.process (written_at k.call k.part) None cur (torn-writes k cur keeps torn).1 tt }
+cut-keeps k work.Runs cur inside None keeps torn commit = record { call = keeps.call; working = settles-torn k.call.setup k.call.process (written_at k.call k.part) None cur (torn-writes k cur keeps torn).1 (wide-written k cur keeps torn) tt }
 cut-keeps k work.Runs cur inside (Some t) keeps torn commit =
     let at = (torn-writes k cur keeps torn).1 in
-    record { call = keeps.call; working = settles-torn k.call.setup k.call.process (written_at k.call k.part) (Some t) cur at (of-commit k.call.setup k.call.process (written_at k.call k.part) t cur at commit) }
-cut-keeps k work.Withdraws cur inside None keeps torn commit = record { call = keeps.call; working = settles-torn k.call.setup k.call.process (Ticket, no_ticket k.call) None cur keeps.working tt }
+    record { call = keeps.call; working = settles-torn k.call.setup k.call.process (written_at k.call k.part) (Some t) cur at (wide-written k cur keeps torn) (of-commit k.call.setup k.call.process (written_at k.call k.part) t cur at commit) }
+cut-keeps k work.Withdraws cur inside None keeps torn commit = record { call = keeps.call; working = settles-torn k.call.setup k.call.process (Ticket, no_ticket k.call) None cur keeps.working (ticket_width k.call) tt }
 cut-keeps k work.Withdraws cur inside (Some t) keeps torn commit = absurd commit
 cut-keeps k (work.Settles i t) cur inside taken keeps torn commit = absurd (cc)
 cut-keeps k (work.Frees i) cur inside taken keeps torn commit = absurd (cc)

@@ -10,6 +10,7 @@ pub mod MemoriesMoved
 pub mod MemoriesOpening
 pub mod NewestWith
 pub mod NextAt
+pub mod OfRegister
 pub mod OthersFrom
 pub mod Outcomes
 pub mod PartOver
@@ -19,4 +20,5 @@ pub mod SeenMore
 pub mod Serves
 pub mod SettlesOn
 pub mod Shown
+pub mod UnitBegins
 pub mod VersionsSeen

@@ -1,5 +1,5 @@
 -- The memory unit settles a bit by its cursor.
-use Rattle.std.proofs.Common.{◌≡◌, ◌<◌, ℕ, ◌+◌, ◌==◌, ◌&&◌, Bool, true, false, cond, not, [], get_or, Option, Some, unwrap_or, refl, sym, ap, ◌∙◌, subst, arith}
+use Rattle.std.proofs.Common.{◌≡◌, ◌<◌, ℕ, ◌+◌, ◌==◌, ◌&&◌, Bool, true, false, cond, not, [], get_or, length, Option, Some, unwrap_or, refl, sym, ap, ◌∙◌, subst, arith}
 use Rattle.std.proofs.lemmas.Bool.{eq-eqb, ne_eqb}
 use Rattle.std.specs.Prelude.{IfSome}
 use Rattle.plain_store.specs.declared.Reply.{Reply}
@@ -100,6 +100,7 @@ settling-stays s p taken cur flick at more =
       wide = at.wide;
       copy = copy_inside cur.copies cur.copy (ends_copy at.cut cur) at.copy;
       going = subst (λ b. b < cur.width) (sym bit) at.going;
+      known = subst (λ b. b < length cur.bits) (sym bit) at.known;
       settled = λ _. (v, refl);
       written = subst (λ b. IfSome taken (λ (t : Bool × Reply). t.0 ≡ get_or cur.bits b false)) (sym bit) at.written;
     })

@@ -1,5 +1,5 @@
 -- What a process does, as its call, its work and its cursor show it.
-use Rattle.std.specs.Prelude.{◌≡◌, ◌<◌, ℕ, Bool, true, false, List, [], ◌∷◌, IfSome, Option, None, Some, option_map, slice_index_or}
+use Rattle.std.specs.Prelude.{◌≡◌, ◌<◌, ℕ, Bool, true, false, List, [], ◌∷◌, IfSome, Option, None, Some, length, option_map, slice_index_or}
 use Rattle.plain_store.specs.declared.Reply.{Reply}
 use Rattle.plain_store.specs.declared.Setup.{Setup}
 use Rattle.record.specs.declared.access.Field.TheVariants.{Choosing, Commit, Ticket}
@@ -77,6 +77,7 @@ pub record SettlesAt (s : Setup) (p : ℕ) (taken : Option (Bool × Reply)) (cur
   pub wide : cur.width ≡ width s cur.register.field
   pub copy : cur.copy < cur.copies
   pub going : cur.bit < cur.width
+  pub known : cur.bit < length cur.bits
   pub settled : cur.begun ≡ true → (v : Bool) × (value ≡ Some v)
   pub written : IfSome taken (λ (t : Bool × Reply). t.0 ≡ slice_index_or cur.bits cur.bit false)
 

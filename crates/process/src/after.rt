@@ -60,7 +60,7 @@ fn after_ticket(call: &ProcessCall, seen: &mut Seen, owner: u8, number: u32) -> 
 }
 
 /// On to the version of this process, or of none: then to the image.
-fn version_from(call: &ProcessCall, first: u8) -> ProcessPart
+pub(crate) fn version_from(call: &ProcessCall, first: u8) -> ProcessPart
     requires first { first ≤ call.now.setup.processes }
     ensures part { (seen : Seen) → part_at (call_of call.now) seen result ≡ to_e (all_from (call_of call.now) first) (versions_seen first seen) }
     ensures holds { (seen : Seen) → Fit first call.now.setup.stamp_bits seen → Holds (call_of call.now) seen result }

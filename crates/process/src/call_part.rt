@@ -5,24 +5,29 @@ ghost use Rattle.record.specs.declared.marks.Mark.TheVariants.{Left};
 ghost use Rattle.laws.specs.Doings.{is_inside_at};
 ghost use Rattle.record.specs.Cuts.{Change, pending_at};
 ghost use Rattle.record.specs.Failures.{taken_with};
-ghost use Rattle.record.specs.Parts.{Raises, first_marks, is_over, is_read, last_marks, part_after, read_at, stage_of, written_at};
+ghost use Rattle.record.specs.Parts.{Raises, first_marks, is_over, is_read, last_marks, part_after, read_at, stage_of, to_e, written_at};
 ghost use Rattle.record.specs.Program.{store_read};
-ghost use Rattle.record.specs.Registers.{width};
+ghost use Rattle.record.specs.Registers.{processes, width};
 ghost use Rattle.record.specs.safe_number.Bytes.{bits_in};
 ghost use Rattle.store_image.specs.Image.{image_of};
+ghost use Rattle.process.specs.Alone.{answer_at, full_at, ticket_at};
 ghost use Rattle.process.specs.CallParts.{IsAsked, IsOutcome, reads_image, writes_image};
+ghost use Rattle.process.specs.Looks.{ticket_known_at};
 ghost use Rattle.process.specs.Places.{changes_at};
 ghost use Rattle.process.specs.Telling.{changes_told, marks_told};
 ghost use Rattle.process.specs.Working.{reply_taken};
 
 use crate::after;
 use crate::asked::{Asked, asks_at, newest_stamp, other_commit};
+use crate::looks::TicketKnown;
 use crate::marks::told_to;
+use crate::numbers::{greatest, most_of};
+use crate::others::others_below;
 use crate::part::{ProcessCall, ProcessPart};
 use crate::seen::Seen;
 use crate::store::applied;
 use crate::told::StepTold;
-use plain_store::{Command, Reply, Setup};
+use plain_store::{Answer, Command, Reply, Setup};
 use record::{Field, Stage};
 use std::marker::Model;
 use store_image::Image;
@@ -77,6 +82,15 @@ impl CallPart {
         self.call.command = command;
         self.call.number = number;
         self.part = ProcessPart::Raises;
+    }
+
+    /// Another call of the same process, which comes inside.
+    pub fn start_inside(&mut self, command: Command, number: u16)
+        ensures { self.new ≡ record { call = record self.old.call { command = command; number = number }; part = to_e (processes self.old.call.setup) [] } }
+    {
+        self.call.command = command;
+        self.call.number = number;
+        self.part = after::version_from(&self.call, 0);
     }
 
     /// The setup.
@@ -165,6 +179,73 @@ impl CallPart {
         }
     }
 
+    /// The ticket with which its process ends its doorway, or waits.
+    pub fn ticket(&self) -> Option<u32>
+        ensures { result ≡ ticket_at self.now.part }
+    {
+        match self.part {
+            ProcessPart::Lowers(ticket)
+            | ProcessPart::AwaitsChoosing { ticket, .. }
+            | ProcessPart::AwaitsTicket { ticket, .. } => Some(ticket),
+            _ => None,
+        }
+    }
+
+    /// The process for whose ticket it is refused.
+    pub fn full(&self) -> Option<u8>
+        ensures { result ≡ full_at self.now.part }
+    {
+        match self.part {
+            ProcessPart::Refuses(process) => Some(process),
+            _ => None,
+        }
+    }
+
+    /// The answer that it has come to.
+    pub fn answer(&self) -> Option<Answer>
+        ensures { result ≡ answer_at self.now.part }
+    {
+        match self.part {
+            ProcessPart::Clears(answer) => Some(answer),
+            _ => None,
+        }
+    }
+
+    /// While a change is being written, the reply, the greatest stamp that was read, and the new value of the commit bit.
+    pub fn pending(&self) -> Option<(Reply, u32, bool)>
+        ensures { result ≡ pending_at self.now.call self.now.part }
+    {
+        match self.part {
+            ProcessPart::WritesImage | ProcessPart::WritesStamp | ProcessPart::WritesCommit => Some(
+                (
+                    applied(&self.call, &self.seen.store).1,
+                    newest_stamp(&self.call, &self.seen),
+                    other_commit(&self.call, &self.seen),
+                ),
+            ),
+            _ => None,
+        }
+    }
+
+    /// What is known of the ticket, once the choosing bit is raised and while the process is in its doorway.
+    pub fn ticket_known(&self) -> Option<TicketKnown>
+        ensures { result ≡ ticket_known_at self.now.call.setup self.now.part }
+    {
+        match self.part {
+            ProcessPart::Asks { owner } => {
+                let read = others_below(&self.call, owner);
+                Some(TicketKnown::Above(greatest(&self.seen.numbers[..read])))
+            }
+            ProcessPart::TakesTicket(ticket) | ProcessPart::Lowers(ticket) => {
+                Some(TicketKnown::Is(ticket))
+            }
+            ProcessPart::Refuses(_) => {
+                Some(TicketKnown::Above(most_of(self.call.setup.ticket_bits)))
+            }
+            _ => None,
+        }
+    }
+
     /// The greatest stamp that was read, while a change is being written.
     pub fn changes_pending(&self) -> Option<u32>
         ensures { result ≡ option_map (λ (change : Change). change.1) (pending_at self.now.call self.now.part) }
@@ -178,7 +259,7 @@ impl CallPart {
     }
 
     /// The greatest stamp that was read, where its last access may take the command: so many changes were taken before it.
-    fn changes_read(&self) -> u32
+    pub fn changes_read(&self) -> u32
         ensures { result ≡ changes_at self.now.part }
     {
         match self.part {

@@ -9,7 +9,9 @@ ghost use Rattle.laws.specs.Steps.{reads_of};
 ghost use Rattle.process.specs.Places.{called, changes_pending, may_step, process_after, restarted, stage_doing};
 
 mod advance;
+mod alone;
 mod cut;
+mod looking;
 mod refusals;
 mod serving;
 

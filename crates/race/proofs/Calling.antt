@@ -19,7 +19,7 @@ use Rattle.record.specs.Scripts.{Call}
 use Rattle.record.specs.Stages.{stage_after}
 use Rattle.board.specs.laws.Doings.{Doing, Rests, Lies, Runs, Closes, call}
 use Rattle.board.specs.laws.Steps.{does_then, marks_with}
-use Rattle.board.specs.place.Places.{stage_doing}
+use Rattle.board.specs.process.Places.{stage_doing}
 use Rattle.record.specs.declared.calls.Placed.{Placed}
 use Rattle.board.specs.Calls.{Calls, and_then, calls_after}
 use Rattle.board.specs.Driving.{Drives, EndsWith, Walks, flicks_after}

@@ -1,5 +1,5 @@
 -- What the flags of copies say.
-use Rattle.std.specs.Prelude.{◌≡◌, ◌≢◌, ℕ, ◌<◌, ◌/◌, ◌%◌, ◌==◌, Bool, List, map, slice_index_or, if◌then◌else◌}
+use Rattle.std.specs.Prelude.{◌≡◌, ◌≢◌, ℕ, ◌<◌, ◌/◌, ◌%◌, ◌==◌, Bool, List, map, slice_index_or}
 use Rattle.std.specs.Int.{bit_at}
 use Rattle.std.specs.List.{range_with_len}
 use Rattle.safe_bit.specs.Cell.{Cell}
@@ -24,14 +24,6 @@ cell_among flags k = cell_in_flags (slice_index_or flags (k / 64) no_flags) (k %
 -- the first n copies
 abbrev pub cells_of : List Flags → ℕ → List Cell
 cells_of flags n = map (cell_among flags) (range_with_len 0 n)
-
--- whether copy k is touched after the next access of its reader: where a read begins, if a write is open
-abbrev pub touched_after : Flags → ℕ → Bool
-touched_after flags k = if flag_in flags.reading k then flag_in flags.touched k else flag_in flags.writing k
-
--- a word has the bits of one word where those of another are 1, and else those of a third
-abbrev pub Chooses : ℕ → ℕ → ℕ → ℕ → Type 0
-Chooses among ones zeros word = (i : ℕ) → flag_in word i ≡ (if flag_in among i then flag_in ones i else flag_in zeros i)
 
 -- bit k of the word is this one now, and the others are as they were
 pub record SetsFlag (word k : ℕ) (flag : Bool) (new : ℕ) : Type 0 where

@@ -65,8 +65,3 @@ without_reads row reader = slice_set row reader (map without_read (slice_index_o
 pub record IsRow (row : List (List Cell)) (width : ℕ) : Type 0 where
   pub readers : 0 < length row
   pub widths : (reader : ℕ) → reader < length row → length (slice_index_or row reader []) ≡ width
-
--- two rows of one shape: as many readers, and each has copies of as many bits
-pub record HaveOneShape (row other : List (List Cell)) : Type 0 where
-  pub readers : length row ≡ length other
-  pub widths : (reader : ℕ) → reader < length row → length (slice_index_or row reader []) ≡ length (slice_index_or other reader [])

@@ -1,11 +1,8 @@
 -- The cursors of one bit: how far an access to all its copies has come, and which access comes next.
-use Rattle.std.specs.Prelude.{ℕ, suc, zero, ◌+◌, ◌*◌, ◌/◌, ◌%◌, ◌==◌, ◌-◌, ◌||◌, ◌&&◌, drop, Bool, true, false, if◌then◌else◌, Option, Some, None, unwrap_or, List, [], ◌∷◌}
-use Rattle.safe_bit.specs.Cell.{Cell, cell_after, read_answer}
-use Rattle.safe_bit.specs.declared.moves.Move.{Move}
+use Rattle.std.specs.Prelude.{◌≡◌, ℕ, suc, zero, ◌+◌, ◌*◌, ◌/◌, ◌%◌, ◌==◌, ◌-◌, ◌||◌, drop, Bool, true, false, if◌then◌else◌, Option, Some, None, is_some, unwrap_or, List, [], ◌∷◌}
 use Rattle.safe_bit.specs.declared.moves.Move.TheVariants.{BeginWrite, EndWrite, BeginRead, EndRead, Settle}
 use Rattle.reader_copies.specs.declared.runs.Made.{Made}
 use Rattle.reader_copies.specs.declared.runs.Progress.{Progress}
-use Rattle.reader_copies.specs.Row.{cell_at}
 use Rattle.reader_copies.specs.declared.runs.Progress.TheVariants.{Going, Done}
 
 -- a write of one bit
@@ -29,6 +26,10 @@ pub record Settling : Type 0 where
   pub reader : ℕ
   pub begun : Bool
   pub value : Option Bool
+
+-- a settling that has begun on a copy has its value
+abbrev pub HasItsValue : (begun : Bool) → Option Bool → Type 0
+HasItsValue begun value = begun ≡ true → is_some value ≡ true
 
 -- what a run answers that is done, or not
 abbrev pub progress_of : Bool → Progress
@@ -54,22 +55,6 @@ write_after n w = record { value = w.value; made = w.made + 1; ended = w.made + 
 -- the next access of a read, whose end gives v
 abbrev pub next_read : ℕ → Reading → Bool → Made
 next_read reader r v = record { reader = reader; how = if r.begun then EndRead v else BeginRead }
-
--- the next access of a copy's reader, as the copy itself tells it: the end of the read that is open, else the begin of one
-abbrev pub read_move : Cell → Bool → Move
-read_move c flick = if c.reading then EndRead (read_answer c flick) else BeginRead
-
--- the copy after it
-abbrev pub read_on : Cell → Bool → Cell
-read_on c flick = cell_after c (read_move c flick)
-
--- that access of a reader's copy of a bit
-abbrev pub read_at : List (List Cell) → ℕ → ℕ → Bool → Made
-read_at row bit reader flick = record { reader = reader; how = read_move (cell_at row bit reader) flick }
-
--- what that access gives: the end what was read, a begin 0
-abbrev pub read_gives : Cell → Bool → Bool
-read_gives c flick = c.reading && read_answer c flick
 
 -- the read after its next access
 abbrev pub read_after : Reading → Bool → Reading

@@ -1,7 +1,6 @@
 ghost use Rattle.std.specs.Prelude.{◌≡◌, ◌<◌, false, length, map, replicate, slice_set, IfOk};
 ghost use Rattle.safe_bit.specs.Cell.{new_cell, cell_after, without_read, read_answer};
 ghost use Rattle.reader_copies.specs.Row.{cell_in};
-ghost use Rattle.reader_copies.specs.Runs.{read_gives, read_on};
 
 use crate::flag_words::Flags;
 use safe_bit::Move;
@@ -46,17 +45,6 @@ impl Copies {
         self.flags[k / 64].go_on(k % 64, how);
     }
 
-    /// The copy of bit `k` goes on by its reader's next access, without a branch on which it is: the end of the read that
-    /// is open, else the begin of one. The end gives what `answer` does, a begin `false`.
-    #[inline(always)]
-    pub fn read_on(&mut self, k: usize, flick: bool) -> bool
-        requires { k < length self.old }
-        ensures copies { self.new ≡ slice_set self.old k (read_on (cell_in self.old k) flick) }
-        ensures gives { result ≡ read_gives (cell_in self.old k) flick }
-    {
-        self.flags[k / 64].read_on(k % 64, flick)
-    }
-
     /// What the end of the open read of bit `k` gives.
     #[inline]
     pub fn answer(&self, k: usize, flick: bool) -> bool
@@ -98,13 +86,5 @@ impl Copies {
         ensures { result ≡ (cell_in self.now k).value }
     {
         self.flags[k / 64].value(k % 64)
-    }
-
-    /// Becomes as the other, of as many bits. It takes no memory.
-    pub fn copy_from(&mut self, other: &Copies)
-        requires { length self.old ≡ length other.now }
-        ensures { self.new ≡ other.now }
-    {
-        self.flags.copy_from_slice(&other.flags);
     }
 }

@@ -1,8 +1,7 @@
 //! The flags of sixty-four copies, side by side.
-ghost use Rattle.std.specs.Prelude.{◌≡◌, ◌≢◌, ℕ, ◌<◌, false, not};
+ghost use Rattle.std.specs.Prelude.{◌≡◌, ◌<◌, false};
 ghost use Rattle.safe_bit.specs.Cell.{cell_after, new_cell, read_answer, without_read};
-ghost use Rattle.reader_copies.specs.Flags.{ChangesAt, Chooses, SetsFlag, touched_after, cell_in_flags, flag_in, no_flags};
-ghost use Rattle.reader_copies.specs.Runs.{read_gives, read_on};
+ghost use Rattle.reader_copies.specs.Flags.{ChangesAt, SetsFlag, cell_in_flags, flag_in, no_flags};
 
 use safe_bit::Move;
 
@@ -52,34 +51,6 @@ impl Flags {
                 self.writing = with_flag(self.writing, k, false);
             }
         }
-    }
-
-    /// Copy `k` goes on by its reader's next access: the end of the read that is open, else the begin of one. The end
-    /// gives what `answer` does, a begin `false`.
-    ///
-    /// It takes no branch: where reads of many processes are mixed, nobody foresees which of the two it is.
-    #[inline(always)]
-    pub fn read_on(&mut self, k: usize, flick: bool) -> bool
-        requires { k < 64 }
-        ensures copy { ChangesAt self.old k (read_on (cell_in_flags self.old k) flick) self.new }
-        ensures gives { result ≡ read_gives (cell_in_flags self.old k) flick }
-    {
-        let answers = choose(self.touched, all_flags(flick), self.value);
-        let gives = has_flag(self.reading & answers, k);
-        self.touched = self.touched_after_read(k);
-        self.reading = with_flag_turned(self.reading, k);
-        gives
-    }
-
-    /// The flags of overlap once a read of copy `k` has gone on: its begin sets the flag to whether a write is open, and
-    /// its end leaves it.
-    #[inline(always)]
-    fn touched_after_read(&self, k: usize) -> u64
-        requires { k < 64 }
-        ensures { SetsFlag self.now.touched k (touched_after self.now k) result }
-    {
-        let begins = clear_at(self.reading, k);
-        choose(begins, self.writing, self.touched)
     }
 
     /// What the end of the open read of copy `k` gives.
@@ -151,39 +122,4 @@ fn with_flag(word: u64, k: usize, flag: bool) -> u64
     } else {
         word & !(1 << k)
     }
-}
-
-/// A word with bit `k` turned.
-#[inline(always)]
-fn with_flag_turned(word: u64, k: usize) -> u64
-    requires { k < 64 }
-    ensures { SetsFlag word k (not (flag_in word k)) result }
-{
-    word ^ (1 << k)
-}
-
-/// A word that has a 1 at place `k` alone, and that only where this one has a 0 there.
-#[inline(always)]
-fn clear_at(word: u64, k: usize) -> u64
-    requires { k < 64 }
-    ensures there { flag_in result k ≡ not (flag_in word k) }
-    ensures nowhere_else { (i : ℕ) → i ≢ k → flag_in result i ≡ false }
-{
-    (1 << k) & !word
-}
-
-/// The bits of `ones` where `among` has a 1, and those of `zeros` where it has a 0.
-#[inline(always)]
-fn choose(among: u64, ones: u64, zeros: u64) -> u64
-    ensures { Chooses among ones zeros result }
-{
-    zeros ^ ((zeros ^ ones) & among)
-}
-
-/// A word in which all bits are this one.
-#[inline(always)]
-fn all_flags(flag: bool) -> u64
-    ensures { (i : ℕ) → i < 64 → flag_in result i ≡ flag }
-{
-    0u64.wrapping_sub(u64::from(flag))
 }

@@ -1,6 +1,6 @@
 ghost use Rattle.std.specs.Prelude.{◌≡◌, ℕ, ◌<◌, ◌≤◌, ◌*◌, ◌==◌, true, false, length, None, IfOk};
-ghost use Rattle.reader_copies.specs.Row.{answer_at, cell_at, row_after, without_read_at, new_row, preset_row, without_reads, HasCell, CanMake, HaveOneShape, IsClosedBit};
-ghost use Rattle.reader_copies.specs.Runs.{next_write, write_after, next_read, read_after, read_at, read_gives, next_settle, settle_after, settled_at, progress_of};
+ghost use Rattle.reader_copies.specs.Row.{answer_at, cell_at, row_after, without_read_at, new_row, preset_row, without_reads, HasCell, CanMake, IsClosedBit};
+ghost use Rattle.reader_copies.specs.Runs.{next_write, write_after, next_read, read_after, next_settle, settle_after, settled_at, progress_of};
 
 use crate::copies::Copies;
 use crate::runs::{CopyRead, CopyWrite, Made, Progress, Torn};
@@ -65,17 +65,6 @@ impl CopiedRow {
         ensures { result ≡ answer_at self.now bit reader flick }
     {
         self.copies[reader as usize].answer(bit as usize, flick)
-    }
-
-    /// Makes the next access of a read of a bit by its reader, without a branch on which it is: the end of the read that
-    /// is open, else the begin of one. The end gives what `answer` does, a begin `false`.
-    #[inline(always)]
-    pub fn read_on(&mut self, bit: u16, reader: u8, flick: bool) -> bool
-        requires there { HasCell self.old bit reader }
-        ensures row { self.new ≡ row_after self.old bit (read_at self.old bit reader flick) }
-        ensures gives { result ≡ read_gives (cell_at self.old bit reader) flick }
-    {
-        self.copies[reader as usize].read_on(bit as usize, flick)
     }
 
     /// Makes the next access of a write of a bit by its writer: 2 for each reader in all.
@@ -177,17 +166,6 @@ impl CopiedRow {
     {
         for reader in 0..self.copies.len() {
             self.copies[reader].preset(bit as usize, value);
-        }
-    }
-
-    /// Becomes as the other, which has as many readers and bits: the same copies, and the same accesses open on
-    /// them. It takes no memory.
-    pub fn copy_from(&mut self, other: &CopiedRow)
-        requires { HaveOneShape self.old other.now }
-        ensures { self.new ≡ other.now }
-    {
-        for (reader, copies) in other.copies.iter().enumerate() {
-            self.copies[reader].copy_from(copies);
         }
     }
 }

@@ -1,7 +1,7 @@
 //! The cursors of one bit: how far a write, a read or a settling has come. Each tells its next access and
 //! is moved on by it, whatever memory the access is made on.
-ghost use Rattle.std.specs.Prelude.{◌≡◌, ◌+◌, ◌*◌, ◌<◌, ◌==◌, ◌≤◌, true, false, not, None};
-ghost use Rattle.reader_copies.specs.Runs.{Writing, Reading, Settling, next_write, write_after, next_read, read_after, next_settle, settle_after, settled_at, torn_of, progress_of};
+ghost use Rattle.std.specs.Prelude.{◌≡◌, ◌+◌, ◌*◌, ◌<◌, ◌==◌, ◌≤◌, true, false, None};
+ghost use Rattle.reader_copies.specs.Runs.{HasItsValue, Writing, Reading, Settling, next_write, write_after, next_read, read_after, next_settle, settle_after, settled_at, torn_of, progress_of};
 
 use safe_bit::Move;
 use std::marker::Model;
@@ -63,12 +63,7 @@ impl CopyWrite {
         if self.made == 0 || self.ended {
             None
         } else {
-            Some(Torn {
-                made: self.made,
-                reader: 0,
-                begun: false,
-                value: None,
-            })
+            Some(Torn::cut_after(self.made))
         }
     }
 
@@ -131,18 +126,6 @@ impl CopyRead {
     {
         CopyRead {
             begun: false,
-            value: None,
-        }
-    }
-
-    /// How far reads that follow one another have come after one more access: a read has begun after a begin, and none
-    /// after an end. What the end gave is not kept.
-    #[inline(always)]
-    pub fn turned(&self) -> CopyRead
-        ensures { result ≡ record { begun = not self.now.begun; value = None } }
-    {
-        CopyRead {
-            begun: !self.begun,
             value: None,
         }
     }
@@ -220,16 +203,59 @@ pub struct Torn {
 }
 
 impl Model for Torn {
-    ghost use Rattle.reader_copies.specs.Runs.{Settling};
+    ghost use Rattle.reader_copies.specs.Runs.{HasItsValue, Settling};
 
     ghost Value = { Settling };
 
     ghost view = { λ t. record { made = t.made; reader = t.reader; begun = t.begun; value = t.value } };
 
+    ghost invariant = { λ t. HasItsValue t.begun t.value };
+
     ghost inverse = { λ t. record { made = t.made; reader = t.reader; begun = t.begun; value = t.value } };
 }
 
 impl Torn {
+    /// Of a write that was cut after so many of its accesses: nothing of it is settled.
+    pub fn cut_after(made: u8) -> Torn
+        ensures { result ≡ record { made = made; reader = 0; begun = false; value = None } }
+    {
+        Torn {
+            made,
+            reader: 0,
+            begun: false,
+            value: None,
+        }
+    }
+
+    /// How many accesses of the write were made.
+    pub fn made(&self) -> u8
+        ensures { result ≡ self.now.made }
+    {
+        self.made
+    }
+
+    /// The copy that is settled next.
+    pub fn reader(&self) -> u8
+        ensures { result ≡ self.now.reader }
+    {
+        self.reader
+    }
+
+    /// Whether a write of that copy has begun.
+    pub fn has_begun(&self) -> bool
+        ensures begun { result ≡ self.now.begun }
+        ensures value { HasItsValue result self.now.value }
+    {
+        self.begun
+    }
+
+    /// What is settled at, once the first access was made.
+    pub fn value(&self) -> Option<bool>
+        ensures { result ≡ self.now.value }
+    {
+        self.value
+    }
+
     /// The next access. All copies are settled at the `value` that is handed in first; later ones are not
     /// looked at.
     #[inline]

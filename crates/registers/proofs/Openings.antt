@@ -57,6 +57,16 @@ register-lane s memory r of owner =
     let there : lane_number s.processes r 0 < length memory = omega (arith, of.lanes, lane-in s.processes r 0 owner (omega arith)) in
     (there, of.widths (lane_number s.processes r 0) there ∙ ap (width s) (lane-field s.processes r 0 (omega arith)))
 
+-- and so is the bit that an access names
+pub access-lane : (s : Setup) (memory : List (List Cell)) (a : Access) → AreOf s memory → a.owner < s.processes → a.reader < s.processes → a.bit < width s a.field →
+    (lane_of_access s.processes a < length memory) × (a.bit < length (lane_of memory (lane_of_access s.processes a)))
+access-lane s memory a of owner reader bit =
+    let r : RegisterName = record { owner = a.owner; field = a.field } in
+    let n : ℕ = s.processes in
+    let there : lane_number n r a.reader < length memory = omega (arith, of.lanes, lane-in n r a.reader owner reader) in
+    let wide : length (lane_of memory (lane_number n r a.reader)) ≡ width s a.field = of.widths (lane_number n r a.reader) there ∙ ap (width s) (lane-field n r a.reader reader) in
+    (there, omega (arith, wide, bit))
+
 -- all copies of a register are there
 pub register-there : (s : Setup) (memory : List (List Cell)) (r : RegisterName) → AreOf s memory → r.owner < s.processes → HasLanes memory (lane_number s.processes r 0) s.processes (width s r.field)
 register-there s memory r of owner =

@@ -1,9 +1,11 @@
 -- A number access of which nothing is made, and what the fields of a cursor keep.
-use Rattle.std.specs.Prelude.{◌≡◌, ℕ, ◌+◌, ◌*◌, ◌<◌, ◌≤◌, ◌==◌, ◌&&◌, ◌||◌, not, Bool, true, false, if◌then◌else◌, List, [], None, length}
+use Rattle.std.specs.Prelude.{◌≡◌, ℕ, ◌+◌, ◌*◌, ◌<◌, ◌≤◌, ◌==◌, ◌&&◌, ◌||◌, not, Bool, true, false, cond, if◌then◌else◌, List, [], Option, None, Some, length, replicate}
 use Rattle.plain_store.specs.declared.Setup.{Setup}
 use Rattle.record.specs.declared.access.Field.TheVariants.{Choosing}
 use Rattle.registers.specs.declared.fields.RegisterName.{RegisterName}
+use Rattle.record.specs.declared.access.TornBit.{TornBit}
 use Rattle.record.specs.Registers.{width}
+use Rattle.safe_number.specs.Bytes.{bits_in}
 use Rattle.registers.specs.Cursors.{CursorState, IsAtCopy, lane_number}
 use Rattle.registers.specs.declared.cursor.NumberRun.{NumberRun}
 use Rattle.registers.specs.declared.cursor.NumberRun.TheVariants.{Reads, Writes, Settles}
@@ -44,6 +46,24 @@ is_torn c = is_writing c.run && (not (c.copy == 0) || c.begun)
 -- its bit is settled, of whose write so many accesses were made
 abbrev pub settling : CursorState → CursorState
 settling c = record c { run = Settles (made_of_bit c) None; copy = 0; begun = false }
+
+-- that bit, of whose settling nothing is made
+abbrev pub torn_bit : CursorState → Option TornBit
+torn_bit c = cond (is_torn c) (Some (record { field = c.register.field; bit = c.bit; torn = record { made = made_of_bit c; reader = 0; begun = false; value = None } })) None
+
+-- the settling of a torn bit of a process; what was being written to it makes no difference, and is 0 here
+abbrev pub settling_from : Setup → ℕ → TornBit → CursorState
+settling_from s owner t = record {
+  register = record { owner = owner; field = t.field };
+  reader = 0;
+  copies = s.processes;
+  width = width s t.field;
+  run = Settles t.torn.made t.torn.value;
+  bit = t.bit;
+  copy = t.torn.reader;
+  begun = t.torn.begun;
+  bits = bits_in (replicate 216 0) (width s t.field);
+}
 
 -- what the fields of a cursor keep
 pub record KeepsCursor (register : RegisterName) (reader copies width lane : ℕ) (run : NumberRun) (bit copy : ℕ) (words : List ℕ) : Type 0 where

@@ -11,5 +11,6 @@ pub mod Loops
 pub mod Memory
 pub mod Openings
 pub mod Rows
+pub mod Seeing
 pub mod Wordwise
 pub mod Words

@@ -3,8 +3,10 @@ ghost use Rattle.safe_bit.specs.Cell.{new_cell, cell_after, read_answer, without
 ghost use Rattle.registers.specs.Flags.{flag_in};
 ghost use Rattle.registers.specs.Wordwise.{after_read, after_write, over};
 ghost use Rattle.registers.specs.Memory.{cell_in};
+ghost use Rattle.registers.specs.Seeing.{bit_seen};
 ghost use Rattle.registers.specs.Words.{bits_of_words};
 
+use crate::bit_seen::BitSeen;
 use crate::flag_words::{LaneFlags, mask};
 use safe_bit::Move;
 use std::alloc::{AllocError, Global};
@@ -131,5 +133,13 @@ impl BitLane {
         ensures { (i : ℕ) → i / 64 ≡ k / 64 → i < length self.now → flag_in result (i % 64) ≡ (cell_in self.now i).value }
     {
         self.flags[k / 64].word()
+    }
+
+    /// What the copy of bit `k` is.
+    pub fn seen(&self, k: usize) -> BitSeen
+        requires { k < length self.now }
+        ensures { result ≡ bit_seen (cell_in self.now k) }
+    {
+        self.flags[k / 64].seen(k % 64)
     }
 }

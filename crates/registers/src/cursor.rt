@@ -1,11 +1,13 @@
 //! How far a number access of a process has come.
 ghost use Rattle.std.specs.Prelude.{◌≡◌, ℕ, ◌<◌, ◌≤◌, ◌+◌, ◌*◌, ◌/◌, ◌%◌, ◌^◌, true, false, Ok, length, slice_index_or};
 ghost use Rattle.plain_store.specs.Setups.{checked};
+ghost use Rattle.reader_copies.specs.Runs.{HasItsValue};
+ghost use Rattle.record.specs.Cuts.{IsTornOf};
 ghost use Rattle.record.specs.Places.{value_of};
 ghost use Rattle.record.specs.Registers.{width};
 ghost use Rattle.safe_number.specs.Bytes.{bit_in, bits_in, bits_of_number, number_of_bits};
 ghost use Rattle.registers.specs.Accesses.{cursor_after, next_access, value_written};
-ghost use Rattle.registers.specs.Begins.{idle_cursor, is_fresh, is_torn, reading, settling, writing};
+ghost use Rattle.registers.specs.Begins.{idle_cursor, is_fresh, is_torn, reading, settling, settling_from, torn_bit, writing};
 ghost use Rattle.registers.specs.Cursors.{is_over, lane_number, rest_of};
 
 mod steps;
@@ -13,7 +15,8 @@ mod steps;
 use crate::fields::{RegisterName, number_of_field, width_of};
 use crate::word_bytes::{bytes_of, words_of};
 use plain_store::Setup;
-use record::{Access, Field, Move};
+use reader_copies::Torn;
+use record::{Access, Field, Move, TornBit};
 use std::marker::Model;
 
 /// What a number access does.
@@ -165,6 +168,27 @@ impl Cursor {
         self.begun = false;
     }
 
+    /// Goes on with the settling of a torn bit of this process from where it has come.
+    pub fn settle_on(&mut self, setup: &Setup, owner: u8, torn: &TornBit)
+        requires good { checked setup.now ≡ Ok tt }
+        requires there { IsTornOf setup.now torn.now }
+        ensures cursor { self.new ≡ settling_from setup.now owner torn.now }
+        ensures value { HasItsValue torn.now.torn.begun torn.now.torn.value }
+    {
+        let register = RegisterName {
+            owner,
+            field: torn.field,
+        };
+        self.begin_write_bytes(setup, register, &[0; 216]);
+        self.run = NumberRun::Settles {
+            cut: torn.torn.made(),
+            value: torn.torn.value(),
+        };
+        self.bit = torn.bit;
+        self.copy = torn.torn.reader();
+        self.begun = torn.torn.has_begun();
+    }
+
     /// Whether nothing of it is made. It does not settle.
     #[inline]
     pub fn is_fresh(&self) -> bool
@@ -181,6 +205,20 @@ impl Cursor {
         ensures { result ≡ is_torn self.now }
     {
         matches!(self.run, NumberRun::Writes) && (self.copy != 0 || self.begun)
+    }
+
+    /// The bit that it has left unfinished, if it halts now.
+    pub fn torn(&self) -> Option<TornBit>
+        ensures { result ≡ torn_bit self.now }
+    {
+        if !self.is_torn() {
+            return None;
+        }
+        Some(TornBit {
+            field: self.register.field,
+            bit: self.bit,
+            torn: Torn::cut_after(2 * self.copy + u8::from(self.begun)),
+        })
     }
 
     /// What was read of a register of at most 32 bits, or is written to it.

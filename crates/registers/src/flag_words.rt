@@ -2,8 +2,10 @@
 ghost use Rattle.std.specs.Prelude.{◌≡◌, ◌≢◌, ℕ, ◌<◌, ◌≤◌, ◌+◌, true, false, if◌then◌else◌};
 ghost use Rattle.safe_bit.specs.Cell.{cell_after, read_answer};
 ghost use Rattle.registers.specs.Flags.{ChangesAt, IsMask, SetsFlag, cell_in_flags, flag_in, no_flags, open_flags};
+ghost use Rattle.registers.specs.Seeing.{bit_seen};
 ghost use Rattle.registers.specs.Wordwise.{after_read, after_write};
 
+use crate::bit_seen::BitSeen;
 use safe_bit::Move;
 
 /// What sixty-four copies are: bit `k` of each word is a flag of copy `k`. All that an access to a copy looks at, and
@@ -127,6 +129,18 @@ impl LaneFlags {
         ensures { (i : ℕ) → flag_in result i ≡ (cell_in_flags self.now i).value }
     {
         self.value
+    }
+
+    /// What copy `k` is.
+    pub fn seen(&self, k: usize) -> BitSeen
+        requires { k < 64 }
+        ensures { result ≡ bit_seen (cell_in_flags self.now k) }
+    {
+        BitSeen {
+            value: has_flag(self.value, k),
+            writing: has_flag(self.writing, k),
+            touched: has_flag(self.touched, k),
+        }
     }
 }
 

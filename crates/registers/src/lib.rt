@@ -3,6 +3,7 @@
 //! are the single access so many times. How quickly they go is their own affair.
 #![tactic(auto)]
 
+mod bit_seen;
 mod copies;
 mod cursor;
 mod fields;
@@ -11,6 +12,7 @@ mod laws;
 mod memory;
 mod word_bytes;
 
+pub use bit_seen::BitSeen;
 pub use cursor::{Cursor, NumberRun, given};
 pub use fields::{FIELDS, RegisterName, width_of};
 pub use laws::cursors_follow_places;

@@ -13,6 +13,7 @@ ghost use Rattle.registers.specs.Words.{bits_of_words};
 ghost use Rattle.registers.specs.Wordwise.{after_write, over, over_lanes};
 
 mod held;
+mod seeing;
 
 use crate::copies::BitLane;
 use crate::cursor::{Cursor, NumberRun};

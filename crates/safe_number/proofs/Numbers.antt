@@ -1,7 +1,6 @@
 -- Numbers as bytes and bits.
 use Rattle.std.proofs.Common.{◌≡◌, ℕ, zero, suc, ◌+◌, ◌*◌, ◌/◌, ◌%◌, ◌<◌, ◌≤◌, ◌==◌, Bool, true, false, not, cond, List, [], ◌∷◌, ◌++◌, map, set, get_or, length, take, replicate, ap, refl, sym, ◌∙◌, arith, inl, inr}
 use Rattle.std.specs.List.{range_with_len}
-use mir.Val.{bool_byte}
 use Rattle.std.specs.Int.{bit_at}
 use Rattle.std.proofs.lemmas.Bool.{cases_eq, cases_lt, ne_eqb}
 use Rattle.std.proofs.lemmas.List.{get_or-set_same, get_or-set_other, get_or_default, get_or-take, get_or_past, length-take-le}
@@ -94,24 +93,3 @@ read-ends r v is = ap (λ b. read-with r (cond b (r.bits ++ v ∷ []) r.bits) (n
 pub read-going : (r now : NumberRead) (v : Bool) → r.begun ≡ false → length r.bits < r.width → now ≡ number_read_after r v → Going ≡ progress_of (length now.bits == now.width)
 read-going r now v none going is =
     sym (ap (λ (x : NumberRead). progress_of (length x.bits == x.width)) (is ∙ sym (read-begins r v none)) ∙ ap progress_of (ne_eqb (length r.bits) r.width (λ same. omega (arith, same, going))))
-
--- one more access of a read: its end adds the bit, and its begin none
-pub bits_in-on : (bytes : List ℕ) (k before w : ℕ) (v begun : Bool) → k < 8 * length bytes → before ≡ get_or bytes (k / 8) before → ((i : ℕ) → i < k % 8 → bit_at w i ≡ bit_at before i) → (bit_at w (k % 8) == 1) ≡ v → bits_in (set bytes (k / 8) w) (k + bool_byte begun) ≡ cond begun (bits_in bytes k ++ v ∷ []) (bits_in bytes k)
-bits_in-on bytes k before w v true inside read below same = bits_in-more bytes k before w v inside read below same
-bits_in-on bytes k before w v false inside read below same =
-    let none : k + 0 ≡ k = omega arith in
-    ap (bits_in (set bytes (k / 8) w)) none
-    ∙ range_same (bit_in bytes) (bit_in (set bytes (k / 8) w)) k false (λ j less. bit_in-set_below bytes k j before w inside read below less)
-
--- and the bits that are not read yet are 0
-pub bit_in-unread : (bytes : List ℕ) (k j w : ℕ) (v begun : Bool) → k < 8 * length bytes → ((i : ℕ) → i < 8 → k % 8 < i → bit_at w i ≡ 0) → (bit_at w (k % 8) == 1) ≡ v → (begun ≡ false → v ≡ false) → k + bool_byte begun ≤ j → j / 8 < (k + bool_byte begun + 7) / 8 → bit_in (set bytes (k / 8) w) j ≡ false
-bit_in-unread bytes k j w v true inside above same begins unread near = bit_in-set_above bytes k j w inside above (omega arith) near
-bit_in-unread bytes k j w v false inside above same begins unread near = elim (cases_eq j k) [
-  | inl e ↦ ap (bit_in (set bytes (k / 8) w)) e ∙ bit_in-set_same bytes k w v inside same ∙ begins refl
-  | inr apart ↦ bit_in-set_above bytes k j w inside above (omega arith) (omega arith)
-]
-
--- it goes on by one bit at most
-pub steps-within : (begun : Bool) → bool_byte begun ≤ 1
-steps-within true = omega arith
-steps-within false = omega arith

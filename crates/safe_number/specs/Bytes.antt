@@ -1,5 +1,5 @@
 -- Numbers as bytes and as bits, the least significant first.
-use Rattle.std.specs.Prelude.{◌≡◌, ℕ, zero, suc, ◌+◌, ◌*◌, ◌/◌, ◌%◌, ◌==◌, Bool, false, List, [], ◌∷◌, ◌⊎◌, ◌<◌, ◌≤◌, length, map, if◌then◌else◌, slice_index_or}
+use Rattle.std.specs.Prelude.{◌≡◌, ℕ, zero, suc, ◌+◌, ◌*◌, ◌/◌, ◌%◌, ◌==◌, Bool, false, List, [], ◌∷◌, ◌⊎◌, ◌<◌, map, if◌then◌else◌, slice_index_or}
 use Rattle.std.specs.Int.{bit_at}
 use Rattle.std.specs.List.{range_with_len}
 
@@ -33,10 +33,6 @@ number_of_bits (b ∷ bits) = (if b then 1 else 0) + 2 * number_of_bits bits
 abbrev pub bits_of_number : ℕ → ℕ → List Bool
 bits_of_number zero n = []
 bits_of_number (suc w) n = (n % 2 == 1) ∷ bits_of_number w (n / 2)
-
--- at most 8 bytes, of at most 32 bits
-abbrev pub AreOfFewBits : List ℕ → Type 0
-AreOfFewBits bytes = (bits : List Bool) × (length bits ≤ 32) × (length bytes ≤ 8) × IsBytesOf bits bytes
 
 -- no register has this width
 abbrev pub IsBadWidth : ℕ → Type 0

@@ -15,5 +15,5 @@ pub use laws::{
     reads_take_turns, undisturbed_reads_give_the_number, writes_give_the_number,
 };
 pub use reading::ReadRun;
-pub use register::{Pace, Register};
+pub use register::Register;
 pub use writing::WriteRun;

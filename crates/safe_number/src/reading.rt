@@ -1,4 +1,4 @@
-ghost use Rattle.std.specs.Prelude.{◌≡◌, ◌<◌, ◌≤◌, ◌+◌, ◌-◌, ◌/◌, ◌==◌, [], Bool, true, false, length, IfOk, IsErrOf, ◌↔◌};
+ghost use Rattle.std.specs.Prelude.{◌≡◌, ◌<◌, ◌≤◌, ◌+◌, ◌-◌, ◌/◌, ◌==◌, Bool, true, false, length, IfOk, IsErrOf, ◌↔◌};
 ghost use Rattle.reader_copies.specs.Runs.{progress_of};
 ghost use Rattle.safe_number.specs.Bytes.{IsBytesOf, IsBadWidth};
 ghost use Rattle.safe_number.specs.Runs.{NumberRead, next_of_read, number_read_after, new_read};
@@ -69,17 +69,6 @@ impl ReadRun {
         self.run = CopyRead::new();
     }
 
-    /// Becomes as the other, of the same room: it has come as far, and has read the same. It takes no memory.
-    pub fn copy_from(&mut self, other: &ReadRun)
-        requires { self.old.room ≡ other.now.room }
-        ensures { self.new ≡ other.now }
-    {
-        self.width = other.width;
-        self.bit = other.bit;
-        self.run = other.run;
-        self.bytes.copy_from_slice(&other.bytes);
-    }
-
     /// The bits read so far as bytes: bit `k` is bit `k % 8` of byte `k / 8`, the least significant first.
     /// So a number stands little-endian. Past the last bit read the last byte has 0.
     pub fn bytes(&self) -> &[u8]
@@ -137,29 +126,6 @@ impl ReadRun {
         let k = self.bit as usize;
         self.bytes[k / 8] = bytes::with_next_bit(self.bytes[k / 8], k % 8, value);
         self.bit += 1;
-    }
-
-    /// Goes on by that access, without a branch on which it is: the end keeps `value` as the bit, and a begin has none,
-    /// which is told by `false`.
-    #[inline(always)]
-    pub(crate) fn go_on(&mut self, value: bool)
-        requires going { length self.old.bits < self.old.width }
-        requires begins { self.old.begun ≡ false → value ≡ false }
-        ensures { self.new ≡ number_read_after self.old value }
-    {
-        let k = self.bit as usize;
-        let begun = self.has_begun();
-        self.bytes[k / 8] = bytes::with_next_bit(self.bytes[k / 8], k % 8, value);
-        self.bit += u16::from(begun);
-        self.run = self.run.turned();
-    }
-
-    /// How many bits are read now or later, without the last one.
-    #[inline]
-    pub fn bits_within(&self) -> u16
-        ensures { result ≡ self.now.width - (length self.now.bits + 1) }
-    {
-        self.width.saturating_sub(self.bit).saturating_sub(1)
     }
 
     /// The bit that is read now.

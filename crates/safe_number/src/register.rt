@@ -1,10 +1,10 @@
-ghost use Rattle.std.specs.Prelude.{◌≡◌, ℕ, ◌<◌, ◌≤◌, ◌*◌, ◌==◌, ◌↔◌, false, length, IfOk, IsErrOf, slice_index_or, []};
+ghost use Rattle.std.specs.Prelude.{◌≡◌, ◌<◌, ◌≤◌, ◌*◌, ◌==◌, ◌↔◌, false, length, IfOk, IsErrOf, slice_index_or, []};
 ghost use Rattle.reader_copies.specs.safe_bit.Cell.{read_answer};
-ghost use Rattle.reader_copies.specs.Row.{cell_at, row_after, new_row, without_reads, HasCell, CanMake, HaveOneShape};
+ghost use Rattle.reader_copies.specs.Row.{cell_at, row_after, new_row, without_reads, HasCell, CanMake};
 ghost use Rattle.reader_copies.specs.Runs.{next_write, next_settle, settle_after, settled_at, progress_of};
 ghost use Rattle.safe_number.specs.Bytes.{IsBadWidth};
-ghost use Rattle.safe_number.specs.Runs.{IsGoing, bit_write, number_write_after, number_read_after, preset_number, register_written};
-ghost use Rattle.safe_number.specs.Written.{AreClosed, loaded, read_made, register_read};
+ghost use Rattle.safe_number.specs.Runs.{IsGoing, bit_write, number_write_after, number_read_after, preset_number};
+ghost use Rattle.safe_number.specs.Written.{AreClosed, loaded, read_made};
 
 use crate::bytes;
 use crate::fault::NumberFault;
@@ -13,16 +13,6 @@ use crate::writing::WriteRun;
 use reader_copies::{CopiedRow, MAX_WIDTH, Made, Move, Progress, Torn};
 use std::alloc::{AllocError, Global};
 use std::marker::Model;
-
-/// How the accesses of a reader follow one another. What is made of them is the same, but not how quickly.
-#[derive(Clone, Copy, Debug, PartialEq, Eq)]
-pub enum Pace {
-    /// Others' accesses come between, so whether the next one is a begin or an end can't be foreseen: it takes no
-    /// branch on that.
-    Single,
-    /// Begins and ends take turns, as a processor foresees: a branch leads to the few words that each of them needs.
-    InARow,
-}
 
 /// A number of 1 to 1728 bits with one writer and 1 to 16 readers, each bit a safe copy for each reader
 /// (Lamport 1986).
@@ -121,63 +111,6 @@ impl Register {
         (bit, made, run.advance(value))
     }
 
-    /// Makes the next access of a write of `value` by the writer as `write_step` does, and tells nothing. The
-    /// write goes on as of a register with copies for `readers` readers.
-    #[inline(always)]
-    pub fn write_on(&mut self, readers: u8, run: &mut WriteRun, value: &[u8])
-        requires going { IsGoing value.now run.old readers }
-        requires readers { readers ≤ 16 }
-        requires value { run.old.bit < 8 * length value.now }
-        requires can { CanMake self.old run.old.bit (next_write (bit_write value.now run.old)) }
-        ensures register { self.new ≡ register_written self.old value.now run.old }
-        ensures run { run.new ≡ number_write_after readers value.now run.old }
-    {
-        let (bit, made) = run.next(value);
-        run.advance(readers, value);
-        self.apply(bit, made);
-    }
-
-    /// Makes the next access of a read by its reader, as `read_step` does, and tells nothing. It is the same at either
-    /// pace.
-    #[inline(always)]
-    pub fn read_on(&mut self, reader: u8, run: &mut ReadRun, flick: bool, pace: Pace)
-        requires going { length run.old.bits < run.old.width }
-        requires there { HasCell self.old (length run.old.bits) reader }
-        requires turn { (cell_at self.old (length run.old.bits) reader).reading ≡ run.old.begun }
-        ensures register { self.new ≡ register_read self.old reader run.old flick }
-        ensures run { run.new ≡ number_read_after run.old (loaded self.old reader run.old flick) }
-    {
-        match pace {
-            Pace::Single => {
-                let value = self.row.read_on(run.bit(), reader, flick);
-                run.go_on(value);
-            }
-            Pace::InARow => self.read_in_a_row(reader, run, flick),
-        }
-    }
-
-    /// The same in its way in a row: a branch on whether the read of the bit has begun.
-    #[inline(always)]
-    fn read_in_a_row(&mut self, reader: u8, run: &mut ReadRun, flick: bool)
-        requires going { length run.old.bits < run.old.width }
-        requires there { HasCell self.old (length run.old.bits) reader }
-        requires turn { (cell_at self.old (length run.old.bits) reader).reading ≡ run.old.begun }
-        ensures register { self.new ≡ register_read self.old reader run.old flick }
-        ensures run { run.new ≡ number_read_after run.old (loaded self.old reader run.old flick) }
-    {
-        let bit = run.bit();
-        if run.has_begun() {
-            let value = self.answer(bit, reader, flick);
-            let how = Move::EndRead(value);
-            self.apply(bit, Made { reader, how });
-            run.end(value);
-        } else {
-            let how = Move::BeginRead;
-            self.apply(bit, Made { reader, how });
-            run.begin();
-        }
-    }
-
     /// Makes the next access that settles the torn bit of a cut write, in the writer's stead, and answers
     /// the bit: all copies at the `value` of the first such step.
     #[inline]
@@ -221,15 +154,5 @@ impl Register {
         for k in 0..self.width {
             self.row.preset(k, bytes::bit(value, k as usize));
         }
-    }
-
-    /// Becomes as the other, which has as many bits and readers: the same copies, and the same accesses open on
-    /// them. It takes no memory.
-    pub fn copy_from(&mut self, other: &Register)
-        requires { HaveOneShape self.old other.now }
-        ensures { self.new ≡ other.now }
-    {
-        self.row.copy_from(&other.row);
-        self.width = other.width;
     }
 }

@@ -92,14 +92,6 @@ impl WriteRun {
         }
     }
 
-    /// How many bits are written now or later, without the last one.
-    #[inline]
-    pub fn bits_within(&self) -> u16
-        ensures { result ≡ self.now.width - (self.now.bit + 1) }
-    {
-        self.width.saturating_sub(self.bit).saturating_sub(1)
-    }
-
     /// How far the write of the present bit of `value` has come.
     #[inline]
     fn bit_write(&self, value: &[u8]) -> CopyWrite

@@ -1,13 +1,13 @@
 -- What a register holds, as a number and as bytes.
 use Rattle.std.proofs.Common.{◌≡◌, ℕ, zero, suc, ◌+◌, ◌*◌, ◌^◌, ◌<◌, ◌≤◌, Bool, true, false, List, [], ◌∷◌, ◌++◌, length, map, take, drop, get_or, if◌then◌else◌, refl, sym, ap, ◌∙◌, add-one, pow_mono, arith}
-use Rattle.std.proofs.Math.Seq.{drop-cons, take-length}
+use Rattle.std.proofs.Math.Seq.{drop-cons}
 use Rattle.std.proofs.lemmas.List.{length-map, length-take, drop-drop}
 use Rattle.reader_copies.specs.safe_bit.Cell.{Cell, new_cell}
 use Rattle.reader_copies.specs.Row.{cell_at}
 use Rattle.safe_number.specs.Bytes.{number_of_bits}
 use Rattle.safe_number.proofs.Bits.{number-fits}
 use Rattle.record.specs.Registers.{bytes_of_bits}
-use Rattle.section.specs.Newest.{values_of, IsReadable}
+use Rattle.section.specs.Newest.{values_of}
 use mir.Val.{bool_byte}
 
 -- the value of a copy

@@ -1,11 +1,9 @@
 -- The registers as they open.
-use Rattle.std.proofs.Common.{◌≡◌, ◌⊎◌, ℕ, zero, suc, ◌+◌, ◌<◌, ◌≤◌, Bool, true, false, List, [], ◌∷◌, length, map, replicate, get_or, inl, inr, refl, sym, ap, ◌∙◌, subst, arith}
-use Rattle.std.proofs.lemmas.Bool.{cases_lt}
-use Rattle.std.proofs.lemmas.List.{get_or_past}
+use Rattle.std.proofs.Common.{◌≡◌, ℕ, zero, suc, ◌+◌, ◌<◌, Bool, true, false, List, [], ◌∷◌, length, map, replicate, get_or, refl, sym, ap, ◌∙◌}
 use Rattle.std.proofs.lemmas.List.FromFn.{length-map-range_with_len, get_or-map-range_with_len}
 use Rattle.std.specs.List.{range_with_len}
 use Rattle.reader_copies.specs.safe_bit.Cell.{Cell, new_cell}
-use Rattle.reader_copies.specs.Row.{new_row, cell_at, IsClosed, IsRow}
+use Rattle.reader_copies.specs.Row.{new_row, cell_at, IsClosed}
 use Rattle.safe_number.specs.Bytes.{bit_in, bits_in}
 use Rattle.safe_number.specs.Runs.{preset_number}
 use Rattle.record.specs.declared.access.Access.{Access}
@@ -15,10 +13,8 @@ use Rattle.safe_number.proofs.Numbers.{range_same, get-bits}
 use Rattle.store_image.specs.Image.{image_of}
 use Rattle.plain_store.specs.Setups.{opening_store}
 use Rattle.plain_store.specs.declared.Setup.{Setup}
-use Rattle.record.specs.Newest.{copy}
-use Rattle.record.specs.Registers.{width, opening_bit}
-use Rattle.section.specs.Newest.{IsQuiet}
-use Rattle.section.specs.Registers.{Data, FitsSetup, is_data, no_data, register_of, register_at, data_from, row_from, register_from, opening_cell, zero_cell}
+use Rattle.record.specs.Registers.{width}
+use Rattle.section.specs.Registers.{Data, is_data, register_of, data_from, register_from, opening_cell, zero_cell}
 
 -- a constant over a range
 pub const-range : {X : Type 0} (x : X) (a n : ℕ) → replicate n x ≡ map (λ (k : ℕ). x) (range_with_len a n)

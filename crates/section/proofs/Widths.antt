@@ -1,16 +1,9 @@
 -- The widths of the registers of a good setup.
-use Rattle.std.proofs.Common.{◌≡◌, ℕ, ◌*◌, ◌≤◌, Bool, true, false, Ok, refl, arith}
+use Rattle.std.proofs.Common.{◌≡◌, ◌≤◌, Ok, arith}
 use Rattle.std.proofs.lemmas.Bool.Decides.{nat_tests}
 use Rattle.plain_store.specs.Setups.{checked}
 use Rattle.plain_store.specs.declared.Setup.{Setup}
 use Rattle.plain_store.proofs.GoodSetups.{good-checked}
-use Rattle.record.specs.Program.{stamp_field, image_field}
-use Rattle.record.specs.Registers.{width, image_bytes}
-use Rattle.section.specs.declared.change.PendingChange.{PendingChange}
-use Rattle.section.specs.declared.change.Written.{Written}
-use Rattle.section.specs.declared.change.Written.TheVariants.{Image, Stamp, Commit}
-use Rattle.section.specs.Changes.{FitsWidth, change_field}
-use Rattle.section.specs.Keeping.{IsChange}
 
 -- the ranges of a good setup
 pub record AreRanges (s : Setup) : Type 0 where
@@ -32,11 +25,3 @@ ranges s good =
       some_slots = grind (arith, nat_tests, g.slots);
       few_slots = grind (arith, nat_tests, g.slots);
     }
-
-pub width-stamp : (s : Setup) (b : Bool) → width s (stamp_field b) ≡ s.stamp_bits
-width-stamp s true = refl
-width-stamp s false = refl
-
-pub width-image : (s : Setup) (b : Bool) → width s (image_field b) ≡ 8 * image_bytes s
-width-image s true = refl
-width-image s false = refl

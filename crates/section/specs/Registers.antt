@@ -3,7 +3,7 @@ use Rattle.std.specs.Prelude.{◌≡◌, ℕ, ◌<◌, Bool, true, false, List, 
 use Rattle.std.specs.List.{range_with_len}
 use Rattle.reader_copies.specs.safe_bit.Cell.{Cell, new_cell, read_answer}
 use Rattle.reader_copies.specs.declared.Made.{Made}
-use Rattle.reader_copies.specs.Row.{cell_at, row_after, without_reads, CanMake, HasCell, HaveOneShape, IsRow}
+use Rattle.reader_copies.specs.Row.{cell_at, row_after, without_reads, CanMake, HasCell, IsRow}
 use Rattle.record.specs.declared.access.Access.{Access}
 use Rattle.record.specs.declared.access.Field.{Field}
 use Rattle.record.specs.declared.access.Field.TheVariants.{Choosing, Ticket, Commit, Stamp0, Stamp1, Image0, Image1}
@@ -128,17 +128,3 @@ opening_cell s a = new_cell (opening_bit s a)
 -- a copy of a bit that is 0
 abbrev pub zero_cell : Access → Cell
 zero_cell a = new_cell false
-
--- the registers of two processes of one shape: they have as many readers and bits
-pub record AreAlike (one other : Data) : Type 0 where
-  pub commit : HaveOneShape one.commit other.commit
-  pub stamp0 : HaveOneShape one.stamp0 other.stamp0
-  pub stamp1 : HaveOneShape one.stamp1 other.stamp1
-  pub image0 : HaveOneShape one.image0 other.image0
-  pub image1 : HaveOneShape one.image1 other.image1
-
--- so have those of as many processes of one setup
-pub record AreAllAlike (row other : DataRow) : Type 0 where
-  pub setup : row.setup ≡ other.setup
-  pub parts : length row.parts ≡ length other.parts
-  pub each : (p : ℕ) → p < length row.parts → AreAlike (data_of row p) (data_of other p)

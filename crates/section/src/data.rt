@@ -2,11 +2,12 @@ ghost use Rattle.std.specs.Prelude.{◌≡◌, ◌≤◌, ◌*◌, true, IfOk, O
 ghost use Rattle.reader_copies.specs.Row.{answer_at, HasCell, CanMake};
 ghost use Rattle.plain_store.specs.Setups.{checked, opening_store};
 ghost use Rattle.section.specs.Newest.{image_held, version_held, values_of, IsReadable};
-ghost use Rattle.section.specs.Registers.{is_data, register_of, data_after, data_from, register_from, opening_cell, zero_cell, AreAlike};
+ghost use Rattle.section.specs.Registers.{is_data, register_of, data_after, data_from, register_from, opening_cell, zero_cell};
 
 use crate::held;
-use crate::image::{self, MOST_IMAGE_BYTES};
+use crate::image::MOST_IMAGE_BYTES;
 use plain_store::Setup;
+use process::width_of;
 use reader_copies::Made;
 use record::Field;
 use safe_number::{NumberFault, Register};
@@ -109,18 +110,6 @@ impl Data {
         }
     }
 
-    /// Becomes as the other, of the same setup. It takes no memory.
-    pub fn copy_from(&mut self, other: &Data)
-        requires { AreAlike self.old other.now }
-        ensures { self.new ≡ other.now }
-    {
-        self.commit.copy_from(&other.commit);
-        self.stamp0.copy_from(&other.stamp0);
-        self.stamp1.copy_from(&other.stamp1);
-        self.image0.copy_from(&other.image0);
-        self.image1.copy_from(&other.image1);
-    }
-
     /// The commit bit, and the stamp of the version that it chooses.
     pub(crate) fn version(&self, stamp_bits: u8) -> (bool, u32)
         requires bits { stamp_bits ≤ 32 }
@@ -173,7 +162,7 @@ fn register(alloc: Global, setup: &Setup, field: Field) -> Result<Register, Allo
     requires { checked setup.now ≡ Ok tt }
     ensures { IfOk result (λ register. register ≡ register_from zero_cell setup.now 0 field) }
 {
-    match Register::new(alloc, image::width(setup, field), setup.processes) {
+    match Register::new(alloc, width_of(field, setup), setup.processes) {
         Ok(register) => Ok(register),
         Err(NumberFault::Memory) => Err(AllocError),
         Err(NumberFault::Width) => unreachable!(),

@@ -1,7 +1,7 @@
 ghost use Rattle.std.specs.Prelude.{◌≡◌, ◌<◌, IfOk, Ok, length};
 ghost use Rattle.plain_store.specs.Setups.{checked};
 ghost use Rattle.section.specs.Newest.{newest_store, IsQuiet};
-ghost use Rattle.section.specs.Registers.{data_of, register_at, row_from, opening_cell, after_access, answered, without_reads_at, HasCopy, MayMake, FitsSetup, AreAllAlike};
+ghost use Rattle.section.specs.Registers.{data_of, register_at, row_from, opening_cell, after_access, answered, without_reads_at, HasCopy, MayMake, FitsSetup};
 
 use crate::data::Data;
 use crate::newest::Newest;
@@ -118,16 +118,5 @@ impl DataRow {
         ensures { self.new ≡ without_reads_at self.old owner field reader }
     {
         self.own(owner).register(field).drop_read(reader);
-    }
-
-    /// Becomes as the other, of the same setup: the same copies, and the same accesses open on them. It takes no
-    /// memory.
-    pub fn copy_from(&mut self, other: &DataRow)
-        requires { AreAllAlike self.old other.now }
-        ensures { self.new ≡ other.now }
-    {
-        for (process, part) in other.parts.iter().enumerate() {
-            self.parts[process].copy_from(part);
-        }
     }
 }

@@ -2,11 +2,9 @@
 ghost use Rattle.std.specs.Prelude.{◌≡◌, ◌≤◌, length, Ok};
 ghost use Rattle.store_image.specs.Reading.{store_in};
 ghost use Rattle.plain_store.specs.Setups.{checked, callers_of};
-ghost use Rattle.record.specs.Registers.{image_bytes, width};
-ghost use Rattle.section.specs.Newest.{IsStoreOf};
+ghost use Rattle.record.specs.Registers.{image_bytes};
 
 use plain_store::Setup;
-use record::{Field, bytes_go_by_their_bits};
 use store_image::Image;
 
 /// The bytes of the longest image: 8 slots, and 16 callers.
@@ -22,21 +20,6 @@ pub(crate) fn image_bytes(setup: &Setup) -> u16
     23 * u16::from(setup.slots) + 2 * u16::from(setup.callers())
 }
 
-/// The bits of a register.
-pub(crate) fn width(setup: &Setup, field: Field) -> u16
-    requires { checked setup.now ≡ Ok tt }
-    ensures bits { result ≡ width setup.now field }
-    ensures some { 1 ≤ result }
-    ensures most { result ≤ 1728 }
-{
-    match field {
-        Field::Choosing | Field::Commit => 1,
-        Field::Ticket => u16::from(setup.ticket_bits),
-        Field::Stamp0 | Field::Stamp1 => u16::from(setup.stamp_bits),
-        Field::Image0 | Field::Image1 => 8 * image_bytes(setup),
-    }
-}
-
 /// The store whose image the bytes are. The empty store stands in place of bytes that are none.
 pub(crate) fn image_in(setup: &Setup, bytes: &[u8]) -> Image
     requires good { checked setup.now ≡ Ok tt }
@@ -50,16 +33,4 @@ pub(crate) fn image_in(setup: &Setup, bytes: &[u8]) -> Image
         Ok(image) => image,
         Err(_) => Image::empty(setup.slots, callers),
     }
-}
-
-/// The same of bytes that were read bit by bit.
-pub(crate) fn image_read(setup: &Setup, bytes: &[u8]) -> Image
-    requires good { checked setup.now ≡ Ok tt }
-    requires length { length bytes.now ≡ image_bytes setup.now }
-    ensures store { IsStoreOf setup.now bytes.now result }
-    ensures slots { result.slots ≡ setup.now.slots }
-    ensures numbers { length result.numbers ≡ callers_of setup.now }
-{
-    bytes_go_by_their_bits();
-    image_in(setup, bytes)
 }

@@ -3,20 +3,16 @@
 //! profile; they stand on Lamport's safe registers (1986).
 #![tactic(auto)]
 
-mod change;
 mod data;
 mod data_row;
 mod held;
 mod image;
 mod newest;
 mod progress;
-mod runs;
 mod section;
-mod standing;
 
 pub use data::Data;
 pub use data_row::DataRow;
-pub use flicks::Flicks;
 pub use progress::SectionProgress;
 pub use section::Section;
 pub use store_image::Image;

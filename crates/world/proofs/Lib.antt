@@ -17,9 +17,11 @@ pub mod WorldShows
 pub mod CoreGoes
 pub mod WorldPending
 pub mod CoreKeeps
+pub mod CoreLooks
 pub mod WorldHeadline
 pub mod CoreRefused
 pub mod CoreWalks
+pub mod WorldWithin
 pub mod CoreCode
 -- A world is a core with its history
 pub mod CoreNew

@@ -15,6 +15,7 @@ ghost use Rattle.world.specs.Shows.{Shows};
 ghost use Rattle.world.specs.Walks.{HasOneFewer, KeepOthers, left_in};
 
 mod copies;
+mod looking;
 mod told;
 
 use crate::queue::listed;

@@ -18,6 +18,6 @@ pub use cores::Core;
 pub use flicks::{Flick, Flicks};
 pub use history_laws;
 pub use laws;
-pub use process::{Effect, EventMade, Image, StepTold};
+pub use process::{BitSeen, Effect, EventMade, Image, Process, Settling, StepTold, TicketKnown};
 pub use record::{Act, Event, Mark, Refusal, Stage, Taken};
 pub use world::World;

@@ -15,6 +15,8 @@ ghost use Rattle.world.specs.Shows.{Shows};
 ghost use Rattle.process.specs.declared.told.Effect.TheVariants.{Steps};
 ghost use Rattle.world.specs.Walks.{HasOneFewer, KeepOthers, MakesQuietly, StepsQuietly, Walks, left_in};
 
+mod looking;
+
 use crate::cores::Core;
 use flicks::Flicks;
 use plain_store::{NestedTypes, Reply, Setup};

@@ -3,6 +3,7 @@ ghost use Rattle.std.specs.Prelude.{◌≡◌, ◌&&◌, ◌∷◌, [], ℕ, Boo
 ghost use Rattle.record.specs.declared.marks.Mark.TheVariants.{Left};
 ghost use Rattle.record.specs.Closings.{settled_marks};
 ghost use Rattle.laws.specs.Held.{IsThere};
+ghost use Rattle.process.specs.Alone.{IsOfRegister};
 ghost use Rattle.process.specs.Places.{changes_at, changes_read, marks_on, may_step, stepped};
 ghost use Rattle.process.specs.Serving.{next_at};
 ghost use Rattle.process.specs.Telling.{changes_told, marks_told};
@@ -24,6 +25,7 @@ impl Process {
         requires goes { may_step self.now.doing ≡ true }
         ensures access { result ≡ next_at self.now flick }
         ensures there { IsThere self.now.setup result }
+        ensures register { IsOfRegister self.now.setup self.now.process self.now.doing result }
     {
         self.cursor.next(self.work.given(flick, false))
     }

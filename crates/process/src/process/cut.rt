@@ -20,8 +20,7 @@ impl Process {
         requires waiting { stage_doing self.old.doing ≡ Waiting }
         ensures process { self.new ≡ withdrawn self.old }
     {
-        self.work = ProcessWork::Withdraws;
-        clear(&self.called, &mut self.cursor, Field::Ticket);
+        self.clear_ticket();
     }
 
     /// The process halts, and its memory unit takes over: it settles the torn bit, or has none to settle. An open read, if

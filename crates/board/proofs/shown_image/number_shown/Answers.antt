@@ -1,8 +1,7 @@
 use Rattle.std.proofs.Common.{◌≡◌, ℕ, ◌+◌, ◌-◌, Bool, List, take, drop, if◌then◌else◌, ap, ◌∙◌, pow_mono, arith}
 use Rattle.record.specs.safe_number.Bytes.{number_of_bits}
-use Rattle.record.proofs.safe_number.Numbers.{steps-within}
 use Rattle.board.specs.Closings.{bits_shown}
-use Rattle.board.proofs.ShownBits.{byte-is, length-bits, number-below, number-more}
+use Rattle.board.proofs.ShownBits.{byte-is, byte-small, length-bits, number-below, number-more}
 use Rattle.board.proofs.shown_image.number_shown.Goals as goal
 
 pub overflow_mul-number : goal.overflow_mul-number
@@ -15,7 +14,7 @@ pub overflow_add-number : goal.overflow_add-number
 overflow_add-number c =
     let l = c.loop-done in
     let below = number-below (drop (c.args.from + (c.args.count - l.done)) (bits_shown c.args.setup.now c.args.words.now.words.items c.args.owner c.args.field)) l.done in
-    omega (arith, below, l.invariant, c.from.ensures, steps-within c.bit_shown-bit.result, c.loop-done-test.true, c.requires.few, pow_mono {i = l.done} {j = 31} (omega (arith, c.loop-done-test.true, c.requires.few)))
+    omega (arith, below, l.invariant, c.from.ensures, byte-small c.bit_shown-bit.result, c.loop-done-test.true, c.requires.few, pow_mono {i = l.done} {j = 31} (omega (arith, c.loop-done-test.true, c.requires.few)))
 
 pub loop-done-preserved : goal.loop-done-preserved
 loop-done-preserved c =

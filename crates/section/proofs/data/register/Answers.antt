@@ -6,4 +6,4 @@ use Rattle.section.proofs.data.register.Goals as goal
 pub returns-in-Ok : goal.returns-in-Ok
 returns-in-Ok c =
     let s = c.args.setup.now in
-    c.in-Ok.ensures.register ∙ ap (λ w. new_row w s.processes) c.width.ensures.bits ∙ zero-register s 0 c.args.field
+    c.in-Ok.ensures.register ∙ ap (λ w. new_row w s.processes) c.width_of.ensures.width ∙ zero-register s 0 c.args.field

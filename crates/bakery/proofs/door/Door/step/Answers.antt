@@ -1,45 +1,49 @@
-use Rattle.std.proofs.Common.{false, sym, ap, ◌∙◌, subst}
-use Rattle.reader_copies.specs.Row.{HasCell}
-use Rattle.record.specs.declared.access.Access.{Access}
-use Rattle.record.specs.Moves.{ended_with}
-use Rattle.record.specs.Places.{Place, place_of, place_after, marks_of, stage_at, value_of}
-use Rattle.bakery.specs.Doors.{next_of, next_after, door_at, told_at}
-use Rattle.bakery.specs.Locks.{row_in, lock_of, CanAccess, answer_to, answered}
-use Rattle.bakery.proofs.Accesses.{next-again, answered-again, place-by-access, marks-by-access}
+use Rattle.std.proofs.Common.{◌≡◌, Bool, sym, ap, ◌∙◌}
+use Rattle.record.specs.Places.{value_of}
+use Rattle.process.specs.Places.{ProcessState, stage_doing, stepped}
+use Rattle.bakery.specs.Doors.{goes_on, is_going, is_waiting, marks_told, progress_on, tells_wait}
+use Rattle.record.specs.Places as places
+use Rattle.bakery.proofs.DoorSteps.{any-after, any-marks, told, told-is}
 use Rattle.bakery.proofs.door.Door.step.Goals as goal
 
-pub answer-value-requires : goal.answer-value-requires
-answer-value-requires c =
-    let P : Access → Type 0 = λ a. HasCell (row_in (lock_of c.args.locks.now a.owner) a.field) a.bit a.reader in
-    subst P (sym c.next-asked.ensures.access) c.requires.turn.there
-
-pub apply-requires : goal.apply-requires
-apply-requires c =
-    let d = c.args.self.now in
-    let locks = c.args.locks.now in
-    let value = c.answer-value.ensures ∙ ap (λ a. answer_to locks a c.args.flick) c.next-asked.ensures.access in
-    let P : Access → Type 0 = λ a. CanAccess (lock_of locks a.owner) a in
-    subst P (sym (c.next-access.ensures.access ∙ next-again d c.answer-value.result ∙ ap (λ v. ended_with v (next_of d false)) value)) c.requires.turn
-
-pub returns-clause-access : goal.returns-clause-access
-returns-clause-access c = λ call accesses is.
-    let d = c.args.self.now in
-    let locks = c.args.locks.now in
-    let value = c.answer-value.ensures ∙ ap (λ a. answer_to locks a c.args.flick) c.next-asked.ensures.access in
-    c.next-access.ensures.access ∙ next-again d c.answer-value.result ∙ ap (λ v. ended_with v (next_of d false)) value
-    ∙ ap (answered locks c.args.flick) (sym c.next-asked.ensures.access ∙ c.next-asked.ensures.program call accesses is) ∙ answered-again locks c.args.flick (next_after call accesses)
-
-pub returns-clause-door : goal.returns-clause-door
-returns-clause-door c = λ call accesses is.
-    c.advance.ensures.door call accesses is
-    ∙ ap (door_at call) (place-by-access call (place_of call accesses) c.answer-value.result ∙ ap (λ (a : Access). place_after call (place_of call accesses) (value_of a.how)) (sym (c.next-access.ensures.program call accesses is)))
-
-pub returns-clause-progress : goal.returns-clause-progress
-returns-clause-progress c = λ call accesses is.
-    c.advance.ensures.progress call accesses is
-    ∙ ap (λ (x : Place). told_at (place_of call accesses).part (stage_at x)) (place-by-access call (place_of call accesses) c.answer-value.result ∙ ap (λ (a : Access). place_after call (place_of call accesses) (value_of a.how)) (sym (c.next-access.ensures.program call accesses is)))
+pub returns-clause-any_door : goal.returns-clause-any_door
+returns-clause-any_door c = λ call at is.
+    let v : Bool = value_of c.answered-access.result.how in
+    c.advance-told.ensures.process ∙ (λ i. stepped (c.self.view_is i) c.args.flick (c.given.ensures i))
+    ∙ any-after call at c.args.self.now c.args.flick v is c.requires.going
 
 pub returns-clause-marks : goal.returns-clause-marks
-returns-clause-marks c = λ call accesses is.
-    sym (marks-by-access call (place_of call accesses) c.answer-value.result ∙ ap (λ (a : Access). marks_of call (place_of call accesses) (value_of a.how)) (sym (c.next-access.ensures.program call accesses is)))
-    ∙ c.advance.ensures.marks call accesses is
+returns-clause-marks c =
+    let d : ProcessState = c.args.self.now in
+    let v : Bool = value_of c.answered-access.result.how in
+    let then = c.advance-told.ensures.process ∙ (λ i. stepped (c.self.view_is i) c.args.flick (c.given.ensures i)) in
+    let progress : c.at.result ≡ progress_on d (stepped d c.args.flick v) =
+    c.at.ensures ∙ told-is d c.self.inside.place _ c.args.flick v c.self.view_is then c.stage.ensures c.ticket-ticket.ensures c.full-full.ensures in
+    ap (marks_told (stage_doing d.doing)) progress ∙ (told d c.args.flick v c.requires.going).marks
+
+pub returns-clause-any_marks : goal.returns-clause-any_marks
+returns-clause-any_marks c = λ call at is.
+    let d : ProcessState = c.args.self.now in
+    let v : Bool = value_of c.answered-access.result.how in
+    let then = c.advance-told.ensures.process ∙ (λ i. stepped (c.self.view_is i) c.args.flick (c.given.ensures i)) in
+    let progress : c.at.result ≡ progress_on d (stepped d c.args.flick v) =
+    c.at.ensures ∙ told-is d c.self.inside.place _ c.args.flick v c.self.view_is then c.stage.ensures c.ticket-ticket.ensures c.full-full.ensures in
+    any-marks call at d c.args.flick v is c.requires.going ∙ sym (ap (marks_told (places.stage_at at)) progress)
+
+pub returns-clause-going : goal.returns-clause-going
+returns-clause-going c =
+    let d : ProcessState = c.args.self.now in
+    let v : Bool = value_of c.answered-access.result.how in
+    let then = c.advance-told.ensures.process ∙ (λ i. stepped (c.self.view_is i) c.args.flick (c.given.ensures i)) in
+    let progress : c.at.result ≡ progress_on d (stepped d c.args.flick v) =
+    c.at.ensures ∙ told-is d c.self.inside.place _ c.args.flick v c.self.view_is then c.stage.ensures c.ticket-ticket.ensures c.full-full.ensures in
+    ap is_going then ∙ (told d c.args.flick v c.requires.going).going ∙ sym (ap goes_on progress)
+
+pub returns-clause-waiting : goal.returns-clause-waiting
+returns-clause-waiting c =
+    let d : ProcessState = c.args.self.now in
+    let v : Bool = value_of c.answered-access.result.how in
+    let then = c.advance-told.ensures.process ∙ (λ i. stepped (c.self.view_is i) c.args.flick (c.given.ensures i)) in
+    let progress : c.at.result ≡ progress_on d (stepped d c.args.flick v) =
+    c.at.ensures ∙ told-is d c.self.inside.place _ c.args.flick v c.self.view_is then c.stage.ensures c.ticket-ticket.ensures c.full-full.ensures in
+    ap is_waiting then ∙ (told d c.args.flick v c.requires.going).waiting ∙ sym (ap tells_wait progress)

@@ -1,18 +1,21 @@
--- The access may be made on the register that it names.
-use Rattle.std.proofs.Common.{subst}
+-- The access may be made on the register that it names; and it is that of any closing.
+use Rattle.std.proofs.Common.{sym, ap, subst, ◌∙◌}
 use Rattle.reader_copies.specs.Row.{CanMake}
+use Rattle.process.specs.Places.{ProcessState}
+use Rattle.process.specs.Serving.{next_at}
 use Rattle.bakery.specs.Locks.{made_by}
+use Rattle.memory_unit.specs.Memory.{CanAccess}
 use Rattle.memory_unit.proofs.Registers.{of-lock, of-versions}
 use Rattle.memory_unit.proofs.unit.Unit.step.Goals as goal
 
--- src/unit.rt:97:48
 pub apply-requires : goal.apply-requires
 apply-requires c =
     let a = c.next-access.result in
-    subst (λ row. CanMake row a.bit (made_by a)) (of-lock c.args.lock.now c.args.versions.now a.field c.in-Choosing.is) (c.requires.can a c.next-access.ensures.own)
+    let next = c.next-access.ensures.access ∙ ap (λ (x : ProcessState). next_at x c.args.flick) c.self.view_is in
+    subst (λ row. CanMake row a.bit (made_by a)) (of-lock c.args.lock.now c.args.versions.now a.field c.in-Choosing.is) (subst (CanAccess c.args.lock.now c.args.versions.now) (sym next) c.requires.can)
 
--- src/unit.rt:103:17
 pub apply-requires-in_default : goal.apply-requires-in_default
 apply-requires-in_default c =
     let a = c.next-access.result in
-    subst (λ row. CanMake row a.bit (made_by a)) (of-versions c.args.lock.now c.args.versions.now a.field c.in_default.not-Choosing c.in_default.not-Ticket) (c.requires.can a c.next-access.ensures.own)
+    let next = c.next-access.ensures.access ∙ ap (λ (x : ProcessState). next_at x c.args.flick) c.self.view_is in
+    subst (λ row. CanMake row a.bit (made_by a)) (of-versions c.args.lock.now c.args.versions.now a.field c.in_default.not-Choosing c.in_default.not-Ticket) (subst (CanAccess c.args.lock.now c.args.versions.now) (sym next) c.requires.can)

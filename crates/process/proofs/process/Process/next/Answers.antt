@@ -1,8 +1,11 @@
-use Rattle.std.proofs.Common.{ap, ◌∙◌}
+use Rattle.std.proofs.Common.{sym, ap, subst, ◌∙◌}
 use Rattle.registers.specs.Accesses.{next_access}
+use Rattle.process.specs.Alone.{IsOfRegister}
 use Rattle.process.specs.Places.{ProcessState, may_step}
 use Rattle.process.specs.Serving.{next_at}
+use Rattle.process.specs.Working.{doing_at}
 use Rattle.process.proofs.NextAt.{next-is}
+use Rattle.process.proofs.OfRegister.{of-register}
 use Rattle.process.proofs.process.Process.next.Goals as goal
 
 pub returns-clause-access : goal.returns-clause-access
@@ -12,3 +15,9 @@ returns-clause-access c =
     ∙ ap (next_access q.cursor) c.given.ensures
     ∙ next-is q.called q.work q.cursor c.args.flick c.self.invariant (ap (λ (s : ProcessState). may_step s.doing) c.self.view_is ∙ c.requires.goes)
     ∙ ap (λ (s : ProcessState). next_at s c.args.flick) c.self.view_is
+
+pub returns-clause-register : goal.returns-clause-register
+returns-clause-register c =
+    let q = c.self.inside in
+    subst (λ (s : ProcessState). IsOfRegister s.setup s.process s.doing c.next.result) c.self.view_is
+    (subst (IsOfRegister q.called.call.setup q.called.call.process (doing_at q.called q.work q.cursor)) (sym c.next.ensures) (of-register q.called q.work q.cursor c.given.result c.self.invariant))

@@ -1,0 +1,128 @@
+-- At the door it makes no difference which command a call has, and which number.
+use Rattle.std.proofs.Common.{◌≡◌, ℕ, Bool, cond, List, [], ◌∷◌, ◌++◌, refl, ◌∙◌}
+use Rattle.plain_store.specs.declared.Command.TheVariants.{Ask}
+use Rattle.record.specs.Parts.{Part, Raises, Asks, TakesTicket, Lowers, Refuses, Waits, AsksCommit, AsksStamp, AsksImage, WritesImage, WritesStamp, WritesCommit, Clears, Over, first_marks, last_marks, part_after, to_b, to_d}
+use Rattle.record.specs.Places.{Place, Run, Writing, Reading, access_at, bits_with, enter, is_fresh, is_last, marks_of, new_run, place_after, run_after}
+use Rattle.record.specs.Program.{Wait, lets_by, waits_of}
+use Rattle.record.specs.Registers.{others}
+use Rattle.record.specs.Scripts.{Call}
+use Rattle.record.specs.Cuts.{torn_run}
+use Rattle.process.specs.laws.Doings.{call}
+use Rattle.bakery.proofs.AtDoor.{AtDoor, raises, asks, takes, lowers, refuses, waits}
+
+-- the call of the same process that a door is at
+abbrev pub some_call : Call → Call
+some_call c = call c.setup c.process Ask 0
+
+pub same-access : (c : Call) (part : Part) → AtDoor part → (run : Run) → access_at (some_call c) part run ≡ access_at c part run
+same-access c part raises (Writing w) = refl
+same-access c part raises (Reading bits begun) = refl
+same-access c part (asks j js ts) (Writing w) = refl
+same-access c part (asks j js ts) (Reading bits begun) = refl
+same-access c part (takes t) (Writing w) = refl
+same-access c part (takes t) (Reading bits begun) = refl
+same-access c part (lowers t) (Writing w) = refl
+same-access c part (lowers t) (Reading bits begun) = refl
+same-access c part (refuses full) (Writing w) = refl
+same-access c part (refuses full) (Reading bits begun) = refl
+same-access c part (waits t w ws) (Writing u) = refl
+same-access c part (waits t w ws) (Reading bits begun) = refl
+
+pub same-torn : (c : Call) (part : Part) → AtDoor part → (run : Run) → torn_run (some_call c) part run ≡ torn_run c part run
+same-torn c part raises (Writing w) = refl
+same-torn c part raises (Reading bits begun) = refl
+same-torn c part (asks j js ts) (Writing w) = refl
+same-torn c part (asks j js ts) (Reading bits begun) = refl
+same-torn c part (takes t) (Writing w) = refl
+same-torn c part (takes t) (Reading bits begun) = refl
+same-torn c part (lowers t) (Writing w) = refl
+same-torn c part (lowers t) (Reading bits begun) = refl
+same-torn c part (refuses full) (Writing w) = refl
+same-torn c part (refuses full) (Reading bits begun) = refl
+same-torn c part (waits t w ws) (Writing u) = refl
+same-torn c part (waits t w ws) (Reading bits begun) = refl
+
+same-last : (c : Call) (part : Part) → AtDoor part → (run : Run) → is_last (some_call c) part run ≡ is_last c part run
+same-last c part raises (Writing w) = refl
+same-last c part raises (Reading bits begun) = refl
+same-last c part (asks j js ts) (Writing w) = refl
+same-last c part (asks j js ts) (Reading bits begun) = refl
+same-last c part (takes t) (Writing w) = refl
+same-last c part (takes t) (Reading bits begun) = refl
+same-last c part (lowers t) (Writing w) = refl
+same-last c part (lowers t) (Reading bits begun) = refl
+same-last c part (refuses full) (Writing w) = refl
+same-last c part (refuses full) (Reading bits begun) = refl
+same-last c part (waits t w ws) (Writing u) = refl
+same-last c part (waits t w ws) (Reading bits begun) = refl
+
+same-run : (c : Call) (part : Part) → AtDoor part → (run : Run) (v : Bool) → run_after (some_call c) part run v ≡ run_after c part run v
+same-run c part raises (Writing w) v = refl
+same-run c part raises (Reading bits begun) v = refl
+same-run c part (asks j js ts) (Writing w) v = refl
+same-run c part (asks j js ts) (Reading bits begun) v = refl
+same-run c part (takes t) (Writing w) v = refl
+same-run c part (takes t) (Reading bits begun) v = refl
+same-run c part (lowers t) (Writing w) v = refl
+same-run c part (lowers t) (Reading bits begun) v = refl
+same-run c part (refuses full) (Writing w) v = refl
+same-run c part (refuses full) (Reading bits begun) v = refl
+same-run c part (waits t w ws) (Writing u) v = refl
+same-run c part (waits t w ws) (Reading bits begun) v = refl
+
+-- a number access of which nothing is made, of any part
+same-new : (c : Call) (part : Part) → new_run (some_call c) part ≡ new_run c part
+same-new c Raises = refl
+same-new c (Asks j js ts) = refl
+same-new c (TakesTicket t) = refl
+same-new c (Lowers t) = refl
+same-new c (Refuses full) = refl
+same-new c (Waits t w ws) = refl
+same-new c (AsksCommit k ks vs) = refl
+same-new c (AsksStamp k ks vs b) = refl
+same-new c (AsksImage vs) = refl
+same-new c (WritesImage vs st) = refl
+same-new c (WritesStamp vs st) = refl
+same-new c (WritesCommit vs st) = refl
+same-new c (Clears a) = refl
+same-new c Over = refl
+
+same-b : (c : Call) (js ts : List ℕ) → to_b (some_call c) js ts ≡ to_b c js ts
+same-b c [] ts = refl
+same-b c (j ∷ js) ts = refl
+
+same-d : (c : Call) (t : ℕ) (ws : List Wait) → to_d (some_call c) t ws ≡ to_d c t ws
+same-d c t [] = refl
+same-d c t (w ∷ ws) = refl
+
+same-part : (c : Call) (part : Part) → AtDoor part → (bits : List Bool) → part_after (some_call c) part bits ≡ part_after c part bits
+same-part c part raises bits = same-b c (others c.setup c.process) []
+same-part c part (asks j js ts) bits = same-b c js _
+same-part c part (takes t) bits = refl
+same-part c part (lowers t) bits = same-d c t (waits_of c)
+same-part c part (refuses full) bits = refl
+same-part c part (waits t w ws) bits = same-d c t (cond (lets_by c t w bits) ws (w ∷ ws))
+
+same-marks : (c : Call) (part : Part) → AtDoor part → (bits : List Bool) → last_marks (some_call c) part bits ≡ last_marks c part bits
+same-marks c part raises bits = refl
+same-marks c part (asks j js ts) bits = refl
+same-marks c part (takes t) bits = refl
+same-marks c part (lowers t) bits = refl
+same-marks c part (refuses full) bits = refl
+same-marks c part (waits t w ws) bits = refl
+
+-- the call goes on alike
+pub same-after : (c : Call) (at : Place) (v : Bool) → AtDoor at.part → place_after (some_call c) at v ≡ place_after c at v
+same-after c at v door =
+    let last = same-last c at.part door at.run in
+    let run = same-run c at.part door at.run v in
+    let part = same-part c at.part door (bits_with at.run v) in
+    (λ i. cond (last i) (enter (some_call c) (part i)) (record { part = at.part; run = run i }))
+    ∙ (let new = same-new c (part_after c at.part (bits_with at.run v)) in λ i. cond (is_last c at.part at.run) (record { part = part_after c at.part (bits_with at.run v); run = new i }) (record { part = at.part; run = run_after c at.part at.run v }))
+
+-- with the same marks
+pub same-marked : (c : Call) (at : Place) (v : Bool) → AtDoor at.part → marks_of (some_call c) at v ≡ marks_of c at v
+same-marked c at v door =
+    let last = same-last c at.part door at.run in
+    let marks = same-marks c at.part door (bits_with at.run v) in
+    λ i. cond (is_fresh at.run) (first_marks at.part) [] ++ cond (last i) (marks i) []

@@ -1,0 +1,161 @@
+//! What an access tells of the call that makes it: what it begins or ends, and the number that is read.
+ghost use Rattle.std.specs.Prelude.{◌≡◌, ◌+◌, ◌-◌, ◌^◌, ◌<◌, ◌&&◌, None, Some, Ok};
+ghost use Rattle.plain_store.specs.Setups.{checked};
+ghost use Rattle.record.specs.Program.{is_below as below};
+ghost use Rattle.record.specs.Registers.{width};
+ghost use Rattle.calls.specs.Columns.{begins_ticket, ends_number, ends_raising, holds_up as holds, is_read as begins_read, is_write as begins_write, is_write_end, more_if as one_more_if, newest_after, number_after as after, tells_waiting, with_bit as bit_with};
+
+use crate::called::{FinishedRead, Marked};
+use plain_store::Setup;
+use read_law::width;
+use record::{Access, Field, Move};
+
+/// One more, if a test holds.
+#[inline]
+pub(crate) fn more_if(count: u64, test: bool) -> u64
+    ensures { count < 2 ^ 64 - 1 → result ≡ one_more_if test count }
+{
+    if test { count.saturating_add(1) } else { count }
+}
+
+/// Whether a move begins a read.
+#[inline]
+pub(crate) fn is_read(how: Move) -> bool
+    ensures { result ≡ begins_read how }
+{
+    matches!(how, Move::BeginRead)
+}
+
+/// Whether a move begins a write.
+#[inline]
+pub(crate) fn is_write(how: Move) -> bool
+    ensures { result ≡ begins_write how }
+{
+    matches!(how, Move::BeginWrite(_))
+}
+
+/// The number that is read, once an access is made.
+#[inline]
+pub(crate) fn number_after(access: &Access, number: u64) -> u64
+    ensures { result ≡ after access.now.bit access.now.how number }
+{
+    match access.how {
+        Move::EndRead(value) => with_bit(access.bit, value, number),
+        _ => number,
+    }
+}
+
+/// The number with one more bit.
+#[inline]
+fn with_bit(bit: u16, value: bool, number: u64) -> u64
+    ensures { result ≡ bit_with bit value number }
+{
+    if bit == 0 {
+        u64::from(value)
+    } else if value && bit < 64 {
+        number | (1 << bit)
+    } else {
+        number
+    }
+}
+
+/// Whether a process waits, and an access, with which it has read this number, tells that it waits for the register's
+/// owner.
+#[inline]
+pub(crate) fn tells_waiting(
+    setup: &Setup,
+    process: u8,
+    marks: &Marked,
+    access: &Access,
+    number: u64,
+) -> bool
+    requires { checked setup.now ≡ Ok tt }
+    ensures { result ≡ tells_waiting setup.now process marks.now.ticket marks.now.wait_end access.now number }
+{
+    let Some(ticket) = marks.ticket else {
+        return false;
+    };
+    marks.wait_end.is_none()
+        && ends_number(setup, access)
+        && holds_up(process, ticket, access.owner, access.field, number)
+}
+
+/// Whether a number that was read of a register of this owner holds up a process with this ticket.
+pub fn holds_up(process: u8, ticket: u32, owner: u8, field: Field, number: u64) -> bool
+    ensures { result ≡ holds process ticket owner field number }
+{
+    match field {
+        Field::Choosing => number == 1,
+        Field::Ticket => number > 0 && is_below(number, owner, u64::from(ticket), process),
+        _ => false,
+    }
+}
+
+/// Whether an access ends the read of a number.
+#[inline]
+pub(crate) fn ends_number(setup: &Setup, access: &Access) -> bool
+    requires { checked setup.now ≡ Ok tt }
+    ensures { result ≡ ends_number (width setup.now access.now.field) access.now.bit access.now.how }
+{
+    match access.how {
+        Move::EndRead(_) => usize::from(access.bit) + 1 == width(setup, access.field),
+        _ => false,
+    }
+}
+
+/// Whether a choosing bit is written on its last copy.
+#[inline]
+pub(crate) fn ends_raising(setup: &Setup, access: &Access) -> bool
+    ensures { result ≡ ends_raising setup.now access.now }
+{
+    ends_write(access.how)
+        && u32::from(access.reader) + 1 == u32::from(setup.processes)
+        && matches!(access.field, Field::Choosing)
+}
+
+/// Whether a ticket begins to be written.
+#[inline]
+pub(crate) fn begins_ticket(access: &Access) -> bool
+    ensures { result ≡ begins_ticket access.now }
+{
+    is_write(access.how) && matches!(access.field, Field::Ticket)
+}
+
+/// Whether a move ends a write.
+#[inline]
+fn ends_write(how: Move) -> bool
+    ensures { result ≡ is_write_end how }
+{
+    matches!(how, Move::EndWrite)
+}
+
+/// The number that is read last, once an access is made with which this number is read.
+#[inline]
+pub(crate) fn newest_after(
+    setup: &Setup,
+    number: u64,
+    access: &Access,
+    found: Option<FinishedRead>,
+) -> Option<FinishedRead>
+    requires { checked setup.now ≡ Ok tt }
+    ensures { result ≡ newest_after setup.now number access.now found }
+{
+    if ends_write(access.how) {
+        return None;
+    }
+    if !ends_number(setup, access) {
+        return found;
+    }
+    Some(FinishedRead {
+        owner: access.owner,
+        field: access.field,
+        number,
+    })
+}
+
+/// Whether one ticket, with its process, is below another.
+fn is_below(ticket: u64, process: u8, other: u64, other_process: u8) -> bool
+    ensures { result ≡ below ticket process other other_process }
+{
+    ticket < other || (ticket == other && process < other_process)
+}

@@ -1,0 +1,89 @@
+-- Parts of a process's work that stand alone, and what those who drive them want to know of it.
+use Rattle.std.specs.Prelude.{◌≡◌, ℕ, Bool, cond, true, false, [], Option, None, Some}
+use Rattle.plain_store.specs.declared.Answer.{Answer}
+use Rattle.plain_store.specs.declared.Command.{Command}
+use Rattle.plain_store.specs.declared.Setup.{Setup}
+use Rattle.record.specs.declared.access.Access.{Access}
+use Rattle.record.specs.declared.access.Field.{Field}
+use Rattle.record.specs.declared.access.TornBit.{TornBit}
+use Rattle.record.specs.Closings.{Closing, Settles}
+use Rattle.record.specs.Cuts.{Change, pending_at, torn_at, torn_closing}
+use Rattle.record.specs.Failures.{cut}
+use Rattle.record.specs.Parts.{Part, Clears, Lowers, Refuses, Waits, is_read, read_at, to_e, written_at}
+use Rattle.record.specs.Places.{Place, enter}
+use Rattle.record.specs.Registers.{processes}
+use Rattle.record.specs.Scripts.{Call}
+use Rattle.laws.specs.Doings.{Doing, Closes, Runs, call}
+use Rattle.process.specs.Places.{ProcessState}
+
+-- the ticket with which a process ends its doorway, or waits
+abbrev pub ticket_at : Part → Option ℕ
+ticket_at (Lowers t) = Some t
+ticket_at (Waits t w ws) = Some t
+ticket_at _ = None
+
+abbrev pub ticket_of : Doing → Option ℕ
+ticket_of (Runs command number at) = ticket_at at.part
+ticket_of _ = None
+
+-- the process for whose ticket it is refused
+abbrev pub full_at : Part → Option ℕ
+full_at (Refuses full) = Some full
+full_at _ = None
+
+abbrev pub full_of : Doing → Option ℕ
+full_of (Runs command number at) = full_at at.part
+full_of _ = None
+
+-- the change that it writes
+abbrev pub change_of : Setup → ℕ → Doing → Option Change
+change_of s p (Runs command number at) = pending_at (call s p command number) at.part
+change_of s p _ = None
+
+-- the answer that it has come to
+abbrev pub answer_at : Part → Option Answer
+answer_at (Clears a) = Some a
+answer_at _ = None
+
+abbrev pub answer_of : Doing → Option Answer
+answer_of (Runs command number at) = answer_at at.part
+answer_of _ = None
+
+-- the register of a number access of its call, and whose it is
+abbrev pub register_at : Call → Part → ℕ × Field
+register_at c part = cond (is_read part) (read_at c part) (c.process, (written_at c part).0)
+
+-- an access to the register at which its call is
+abbrev pub IsOfRegister : Setup → ℕ → Doing → Access → Type 0
+IsOfRegister s p (Runs command number at) a = (a.owner, a.field) ≡ register_at (call s p command number) at.part
+IsOfRegister s p _ a = Unit {0}
+
+-- the bit that is torn if it fails
+abbrev pub torn_of : Setup → ℕ → Doing → Option TornBit
+torn_of s p (Runs command number at) = torn_at (call s p command number) at
+torn_of s p (Closes command number at) = torn_closing at
+torn_of s p _ = None
+
+-- where a call comes inside: at the first commit bit
+abbrev pub inside_place : Call → Place
+inside_place c = enter c (to_e (processes c.setup) [])
+
+-- the process with a call that has come there
+abbrev pub called_inside : ProcessState → Command → ℕ → ProcessState
+called_inside now command number = record now {
+  doing = Runs command number (inside_place (call now.setup now.process command number));
+  command = command;
+  number = number;
+}
+
+-- its memory unit settles a bit
+abbrev pub settles : Doing → Bool
+settles (Closes command number (Settles field bit begun taken inside t)) = true
+settles _ = false
+
+-- its memory unit, which settles this bit first, or has none to settle; no command is taken, and the process is not inside
+abbrev pub unit_with : Call → Option TornBit → Closing
+unit_with c torn = cut c torn false None false
+
+abbrev pub settling_with : ProcessState → Option TornBit → ProcessState
+settling_with now torn = record now { doing = Closes now.command now.number (unit_with (call now.setup now.process now.command now.number) torn) }

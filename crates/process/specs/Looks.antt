@@ -1,0 +1,51 @@
+-- What is known of a process by what it does.
+use Rattle.std.specs.Prelude.{ℕ, Bool, ◌&&◌, not, cond, List, [], Option, None, Some}
+use Rattle.plain_store.specs.declared.Setup.{Setup}
+use Rattle.record.specs.safe_number.Bytes.{number_of_bits}
+use Rattle.record.specs.Closings.{Closing, Settles}
+use Rattle.record.specs.Parts.{Part, Asks, TakesTicket, Lowers, Refuses, is_read}
+use Rattle.record.specs.Places.{Place, Run, Reading, Writing}
+use Rattle.record.specs.Program.{greatest, max_of}
+use Rattle.laws.specs.Doings.{Doing, Runs, Closes}
+use Rattle.process.specs.declared.looks.TicketKnown.{TicketKnown}
+use Rattle.process.specs.declared.looks.TicketKnown.TheVariants.{Above, Is}
+use Rattle.process.specs.declared.looks.Settling.{Settling}
+use Rattle.process.specs.CallParts.{reads_image}
+
+-- the bits that were read
+abbrev pub bits_read : Run → List Bool
+bits_read (Reading bits begun) = bits
+bits_read (Writing w) = []
+
+-- a register is read that holds a number
+abbrev pub reads_number : Part → Bool
+reads_number part = is_read part && not (reads_image part)
+
+-- the number so far of the register that is read; 0, if none is read, or an image
+abbrev pub number_at : Place → ℕ
+number_at at = cond (reads_number at.part) (number_of_bits (bits_read at.run)) 0
+
+abbrev pub number_read : Doing → ℕ
+number_read (Runs command number at) = number_at at
+number_read _ = 0
+
+-- what is known of the ticket, once part A is done and while the process is in its doorway
+abbrev pub ticket_known_at : Setup → Part → Option TicketKnown
+ticket_known_at s (Asks j js tickets) = Some (Above (greatest tickets))
+ticket_known_at s (TakesTicket t) = Some (Is t)
+ticket_known_at s (Lowers t) = Some (Is t)
+ticket_known_at s (Refuses full) = Some (Above (max_of s.ticket_bits))
+ticket_known_at s _ = None
+
+abbrev pub ticket_known : Setup → Doing → Option TicketKnown
+ticket_known s (Runs command number at) = ticket_known_at s at.part
+ticket_known s _ = None
+
+-- the bit that the memory unit settles
+abbrev pub settling_in : Closing → Option Settling
+settling_in (Settles field bit begun taken inside t) = Some (record { field = field; bit = bit; written = begun; cut = t.made; copy = t.reader; begun = t.begun; value = t.value })
+settling_in _ = None
+
+abbrev pub settling_of : Doing → Option Settling
+settling_of (Closes command number at) = settling_in at
+settling_of _ = None

@@ -1,0 +1,28 @@
+//! What is known of a process, to whoever looks at it.
+
+use record::Field;
+
+/// What is known of the ticket of a process in its doorway.
+#[derive(Clone, Copy, Debug, PartialEq, Eq)]
+pub enum TicketKnown {
+    /// It will be greater than this one.
+    Above(u32),
+    /// It is this one.
+    Is(u32),
+}
+
+/// A bit that a memory unit settles.
+#[derive(Clone, Copy, Debug, PartialEq, Eq)]
+pub struct Settling {
+    pub field: Field,
+    pub bit: u16,
+    /// The value that was being written.
+    pub written: bool,
+    /// How many accesses of the bit's write were made.
+    pub cut: u8,
+    /// The copy that it has come to, and whether its write has begun.
+    pub copy: u8,
+    pub begun: bool,
+    /// The value that was chosen, once one is.
+    pub value: Option<bool>,
+}

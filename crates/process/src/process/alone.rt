@@ -1,0 +1,120 @@
+//! Parts of a process's work that stand alone, and what those who drive them want to know of it.
+ghost use Rattle.std.specs.Prelude.{◌≡◌, IfSome};
+ghost use Rattle.record.specs.Cuts.{IsTornOf};
+ghost use Rattle.process.specs.Alone.{answer_of, called_inside, change_of, full_of, settles, settling_with, ticket_of, torn_of};
+ghost use Rattle.process.specs.Places.{changes_read, withdrawn};
+
+use super::Process;
+use crate::entering::{clear, enter};
+use crate::work::ProcessWork;
+use plain_store::{Answer, Command, Reply};
+use record::{Field, TornBit};
+
+impl Process {
+    /// The ticket with which it ends its doorway, or waits.
+    pub fn ticket(&self) -> Option<u32>
+        ensures { result ≡ ticket_of self.now.doing }
+    {
+        match self.work {
+            ProcessWork::Runs => self.called.ticket(),
+            _ => None,
+        }
+    }
+
+    /// The process for whose ticket it is refused.
+    pub fn full(&self) -> Option<u8>
+        ensures { result ≡ full_of self.now.doing }
+    {
+        match self.work {
+            ProcessWork::Runs => self.called.full(),
+            _ => None,
+        }
+    }
+
+    /// While it writes a change of the store, the reply, the greatest stamp that it has read, and the new value of its
+    /// commit bit.
+    pub fn pending(&self) -> Option<(Reply, u32, bool)>
+        ensures { result ≡ change_of self.now.setup self.now.process self.now.doing }
+    {
+        match self.work {
+            ProcessWork::Runs => self.called.pending(),
+            _ => None,
+        }
+    }
+
+    /// The answer that it has come to, while it clears its ticket.
+    pub fn answer(&self) -> Option<Answer>
+        ensures { result ≡ answer_of self.now.doing }
+    {
+        match self.work {
+            ProcessWork::Runs => self.called.answer(),
+            _ => None,
+        }
+    }
+
+    /// The greatest stamp that it has read, where its next access may take the command; else 0.
+    pub fn changes_read(&self) -> u32
+        ensures { result ≡ changes_read self.now.doing }
+    {
+        match self.work {
+            ProcessWork::Runs => self.called.changes_read(),
+            _ => 0,
+        }
+    }
+
+    /// The bit that is torn if it fails now.
+    pub fn torn(&self) -> Option<TornBit>
+        ensures torn { result ≡ torn_of self.now.setup self.now.process self.now.doing }
+        ensures known { IfSome result (IsTornOf self.now.setup) }
+    {
+        match self.work {
+            ProcessWork::Runs | ProcessWork::Withdraws => self.cursor.torn(),
+            _ => None,
+        }
+    }
+
+    /// Whether its memory unit settles a bit.
+    pub fn settles(&self) -> bool
+        ensures { result ≡ settles self.now.doing }
+    {
+        matches!(self.work, ProcessWork::Settles { .. })
+    }
+
+    /// A call comes inside.
+    pub fn call_inside(&mut self, command: Command, number: u16)
+        ensures { self.new ≡ called_inside self.old command number }
+    {
+        self.called.start_inside(command, number);
+        self.work = ProcessWork::Runs;
+        enter(&self.called, &mut self.cursor);
+    }
+
+    /// It begins to clear its ticket, as one that has given up waiting.
+    pub fn clear_ticket(&mut self)
+        ensures { self.new ≡ withdrawn self.old }
+    {
+        self.work = ProcessWork::Withdraws;
+        clear(&self.called, &mut self.cursor, Field::Ticket);
+    }
+
+    /// Its memory unit begins: it settles this bit first, or has none to settle.
+    pub fn begin_unit(&mut self, torn: Option<TornBit>)
+        requires { IfSome torn (IsTornOf self.old.setup) }
+        ensures { self.new ≡ settling_with self.old torn }
+    {
+        match torn {
+            Some(torn) => {
+                self.work = ProcessWork::Settles {
+                    inside: false,
+                    taken: None,
+                };
+                self.cursor
+                    .settle_on(&self.called.setup(), self.called.process(), &torn);
+            }
+            None => {
+                self.work = ProcessWork::Frees { inside: false };
+                clear(&self.called, &mut self.cursor, Field::Ticket);
+            }
+        }
+    }
+}

@@ -1,0 +1,105 @@
+//! What is known of a process. It is looked at, and stays as it is.
+ghost use Rattle.std.specs.Prelude.{◌≡◌, ◌<◌, ◌≤◌, Bool, Option, length, true};
+ghost use Rattle.plain_store.specs.declared.Reply.{Reply as Replied};
+ghost use Rattle.record.specs.Parts.{read_at};
+ghost use Rattle.record.specs.Registers.{width};
+ghost use Rattle.record.specs.safe_number.Bytes.{bit_in};
+ghost use Rattle.registers.specs.AtParts.{IsAtPart, place_at};
+ghost use Rattle.process.specs.Looks.{number_at, number_read, reads_number, settling_in, settling_of, ticket_known};
+ghost use Rattle.process.specs.Working.{settling_at};
+
+use super::Process;
+use crate::asked::Asked;
+use crate::call_part::CallPart;
+use crate::looks::{Settling, TicketKnown};
+use crate::work::ProcessWork;
+use record::Move;
+use registers::{Cursor, NumberRun};
+
+impl Process {
+    /// The number that it has read so far of the register that it reads; 0, if it reads none, or an image.
+    pub fn number_read(&self) -> u32
+        ensures { result ≡ number_read self.now.doing }
+    {
+        match self.work {
+            ProcessWork::Runs => number_at(&self.called, &self.cursor),
+            _ => 0,
+        }
+    }
+
+    /// What is known of its ticket, once it has raised its choosing bit and while it is in its doorway.
+    pub fn ticket_known(&self) -> Option<TicketKnown>
+        ensures { result ≡ ticket_known self.now.setup self.now.doing }
+    {
+        match self.work {
+            ProcessWork::Runs => self.called.ticket_known(),
+            _ => None,
+        }
+    }
+
+    /// The bit that its memory unit settles, if it settles one.
+    pub fn settling(&self) -> Option<Settling>
+        ensures { result ≡ settling_of self.now.doing }
+    {
+        match self.work {
+            ProcessWork::Settles { .. } => settling_at(&self.cursor),
+            _ => None,
+        }
+    }
+}
+
+/// The number read so far at a part; 0, if none is read there.
+fn number_at(called: &CallPart, cursor: &Cursor) -> u32
+    requires { IsAtPart called.now.call called.now.part cursor.now }
+    ensures { result ≡ number_at (place_at called.now.part cursor.now) }
+{
+    if reads_number(called) {
+        cursor.number()
+    } else {
+        0
+    }
+}
+
+/// Whether a part reads a register that holds a number.
+fn reads_number(called: &CallPart) -> bool
+    ensures reads { result ≡ reads_number called.now.part }
+    ensures narrow { result ≡ true → width called.now.call.setup (read_at called.now.call called.now.part).1 ≤ 32 }
+{
+    match called.asks() {
+        Asked::Reads { .. } => !called.reads_image(),
+        _ => false,
+    }
+}
+
+/// The bit that a cursor settles.
+fn settling_at(cursor: &Cursor) -> Option<Settling>
+    requires going { cursor.now.bit < cursor.now.width }
+    requires inside { cursor.now.bit < length cursor.now.bits }
+    requires reader { cursor.now.reader ≡ 0 }
+    ensures { (inside : Bool) (taken : Option Replied) → result ≡ settling_in (settling_at cursor.now.run inside taken cursor.now) }
+{
+    let NumberRun::Settles { cut, value } = cursor.run() else {
+        return None;
+    };
+    let next = cursor.next(false);
+    Some(Settling {
+        field: next.field,
+        bit: next.bit,
+        written: bit_of(&cursor.bytes(), next.bit),
+        cut,
+        copy: next.reader,
+        begun: matches!(next.how, Move::EndWrite),
+        value,
+    })
+}
+
+/// A bit of bytes, or false where there is none.
+fn bit_of(bytes: &[u8], bit: u16) -> bool
+    ensures { result ≡ bit_in bytes.now bit }
+{
+    let at = usize::from(bit);
+    if bytes.len() <= at / 8 {
+        return false;
+    }
+    (bytes[at / 8] >> (at % 8)) & 1 == 1
+}

@@ -1,0 +1,28 @@
+use Rattle.std.proofs.Common.{◌≡◌, length, ap, ◌∙◌, arith}
+use Rattle.registers.specs.Accesses.{lane_of_access}
+use Rattle.registers.specs.Memory.{cell_in, lane_of}
+use Rattle.registers.specs.Seeing.{bit_seen}
+use Rattle.registers.proofs.Held.{lane-found}
+use Rattle.registers.proofs.Openings.{access-lane}
+use Rattle.registers.proofs.memory.BitMemory.bit_seen.Goals as goal
+
+pub index-requires : goal.index-requires
+index-requires c =
+    let there = access-lane c.args.setup.now c.args.self.now c.args.access.now c.requires.memory c.requires.owner c.requires.reader c.requires.bit in
+    omega (arith, c.lane_number-lane.ensures, there.0, ap length c.self.view_is)
+
+pub seen-requires : goal.seen-requires
+seen-requires c =
+    let memory = c.args.self.now in
+    let lane = lane_of_access c.args.setup.now.processes c.args.access.now in
+    let there = access-lane c.args.setup.now memory c.args.access.now c.requires.memory c.requires.owner c.requires.reader c.requires.bit in
+    let is : c.index.result.now ≡ lane_of memory lane = lane-found c.self.inside.lanes.items memory c.lane_number-lane.result lane c.index.result.now c.self.view_is c.lane_number-lane.ensures c.index.ensures there.0 in
+    omega (arith, ap length is, there.1, c.from.ensures)
+
+pub returns : goal.returns
+returns c =
+    let memory = c.args.self.now in
+    let lane = lane_of_access c.args.setup.now.processes c.args.access.now in
+    let there = access-lane c.args.setup.now memory c.args.access.now c.requires.memory c.requires.owner c.requires.reader c.requires.bit in
+    let is : c.index.result.now ≡ lane_of memory lane = lane-found c.self.inside.lanes.items memory c.lane_number-lane.result lane c.index.result.now c.self.view_is c.lane_number-lane.ensures c.index.ensures there.0 in
+    c.seen.ensures ∙ (λ i. bit_seen (cell_in (is i) (c.from.ensures i)))

@@ -1,0 +1,33 @@
+-- What a core is looked at for: a process, and a bit.
+use Rattle.std.proofs.Common.{◌≡◌, ℕ, ◌≤◌, length, ap, arith, refl, ◌∙◌}
+use Rattle.std.specs.Prelude.{slice_get, Some}
+use Rattle.record.specs.declared.access.Access.{Access}
+use Rattle.record.specs.Records.{past_of}
+use Rattle.record.proofs.Width.{is_good}
+use Rattle.laws.specs.Doings.{Rests, doing}
+use Rattle.laws.specs.Held.{IsThere, cell_held}
+use Rattle.laws.proofs.FrameSteps.{doing-above}
+use Rattle.process.specs.registers.Accesses.{lane_of_access}
+use Rattle.process.specs.registers.Memory.{cell_at}
+use Rattle.process.specs.Places.{process_after}
+use Rattle.process.proofs.Memories.{with-cell}
+use Rattle.world.specs.Cores.{CoreState, InEachCorePast, with_history}
+use Rattle.world.specs.Seats.{Seat}
+use Rattle.world.specs.Shows.{WorldState}
+use Rattle.world.proofs.WorldOpen.{many-seats, seat-shown}
+
+-- a process is that of the past
+pub process-shown : (c : CoreState) (p : ℕ) (seat : Seat) → slice_get c.seats p ≡ Some seat → InEachCorePast c (λ s past. seat.process ≡ process_after s past p)
+process-shown c p seat there taken events shows = ap (λ (x : Seat). x.process) (seat-shown (with_history c taken) events p seat shows there)
+
+-- and one that there is not rests
+pub none-shown : (c : CoreState) (p : ℕ) → length c.seats ≤ p → InEachCorePast c (λ s past. doing s p past ≡ Rests)
+none-shown c p beyond taken events shows =
+    let many = many-seats (with_history c taken) events shows in
+    doing-above c.setup (is_good c.setup shows.good) events p (omega (arith, many, beyond))
+
+-- and so is the cell of a bit that there is
+pub cell-shown : (c : CoreState) (a : Access) → IsThere c.setup a → InEachCorePast c (λ s past. cell_at c.registers (lane_of_access s.processes a) a.bit ≡ cell_held s past a)
+cell-shown c a there taken events shows =
+    ap (λ (w : WorldState). cell_at w.registers (lane_of_access c.setup.processes a) a.bit) shows.shown
+    ∙ with-cell (cell_held c.setup (past_of c.setup events)) c.setup a (λ a how. refl) there

@@ -1,0 +1,103 @@
+-- A process within a number access of its call: how many accesses are left after a step, and that none of them ends a number that is read.
+use Rattle.std.proofs.Common.{◌≡◌, ℕ, ◌+◌, ◌-◌, ◌*◌, ◌<◌, Bool, true, false, if◌then◌else◌, List, [], ◌∷◌, length, Option, None, Some, refl, ap, sym, subst, ◌∙◌, arith}
+use Rattle.plain_store.specs.declared.Setup.{Setup}
+use Rattle.record.specs.safe_bit.declared.Move.{Move}
+use Rattle.record.specs.safe_bit.declared.Move.TheVariants.{BeginWrite, EndWrite, BeginRead, EndRead, Settle}
+use Rattle.record.specs.declared.access.Access.{Access}
+use Rattle.record.specs.declared.events.Event.{Event}
+use Rattle.record.specs.declared.events.Event.TheVariants.{Step}
+use Rattle.record.specs.Entries.{Entry, Past}
+use Rattle.record.specs.Moves.{ended, valued}
+use Rattle.record.specs.Parts.{Part, is_over, read_at}
+use Rattle.record.specs.Places.{Run, Reading, Writing, access_at, value_of}
+use Rattle.record.specs.Records.{entry_of, past_of}
+use Rattle.record.specs.Registers.{width}
+use Rattle.record.specs.Scripts.{Call}
+use Rattle.record.proofs.Width.{IsGood, is_good}
+use Rattle.laws.specs.Doings.{Doing, Rests, Lies, Runs, Closes, call, doing}
+use Rattle.laws.specs.Steps.{next_of}
+use Rattle.laws.proofs.Steps.{StepIs, step_is}
+use Rattle.process.specs.Places.{ProcessState, left_at, left_of, process_after, rest_of}
+use Rattle.process.proofs.Left.{left-fewer, left-some, live-by}
+use Rattle.world.specs.Seats.{Seat, seat_of}
+use Rattle.world.specs.Shows.{Shows, WorldState}
+use Rattle.world.specs.Walks.{StepsQuietly, left_in}
+use Rattle.world.proofs.WorldLists.{get-mapped}
+use Rattle.world.proofs.WorldOpen.{many-seats, seat-below, seat-left, seat-shown, seat-there}
+use Rattle.world.proofs.WorldShows.{past-after}
+
+-- HOW MANY ARE LEFT
+
+-- as many as the past says
+pub left-shown : (w : WorldState) (events : List Event) (p : ℕ) → Shows w events → 0 < left_in w.seats p → left_in w.seats p ≡ left_at (process_after w.setup (past_of w.setup events) p)
+left-shown w events p shows some =
+    let there = seat-there w.seats p some in
+    seat-left w.seats p there.0 there.1 ∙ ap (λ (x : Seat). left_at x.process) (seat-shown w events p there.0 shows there.1)
+
+left-then : (w : WorldState) (events : List Event) (p : ℕ) → Shows w events → p < w.setup.processes → left_in w.seats p ≡ left_at (process_after w.setup (past_of w.setup events) p)
+left-then w events p shows below =
+    ap (λ (w : WorldState). left_in w.seats p) shows.shown
+    ∙ ap (λ (o : Option Seat). elim o as (λ _. ℕ) [ None ↦ 0 | Some x ↦ left_at x.process ]) (get-mapped (seat_of w.setup (past_of w.setup events)) 0 w.setup.processes p p below (omega arith))
+
+-- and one fewer after a step
+pub left-on : (w w' : WorldState) (p : ℕ) (flick : Bool) (events : List Event) → StepsQuietly w p flick w' → Shows w events → 0 < left_in w.seats p → left_in w'.seats p + 1 ≡ left_in w.seats p
+left-on w w' p flick events q shows some =
+    let s : Setup = w.setup in
+    let past : Past = past_of s events in
+    let now : ProcessState = process_after s past p in
+    let e : Entry = record { process = p; access = Some q.access; marks = [] } in
+    let adds : entry_of s past (Step p flick) ≡ Some e = q.adds events shows in
+    let is : StepIs s past p flick e = step_is s (is_good s shows.good) events p flick e adds in
+    let here : left_in w.seats p ≡ left_at now = left-shown w events p shows some in
+    let left : 0 < left_at now = omega (arith, here, some) in
+    let there = seat-there w.seats p some in
+    let below : p < s.processes = omega (arith, seat-below w.seats p there.0 there.1, many-seats w events shows) in
+    let after : left_in w'.seats p ≡ left_at (process_after s (e ∷ past) p) =
+    left-then w' (Step p flick ∷ events) p (q.shows events shows) (subst (λ (s : Setup). p < s.processes) (sym q.setup) below)
+    ∙ ap (λ (s : Setup). left_at (process_after s (past_of s (Step p flick ∷ events)) p)) q.setup
+    ∙ ap (λ (past : Past). left_at (process_after s past p)) (past-after s events (Step p flick) e adds) in
+    let does : left_at (process_after s (e ∷ past) p) + 1 ≡ left_at now =
+    ap (λ (d : Doing). left_at (record now { doing = d }) + 1) is.does ∙ left-fewer now flick (value_of (valued s past flick is.next).how) left in
+    omega (arith, here, after, does)
+
+-- NONE ENDS A NUMBER
+
+-- a read that ends, ended or not by the rule
+ended-read : (how : Move) (u v : Bool) → ended u how ≡ EndRead v → (w : Bool) × (how ≡ EndRead w)
+ended-read (EndRead w) u v is = (w, refl)
+ended-read (BeginWrite w) u v is = absurd (cc)
+ended-read EndWrite u v is = absurd (cc)
+ended-read BeginRead u v is = absurd (cc)
+ended-read (Settle w) u v is = absurd (cc)
+
+written-no-read : (b v w : Bool) → (if b then BeginWrite w else EndWrite) ≡ EndRead v → ⊥
+written-no-read true v w is = absurd (cc)
+written-no-read false v w is = absurd (cc)
+
+-- the next access at a place
+inside-at : (c : Call) (part : Part) (run : Run) (v : Bool) → 1 < rest_of c part run → (access_at c part run).how ≡ EndRead v → (access_at c part run).bit + 1 ≡ width c.setup (access_at c part run).field → ⊥
+inside-at c part (Writing w) v more reads last = written-no-read _ v _ reads
+inside-at c part (Reading bits false) v more reads last = absurd (cc)
+inside-at c part (Reading bits true) v more reads last = absurd (omega (arith, more, last))
+
+inside-by : (s : Setup) (p : ℕ) (now : ProcessState) (d : Doing) (flick v : Bool) (a : Access) → now.setup ≡ s → now.process ≡ p → 0 < left_at (record now { doing = d }) → next_of s p d flick ≡ Some a → a.how ≡ EndRead v → a.bit + 1 ≡ width s a.field → ⊥
+inside-by s p now Rests flick v a same mine more next reads last = absurd (cc)
+inside-by s p now Lies flick v a same mine more next reads last = absurd (cc)
+inside-by s p now (Closes command number at) flick v a same mine more next reads last = absurd (omega (arith, more))
+inside-by s p now (Runs command number at) flick v a same mine more next reads last =
+    let c : Call = call s p command number in
+    let here : call now.setup now.process command number ≡ c = λ i. call (same i) (mine i) command number in
+    let live = live-by (is_over at.part) (left_of (call now.setup now.process command number) at.part at.run) more in
+    let some : 0 < left_of c at.part at.run = subst (λ (c : Call). 0 < left_of c at.part at.run) here live.1 in
+    let is : access_at c at.part at.run ≡ a = cc in
+    inside-at c at.part at.run v (left-some c at.part at.run some).0 (ap (λ (a : Access). a.how) is ∙ reads) (ap (λ (a : Access). a.bit + 1) is ∙ last ∙ ap (λ (a : Access). width s a.field) (sym is))
+
+-- the next access within a number access does not end the read of a number
+pub inside-number : (s : Setup) → IsGood s → (events : List Event) (p : ℕ) (flick v : Bool) (e : Entry) (a : Access) → entry_of s (past_of s events) (Step p flick) ≡ Some e → e.access ≡ Some a → 0 < left_at (process_after s (past_of s events) p) →
+    a.how ≡ EndRead v → a.bit + 1 ≡ width s a.field → ⊥
+inside-number s g events p flick v e a adds access more reads last =
+    let past : Past = past_of s events in
+    let is : StepIs s past p flick e = step_is s g events p flick e adds in
+    let same : valued s past flick is.next ≡ a = cc in
+    let ends = ended-read is.next.how _ v (ap (λ (a : Access). a.how) same ∙ reads) in
+    inside-by s p (process_after s past p) (doing s p past) flick ends.0 is.next refl refl more is.is_next ends.1 (ap (λ (a : Access). a.bit + 1) same ∙ last ∙ ap (λ (a : Access). width s a.field) (sym same))

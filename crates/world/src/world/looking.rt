@@ -1,0 +1,17 @@
+//! What a process has read, as a world is asked.
+ghost use Rattle.std.specs.Prelude.{◌≡◌};
+ghost use Rattle.laws.specs.Doings.{doing};
+ghost use Rattle.process.specs.Looks.{number_read};
+ghost use Rattle.world.specs.Events.{InEachPast};
+
+use super::World;
+
+impl World {
+    /// The number that a process has read so far of the register that it reads; 0, if it reads none, or an image.
+    #[inline]
+    pub fn number_read(&self, process: u8) -> u32
+        ensures { InEachPast self.now (λ s past. result ≡ number_read (doing s process past)) }
+    {
+        self.core.number_read(process)
+    }
+}
