@@ -12,7 +12,7 @@ use scenario::keywords::{Heading, LineWord, OPENERS, Opener, TARGETS, VERBS, Ver
 use std::alloc::{AllocError, Global};
 
 /// What stands at a place of a form.
-#[derive(Clone, Copy, Debug, PartialEq, Eq)]
+#[derive(Clone, Copy)]
 pub(crate) enum Item {
     /// This key word.
     Key(&'static str),
@@ -37,9 +37,17 @@ pub(crate) fn key_word<M>(rows: &[(&'static str, M)], word: &[u8]) -> Option<&'s
     None
 }
 
+/// The word at a place of a line; behind the last the empty one, which is no key word.
+pub(crate) fn word_at<'w>(words: &[&'w [u8]], place: usize) -> &'w [u8] {
+    match words.get(place) {
+        Some(word) => *word,
+        None => &[],
+    }
+}
+
 /// The key word of a table that stands at a place of a line.
 fn key<M>(rows: &[(&'static str, M)], words: &[&[u8]], place: usize, table: KeyWordTable) -> Item {
-    match words.get(place).and_then(|word| key_word(rows, word)) {
+    match key_word(rows, word_at(words, place)) {
         Some(word) => Item::Key(word),
         None => Item::Choice(table),
     }
@@ -53,7 +61,7 @@ pub(crate) fn line_form(
 ) -> Result<LineForm, AllocError> {
     let first = key(&OPENERS, words, 0, KeyWordTable::Openers(version));
     let mut form = Vec::new(alloc);
-    match words.first().and_then(|word| Opener::of(word)) {
+    match Opener::of(word_at(words, 0)) {
         Some(Opener::Line(word)) => {
             add(&mut form, first)?;
             add_statement(version, word, words, &mut form)?;
@@ -76,7 +84,7 @@ pub(crate) fn head_form(
     words: &[&[u8]],
 ) -> Result<LineForm, AllocError> {
     let first = key(&OPENERS, words, 0, KeyWordTable::Heads(version));
-    let opener = words.first().and_then(|word| Opener::of(word));
+    let opener = Opener::of(word_at(words, 0));
     let mut form = Vec::new(alloc);
     add_head(
         version,
@@ -131,10 +139,10 @@ fn add_statement(
         LineWord::Flick => {
             let mode = key(&FLICKS, words, 1, KeyWordTable::Flicks);
             add(form, mode)?;
-            if mode == Item::Key("pcg") {
-                add_operands(form, &[number("n", u64::MAX)])?;
+            match mode {
+                Item::Key("pcg") => add_operands(form, &[number("n", u64::MAX)]),
+                _ => Ok(()),
             }
-            Ok(())
         }
         LineWord::Wander => add_operands(form, &[COUNT]),
         LineWord::Show => Ok(()),
@@ -148,7 +156,7 @@ fn add_command(
     place: usize,
     form: &mut LineForm,
 ) -> Result<(), AllocError> {
-    let verb = words.get(place).and_then(|word| Verb::of(word));
+    let verb = Verb::of(word_at(words, place));
     let key = match verb {
         Some(Verb::Ask) if version != 2 => Item::Choice(KeyWordTable::Verbs(version)),
         _ => key(&VERBS, words, place, KeyWordTable::Verbs(version)),
@@ -167,7 +175,7 @@ fn add_command(
 pub(crate) fn bits_form(alloc: Global, words: &[&[u8]]) -> Result<LineForm, AllocError> {
     let mut form = Vec::new(alloc);
     add(&mut form, key(&BIT_WORDS, words, 0, KeyWordTable::BitWords))?;
-    if has_value(words.first().and_then(|word| BitWord::of(word))) {
+    if has_value(BitWord::of(word_at(words, 0))) {
         add_operands(&mut form, &[Operand::Bit])?;
     }
     Ok(form)
@@ -190,7 +198,7 @@ pub(crate) fn access_form(alloc: Global, words: &[&[u8]]) -> Result<LineForm, Al
     }
     add(&mut form, Item::Bit)?;
     add(&mut form, key(&MOVES, words, 2, KeyWordTable::Moves))?;
-    if has_value(words.get(2).and_then(|word| BitWord::of(word))) {
+    if has_value(BitWord::of(word_at(words, 2))) {
         add_operands(&mut form, &[Operand::Bit])?;
     }
     Ok(form)
@@ -200,7 +208,7 @@ pub(crate) fn access_form(alloc: Global, words: &[&[u8]]) -> Result<LineForm, Al
 pub(crate) fn mark_form(alloc: Global, words: &[&[u8]]) -> Result<LineForm, AllocError> {
     let mut form = Vec::new(alloc);
     add(&mut form, key(&MARK_WORDS, words, 0, KeyWordTable::Marks))?;
-    match words.first().and_then(|word| MarkWord::of(word)) {
+    match MarkWord::of(word_at(words, 0)) {
         Some(MarkWord::Call) => add_command(2, words, 1, &mut form)?,
         Some(MarkWord::Wait) => add_operands(&mut form, &[number("n", 4_294_967_295)])?,
         Some(MarkWord::Taken) => {
@@ -209,7 +217,7 @@ pub(crate) fn mark_form(alloc: Global, words: &[&[u8]]) -> Result<LineForm, Allo
                 &mut form,
                 key(&REPLY_WORDS, words, 2, KeyWordTable::Replies),
             )?;
-            add_reply(words.get(2).and_then(|word| ReplyWord::of(word)), &mut form)?;
+            add_reply(ReplyWord::of(word_at(words, 2)), &mut form)?;
         }
         Some(MarkWord::Answer) => add_answer(words, &mut form)?,
         Some(MarkWord::Settled) => add_operands(&mut form, &[Operand::Bit])?,
@@ -230,7 +238,7 @@ fn add_answer(words: &[&[u8]], form: &mut LineForm) -> Result<(), AllocError> {
         }
         _ => {
             add(form, key(&REPLY_WORDS, words, 1, KeyWordTable::Answers))?;
-            add_reply(words.get(1).and_then(|word| ReplyWord::of(word)), form)
+            add_reply(ReplyWord::of(word_at(words, 1)), form)
         }
     }
 }

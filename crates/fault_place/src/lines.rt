@@ -1,4 +1,5 @@
 //! The words of a line, and where they stand.
+use bstr::ByteSlice;
 use std::alloc::{AllocError, Global};
 
 /// The most bytes of a line that are shown.
@@ -11,7 +12,7 @@ const SHOWN_BEFORE: usize = 16;
 const MOST_SEEN: usize = 129;
 
 /// Some bytes of a line.
-#[derive(Clone, Copy, Debug, PartialEq, Eq)]
+#[derive(Clone, Copy)]
 pub(crate) struct Span {
     /// How many bytes stand before.
     pub from: usize,
@@ -47,6 +48,14 @@ impl<'a> SplitLine<'a> {
         self.bytes.len()
     }
 
+    /// Whether it begins with the word `open`.
+    pub fn opens(&self) -> bool {
+        match self.words.first() {
+            Some(first) => *first == b"open".as_slice(),
+            None => false,
+        }
+    }
+
     /// Where a word stands; else the first column.
     pub fn word(&self, number: usize) -> Span {
         match self.spans.get(number) {
@@ -78,7 +87,7 @@ impl<'a> SplitLine<'a> {
         let word = self.word(number);
         let bytes = self.bytes.get(word.from..word.to).unwrap_or(&[]);
         let mut from = word.from;
-        for (place, bytes) in bytes.split(|byte| *byte == b'.').enumerate() {
+        for (place, bytes) in bytes.split_str(b".").enumerate() {
             if place == part {
                 let width = bytes.len().max(1);
                 return Span {

@@ -8,7 +8,7 @@ use scenario::operands::{integer, name, number, value};
 use std::fmt::{self, Display, Formatter};
 
 /// A kind of operand.
-#[derive(Clone, Copy, Debug, PartialEq, Eq)]
+#[derive(Clone, Copy)]
 pub(crate) enum Operand {
     /// A number up to `most`, by the letter that a form has for it.
     Number { letter: &'static str, most: u64 },

@@ -2,17 +2,26 @@
 use crate::expected::{add_choice, add_form, add_operand};
 use crate::forms::{
     Item, access_form, bits_form, head_form, key_word, line_form, mark_form, refused_operand,
+    word_at,
 };
 use crate::lines::{Span, SplitLine};
 use crate::near::add_near;
 use crate::operands::{Operand, PROCESS};
 use crate::tables::{FileKind, KeyWordTable};
-use files::FaultKind;
+use bstr::ByteSlice;
+use files::{FaultKind, meaning_of};
 use plain_store::{OpenFault, Setup, Value};
 use record_file::LineKind;
 use scenario::keywords::{OPENERS, Opener};
 use scenario::operands::name;
 use std::alloc::{AllocError, Global};
+
+/// The first words of files, and what is told of a file that begins with one.
+const FIRST_WORDS: [(&str, &str); 3] = [
+    ("bakery", "; this is a scenario"),
+    ("bits", "; this is a bits file"),
+    ("record", "; this is a record"),
+];
 
 /// Where in a line a fault is, if it is there.
 type Found = Result<Option<Span>, AllocError>;
@@ -41,10 +50,10 @@ impl<'l, 'w> Part<'l, 'w> {
 
     /// The word of its bit, where an entry has one.
     fn bit(&self) -> Option<&'w [u8]> {
-        if self.form.get(1) != Some(&Item::Bit) {
-            return None;
+        match self.form.get(1) {
+            Some(Item::Bit) => self.words.get(1).copied(),
+            _ => None,
         }
-        self.words.get(1).copied()
     }
 }
 
@@ -73,9 +82,7 @@ impl Faulty {
             FaultKind::TooLong => self.too_long(line, number, what),
             FaultKind::NotFirst if self.setup.is_none() => self.not_first(line, what),
             FaultKind::NotFirst => self.too_late(line, what),
-            FaultKind::BadSetup if line.words.first() == Some(&b"open".as_slice()) => {
-                self.not_opened(line, what)
-            }
+            FaultKind::BadSetup if line.opens() => self.not_opened(line, what),
             _ => self.in_line(line, what),
         }
     }
@@ -117,18 +124,14 @@ impl Faulty {
 
     /// Adds what a file is that begins with another word.
     fn add_other_kind(&self, first: &[u8], what: &mut String) -> Result<(), AllocError> {
-        match first {
-            b"bakery" => what.push_str("; this is a scenario"),
-            b"bits" => what.push_str("; this is a bits file"),
-            b"record" => what.push_str("; this is a record"),
-            [0xEF, 0xBB, 0xBF, ..] | [0xFF, 0xFE, ..] | [0xFE, 0xFF, ..] => {
-                what.push_str("; this begins with a byte order mark")
-            }
-            _ => {
-                let keys = KeyWordTable::First(self.kind).words(self.alloc)?;
-                add_near(self.alloc, first, keys.as_slice(), what)
-            }
+        if let Some(kind) = meaning_of(&FIRST_WORDS, first) {
+            return what.push_str(kind);
         }
+        if let [0xEF, 0xBB, 0xBF, ..] | [0xFF, 0xFE, ..] | [0xFE, 0xFF, ..] = first {
+            return what.push_str("; this begins with a byte order mark");
+        }
+        let keys = KeyWordTable::First(self.kind).words(self.alloc)?;
+        add_near(self.alloc, first, keys.as_slice(), what)
     }
 
     /// Of a line that stands too late.
@@ -153,7 +156,7 @@ impl Faulty {
         let mut opening = setup.opening;
         if let Some(word) = line.words.get(1) {
             if let Ok(name) = name(word) {
-                if opening.add(name, Value::Count(0)) == Err(OpenFault::Double) {
+                if let Err(OpenFault::Double) = opening.add(name, Value::Count(0)) {
                     return found(line.word(1), "each name opened once", what);
                 }
             }
@@ -169,7 +172,7 @@ impl Faulty {
         let form = match self.kind {
             FileKind::Scenario => line_form(self.alloc, self.version(), words)?,
             FileKind::Bits => bits_form(self.alloc, words)?,
-            FileKind::Record => match words.first().and_then(|word| LineKind::of(word)) {
+            FileKind::Record => match LineKind::of(word_at(words, 0)) {
                 Some(LineKind::Entry) => return self.in_entry(line, what),
                 _ => head_form(self.alloc, self.version(), words)?,
             },
@@ -250,10 +253,10 @@ impl Faulty {
         let Some(bit) = part.bit() else {
             return Ok(None);
         };
-        if bit.split(|byte| *byte == b'.').count() != 4 {
+        if bit.split_str(b".").count() != 4 {
             return found(part.word(1), "a bit as owner.field.bit.reader", what);
         }
-        match bit.split(|byte| *byte == b'.').nth(1) {
+        match bit.split_str(b".").nth(1) {
             Some(field) if record_file::keywords::field(field).is_none() => {
                 add_choice(self.alloc, KeyWordTable::Fields, field, what)?;
                 Ok(Some(part.line.part(1, 1)))
@@ -300,7 +303,7 @@ impl Faulty {
         if PROCESS.fault(process) == Some(self.fault) {
             return Ok(None);
         }
-        for (place, number) in bit.split(|byte| *byte == b'.').enumerate() {
+        for (place, number) in bit.split_str(b".").enumerate() {
             let operand = Operand::Number {
                 letter: "n",
                 most: if place == 2 { 65_535 } else { 255 },

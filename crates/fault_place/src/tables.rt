@@ -48,7 +48,7 @@ pub(crate) const MOVES: [(&str, BitWord); 5] = [
 ];
 
 /// Which key words may stand at a place.
-#[derive(Clone, Copy, Debug, PartialEq, Eq)]
+#[derive(Clone, Copy)]
 pub(crate) enum KeyWordTable {
     /// The first word of a file.
     First(FileKind),
