@@ -1,23 +1,20 @@
 -- What is read of a whole file, line by line, and how that ends.
-use Rattle.std.proofs.Common.{◌≡◌, ℕ, ◌+◌, ◌≤◌, Bool, true, false, List, [], ◌∷◌, ◌++◌, length, reverse, Option, Some, None, Result, Ok, Err, IfErr, IsErrAnd, IfSome, IsSome, refl, ap, sym, subst, ◌∙◌, arith}
+use Rattle.std.proofs.Common.{◌≡◌, ℕ, ◌+◌, ◌≤◌, Bool, false, List, [], ◌++◌, length, reverse, Option, Some, None, Result, Ok, Err, IfErr, IsErrAnd, IfSome, IsSome, refl, ap, sym, subst, ◌∙◌, arith}
 use Rattle.std.proofs.lemmas.List.{length-append, reverse-reverse}
 use Rattle.std.specs.Io.KnownBytes.{IsAtEnd, prepend_known}
-use Rattle.files.specs.Checks.{◌>>=◌}
-use Rattle.files.specs.Files.{at_line}
 use Rattle.files.specs.Reads.{UnlessMemory}
 use Rattle.files.specs.Words.{lines}
 use Rattle.files.specs.declared.faults.Fault.{Fault}
 use Rattle.files.specs.declared.faults.Fault.TheVariants as fault
-use Rattle.files.specs.declared.faults.FaultKind.{FaultKind}
 use Rattle.files.specs.declared.faults.FaultKind.TheVariants.{NotFirst, TooLong}
 use Rattle.companions.specs.picture.declared.page.Form.{Form}
 use Rattle.companions.specs.picture.declared.reads.Reads.{Reads as Mode}
 use Rattle.record.specs.Entries.{Entry, Past}
-use Rattle.record_file.specs.RecordFiles.{Progress, cleared, entry_in, line_read, lines_read, record_of, rest_read, said_by}
+use Rattle.record_file.specs.RecordFiles.{Progress, cleared, entry_in, line_read, record_of, rest_read}
 use Rattle.files.specs.Lines.{IsTooLong, TakesLine}
 use Rattle.files.specs.Streams.{failed_reading}
 use Rattle.files.specs.declared.faults.LineFault.{LineFault}
-use Rattle.files.specs.SourceLines.{EndHolds, Given, GoesToNext, LineState, TakesNext, Told, coming, unless_ended}
+use Rattle.files.specs.SourceLines.{Given, GoesToNext, LineState, TakesNext, Told, coming, unless_ended}
 use Rattle.record_drawer.specs.Sheets.{DrawsAllBands, DrawsAt, EndsAt, GoesOn, IsDrawFault, LineStops, Stands, entries_of}
 use Rattle.record_drawer.specs.declared.drawing.RecordDrawing.{RecordDrawing}
 use Rattle.record_drawer.specs.declared.sheet.DrawnEntry.{DrawnEntry}

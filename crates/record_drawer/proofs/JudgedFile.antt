@@ -1,5 +1,5 @@
 -- A record file that a judge hears, and that is drawn up to the first entry that breaks a law.
-use Rattle.std.proofs.Common.{◌≡◌, ℕ, ◌+◌, ◌≤◌, nat_lt, Bool, true, false, if◌then◌else◌, List, [], ◌∷◌, ◌++◌, length, reverse, Option, Some, None, Result, Ok, Err, IfSome, IsErrAnd, IsSome, refl, ap, sym, subst, ◌∙◌, append-nil, append_assoc, arith}
+use Rattle.std.proofs.Common.{◌≡◌, ℕ, ◌≤◌, nat_lt, Bool, true, false, if◌then◌else◌, List, [], ◌∷◌, ◌++◌, length, reverse, Option, Some, None, Result, Ok, Err, IfSome, IsErrAnd, refl, ap, sym, subst, ◌∙◌, append-nil, append_assoc, arith}
 use Rattle.std.proofs.lemmas.List.{length-reverse, reverse-append}
 use Rattle.std.specs.Option.{option_to_list}
 use Rattle.plain_store.specs.declared.setups.Setup.{Setup}
@@ -14,7 +14,7 @@ use Rattle.files.specs.declared.faults.Fault.TheVariants as fault
 use Rattle.files.specs.declared.faults.FaultKind.{FaultKind}
 use Rattle.files.specs.declared.faults.FaultKind.TheVariants.{TooLong}
 use Rattle.record.specs.Entries.{Entry, Past}
-use Rattle.record_file.specs.RecordFiles.{Progress, Said, cleared, entry_in, line_read, record_grammar, record_of}
+use Rattle.record_file.specs.RecordFiles.{Progress, cleared, entry_in, line_read, record_grammar, record_of}
 use Rattle.record_file.specs.scenario.Reading.{Progress as Head}
 use Rattle.any_judge.specs.trial.Numbers.{number_in, say_entry}
 use Rattle.any_judge.specs.trial.Trials.{HearsAt, good_in}
@@ -23,10 +23,8 @@ use Rattle.any_judge.specs.trial.Trials.{Stands as HearerStands}
 use Rattle.any_judge.specs.trial.Ends.{IsInputFault}
 use Rattle.any_judge.proofs.trial.Ends.{Onwards, goes_on_at_first, onwards_fault, onwards_on}
 use Rattle.any_judge.proofs.trial.Trials.{unless_then}
-use Rattle.any_judge.proofs.trial.Lines.{Left, later_left}
-use Rattle.companions.specs.picture.declared.page.Form.{Form}
-use Rattle.companions.specs.picture.declared.reads.Reads.{Reads as Mode}
-use Rattle.record_drawer.specs.Sheets.{All, DrawsBandsOf, EndsAt, GoesOn, IsDrawFault, IsJudged, LineStops, Shows, Stands, UpTo, entries_of}
+use Rattle.any_judge.proofs.trial.Lines.{later_left}
+use Rattle.record_drawer.specs.Sheets.{All, DrawsBandsOf, EndsAt, GoesOn, IsDrawFault, IsJudged, LineStops, Stands, UpTo, entries_of}
 use Rattle.record_drawer.specs.Writing.{IsWriteFault, failed_write}
 use Rattle.record_drawer.specs.declared.sheet.DrawnEntry.{DrawnEntry}
 use Rattle.record_drawer.specs.declared.sheet.Sheet.{Sheet}

@@ -1,5 +1,5 @@
 -- The number that stands at the front of a text, and the process that lines name.
-use Rattle.std.proofs.Common.{◌≡◌, ◌<◌, ℕ, ◌+◌, ◌*◌, ◌-◌, min, true, false, List, [], ◌∷◌, cond, drop, get_or, length, refl, ap, sym, ◌∙◌}
+use Rattle.std.proofs.Common.{◌≡◌, ◌<◌, ℕ, ◌+◌, ◌*◌, ◌-◌, min, true, false, List, ◌∷◌, cond, drop, get_or, length, ap, sym, ◌∙◌}
 use Rattle.std.proofs.lemmas.List.{drop_more}
 use Rattle.std.specs.Char.{is_ascii_digit}
 use Rattle.record_drawer.specs.Judged.{number_from}

@@ -1,11 +1,10 @@
 -- The picture of a record goes on, entry by entry.
-use Rattle.std.proofs.Common.{◌≡◌, ℕ, ◌+◌, ◌-◌, List, [], ◌∷◌, ◌++◌, codes, flat_map, is_some, false, true≢false, Option, None, Some, refl, ap, sym, subst, ◌∙◌, append-nil, arith}
+use Rattle.std.proofs.Common.{◌≡◌, ℕ, ◌+◌, ◌-◌, List, [], ◌∷◌, ◌++◌, is_some, false, true≢false, Option, None, Some, refl, sym, subst, ◌∙◌, append-nil, arith}
 use Rattle.plain_store.specs.declared.setups.Setup.{Setup}
 use Rattle.record.specs.Entries.{Entry, Past}
 use Rattle.record.specs.declared.access.Access.{Access}
-use Rattle.record_file.specs.Printing.{head_words, step_entry}
+use Rattle.record_file.specs.Printing.{step_entry}
 use Rattle.record_file.specs.RecordFiles.{Progress}
-use Rattle.record_file.specs.scenario.Printing.{printed_line}
 use Rattle.companions.specs.picture.Sheets.{page_front}
 use Rattle.companions.specs.picture.Pages.{page_names}
 use Rattle.companions.specs.picture.declared.page.Form.{Form}

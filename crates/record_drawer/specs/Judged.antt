@@ -1,5 +1,5 @@
 -- The lines that a judge tells of a record, and the lanes in which they stand.
-use Rattle.std.specs.Prelude.{ℕ, ◌+◌, ◌*◌, ◌-◌, ◌&&◌, cond, min, nat_le, List, [], ◌∷◌, ◌++◌, codes, drop, length, map, take, Option, None, Some}
+use Rattle.std.specs.Prelude.{ℕ, ◌+◌, ◌*◌, ◌-◌, ◌&&◌, cond, min, nat_le, List, [], ◌∷◌, codes, drop, length, map, take, Option, None, Some}
 use Rattle.std.specs.Char.{is_ascii_digit}
 use Rattle.std.specs.Option.{option_or}
 use Rattle.std.specs.Str.{bytes_eq}

@@ -1,14 +1,15 @@
 //! The two engines.
-ghost use Rattle.std.specs.Prelude.{◌≡◌, ◌+◌, ◌-◌, ◌^◌, ◌<◌, ℕ, [], IfErr, IfOk, IfSome, List, Ok, OnOk, Option, Some};
+ghost use Rattle.std.specs.Prelude.{◌≡◌, ◌+◌, ◌-◌, ◌^◌, ◌<◌, ℕ, [], false, IfErr, IfOk, IfSome, List, None, Ok, OnOk, Option, Some};
 ghost use Rattle.plain_store.specs.Setups.{checked};
 ghost use Rattle.std.specs.Io.KnownBytes.{IsAtEnd};
 ghost use Rattle.files.specs.Engines.{streams};
 ghost use Rattle.files.specs.Streams.{failed_reading};
 ghost use Rattle.companions.specs.picture.declared.page.Form.TheVariants as form_variants;
 ghost use Rattle.any_judge.specs.trial.Ends.{IsOfRecord};
+ghost use Rattle.any_judge.specs.trial.Trials.{Stands as IsBegun};
 ghost use Rattle.companions.specs.picture.declared.reads.Reads.{Reads as Mode};
 ghost use Rattle.record_file.specs.RecordFiles.{Said};
-ghost use Rattle.record_drawer.specs.Sheets.{DrawsAllBands, DrawsBandsOf, DrawsSaid, Drew, DrewJudged, IsDrawFault, IsJudged, without_write};
+ghost use Rattle.record_drawer.specs.Sheets.{DrawsAllBands, DrawsBandsOf, DrawsSaid, Drew, DrewJudged, IsDrawFault, IsJudged, Stands, without_write};
 ghost use Rattle.record_drawer.specs.Writing.{IsWriteFault, failed_write};
 
 use crate::changes::RecordedChanges;
@@ -159,6 +160,30 @@ fn draw_bands<R: Source, W: Sink>(
 {
     let mut lines = Lines::new(alloc);
     let mut sheet = Sheet::new(alloc, form, reads);
+    draw_lines(&mut lines, &mut sheet, input, output)
+}
+
+/// The same, lent what it draws with, of which nothing is used. It is a function of its own, since values that are dropped at
+/// each way out of a function are dear to prove.
+fn draw_lines<R: Source, W: Sink>(
+    lines: &mut Lines,
+    sheet: &mut Sheet,
+    input: &mut R,
+    output: &mut W,
+) -> Result<DrawnEntry, Fault>
+    requires ahead { lines.old.ahead.bytes ≡ [] }
+    requires ended { lines.old.ahead.ended ≡ false }
+    requires taken { lines.old.taken ≡ 0 }
+    requires stands { (taken : Option (List ℕ)) → Stands sheet.old None [] taken taken }
+    requires reads { R.failures input.old < 2 ^ 64 - 1 }
+    requires writes { W.failures output.old < 2 ^ 64 - 1 }
+    ensures drawn { IfOk result (λ drawn. IfSome (R.to_come input.old) (DrawsAllBands sheet.old.reads sheet.old.form drawn (W.taken output.old) (W.taken output.new))) }
+    ensures good { IfOk result (λ drawn. checked drawn.setup ≡ Ok tt) }
+    ensures end { IfOk result (λ _. IsAtEnd (R.to_come input.new)) }
+    ensures fault { IfErr result (λ fault. IsDrawFault fault (R.to_come input.old)) }
+    ensures read_failures { R.failures input.new ≡ R.failures input.old + failed_reading result }
+    ensures write_failures { W.failures output.new ≡ W.failures output.old + failed_write result }
+{
     'lines: while lines.next(input)? {
         sheet.read(lines.taken(), lines.line(), output)?;
     }
@@ -187,8 +212,35 @@ fn judge_bands<H: Judging, R: Source, W: Sink>(
     ensures write_failures { W.failures output.new ≡ W.failures output.old + failed_write result }
 {
     let mut lines = Lines::new(alloc);
-    let mut trial: Trial<H> = Trial::new(alloc);
     let mut sheet = Sheet::new(alloc, form, reads);
+    let fresh: Trial<H> = Trial::new(alloc);
+    judge_lines(alloc, &mut lines, fresh, &mut sheet, input, output)
+}
+
+/// The same, lent what it draws with, of which nothing is used, and with a fresh trial.
+fn judge_lines<H: Judging, R: Source, W: Sink>(
+    alloc: Global,
+    lines: &mut Lines,
+    fresh: Trial<H>,
+    sheet: &mut Sheet,
+    input: &mut R,
+    output: &mut W,
+) -> Result<(DrawnEntry, u8), Fault>
+    requires ahead { lines.old.ahead.bytes ≡ [] }
+    requires ended { lines.old.ahead.ended ≡ false }
+    requires taken { lines.old.taken ≡ 0 }
+    requires trial { IsBegun H.HasHeard fresh.reader fresh.hearer None [] [] }
+    requires stands { (taken : Option (List ℕ)) → Stands sheet.old None [] taken taken }
+    requires reads { R.failures input.old < 2 ^ 64 - 1 }
+    requires writes { W.failures output.old < 2 ^ 64 - 1 }
+    ensures drawn { IfOk result (λ answer. IfSome (R.to_come input.old) (IsOfRecord (IsJudged H.Keeps H.Tells answer.1 (DrawsBandsOf sheet.old.reads sheet.old.form answer.0 (W.taken output.old) (W.taken output.new))))) }
+    ensures good { IfOk result (λ answer. checked answer.0.setup ≡ Ok tt) }
+    ensures end { IfOk result (λ _. IsAtEnd (R.to_come input.new)) }
+    ensures fault { IfErr result (λ fault. IsDrawFault fault (R.to_come input.old)) }
+    ensures read_failures { R.failures input.new ≡ R.failures input.old + failed_reading result }
+    ensures write_failures { W.failures output.new ≡ W.failures output.old + failed_write result }
+{
+    let mut trial = fresh;
     let mut shows = true;
     'lines: while lines.next(input)? {
         let number = lines.taken();

@@ -1,11 +1,10 @@
 use Rattle.std.proofs.Common.{◌≡◌, ℕ, ◌+◌, Bool, List, reverse, Option, Some, Ok, Err, IfSome, refl, sym, subst, ap, ◌∙◌, arith}
-use Rattle.plain_store.specs.declared.setups.Setup.{Setup}
 use Rattle.files.specs.Reads.{UnlessMemory}
 use Rattle.files.specs.SourceLines.{GoesToNext, coming}
 use Rattle.files.specs.declared.faults.Fault.{Fault}
-use Rattle.files.specs.declared.faults.Fault.TheVariants.{Line, Memory}
+use Rattle.files.specs.declared.faults.Fault.TheVariants.{Line}
 use Rattle.files.specs.declared.faults.FaultKind.TheVariants.{NotFirst}
-use Rattle.record.specs.Entries.{Entry, Past}
+use Rattle.record.specs.Entries.{Past}
 use Rattle.record_file.specs.RecordFiles.{Progress, line_read}
 use Rattle.any_judge.specs.trial.Trials.{GoesOn as HearsOn, IsHeard}
 use Rattle.any_judge.specs.trial.Ends.{IsOfRecord}
@@ -16,15 +15,15 @@ use Rattle.record_drawer.specs.Sheets.{DrawsBandsOf, EndsAt, GoesOn, IsDrawFault
 use Rattle.record_drawer.specs.declared.sheet.DrawnEntry.{DrawnEntry}
 use Rattle.record_drawer.proofs.Ends.{fault_on, reading_same}
 use Rattle.record_drawer.proofs.JudgedFile.{Judged, input_fault, input_wrote, judged_bands, judged_heard, judged_shown, judged_start, line_read_none, read_fault, shown_few, shown_read, writing_fault, writing_read_none}
-use Rattle.record_drawer.proofs.engines.judge_bands.Goals as goal
+use Rattle.record_drawer.proofs.engines.judge_lines.Goals as goal
 
 pub lines-init : goal.lines-init
 lines-init g c = record {
-  judged = judged_start g.H.Hearer.HasHeard g.H.Judging.Keeps g.H.Judging.finds_good g.met.H.Judging.begins g.met.H.Judging.good g.met.H.Judging.bad (g.R.Source.to_come c.args.input.now) c.new-lines.result.ahead c.new-lines.result.taken c.new-trial.result.reader c.new-trial.result.hearer c.new-sheet.result (g.W.Sink.taken c.args.output.now)
-      c.new-lines.ensures.ahead c.new-lines.ensures.ended c.new-lines.ensures.taken c.new-trial.ensures (c.new-sheet.ensures.stands (g.W.Sink.taken c.args.output.now));
-  holds = none_told c.new-lines.result.ahead (g.R.Source.to_come c.args.input.now) c.new-lines.ensures.ended;
-  form = c.new-sheet.ensures.form;
-  reads = c.new-sheet.ensures.reads;
+  judged = judged_start g.H.Hearer.HasHeard g.H.Judging.Keeps g.H.Judging.finds_good g.met.H.Judging.begins g.met.H.Judging.good g.met.H.Judging.bad (g.R.Source.to_come c.args.input.now) c.args.lines.now.ahead c.args.lines.now.taken c.args.fresh.reader c.args.fresh.hearer c.args.sheet.now (g.W.Sink.taken c.args.output.now)
+      c.requires.ahead c.requires.ended c.requires.taken c.requires.trial (c.requires.stands (g.W.Sink.taken c.args.output.now));
+  holds = none_told c.args.lines.now.ahead (g.R.Source.to_come c.args.input.now) c.requires.ended;
+  form = refl;
+  reads = refl;
   whole = refl;
   wrote = refl;
 }
@@ -240,7 +239,7 @@ returns-clause-drawn g c =
     let shown = λ (m : Mode) (f : Form). IsJudged keeps g.H.Hearer.Tells status (DrawsBandsOf m f d first then) in
     let drawn = λ (d : DrawnEntry) (told : List ℕ). (p : Progress) (past : Past) (first : Option (List ℕ)) → t.reader ≡ Some p → Stands t (Some p) past first now → (d.setup ≡ p.head.setup) × EndsAt t.reads t.form p.head.setup past told d.height first then in
     let ended = subst (drawn d) c.as_slice.ensures.value (subst (λ (o : Option DrawnEntry). IfSome o (λ d. drawn d c.as_slice.result.now)) c.in-Some-2.is c.in_ok-end.ensures.ok) in
-    subst (λ (m : Mode). IfSome all (IsOfRecord (shown m c.args.form))) c.lines.invariant.reads (subst (λ (f : Form). IfSome all (IsOfRecord (shown t.reads f))) c.lines.invariant.form
+    subst (λ (m : Mode). IfSome all (IsOfRecord (shown m c.args.sheet.now.form))) c.lines.invariant.reads (subst (λ (f : Form). IfSome all (IsOfRecord (shown t.reads f))) c.lines.invariant.form
     (onwards_all heard (shown t.reads t.form) all mid c.lines.lines.taken old.reader old.hearer v is.0 is.1
     (judged_bands heard keeps finds g.met.H.Judging.begins g.met.H.Judging.good g.met.H.Judging.bad g.H.Hearer.Tells c.lines.shows old.hearer t v.before v.entries v.numbers first now then is.0 d c.in_ok-telling.telling.text.items status is.1 v.stands.heard u.shown
     (c.in_ok-telling.ensures is.0.head.setup v.entries v.numbers is.2) ended) ends.before))

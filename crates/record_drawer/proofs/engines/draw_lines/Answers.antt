@@ -11,7 +11,7 @@ use Rattle.record_drawer.specs.Sheets.{DrawsAllBands, EndsAt, GoesOn, IsDrawFaul
 use Rattle.record_drawer.specs.declared.sheet.DrawnEntry.{DrawnEntry}
 use Rattle.any_judge.proofs.trial.Ends.{none_told}
 use Rattle.record_drawer.proofs.Ends.{fault_on, onwards_drawn, onwards_fault, onwards_none, onwards_on, onwards_start, onwards_stop, reading_same, read_some}
-use Rattle.record_drawer.proofs.engines.draw_bands.Goals as goal
+use Rattle.record_drawer.proofs.engines.draw_lines.Goals as goal
 
 pub lines-preserved : goal.lines-preserved
 lines-preserved g c =
@@ -34,10 +34,10 @@ lines-preserved g c =
 pub lines-init : goal.lines-init
 lines-init g c =
     record {
-      onwards = onwards_start (g.R.Source.to_come c.args.input.now) c.new-lines.result.ahead c.new-lines.result.taken c.new-sheet.result (g.W.Sink.taken c.args.output.now) c.new-lines.ensures.ahead c.new-lines.ensures.ended c.new-lines.ensures.taken (c.new-sheet.ensures.stands (g.W.Sink.taken c.args.output.now));
-      holds = none_told c.new-lines.result.ahead (g.R.Source.to_come c.args.input.now) c.new-lines.ensures.ended;
-      form = c.new-sheet.ensures.form;
-      reads = c.new-sheet.ensures.reads;
+      onwards = onwards_start (g.R.Source.to_come c.args.input.now) c.args.lines.now.ahead c.args.lines.now.taken c.args.sheet.now (g.W.Sink.taken c.args.output.now) c.requires.ahead c.requires.ended c.requires.taken (c.requires.stands (g.W.Sink.taken c.args.output.now));
+      holds = none_told c.args.lines.now.ahead (g.R.Source.to_come c.args.input.now) c.requires.ended;
+      form = refl;
+      reads = refl;
       whole = refl;
       wrote = refl;
     }
@@ -76,8 +76,8 @@ returns-in-None-clause-fault g c =
     subst (λ (f : Fault). IsDrawFault f all) (sym (c.behind.ensures ∙ ap (λ (n : ℕ). Line (record { line = n + 1; kind = NotFirst })) ends.taken))
     (onwards_none all mid c.lines.lines.taken c.lines.sheet _ _ u (c.in_ok-end.ensures.none c.in-None.is) ends.before)
 
-pub returns-clause-drawn : goal.returns-clause-drawn
-returns-clause-drawn g c =
+pub returns-in-Some-clause-drawn : goal.returns-in-Some-clause-drawn
+returns-in-Some-clause-drawn g c =
     let u = c.lines.invariant.onwards in
     let all = g.R.Source.to_come c.args.input.now in
     let mid = coming c.lines.lines.ahead (g.R.Source.to_come c.lines.input) in
@@ -87,9 +87,9 @@ returns-clause-drawn g c =
     let d : DrawnEntry = c.in-Some.drawn in
     let read = read_some t.reader (subst (λ (o : Option DrawnEntry). IfSome o (λ _. IsSome t.reader)) c.in-Some.is c.in_ok-end.ensures.some) in
     let family = λ (m : Mode) (f : Form). IfSome all (DrawsAllBands m f d (g.W.Sink.taken c.args.output.now) (g.W.Sink.taken c.end.new.output)) in
-    subst (λ (m : Mode). family m c.args.form) c.lines.invariant.reads (subst (λ (f : Form). family t.reads f) c.lines.invariant.form
+    subst (λ (m : Mode). family m c.args.sheet.now.form) c.lines.invariant.reads (subst (λ (f : Form). family t.reads f) c.lines.invariant.form
     (onwards_drawn all mid c.lines.lines.taken t (g.W.Sink.taken c.args.output.now) (g.W.Sink.taken c.lines.output) (g.W.Sink.taken c.end.new.output) u read.0 d read.1 ends.before
     (subst (λ (o : Option DrawnEntry). IfSome o (λ d. (p : Progress) (past : Past) (first : Option (List ℕ)) → t.reader ≡ Some p → Stands t (Some p) past first (g.W.Sink.taken c.lines.output) → (d.setup ≡ p.head.setup) × EndsAt t.reads t.form p.head.setup past [] d.height first (g.W.Sink.taken c.end.new.output))) c.in-Some.is c.in_ok-end.ensures.ok)))
 
-pub returns-clause-end : goal.returns-clause-end
-returns-clause-end g c = c.in_ok-next.ensures.holds c.lines.invariant.holds (c.in_ok-next.ensures.ended c.if-branch.false)
+pub returns-in-Some-clause-end : goal.returns-in-Some-clause-end
+returns-in-Some-clause-end g c = c.in_ok-next.ensures.holds c.lines.invariant.holds (c.in_ok-next.ensures.ended c.if-branch.false)

@@ -1,7 +1,7 @@
 use Rattle.std.proofs.Common.{◌≡◌, ◌-◌, ◌^◌}
 use Rattle.files.specs.SourceLines.{EndHolds, coming}
 use Rattle.record_drawer.proofs.Ends.{Onwards}
-use Rattle.record_drawer.proofs.engines.draw_bands.Given as goal
+use Rattle.record_drawer.proofs.engines.draw_lines.Given as goal
 
 -- reading what is left goes on to what reading all gives, each entry so far was drawn, a source that has told its end is at
 -- it, and no call has failed
@@ -9,8 +9,8 @@ abbrev pub invariant-lines : goal.invariant-lines
 invariant-lines g l = record {
   onwards : Onwards (g.R.Source.to_come l.fn.input) (coming l.lines.ahead (g.R.Source.to_come l.input)) l.lines.taken l.sheet (g.W.Sink.taken l.fn.output) (g.W.Sink.taken l.output);
   holds : EndHolds l.lines.ahead (g.R.Source.to_come l.input);
-  form : l.sheet.form ≡ l.fn.form;
-  reads : l.sheet.reads ≡ l.fn.reads;
+  form : l.sheet.form ≡ l.fn.sheet.form;
+  reads : l.sheet.reads ≡ l.fn.sheet.reads;
   whole : g.R.Source.failures l.input ≡ g.R.Source.failures l.fn.input;
   wrote : g.W.Sink.failures l.output ≡ g.W.Sink.failures l.fn.output;
 }
