@@ -111,10 +111,11 @@ impl Auditor {
         ensures setup { result ≡ None → self.new.core.setup ≡ self.old.core.setup }
         ensures heard { Hears self.old (entry_by process (Some access) []) self.new result }
     {
-        match self.core.step_told(process, flick_of(access)) {
-            Some(made) => different(made, access),
-            None => self.hear_elsewhere(process, access),
+        if self.core.left(process) == 0 {
+            return self.hear_elsewhere(process, access);
         }
+        let made = self.core.make_step_within(process, flick_of(access));
+        different(made, access)
     }
 
     /// The same where its process is not within a number access.

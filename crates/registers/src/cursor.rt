@@ -280,7 +280,7 @@ impl Cursor {
 
     /// The access that comes next, by this flick: the value of a settling that has not begun. The value of a read's end is
     /// left open, and is the flick.
-    #[inline]
+    #[inline(always)]
     pub fn next(&self, flick: bool) -> Access
         requires { self.now.bit < self.now.width }
         ensures { result ≡ next_access self.now flick }

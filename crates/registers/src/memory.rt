@@ -3,7 +3,7 @@ ghost use Rattle.std.specs.Prelude.{◌≡◌, ◌≢◌, ℕ, ◌<◌, ◌≤�
 ghost use Rattle.plain_store.specs.Setups.{checked};
 ghost use Rattle.record.specs.Registers.{width};
 ghost use Rattle.flicks.specs.Flicks.{FlickState, flicks_after};
-ghost use Rattle.registers.specs.Accesses.{answer_of, applied, cursor_after, next_answered, read_after, read_move, reads_of, run_of, write_access, writes_of};
+ghost use Rattle.registers.specs.Accesses.{answer_of, applied, cursor_after, next_access, next_answered, read_after, read_move, reads_of, run_of, write_access, writes_of};
 ghost use Rattle.registers.specs.Begins.{is_settling};
 ghost use Rattle.registers.specs.Cursors.{Fits, first_lane, rest_of, rest_by};
 ghost use Rattle.registers.specs.Flags.{flag_in};
@@ -115,14 +115,15 @@ impl BitMemory {
         access
     }
 
-    /// Makes the next access of a read or a write, by this flick, and tells nothing; the cursor goes on.
+    /// Makes the next access of a read or a write, by this flick, and tells it; the cursor goes on.
     #[inline(always)]
-    pub fn step(&mut self, cursor: &mut Cursor, flick: bool)
+    pub fn step(&mut self, cursor: &mut Cursor, flick: bool) -> Access
         requires kind { is_settling cursor.old.run ≡ false }
         requires going { cursor.old.bit < cursor.old.width }
         requires fits { Fits self.old cursor.old }
-        ensures cursor { cursor.new ≡ cursor_after cursor.old (next_answered cursor.old self.old flick).how }
-        ensures memory { self.new ≡ applied cursor.old.copies self.old (next_answered cursor.old self.old flick) }
+        ensures access { result ≡ next_answered cursor.old self.old flick }
+        ensures cursor { cursor.new ≡ cursor_after cursor.old result.how }
+        ensures memory { self.new ≡ applied cursor.old.copies self.old result }
     {
         match cursor.run() {
             NumberRun::Reads => self.read_step(cursor, flick),
@@ -150,10 +151,11 @@ impl BitMemory {
 
     /// One access of a read, without a branch on whether it is a begin or an end.
     #[inline(always)]
-    fn read_step(&mut self, cursor: &mut Cursor, flick: bool)
+    fn read_step(&mut self, cursor: &mut Cursor, flick: bool) -> Access
         requires reads { cursor.old.run ≡ NumberRun.Reads }
         requires going { cursor.old.bit < cursor.old.width }
         requires there { HasLanes self.old (first_lane cursor.old) 1 cursor.old.width }
+        ensures access { result ≡ next_access cursor.old (answer_of cursor.old self.old flick) }
         ensures cursor { cursor.new ≡ read_after cursor.old (answer_of cursor.old self.old flick) }
         ensures memory { self.new ≡ moved self.old (first_lane cursor.old) cursor.old.bit (read_move cursor.old.begun (answer_of cursor.old self.old flick)) }
     {
@@ -161,21 +163,30 @@ impl BitMemory {
         let copies = &mut self.lanes[cursor.lane()];
         let value = copies.answer(bit, flick);
         copies.read_next(bit, begun);
+        let access = cursor.next(value);
         cursor.read_on(value);
+        access
     }
 
     /// One access of a write.
     #[inline(always)]
-    fn write_step(&mut self, cursor: &mut Cursor)
+    fn write_step(&mut self, cursor: &mut Cursor) -> Access
         requires writes { cursor.old.run ≡ NumberRun.Writes }
         requires going { cursor.old.bit < cursor.old.width }
         requires there { HasLanes self.old (first_lane cursor.old) cursor.old.copies cursor.old.width }
+        ensures access { result ≡ next_access cursor.old false }
         ensures now { (cursor.new, self.new) ≡ write_access (cursor.old, self.old) }
         ensures inside { cursor.old.copy < cursor.old.copies }
     {
+        // `next` looks at the kind of run, which is known here: where nobody looks at the access, that goes.
         let how = cursor.write_move();
+        let access = Access {
+            how,
+            ..cursor.next(false)
+        };
         self.lanes[cursor.copy_lane()].go_on(cursor.bit(), how);
         cursor.write_on();
+        access
     }
 
     /// So many accesses of a read.
@@ -203,7 +214,7 @@ impl BitMemory {
     {
         let bits = self.quiet_ahead(cursor, steps);
         if bits == 0 {
-            self.read_step(cursor, flicks.flick());
+            let _access = self.read_step(cursor, flicks.flick());
             1
         } else {
             self.read_word(cursor, bits);
@@ -273,7 +284,7 @@ impl BitMemory {
     {
         let bits = cursor.whole_ahead(steps);
         if bits == 0 {
-            self.write_step(cursor);
+            let _access = self.write_step(cursor);
             1
         } else {
             let made = 2 * (cursor.copies() * bits);

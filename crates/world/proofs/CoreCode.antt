@@ -4,6 +4,7 @@ use Rattle.std.proofs.lemmas.Bool.Decides.{nat_tests}
 use Rattle.std.specs.Prelude.{nat_le, slice_get, slice_index_or, slice_set}
 use Rattle.plain_store.specs.declared.Command.{Command}
 use Rattle.record.specs.safe_bit.Cell.{Cell}
+use Rattle.record.specs.declared.access.Access.{Access}
 use Rattle.record.specs.declared.events.Event.{Event}
 use Rattle.record.specs.declared.events.Event.TheVariants as event
 use Rattle.record.specs.declared.stages.Stage.{Stage}
@@ -15,17 +16,19 @@ use Rattle.record.specs.Records.{past_of, process_of, refused_at}
 use Rattle.record.proofs.World.{refused-idle}
 use Rattle.laws.specs.Steps.{cut_of}
 use Rattle.laws.proofs.FrameEvents.{is-waiting}
+use Rattle.process.specs.declared.told.Effect.TheVariants.{Steps}
+use Rattle.process.specs.declared.told.StepTold.TheVariants.{Nothing}
 use Rattle.process.specs.Places.{is_full, left_at, may_fail, may_step, stage_doing}
 use Rattle.world.specs.Changes.{told}
 use Rattle.world.specs.Cores.{CoreState, CoreWalks, KeepsCore}
-use Rattle.world.specs.Going.{core_after, registers_after, seat_after}
+use Rattle.world.specs.Going.{CoreGoes, core_after, registers_after, seat_after}
 use Rattle.world.specs.Seats.{Seat, is_waiting, seat_stepped}
-use Rattle.world.specs.Walks.{left_in}
-use Rattle.world.proofs.CoreKeeps.{IsNext}
+use Rattle.world.specs.Walks.{HasOneFewer, KeepOthers, left_in}
+use Rattle.world.proofs.CoreKeeps.{IsNext, next-keeps}
 use Rattle.world.proofs.CoreRefused.{full-is, stage-told}
 use Rattle.flicks.specs.Flicks.{FlickState}
 use Rattle.process.specs.Serving.{answered_at, steps_of}
-use Rattle.world.proofs.CoreWalks.{core_ran, has-run, left-core, told-same, within-after, within-fewer}
+use Rattle.world.proofs.CoreWalks.{core_ran, has-run, left-core, next-others, told-same, within-after, within-fewer, within-goes, within-next}
 use Rattle.process.proofs.Left.{left-stays}
 use Rattle.world.proofs.WorldOpen.{IsSeated, is-allowed, is-seated, seat-below, seat-indexed, seat-left, seat-there}
 use Rattle.world.proofs.WorldStages.{fails-may, steps-may}
@@ -131,10 +134,25 @@ within-code c p flick seat some i then registers index then_is registers_is =
     untold-after c (event.Step p flick) seat then registers (is_waiting seat) i p index refl then_is registers_is refl
     (sym (left-stays seat.process flick (value_of (answered_at seat.process c.registers flick).how) some).0)
 
-pub fewer-code : (c d new : CoreState) (p : ℕ) (flick : Bool) (seat : Seat) → c ≡ d → slice_get c.seats p ≡ Some seat → 0 < left_at seat.process → new ≡ core_after c seat (event.Step p flick) → left_in d.seats p ≡ left_in new.seats p + 1
-fewer-code c d new p flick seat view there some is =
-    within-fewer c d p flick seat c.registers view there some
-    ∙ ap (λ (x : CoreState). left_in x.seats p + 1) (within-after c p flick seat some ∙ sym is)
+-- it leaves this
+pub record IsOne (d : CoreState) (p : ℕ) (flick : Bool) (access : Access) (new : CoreState) : Type 0 where
+  pub keeps : KeepsCore new
+  pub goes : CoreGoes d (event.Step p flick) (Steps Nothing) (Some access) new
+  pub fewer : HasOneFewer d.seats p new.seats
+  pub others : KeepOthers d.seats p new.seats
+
+pub is-one : (c d : CoreState) (p : ℕ) (flick : Bool) (seat : Seat) → KeepsCore c → c ≡ d → IsLeft c p seat → (i : ℕ) (then : Seat) (registers : List (List Cell)) (access : Access) →
+    i ≡ p → then ≡ seat_after c seat (event.Step p flick) → registers ≡ registers_after c seat (event.Step p flick) → access ≡ answered_at seat.process c.registers flick →
+    IsOne d p flick access (record c { registers = registers; seats = slice_set c.seats i then })
+is-one c d p flick seat k view l i then registers access index then_is registers_is access_is =
+    let new : CoreState = record c { registers = registers; seats = slice_set c.seats i then } in
+    let is : new ≡ core_after c seat (event.Step p flick) = within-code c p flick seat l.some i then registers index then_is registers_is in
+    record {
+      keeps = next-keeps c new (event.Step p flick) seat k (within-next c p flick seat l.there l.some) is;
+      goes = within-goes c d new p flick access seat view l.there l.some access_is is;
+      fewer = within-fewer c d p flick seat c.registers view l.there l.some ∙ ap (λ (x : CoreState). left_in x.seats p + 1) (within-after c p flick seat l.some ∙ sym is);
+      others = next-others c d new p flick seat view is;
+    }
 
 -- Of so many of them.
 

@@ -1,5 +1,5 @@
 -- A process within a number access of its call: how many accesses are left after a step, and that none of them ends a number that is read.
-use Rattle.std.proofs.Common.{◌≡◌, ℕ, ◌+◌, ◌-◌, ◌*◌, ◌<◌, Bool, true, false, if◌then◌else◌, List, [], ◌∷◌, length, Option, None, Some, refl, ap, sym, subst, ◌∙◌, arith}
+use Rattle.std.proofs.Common.{◌≡◌, ℕ, ◌+◌, ◌<◌, Bool, true, false, if◌then◌else◌, List, [], ◌∷◌, Option, None, Some, refl, ap, sym, subst, ◌∙◌, arith}
 use Rattle.plain_store.specs.declared.Setup.{Setup}
 use Rattle.record.specs.safe_bit.declared.Move.{Move}
 use Rattle.record.specs.safe_bit.declared.Move.TheVariants.{BeginWrite, EndWrite, BeginRead, EndRead, Settle}
@@ -8,7 +8,7 @@ use Rattle.record.specs.declared.events.Event.{Event}
 use Rattle.record.specs.declared.events.Event.TheVariants.{Step}
 use Rattle.record.specs.Entries.{Entry, Past}
 use Rattle.record.specs.Moves.{ended, valued}
-use Rattle.record.specs.Parts.{Part, is_over, read_at}
+use Rattle.record.specs.Parts.{Part, is_over}
 use Rattle.record.specs.Places.{Run, Reading, Writing, access_at, value_of}
 use Rattle.record.specs.Records.{entry_of, past_of}
 use Rattle.record.specs.Registers.{width}

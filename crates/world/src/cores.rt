@@ -16,7 +16,6 @@ ghost use Rattle.world.specs.Walks.{HasOneFewer, KeepOthers, left_in};
 
 mod copies;
 mod looking;
-mod told;
 
 use crate::queue::listed;
 use crate::seat::Seat;
@@ -179,7 +178,7 @@ impl Core {
     {
         if 0 < self.left(process) {
             *told = StepTold::Nothing;
-            return Ok(self.make_step_told(process, flick));
+            return Ok(self.make_step_within(process, flick));
         }
         if let Some(refusal) = self.step_refusal(process) {
             return Err(refusal);
@@ -248,21 +247,10 @@ impl Core {
         self.seats[at].process().left()
     }
 
-    /// One step, by this flick, of a process that is within a number access: it has no mark. So few words are looked at
-    /// that it is quicker than a step which may lead to something.
+    /// One step, by this flick, of a process that is within a number access, and its access: it has no mark. So few words
+    /// are looked at that it is quicker than a step which may lead to something.
     #[inline(always)]
-    pub fn make_step_within(&mut self, process: u8, flick: bool)
-        requires { 0 < left_in self.old.seats process }
-        ensures quietly { CoreStepsQuietly self.old process flick self.new }
-        ensures fewer { HasOneFewer self.old.seats process self.new.seats }
-        ensures others { KeepOthers self.old.seats process self.new.seats }
-    {
-        self.seats[usize::from(process)].step_within(&mut self.registers, flick);
-    }
-
-    /// The same, with its access.
-    #[inline(always)]
-    pub fn make_step_told(&mut self, process: u8, flick: bool) -> Access
+    pub fn make_step_within(&mut self, process: u8, flick: bool) -> Access
         requires { 0 < left_in self.old.seats process }
         ensures quietly { CoreStepsQuietly self.old process flick self.new }
         ensures accepted { CoreAddsQuietly self.old process flick result }
@@ -270,7 +258,7 @@ impl Core {
         ensures fewer { HasOneFewer self.old.seats process self.new.seats }
         ensures others { KeepOthers self.old.seats process self.new.seats }
     {
-        self.seats[usize::from(process)].step_told(&mut self.registers, flick)
+        self.seats[usize::from(process)].step_within(&mut self.registers, flick)
     }
 
     /// An event that is not refused, and in `effect` what it leads to; the access of a step.

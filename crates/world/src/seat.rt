@@ -139,19 +139,7 @@ impl Seat {
 
     /// Makes the next access, within a number access of a call.
     #[inline(always)]
-    pub fn step_within(&mut self, registers: &mut BitMemory, flick: bool)
-        requires within { 0 < left_at self.old.process }
-        requires registers { AreOf self.old.process.setup registers.old }
-        ensures seat { self.new ≡ seat_stepped (step_by flick (self.old.process, registers.old)).0 self.old }
-        ensures registers { registers.new ≡ (step_by flick (self.old.process, registers.old)).1 }
-    {
-        self.begun = self.begun || self.process.is_at_door();
-        self.process.step_within(registers, flick);
-    }
-
-    /// The same, with its access.
-    #[inline(always)]
-    pub fn step_told(&mut self, registers: &mut BitMemory, flick: bool) -> Access
+    pub fn step_within(&mut self, registers: &mut BitMemory, flick: bool) -> Access
         requires within { 0 < left_at self.old.process }
         requires registers { AreOf self.old.process.setup registers.old }
         ensures access { result ≡ answered_at self.old.process registers.old flick }
@@ -159,7 +147,7 @@ impl Seat {
         ensures registers { registers.new ≡ (step_by flick (self.old.process, registers.old)).1 }
     {
         self.begun = self.begun || self.process.is_at_door();
-        self.process.step_told(registers, flick)
+        self.process.step_within(registers, flick)
     }
 
     /// Makes so many of the next accesses, one at least, within a number access of a call.

@@ -13,7 +13,7 @@ ghost use Rattle.world.specs.Events.{Adds, AddsEvent, AddsStep, EventKeepsHeadli
 ghost use Rattle.record.specs.Newest.{newest};
 ghost use Rattle.world.specs.Shows.{Shows};
 ghost use Rattle.process.specs.declared.told.Effect.TheVariants.{Steps};
-ghost use Rattle.world.specs.Walks.{HasOneFewer, KeepOthers, MakesQuietly, StepsQuietly, Walks, left_in};
+ghost use Rattle.world.specs.Walks.{HasOneFewer, KeepOthers, MakesQuietly, Walks, left_in};
 
 mod looking;
 
@@ -162,26 +162,15 @@ impl World {
     }
 
     /// One step, by this flick, of a process that is within a number access as those of `run` are: as `step` makes it, and
-    /// without a mark; of it the headline holds.
+    /// without a mark; of it the headline holds. It answers its access, which costs nothing where nobody looks at it.
     #[inline(always)]
-    pub fn make_step_within(&mut self, process: u8, flick: bool)
-        requires { 0 < left_in self.old.seats process }
-        ensures quietly { StepsQuietly self.old process flick self.new }
-        ensures fewer { HasOneFewer self.old.seats process self.new.seats }
-        ensures others { KeepOthers self.old.seats process self.new.seats }
-    {
-        self.core.make_step_within(process, flick);
-    }
-
-    /// The same, for who hears each step: it answers its access, which takes as long again.
-    #[inline(always)]
-    pub fn make_step_told(&mut self, process: u8, flick: bool) -> Access
+    pub fn make_step_within(&mut self, process: u8, flick: bool) -> Access
         requires { 0 < left_in self.old.seats process }
         ensures quietly { MakesQuietly self.old process flick result self.new }
         ensures fewer { HasOneFewer self.old.seats process self.new.seats }
         ensures others { KeepOthers self.old.seats process self.new.seats }
     {
-        self.core.make_step_told(process, flick)
+        self.core.make_step_within(process, flick)
     }
 
     /// There are events whose record the world shows. Nothing to do: it hands over what every other clause takes for

@@ -45,27 +45,15 @@ impl Process {
         access
     }
 
-    /// The same within a number access, where it leads to nothing. The access is not told.
+    /// The same within a number access, where it leads to nothing.
     #[inline(always)]
-    pub fn step_within(&mut self, memory: &mut BitMemory, flick: bool)
-        requires left { 0 < left_at self.old }
-        requires memory { AreOf self.old.setup memory.old }
-        ensures { (self.new, memory.new) ≡ step_by flick (self.old, memory.old) }
-    {
-        memory.step(&mut self.cursor, flick);
-    }
-
-    /// The same, with the access told.
-    #[inline(always)]
-    pub fn step_told(&mut self, memory: &mut BitMemory, flick: bool) -> Access
+    pub fn step_within(&mut self, memory: &mut BitMemory, flick: bool) -> Access
         requires left { 0 < left_at self.old }
         requires memory { AreOf self.old.setup memory.old }
         ensures access { result ≡ answered_at self.old memory.old flick }
         ensures step { (self.new, memory.new) ≡ step_by flick (self.old, memory.old) }
     {
-        let access = memory.make(&self.cursor, flick);
-        self.cursor.advance(access.how);
-        access
+        memory.step(&mut self.cursor, flick)
     }
 
     /// So many steps within a number access, each by the flick that is next.

@@ -1,4 +1,4 @@
-use Rattle.std.proofs.Common.{◌≡◌, ◌<◌, length, subst, ap, sym, ◌∙◌, arith}
+use Rattle.std.proofs.Common.{◌≡◌, ◌<◌, length, subst, ap, ◌∙◌, arith}
 use Rattle.process.specs.Places.{process_after}
 use Rattle.world.specs.Cores.{CoreState, InEachCorePast, with_history}
 use Rattle.world.proofs.CoreLooks.{process-shown}

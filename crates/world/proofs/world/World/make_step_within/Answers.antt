@@ -1,7 +1,9 @@
-use Rattle.std.proofs.Common.{◌≡◌, ◌+◌, ◌<◌, sym, subst}
+use Rattle.std.proofs.Common.{◌≡◌, ◌+◌, ◌<◌, refl, sym, subst}
+use Rattle.record.specs.declared.events.Event.TheVariants.{Step}
 use Rattle.world.specs.Cores.{with_history}
 use Rattle.world.specs.Shows.{WorldState}
-use Rattle.world.specs.Walks.{KeepOthers, StepsQuietly, left_in}
+use Rattle.world.specs.Walks.{KeepOthers, MakesQuietly, left_in}
+use Rattle.world.proofs.WorldHeadline.{keeps_headline}
 use Rattle.world.proofs.WorldKeeps.{quietly_keeps}
 use Rattle.world.proofs.world.World.make_step_within.Goals as goal
 
@@ -12,7 +14,14 @@ pub invariant_of-self : goal.invariant_of-self
 invariant_of-self c = quietly_keeps c.self.inside.core c.make_step_within.new.self c.self.inside.history.items c.args.process c.args.flick _ c.self.invariant c.make_step_within.ensures.quietly
 
 pub returns-clause-quietly : goal.returns-clause-quietly
-returns-clause-quietly c = subst (λ (w : WorldState). StepsQuietly w c.args.process c.args.flick (with_history c.make_step_within.new.self c.self.inside.history.items)) c.self.view_is (c.make_step_within.ensures.quietly.steps c.self.inside.history.items)
+returns-clause-quietly c =
+    let taken = c.self.inside.history.items in
+    let old : WorldState = with_history c.self.inside.core taken in
+    let new : WorldState = with_history c.make_step_within.new.self taken in
+    let q = c.make_step_within.ensures.quietly.steps taken in
+    let adds = c.make_step_within.ensures.accepted taken in
+    subst (λ (w : WorldState). MakesQuietly w c.args.process c.args.flick c.make_step_within.result new) c.self.view_is
+    (record { access = c.make_step_within.result; adds = adds; shows = q.shows; headline = keeps_headline old new (Step c.args.process c.args.flick) c.args.process _ adds q.shows q.setup; setup = q.setup }, refl)
 
 pub returns-clause-fewer : goal.returns-clause-fewer
 returns-clause-fewer c = subst (λ (w : WorldState). left_in w.seats c.args.process ≡ left_in c.make_step_within.new.self.seats c.args.process + 1) c.self.view_is c.make_step_within.ensures.fewer
