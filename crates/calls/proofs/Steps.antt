@@ -1,5 +1,5 @@
 -- What is kept of a process is what looking back finds: it goes on with an entry as the look-backs do.
-use Rattle.std.proofs.Common.{◌≡◌, ℕ, suc, ◌==◌, Bool, true, false, ◌&&◌, ◌||◌, cond, ◌∷◌, Option, None, Some, fold, is_none, is_some, length, refl, sym, ap, ◌∙◌, eq-eqb, add-one}
+use Rattle.std.proofs.Common.{◌≡◌, ℕ, suc, ◌==◌, Bool, true, false, ◌&&◌, cond, ◌∷◌, Option, None, Some, fold, is_none, is_some, length, refl, sym, ap, ◌∙◌, eq-eqb, add-one}
 use Rattle.plain_store.specs.declared.Answer.{Answer}
 use Rattle.plain_store.specs.declared.Command.{Command}
 use Rattle.plain_store.specs.declared.Setup.{Setup}
@@ -12,9 +12,8 @@ use Rattle.record.specs.Moves.{moves_of}
 use Rattle.read_law.specs.Looks.{ends_overlapped}
 use Rattle.calls.specs.declared.called.Accesses.{Accesses}
 use Rattle.calls.specs.declared.called.Marked.{Marked}
-use Rattle.calls.specs.declared.called.FinishedRead.{FinishedRead}
 use Rattle.calls.specs.declared.standing.CallStanding.{CallStanding}
-use Rattle.calls.specs.Columns.{accesses, answer_after, begins_ticket, called, called_at, count_in_call, ends_overlapped_read, ends_raising, ends_waiting, greatest_after, has_access, is_answered, is_calling, is_left, is_read, is_taken, is_withdrawal, is_write, makes_itself, marked, more_if, newest_after, number_after, number_read, number_with, over_accesses, over_call, place_after, tells_waiting, ticket_after, ticket_in_call, waited_for}
+use Rattle.calls.specs.Columns.{accesses, answer_after, called, called_at, count_in_call, ends_overlapped_read, ends_waiting, has_access, is_answered, is_calling, is_left, is_read, is_taken, is_withdrawal, is_write, makes_itself, marked, more_if, number_after, number_read, over_call, place_after, tells_waiting, ticket_after, ticket_in_call, waited_for}
 use Rattle.calls.specs.Stepping.{accessed_by, begun, first_if, heard, marked_all, no_accesses, no_marks, standing, with_access, with_mark}
 use Rattle.calls.proofs.Folds.{answer-on, answered-on, called_has, door_end-on, entered-on, failed-on, fold-field, fold-first, left-on, marked_all-is, place-on, taken-on, ticket-on, wait_end-on, with_marks, withdrew-on}
 use Rattle.calls.proofs.InCall.{first_none, number-called, number-mine, number-other, over-called, over-mine, over-other}
@@ -121,31 +120,6 @@ waiting s p before e newest = elim e.access as (λ _. Option ℕ) [
   | Some a ↦ cond (tells_waiting s p (ticket_in_call p before) (number_in_call p (has ends_waiting) before) a (number_after a.bit a.how (number_read p before))) (Some a.owner) newest
 ]
 
--- what accesses make, generic in what they make it of
-over-with : {A : Type 0} (p : ℕ) (start : A) (with : Past → Access → A → A) (e : Entry) (past : Past) → e.process ≡ p → has is_called e ≡ false → (o : Option Access) → e.access ≡ o →
-    over_accesses p start with (e ∷ past) ≡ elim o as (λ _. A) [ None ↦ over_accesses p start with past | Some a ↦ with past a (over_accesses p start with past) ]
-over-with {A} p start with e past h called o is =
-    over-mine {A = A} p start (λ before e found. elim e.access as (λ _. A) [ None ↦ found | Some a ↦ with before a found ]) e past h called
-    ∙ ap (λ (o : Option Access). elim o as (λ _. A) [ None ↦ over_accesses p start with past | Some a ↦ with past a (over_accesses p start with past) ]) is
-
-over-begun : {A : Type 0} (p : ℕ) (start : A) (with : Past → Access → A → A) (e : Entry) (past : Past) → e.process ≡ p → has is_called e ≡ true → over_accesses p start with (e ∷ past) ≡ start
-over-begun {A} p start with e past h some = over-called {A = A} p start (λ before e found. elim e.access as (λ _. A) [ None ↦ found | Some a ↦ with before a found ]) e past h some
-
-over-else : {A : Type 0} (p : ℕ) (start : A) (with : Past → Access → A → A) (e : Entry) (past : Past) → (e.process == p) ≡ false → over_accesses p start with (e ∷ past) ≡ over_accesses p start with past
-over-else {A} p start with e past h = over-other {A = A} p start (λ before e found. elim e.access as (λ _. A) [ None ↦ found | Some a ↦ with before a found ]) e past h
-
-abbrev raising : Setup → Past → Access → Bool → Bool
-raising s before a is = is || ends_raising s a
-
-abbrev taking : Past → Access → Bool → Bool
-taking before a is = is || begins_ticket a
-
-abbrev reaching : Setup → ℕ → Past → Access → ℕ → ℕ
-reaching s p before a n = greatest_after s (number_with p before a) a n
-
-abbrev telling : Setup → ℕ → Past → Access → Option FinishedRead → Option FinishedRead
-telling s p before a found = newest_after s (number_with p before a) a found
-
 accesses-with : (s : Setup) (p : ℕ) (e : Entry) (past : Past) → e.process ≡ p → has is_called e ≡ false → (o : Option Access) → e.access ≡ o → (b : Bool) → b ≡ ends_overlapped_read past e →
     accesses s p (e ∷ past) ≡ elim o as (λ _. Accesses) [ None ↦ accesses s p past | Some a ↦ with_access s p (length past) b (marked p past) a (accesses s p past) ]
 accesses-with s p e past h called None none b is =
@@ -163,11 +137,7 @@ accesses-with s p e past h called None none b is =
       | None ↦ waited_for s p past
       | Some a ↦ cond (tells_waiting s p (ticket_in_call p past) (number_in_call p (has ends_waiting) past) a (number_after a.bit a.how (number_read p past))) (Some a.owner) (waited_for s p past)
     ]) none in
-    let raised = over-with {A = Bool} p false (raising s) e past h called None none in
-    let takes = over-with {A = Bool} p false taking e past h called None none in
-    let greatest = over-with {A = ℕ} p 0 (reaching s p) e past h called None none in
-    let newest = over-with {A = Option FinishedRead} p None (telling s p) e past h called None none in
-    λ i. record { doorway = doorway i; reads = reads i; writes = writes i; overlapped = overlapped i; number = number i; waited_for = waited i; raised = raised i; takes = takes i; greatest = greatest i; newest = newest i }
+    λ i. record { doorway = doorway i; reads = reads i; writes = writes i; overlapped = overlapped i; number = number i; waited_for = waited i }
 accesses-with s p e past h called (Some a) some b is =
     let doorway = number-mine p has_access e past h called true (ap is_some some) in
     let reads = over-mine {A = ℕ} p 0 (counting (makes_itself p is_read)) e past h called
@@ -183,11 +153,7 @@ accesses-with s p e past h called (Some a) some b is =
       | None ↦ waited_for s p past
       | Some a ↦ cond (tells_waiting s p (ticket_in_call p past) (number_in_call p (has ends_waiting) past) a (number_after a.bit a.how (number_read p past))) (Some a.owner) (waited_for s p past)
     ]) some in
-    let raised = over-with {A = Bool} p false (raising s) e past h called (Some a) some in
-    let takes = over-with {A = Bool} p false taking e past h called (Some a) some in
-    let greatest = over-with {A = ℕ} p 0 (reaching s p) e past h called (Some a) some in
-    let newest = over-with {A = Option FinishedRead} p None (telling s p) e past h called (Some a) some in
-    λ i. record { doorway = doorway i; reads = reads i; writes = writes i; overlapped = overlapped i; number = number i; waited_for = waited i; raised = raised i; takes = takes i; greatest = greatest i; newest = newest i }
+    λ i. record { doorway = doorway i; reads = reads i; writes = writes i; overlapped = overlapped i; number = number i; waited_for = waited i }
 
 accesses-called : (s : Setup) (p : ℕ) (e : Entry) (past : Past) → e.process ≡ p → has is_called e ≡ true → accesses s p (e ∷ past) ≡ no_accesses
 accesses-called s p e past h some =
@@ -196,11 +162,7 @@ accesses-called s p e past h some =
     let overlapped = over-called {A = ℕ} p 0 (counting ends_overlapped_read) e past h some in
     let number = over-called {A = ℕ} p 0 reading e past h some in
     let waited = over-called {A = Option ℕ} p None (waiting s p) e past h some in
-    let raised = over-begun {A = Bool} p false (raising s) e past h some in
-    let takes = over-begun {A = Bool} p false taking e past h some in
-    let greatest = over-begun {A = ℕ} p 0 (reaching s p) e past h some in
-    let newest = over-begun {A = Option FinishedRead} p None (telling s p) e past h some in
-    λ i. record { doorway = number-called p has_access e past h some i; reads = reads i; writes = writes i; overlapped = overlapped i; number = number i; waited_for = waited i; raised = raised i; takes = takes i; greatest = greatest i; newest = newest i }
+    λ i. record { doorway = number-called p has_access e past h some i; reads = reads i; writes = writes i; overlapped = overlapped i; number = number i; waited_for = waited i }
 
 accesses-other : (s : Setup) (p : ℕ) (e : Entry) (past : Past) → (e.process == p) ≡ false → accesses s p (e ∷ past) ≡ accesses s p past
 accesses-other s p e past h =
@@ -209,11 +171,7 @@ accesses-other s p e past h =
     let overlapped = over-other {A = ℕ} p 0 (counting ends_overlapped_read) e past h in
     let number = over-other {A = ℕ} p 0 reading e past h in
     let waited = over-other {A = Option ℕ} p None (waiting s p) e past h in
-    let raised = over-else {A = Bool} p false (raising s) e past h in
-    let takes = over-else {A = Bool} p false taking e past h in
-    let greatest = over-else {A = ℕ} p 0 (reaching s p) e past h in
-    let newest = over-else {A = Option FinishedRead} p None (telling s p) e past h in
-    λ i. record { doorway = number-other p has_access e past h i; reads = reads i; writes = writes i; overlapped = overlapped i; number = number i; waited_for = waited i; raised = raised i; takes = takes i; greatest = greatest i; newest = newest i }
+    λ i. record { doorway = number-other p has_access e past h i; reads = reads i; writes = writes i; overlapped = overlapped i; number = number i; waited_for = waited i }
 
 -- All that is kept.
 

@@ -1,5 +1,5 @@
 -- What became of a call: each number is found by looking back over a past.
-use Rattle.std.specs.Prelude.{ℕ, ◌+◌, ◌==◌, nat_lt, Bool, true, false, ◌&&◌, [], ◌∷◌, length, fold, cond, Option, None, Some, is_none, is_some, max, bit_or, ◌^◌, ◌||◌}
+use Rattle.std.specs.Prelude.{ℕ, ◌+◌, ◌==◌, nat_lt, Bool, true, false, ◌&&◌, [], ◌∷◌, length, fold, cond, Option, None, Some, is_none, is_some, bit_or, ◌^◌}
 use Rattle.record.specs.safe_bit.declared.Move.{Move}
 use Rattle.record.specs.safe_bit.declared.Move.TheVariants.{BeginWrite, EndWrite, BeginRead, EndRead}
 use Rattle.plain_store.specs.declared.Answer.{Answer}
@@ -12,14 +12,13 @@ use Rattle.record.specs.declared.marks.Mark.TheVariants.{Waiting, Entered, Taken
 use Rattle.record.specs.Calls.{calls_in, last_command}
 use Rattle.record.specs.Doorways.{doorway_end, first_of, number_in_call}
 use Rattle.record.specs.Entries.{Entry, Past, has, is_called, is_entered, is_failed, own}
-use Rattle.record.specs.Moves.{field_number, moves_of}
+use Rattle.record.specs.Moves.{moves_of}
 use Rattle.record.specs.Program.{is_below}
 use Rattle.record.specs.Registers.{width}
 use Rattle.read_law.specs.Looks.{ends_overlapped}
 use Rattle.calls.specs.declared.called.Accesses.{Accesses}
 use Rattle.calls.specs.declared.called.Called.{Called as Told}
 use Rattle.calls.specs.declared.called.Marked.{Marked}
-use Rattle.calls.specs.declared.called.FinishedRead.{FinishedRead}
 
 -- Marks.
 
@@ -154,11 +153,6 @@ abbrev pub is_write : Move → Bool
 is_write (BeginWrite v) = true
 is_write _ = false
 
--- a write ends
-abbrev pub is_write_end : Move → Bool
-is_write_end EndWrite = true
-is_write_end _ = false
-
 -- a read ends
 abbrev pub is_read_end : Move → Bool
 is_read_end (EndRead v) = true
@@ -208,31 +202,6 @@ waited_for s p past = over_call p None (λ before e newest. elim e.access [
   | Some a ↦ cond (tells_waiting s p (ticket_in_call p before) (number_in_call p (has ends_waiting) before) a (number_after a.bit a.how (number_read p before))) (Some a.owner) newest
 ]) past
 
--- what p's accesses since its last call make of a start, one after the other, each with the past before it
-abbrev pub over_accesses : {A : Type 0} → ℕ → A → (Past → Access → A → A) → Past → A
-over_accesses p start with past = over_call p start (λ before e found. elim e.access [ None ↦ found | Some a ↦ with before a found ]) past
-
--- with an access a choosing bit is written on its last copy
-abbrev pub ends_raising : Setup → Access → Bool
-ends_raising s a = is_write_end a.how && (a.reader + 1 == s.processes) && (field_number a.field == 0)
-
--- with an access a ticket begins to be written
-abbrev pub begins_ticket : Access → Bool
-begins_ticket a = is_write a.how && (field_number a.field == 1)
-
--- the greatest number, with that of an access, if it ends one
-abbrev pub greatest_after : Setup → ℕ → Access → ℕ → ℕ
-greatest_after s number a n = cond (ends_number (width s a.field) a.bit a.how) (max n number) n
-
--- the number that is read last, with that of an access, if it ends one; where a write ends it is none
-abbrev pub newest_after : Setup → ℕ → Access → Option FinishedRead → Option FinishedRead
-newest_after s number a found =
-    cond (is_write_end a.how) None (cond (ends_number (width s a.field) a.bit a.how) (Some (record { owner = a.owner; field = a.field; number = number })) found)
-
--- p's number that is read, with an access
-abbrev pub number_with : ℕ → Past → Access → ℕ
-number_with p before a = number_after a.bit a.how (number_read p before)
-
 -- what the accesses of p's last call tell
 abbrev pub accesses : Setup → ℕ → Past → Accesses
 accesses s p past = record {
@@ -242,10 +211,6 @@ accesses s p past = record {
   overlapped = count_in_call p ends_overlapped_read past;
   number = number_read p past;
   waited_for = waited_for s p past;
-  raised = over_accesses p false (λ before a is. is || ends_raising s a) past;
-  takes = over_accesses p false (λ before a is. is || begins_ticket a) past;
-  greatest = over_accesses p 0 (λ before a n. greatest_after s (number_with p before a) a n) past;
-  newest = over_accesses p None (λ before a found. newest_after s (number_with p before a) a found) past;
 }
 
 -- p's last call

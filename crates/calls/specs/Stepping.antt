@@ -1,5 +1,5 @@
 -- How what is kept of a process goes on with an entry.
-use Rattle.std.specs.Prelude.{ℕ, ◌+◌, ◌-◌, ◌^◌, ◌<◌, Bool, true, false, ◌&&◌, ◌||◌, List, fold, cond, Option, None, Some, is_none}
+use Rattle.std.specs.Prelude.{ℕ, ◌+◌, ◌-◌, ◌^◌, ◌<◌, Bool, true, false, ◌&&◌, List, fold, cond, Option, None, Some, is_none}
 use Rattle.plain_store.specs.declared.Command.{Command}
 use Rattle.plain_store.specs.declared.Command.TheVariants.{Ask}
 use Rattle.plain_store.specs.declared.Setup.{Setup}
@@ -12,7 +12,7 @@ use Rattle.record.specs.Entries.{Past}
 use Rattle.calls.specs.declared.called.Accesses.{Accesses}
 use Rattle.calls.specs.declared.called.Marked.{Marked}
 use Rattle.calls.specs.declared.standing.CallStanding.{CallStanding}
-use Rattle.calls.specs.Columns.{answer_after, begins_ticket, called, ends_raising, goes_on_after, greatest_after, is_calling, is_read, is_write, more_if, newest_after, number_after, tells_waiting}
+use Rattle.calls.specs.Columns.{answer_after, called, goes_on_after, is_calling, is_read, is_write, more_if, number_after, tells_waiting}
 
 -- what is kept of p
 abbrev pub standing : Setup → ℕ → Past → CallStanding
@@ -24,7 +24,7 @@ no_marks = record { door_end = None; entered = None; wait_end = None; taken = No
 
 -- no accesses
 abbrev pub no_accesses : Accesses
-no_accesses = record { doorway = None; reads = 0; writes = 0; overlapped = 0; number = 0; waited_for = None; raised = false; takes = false; greatest = 0; newest = None }
+no_accesses = record { doorway = None; reads = 0; writes = 0; overlapped = 0; number = 0; waited_for = None }
 
 -- without an entry
 abbrev pub at_rest : ℕ → CallStanding
@@ -46,10 +46,6 @@ with_access s p number overlapped m a k = record {
   overlapped = more_if overlapped k.overlapped;
   number = number_after a.bit a.how k.number;
   waited_for = cond (tells_waiting s p m.ticket m.wait_end a (number_after a.bit a.how k.number)) (Some a.owner) k.waited_for;
-  raised = k.raised || ends_raising s a;
-  takes = k.takes || begins_ticket a;
-  greatest = greatest_after s (number_after a.bit a.how k.number) a k.greatest;
-  newest = newest_after s (number_after a.bit a.how k.number) a k.newest;
 }
 
 -- the first number of an entry that has such a mark

@@ -1,11 +1,11 @@
 //! What an access tells of the call that makes it: what it begins or ends, and the number that is read.
-ghost use Rattle.std.specs.Prelude.{◌≡◌, ◌+◌, ◌-◌, ◌^◌, ◌<◌, ◌&&◌, None, Some, Ok};
+ghost use Rattle.std.specs.Prelude.{◌≡◌, ◌+◌, ◌-◌, ◌^◌, ◌<◌, ◌&&◌, Some, Ok};
 ghost use Rattle.plain_store.specs.Setups.{checked};
 ghost use Rattle.record.specs.Program.{is_below as below};
 ghost use Rattle.record.specs.Registers.{width};
-ghost use Rattle.calls.specs.Columns.{begins_ticket, ends_number, ends_raising, holds_up as holds, is_read as begins_read, is_write as begins_write, is_write_end, more_if as one_more_if, newest_after, number_after as after, tells_waiting, with_bit as bit_with};
+ghost use Rattle.calls.specs.Columns.{ends_number, holds_up as holds, is_read as begins_read, is_write as begins_write, more_if as one_more_if, number_after as after, tells_waiting, with_bit as bit_with};
 
-use crate::called::{FinishedRead, Marked};
+use crate::called::Marked;
 use plain_store::Setup;
 use read_law::width;
 use record::{Access, Field, Move};
@@ -36,7 +36,7 @@ pub(crate) fn is_write(how: Move) -> bool
 
 /// The number that is read, once an access is made.
 #[inline]
-pub(crate) fn number_after(access: &Access, number: u64) -> u64
+pub fn number_after(access: &Access, number: u64) -> u64
     ensures { result ≡ after access.now.bit access.now.how number }
 {
     match access.how {
@@ -93,7 +93,7 @@ pub fn holds_up(process: u8, ticket: u32, owner: u8, field: Field, number: u64) 
 
 /// Whether an access ends the read of a number.
 #[inline]
-pub(crate) fn ends_number(setup: &Setup, access: &Access) -> bool
+pub fn ends_number(setup: &Setup, access: &Access) -> bool
     requires { checked setup.now ≡ Ok tt }
     ensures { result ≡ ends_number (width setup.now access.now.field) access.now.bit access.now.how }
 {
@@ -101,56 +101,6 @@ pub(crate) fn ends_number(setup: &Setup, access: &Access) -> bool
         Move::EndRead(_) => usize::from(access.bit) + 1 == width(setup, access.field),
         _ => false,
     }
-}
-
-/// Whether a choosing bit is written on its last copy.
-#[inline]
-pub(crate) fn ends_raising(setup: &Setup, access: &Access) -> bool
-    ensures { result ≡ ends_raising setup.now access.now }
-{
-    ends_write(access.how)
-        && u32::from(access.reader) + 1 == u32::from(setup.processes)
-        && matches!(access.field, Field::Choosing)
-}
-
-/// Whether a ticket begins to be written.
-#[inline]
-pub(crate) fn begins_ticket(access: &Access) -> bool
-    ensures { result ≡ begins_ticket access.now }
-{
-    is_write(access.how) && matches!(access.field, Field::Ticket)
-}
-
-/// Whether a move ends a write.
-#[inline]
-fn ends_write(how: Move) -> bool
-    ensures { result ≡ is_write_end how }
-{
-    matches!(how, Move::EndWrite)
-}
-
-/// The number that is read last, once an access is made with which this number is read.
-#[inline]
-pub(crate) fn newest_after(
-    setup: &Setup,
-    number: u64,
-    access: &Access,
-    found: Option<FinishedRead>,
-) -> Option<FinishedRead>
-    requires { checked setup.now ≡ Ok tt }
-    ensures { result ≡ newest_after setup.now number access.now found }
-{
-    if ends_write(access.how) {
-        return None;
-    }
-    if !ends_number(setup, access) {
-        return found;
-    }
-    Some(FinishedRead {
-        owner: access.owner,
-        field: access.field,
-        number,
-    })
 }
 
 /// Whether one ticket, with its process, is below another.

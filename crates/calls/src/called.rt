@@ -1,14 +1,5 @@
 //! What became of a call.
 use plain_store::{Answer, Command};
-use record::Field;
-
-/// A number that was read of a register.
-#[derive(Clone, Copy, Debug, PartialEq, Eq)]
-pub struct FinishedRead {
-    pub owner: u8,
-    pub field: Field,
-    pub number: u64,
-}
 
 /// What the accesses of a call tell. Events are told by their numbers, from 0.
 #[derive(Clone, Copy, Debug)]
@@ -25,14 +16,6 @@ pub struct Accesses {
     pub number: u64,
     /// For whom it waited last.
     pub waited_for: Option<u8>,
-    /// Its choosing bit was written on every copy.
-    pub raised: bool,
-    /// It has begun to write its ticket.
-    pub takes: bool,
-    /// The greatest number that it has read.
-    pub greatest: u64,
-    /// The number that it has read last, unless it has ended a write since.
-    pub newest: Option<FinishedRead>,
 }
 
 /// What the marks of a call tell, those of a memory unit too. Events are told by their numbers, from 0.

@@ -8,8 +8,9 @@ mod printed;
 mod standing;
 mod table;
 
-pub use accesses::holds_up;
-pub use called::{Accesses, Called, FinishedRead, Marked};
+pub use accesses::{ends_number, holds_up, number_after};
+pub use called::{Accesses, Called, Marked};
 pub use printed::{HEADER, print_call};
 pub use read_law::{Watch, width};
+pub use standing::{CallStanding, called_in, first_of};
 pub use table::CallTable;

@@ -4,21 +4,18 @@ ghost use Rattle.plain_store.specs.Setups.{checked};
 ghost use Rattle.record.specs.Calls.{called_in as command_in};
 ghost use Rattle.record.specs.Doorways.{first_of as first};
 ghost use Rattle.record.specs.Registers.{width};
-ghost use Rattle.calls.specs.Columns.{begins_ticket, ends_number, ends_raising, newest_after, tells_waiting};
+ghost use Rattle.calls.specs.Columns.{tells_waiting};
 ghost use Rattle.calls.specs.Stepping.{AreFew, accessed, heard, at_rest, begun, marked_all, marked_on, no_accesses, no_marks, with_access, with_mark};
 
-use crate::accesses::{
-    begins_ticket, ends_number, ends_raising, is_read, is_write, more_if, newest_after,
-    number_after, tells_waiting,
-};
-use crate::called::{Accesses, Called, FinishedRead, Marked};
+use crate::accesses::{is_read, is_write, more_if, number_after, tells_waiting};
+use crate::called::{Accesses, Called, Marked};
 use plain_store::{Command, NestedTypes, Setup};
 use read_law::width;
 use record::{Access, Field, Mark, Move};
 
 /// What is kept of a process: its last call, and whether that goes on.
 #[derive(Clone, Copy, Debug)]
-pub(crate) struct CallStanding {
+pub struct CallStanding {
     pub calling: bool,
     pub last: Called,
 }
@@ -90,7 +87,7 @@ impl CallStanding {
     }
 
     /// A call begins, with the entry of this number.
-    fn begin(&mut self, number: u64, command: &Command)
+    pub fn begin(&mut self, number: u64, command: &Command)
         ensures { self.old.last.call < 2 ^ 64 - 1 → self.new ≡ begun number command.now self.old }
     {
         self.calling = true;
@@ -119,7 +116,7 @@ impl CallStanding {
 
     /// The marks of the entry with this number.
     #[inline]
-    fn mark_all(&mut self, number: u64, marks: &[Mark])
+    pub fn mark_all(&mut self, number: u64, marks: &[Mark])
         ensures { self.new ≡ marked_all number self.old marks.now }
     {
         let _nested: NestedTypes = None;
@@ -152,10 +149,6 @@ impl Accesses {
             overlapped: 0,
             number: 0,
             waited_for: None,
-            raised: false,
-            takes: false,
-            greatest: 0,
-            newest: None,
         }
     }
 
@@ -182,12 +175,6 @@ impl Accesses {
         if tells_waiting(setup, process, marks, access, self.number) {
             self.waited_for = Some(access.owner);
         }
-        self.raised = self.raised || ends_raising(setup, access);
-        self.takes = self.takes || begins_ticket(access);
-        if ends_number(setup, access) {
-            self.greatest = self.greatest.max(self.number);
-        }
-        self.newest = newest_after(setup, self.number, access, self.newest);
     }
 }
 
@@ -253,7 +240,7 @@ impl Marked {
 
 /// The first of two numbers, of which there may be none before.
 #[inline]
-fn first_of(before: Option<u64>, number: u64) -> Option<u64>
+pub fn first_of(before: Option<u64>, number: u64) -> Option<u64>
     ensures { result ≡ first before (Some number) }
 {
     match before {
@@ -264,7 +251,7 @@ fn first_of(before: Option<u64>, number: u64) -> Option<u64>
 
 /// The command with which marks begin a call, if they do.
 #[inline]
-pub(crate) fn called_in(marks: &[Mark]) -> Option<Command>
+pub fn called_in(marks: &[Mark]) -> Option<Command>
     ensures { result ≡ command_in marks.now }
 {
     let _nested: NestedTypes = None;

@@ -1,6 +1,7 @@
 -- One process makes the Steps of a line: `step`, and `go` while the process is not where it is to go.
-use Rattle.std.proofs.Common.{◌≡◌, ℕ, zero, suc, ◌+◌, ◌-◌, ◌<◌, ◌≤◌, arith, Bool, true, false, List, [], ◌∷◌, ◌++◌, IfOk, Option, None, Some, Result, Ok, Err, is_none, refl, ap, sym, subst, ◌∙◌, add-one, inl, inr}
+use Rattle.std.proofs.Common.{◌≡◌, ℕ, zero, suc, ◌+◌, ◌-◌, ◌<◌, ◌≤◌, arith, Bool, true, false, List, [], ◌∷◌, ◌++◌, IfOk, Option, None, Some, Result, Ok, Err, is_none, refl, ap, sym, subst, ◌∙◌, add-one, add-zero, inl, inr}
 use Rattle.plain_store.specs.declared.setups.Setup.{Setup}
+use Rattle.record.specs.declared.access.Access.{Access}
 use Rattle.record.specs.declared.events.Event.TheVariants.{Step}
 use Rattle.record.specs.declared.marks.Mark.{Mark}
 use Rattle.scenario.specs.declared.lines.Line.{Line}
@@ -8,10 +9,11 @@ use Rattle.scenario.specs.declared.lines.Line.TheVariants as line
 use Rattle.scenario.specs.files.declared.faults.Fault.{Fault}
 use Rattle.world.specs.flicks.Flicks.{FlickState, after_flick, flick_of}
 use Rattle.world.specs.Shows.{Shows, WorldState}
-use Rattle.world.specs.Walks.{StepsQuietly, Walks}
+use Rattle.world.specs.Walks.{MakesQuietly, StepsQuietly, Walks, left_in}
+use Rattle.world.proofs.WorldWithin.{left-on}
 use Rattle.course.specs.Courses.{CourseState, Follows, IsQuiet, QuietTurns, course}
 use Rattle.course.specs.Happenings.{Happening, Tries, tried}
-use Rattle.course.specs.Listening.{ComesOn, ComesTo, HearsStep, PassQuietly, RunsTo, TellsStep}
+use Rattle.course.specs.Listening.{ComesOn, ComesTo, HearsStep, IsNewest, MakesSteps, PassBy, PassWithin, RunsTo, StepsWithin, TellsStep}
 use Rattle.course.specs.Runs.{Run, is_there, may_step, next_step, past_in, stepped}
 use Rattle.course.specs.Steppers.{IsAlone, left_told}
 use Rattle.course.specs.Telling.{AddsMarks, TellsOf, entry_made}
@@ -21,7 +23,8 @@ use Rattle.course.specs.declared.told.Told.TheVariants as told
 use Rattle.course.proofs.CourseTurns.{turn_next}
 use Rattle.course.proofs.Goes.{go_steps}
 use Rattle.course.proofs.Refusals.{entry_by, not_refused}
-use Rattle.course.proofs.Runnings.{IsStep, comes_end, drawn_run, one_on, one_stops, one_told, quiet_adds, quiet_passes, turns_then}
+use Rattle.course.proofs.Runnings.{IsStep, comes_end, drawn_run, one_on, one_stops, one_told, quiet_adds, turns_then}
+use Rattle.course.proofs.Within.{newest_made, passes_then, steps_within}
 use Rattle.course.proofs.Wanders.{stage_quiet}
 
 -- its next turn is a Step
@@ -79,16 +82,30 @@ module _ (w w' : WorldState) (l : Line) (left p floor : ℕ) (flick : Bool) (run
       one_told Hears w w' l left p flick run run.flicks flicks' left' a answer nothing
       (record { shows = follows.shows; by = by; turn = alone_turn w.setup l left p floor run more next ∙ step_turn_told w.setup p (left - 1) run answer tells ∙ ap (λ n. made_turn p n run) (sym fewer) }) t (after ∙ ap after_flick follows.flicks)
 
+-- the access of the newest of so many Steps
+abbrev newest_access : (n : ℕ) (w w' : WorldState) (flicks flicks' : FlickState) (p : ℕ) → Walks w flicks p n w' flicks' → Option Access
+newest_access zero w w' flicks flicks' p same = None
+newest_access (suc n) w w' flicks flicks' p (w1, flicks1, walks, q, after) = Some q.access
+
+same_some : (a b : Access) → Some a ≡ Some b → a ≡ b
+same_some a b is = cc
+
+never_some : (a : Access) → None ≡ Some a → ⊥
+never_some a is = absurd (cc)
+
 -- Steps that a world makes in a row without a mark
-record Walked (s : Setup) (l : Line) (left p floor n : ℕ) (run : Run) (w' : WorldState) (flicks' : FlickState) : Type 0 where
+record Walked (s : Setup) (l : Line) (left p floor n within_left : ℕ) (made : Option Access) (run : Run) (w' : WorldState) (flicks' : FlickState) : Type 0 where
   now : Run
   turns : QuietTurns s l n left run (left - n) now
   follows : Follows (course w' flicks' (left - n)) now
   setup : w'.setup ≡ s
   next : IsAlone p floor s l now
+  within : PassWithin s p n run.happened now.happened
+  newest : (access : Access) → made ≡ Some access → IsNewest s p access now.happened
+  rest : left_in w'.seats p + n ≡ within_left
 
-walked : (n : ℕ) (w w' : WorldState) (flicks flicks' : FlickState) (l : Line) (left p floor : ℕ) (run : Run) → n + floor < left → Walks w flicks p n w' flicks' → Follows (course w flicks left) run → IsAlone p floor w.setup l run → Walked w.setup l left p floor n run w' flicks'
-walked zero w w' flicks flicks' l left p floor run few (same, same_flicks) follows next =
+walked : (n : ℕ) (w w' : WorldState) (flicks flicks' : FlickState) (l : Line) (left p floor : ℕ) (run : Run) → n + floor < left → n ≤ left_in w.seats p → (walks : Walks w flicks p n w' flicks') → Follows (course w flicks left) run → IsAlone p floor w.setup l run → Walked w.setup l left p floor n (left_in w.seats p) (newest_access n w w' flicks flicks' p walks) run w' flicks'
+walked zero w w' flicks flicks' l left p floor run few some (same, same_flicks) follows next =
     let all : left - 0 ≡ left = omega arith in
     record {
       now = run;
@@ -96,10 +113,16 @@ walked zero w w' flicks flicks' l left p floor run few (same, same_flicks) follo
       follows = subst (λ c. Follows c run) (sym (λ i. course (same i) (same_flicks i) (all i))) (record { shows = follows.shows; flicks = follows.flicks });
       setup = ap (λ (w : WorldState). w.setup) same;
       next = next;
+      within = refl;
+      newest = λ access none. absurd (never_some access none);
+      rest = add-zero (left_in w'.seats p) ∙ ap (λ (w : WorldState). left_in w.seats p) same;
     }
-walked (suc n) w w' flicks flicks' l left p floor run few (w1, flicks1, walks, q, after) follows next =
+walked (suc n) w w' flicks flicks' l left p floor run few some (w1, flicks1, walks, q, after) follows next =
     let s : Setup = w.setup in
-    let b : Walked s l left p floor n run w1 flicks1 = walked n w w1 flicks flicks1 l left p floor run (omega (arith, few)) walks follows next in
+    let b : Walked s l left p floor n (left_in w.seats p) (newest_access n w w1 flicks flicks1 p walks) run w1 flicks1 = walked n w w1 flicks flicks1 l left p floor run (omega (arith, few)) (omega (arith, some)) walks follows next in
+    let more : 0 < left_in w1.seats p = let rest = b.rest in omega (arith, rest, some) in
+    let fewer_left : left_in w'.seats p + 1 ≡ left_in w1.seats p = left-on w1 w' p (flick_of flicks1) (tried b.now.happened) q b.follows.shows more in
+    let step : StepsWithin s b.now.happened p (flick_of flicks1) = subst (λ (s : Setup). StepsWithin s b.now.happened p (flick_of flicks1)) b.setup (steps_within w1 w' p (flick_of flicks1) b.now.happened q b.follows.shows more) in
     let is : flick_of flicks1 ≡ flick_of b.now.flicks = ap flick_of b.follows.flicks in
     let adds : AddsMarks s (past_in s b.now) (next_step p b.now) [] = subst (λ (s : Setup). AddsMarks s (past_in s b.now) (next_step p b.now) []) b.setup (quiet_adds w1 w' p (flick_of flicks1) b.now b.now.flicks q b.follows.shows is) in
     let now : Run = stepped p b.now in
@@ -113,21 +136,34 @@ walked (suc n) w w' flicks flicks' l left p floor run few (w1, flicks1, walks, q
       follows = record { shows = subst (λ b. Shows w' (Step p b ∷ tried happened)) is (q.shows (tried b.now.happened) b.follows.shows); flicks = after ∙ ap after_flick b.follows.flicks };
       setup = q.setup ∙ b.setup;
       next = alone_still s l p floor b.now b.now.flicks adds b.next;
+      newest = λ access made. subst (λ (s : Setup). IsNewest s p access (Tries (Step p (flick_of b.now.flicks)) ∷ happened)) b.setup
+          (subst (λ f. IsNewest w1.setup p access (Tries (Step p f) ∷ happened)) is (newest_made w1 w' p (flick_of flicks1) access happened (q, same_some q.access access made) b.follows.shows));
+      within = subst (λ b. PassWithin s p (suc n) run.happened (Tries (Step p b) ∷ happened)) is (passes_then s p n run.happened happened b.within (flick_of flicks1) step);
+      rest = let rest = b.rest in omega (arith, rest, fewer_left);
     }
 
 -- they are passed by
-pub alone_pass : {L : Type 0} (Hears : L → Setup → List Happening → List Happening → L → Type 0) (n : ℕ) (w w' : WorldState) (flicks flicks' : FlickState) (l : Line) (left left' p floor : ℕ) (run : Run) (was is : L) → left' ≡ left - n → n + floor < left → Walks w flicks p n w' flicks' →
-    ((s : Setup) (before after : List Happening) → PassQuietly s n before after → Hears was s before after is) → Follows (course w flicks left) run → IsAlone p floor w.setup l run → ComesOn Hears w.setup l left run was is (course w' flicks' left') (IsAlone p floor)
-alone_pass Hears n w w' flicks flicks' l left left' p floor run was is fewer few walks pass follows next =
+pub alone_pass : {L : Type 0} (Hears : L → Setup → List Happening → List Happening → L → Type 0) (n : ℕ) (w w' : WorldState) (flicks flicks' : FlickState) (access : Access) (l : Line) (left left' p floor : ℕ) (run : Run) (was is : L) → left' ≡ left - n → n + floor < left → n ≤ left_in w.seats p → MakesSteps w flicks p n w' flicks' access →
+    ((s : Setup) (before after : List Happening) → PassBy s p n access before after → Hears was s before after is) → Follows (course w flicks left) run → IsAlone p floor w.setup l run → ComesOn Hears w.setup l left run was is (course w' flicks' left') (IsAlone p floor)
+alone_pass Hears n w w' flicks flicks' access l left left' p floor run was is fewer few some m pass follows next =
     let s : Setup = w.setup in
-    let b : Walked s l left p floor n run w' flicks' = walked n w w' flicks flicks' l left p floor run few walks follows next in
-    subst (λ k. ComesOn Hears s l left run was is (course w' flicks' k) (IsAlone p floor)) (sym fewer)
-    (record { quiet = n; now = b.now; turns = b.turns; hears = pass s run.happened b.now.happened (quiet_passes s l n left run (left - n) b.now b.turns); follows = b.follows; setup = b.setup; next = b.next })
+    let count = m.count in
+    let few_made : suc m.earlier + floor < left = omega (arith, count, few) in
+    let some_made : suc m.earlier ≤ left_in w.seats p = omega (arith, count, some) in
+    let b : Walked s l left p floor (suc m.earlier) (left_in w.seats p) (Some m.newest.0.access) run w' flicks' = walked (suc m.earlier) w w' flicks flicks' l left p floor run few_made some_made (m.world, m.source, m.walks, m.newest.0, m.flicks_are) follows next in
+    let newest : IsNewest s p access b.now.happened = b.newest access (ap Some m.newest.1) in
+    let by : PassBy s p n access run.happened b.now.happened = subst (λ n. PassBy s p n access run.happened b.now.happened) (sym count) (record { within = b.within; newest_is = newest }) in
+    let all : left' ≡ left - suc m.earlier = omega (arith, fewer, count) in
+    subst (λ k. ComesOn Hears s l left run was is (course w' flicks' k) (IsAlone p floor)) (sym all)
+    (record { quiet = suc m.earlier; now = b.now; turns = b.turns; hears = pass s run.happened b.now.happened by; follows = b.follows; setup = b.setup; next = b.next })
 
 -- and leave the setup
-pub walks_setup : (n : ℕ) (w w' : WorldState) (flicks flicks' : FlickState) (p : ℕ) → Walks w flicks p n w' flicks' → w'.setup ≡ w.setup
+walks_setup : (n : ℕ) (w w' : WorldState) (flicks flicks' : FlickState) (p : ℕ) → Walks w flicks p n w' flicks' → w'.setup ≡ w.setup
 walks_setup zero w w' flicks flicks' p (same, same_flicks) = ap (λ (w : WorldState). w.setup) same
 walks_setup (suc n) w w' flicks flicks' p (w1, flicks1, walks, quietly, after) = quietly.setup ∙ walks_setup n w w1 flicks flicks1 p walks
+
+pub steps_setup : (w w' : WorldState) (flicks flicks' : FlickState) (p n : ℕ) (access : Access) → MakesSteps w flicks p n w' flicks' access → w'.setup ≡ w.setup
+steps_setup w w' flicks flicks' p n access m = m.newest.0.setup ∙ walks_setup m.earlier w m.world flicks m.source p m.walks
 
 -- a line of Steps that has made them all has ended
 pub alone_whole : {L : Type 0} (Hears : L → Setup → List Happening → List Happening → L → Type 0) (old new : CourseState) (l : Line) (p steps : ℕ) (was is : L) (result : Result (Option Told) Fault) → l ≡ line.Step p steps → IfOk result (λ told. told ≡ None → new.left ≡ 0) →

@@ -1,5 +1,5 @@
 -- One turn of a course, by what the world answers.
-use Rattle.std.proofs.Common.{◌≡◌, ℕ, zero, suc, arith, ◌-◌, ◌<◌, ◌≤◌, Bool, true, false, nat_lt, cond, length, List, ◌∷◌, IfOk, Result, Ok, Err, Option, None, Some, refl, ap, sym, subst, ◌∙◌, inl, inr}
+use Rattle.std.proofs.Common.{◌≡◌, ℕ, zero, suc, arith, ◌-◌, ◌<◌, ◌≤◌, Bool, true, false, nat_lt, cond, length, List, [], ◌∷◌, IfOk, Result, Ok, Err, Option, None, Some, option_map, refl, ap, sym, subst, ◌∙◌, inl, inr}
 use Rattle.std.proofs.lemmas.Bool.Decides.{nat_tests}
 use Rattle.std.specs.declared.alloc.AllocError.{AllocError}
 use Rattle.plain_store.specs.declared.setups.Setup.{Setup}
@@ -10,7 +10,10 @@ use Rattle.record.specs.declared.refusals.Refusal.TheVariants.{NoProcess, Memory
 use Rattle.record.specs.declared.stages.Stage.{Stage}
 use Rattle.record.specs.Given.{is_event}
 use Rattle.record.specs.Histories.{history}
-use Rattle.record.specs.Records.{entry_of, past_of, process_of, refused}
+use Rattle.record.specs.declared.events.Event.TheVariants as event
+use Rattle.record.specs.declared.marks.Mark.{Mark}
+use Rattle.record.specs.Entries.{Entry, Past}
+use Rattle.record.specs.Records.{added, entry_of, marked, past_of, process_of, refused}
 use Rattle.record.specs.Stages.{stage}
 use Rattle.scenario.specs.declared.lines.Line.{Line}
 use Rattle.scenario.specs.declared.lines.Line.TheVariants as line
@@ -23,7 +26,7 @@ use Rattle.world.specs.Shows.{Shows, WorldState}
 use Rattle.course.specs.Courses.{CourseState, Follows, Makes, course}
 use Rattle.course.specs.Happenings.{Tries, Lacks, Looks, tried}
 use Rattle.course.specs.Runs.{Run, has_step, is_there, past_in}
-use Rattle.course.specs.Telling.{TellsOf}
+use Rattle.course.specs.Telling.{IsMarked, TellsOf, is_step}
 use Rattle.course.specs.Turns.{Turn, ends, go_turn, happens, next_turn, on_turn, turn_of}
 use Rattle.course.specs.declared.told.Accepted.{Accepted}
 use Rattle.course.specs.declared.told.Told.{Told}
@@ -34,16 +37,34 @@ use Rattle.course.proofs.Refusals.{shows_refused}
 pub place_is : (w : WorldState) (events : List Event) (taken : List Taken) (place : ℕ) → Shows w events → taken ≡ history w.setup (past_of w.setup events) → place ≡ length taken → length w.history ≡ place
 place_is w events taken place shows are is = ap (λ (w : WorldState). length w.history) shows.shown ∙ ap length (sym are) ∙ sym is
 
+-- an event that is no Step has a mark
+one_marked : (p : ℕ) (mark : Mark) (e : Entry) → marked p mark ≡ Some e → e.marks ≡ [] → ⊥
+one_marked p mark e is none = let same : Some (mark ∷ []) ≡ Some e.marks = ap (option_map (λ (e : Entry). e.marks)) is in absurd (cc)
+
+added_marked : (s : Setup) (past : Past) (event : Event) (e : Entry) → is_step event ≡ false → added s past event ≡ Some e → e.marks ≡ [] → ⊥
+added_marked s past (event.Call p c) e still is none = one_marked p _ e is none
+added_marked s past (event.Step p flick) e still is none = absurd (cc)
+added_marked s past (event.Fail p) e still is none = one_marked p _ e is none
+added_marked s past (event.Withdraw p) e still is none = one_marked p _ e is none
+added_marked s past (event.Restart p) e still is none = one_marked p _ e is none
+
+event_marked : (s : Setup) (past : Past) (event : Event) (e : Entry) → is_step event ≡ false → entry_of s past event ≡ Some e → e.marks ≡ [] → ⊥
+event_marked s past event e still is none = by (refused s past event) is
+  where
+    by : (o : Option Refusal) → (elim o as (λ _. Option Entry) [ Some r ↦ None | None ↦ added s past event ]) ≡ Some e → ⊥
+    by (Some r) is = absurd (cc)
+    by None is = added_marked s past event e still is none
+
 -- an event that is accepted
 pub event_accepted : (w w' : WorldState) (flicks : FlickState) (left : ℕ) (made : Accepted) (taken : List Taken) → ((events : List Event) → Shows w events → taken ≡ history w.setup (past_of w.setup events)) → made.place ≡ length taken →
-    Adds w made.event (process_of made.event) (act_of (length w.history) (record { access = made.access; effect = made.effect })) → GoesOn w made.event w' → w'.setup ≡ w.setup →
+    Adds w made.event (process_of made.event) (act_of (length w.history) (record { access = made.access; effect = made.effect })) → GoesOn w made.event w' → w'.setup ≡ w.setup → is_step made.event ≡ false →
     (run : Run) → Follows (course w flicks left) run → Makes (course w flicks left) run (happens (Tries made.event) (left - 1) run) (Some (told.Accepted made)) (course w' flicks (left - 1))
-event_accepted w w' flicks left made taken taken_is place_at adds on same run follows =
+event_accepted w w' flicks left made taken taken_is place_at adds on same still run follows =
     let at : length w.history ≡ made.place = place_is w (tried run.happened) taken made.place follows.shows (taken_is (tried run.happened) follows.shows) place_at in
     let family : ℕ → Type 0 = λ n. entry_of w.setup (past_in w.setup run) made.event ≡ Some (entry_with (process_of made.event) (act_of n (record { access = made.access; effect = made.effect }))) in
     let entry : family made.place = subst family at (adds (tried run.happened) follows.shows) in
     record {
-      tells = (refl, entry);
+      tells = ((refl, entry), event_marked w.setup (past_in w.setup run) made.event _ still entry);
       follows = record { shows = on (tried run.happened) follows.shows; flicks = follows.flicks };
       left = refl;
       setup = same;
@@ -56,7 +77,7 @@ event_refused w w' flicks left p event r is given (inr away) other same run foll
 event_refused w w' flicks left p event r is given (inl away) other same run follows =
     let why : refused w.setup (past_of w.setup (tried run.happened)) event ≡ Some r = away (tried run.happened) follows.shows in
     record {
-      tells = (is, why);
+      tells = ((is, why), tt);
       follows = record {
         shows = subst (λ (w : WorldState). Shows w (event ∷ tried run.happened)) (sym same) (shows_refused w (tried run.happened) event r follows.shows given why);
         flicks = follows.flicks;
@@ -97,7 +118,7 @@ pub go_lacks : (w : WorldState) (flicks : FlickState) (had left p : ℕ) (target
 go_lacks w flicks had left p target none run follows =
     let no : nat_lt p w.setup.processes ≡ false = beyond_told w p (tried run.happened) follows.shows (sym (none (tried run.happened) follows.shows)) in
     subst (λ b. Makes (course w flicks had) run (elim b as (λ _. Turn) [ false ↦ happens (Lacks p) 0 run | true ↦ elim (is_there target (stage p (past_in w.setup run))) [ true ↦ ends run | false ↦ on_turn w.setup p left run ] ]) (Some (told.Refused p NoProcess)) (course w flicks 0))
-    (sym no) (record { tells = (refl, refl); follows = record { shows = follows.shows; flicks = follows.flicks }; left = refl; setup = refl })
+    (sym no) (record { tells = ((refl, refl), tt); follows = record { shows = follows.shows; flicks = follows.flicks }; left = refl; setup = refl })
 
 -- where it is there, the turn goes by whether it is where it is to go
 pub go_turn_there : (w : WorldState) (left p : ℕ) (target : Target) (at : Stage) (b : Bool) → is_there target at ≡ b → ((events : List Event) → Shows w events → Some at ≡ stage_in w.setup (past_of w.setup events) p) → (run : Run) → Shows w (tried run.happened) →
@@ -159,10 +180,10 @@ flick_made w flicks flicks' left flick few is run follows = record {
 }
 
 -- a line that shows it
-pub show_made : (w : WorldState) (flicks : FlickState) (left : ℕ) (answer : Told) → ((events : List Event) → Shows w events → TellsOf w.setup (past_of w.setup events) Looks answer) →
+pub show_made : (w : WorldState) (flicks : FlickState) (left : ℕ) (answer : Told) → ((events : List Event) → Shows w events → TellsOf w.setup (past_of w.setup events) Looks answer) → IsMarked answer →
     (run : Run) → Follows (course w flicks left) run → Makes (course w flicks left) run (next_turn w.setup line.Show (left - 1) run) (Some answer) (course w flicks (left - 1))
-show_made w flicks left answer is run follows = record {
-  tells = is (tried run.happened) follows.shows;
+show_made w flicks left answer is marked run follows = record {
+  tells = (is (tried run.happened) follows.shows, marked);
   follows = record { shows = follows.shows; flicks = follows.flicks };
   left = refl;
   setup = refl;

@@ -55,7 +55,7 @@ go_tires Hears s p target had start was is mid last u = by (away u.next)
       now = u.now;
       turns = subst (λ n. QuietTurns s (line.Go p target) u.quiet had start n u.now) last u.turns;
       hears = u.hears;
-      tells = subst (λ (t : Turn). Tells s (past_in s u.now) t.this (Some (told.Tired p))) (sym turn) refl;
+      tells = subst (λ (t : Turn). Tells s (past_in s u.now) t.this (Some (told.Tired p))) (sym turn) (refl, tt);
       follows = subst (λ (t : Turn). Follows (course mid.world mid.flicks 0) t.run) (sym turn) (record { shows = u.follows.shows; flicks = u.follows.flicks });
       left_is = subst (λ (t : Turn). 0 ≡ t.left) (sym turn) refl;
       setup = u.setup;

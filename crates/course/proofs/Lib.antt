@@ -6,6 +6,7 @@ pub use Rattle.record.proofs as «record»
 pub mod TurnLaw
 pub mod CourseTurns
 pub mod StepsTold
+pub mod Within
 pub mod Runnings
 pub mod Goes
 pub mod Alone

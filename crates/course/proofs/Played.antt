@@ -52,7 +52,8 @@ tells_one s line left now answer course taken tells follows setup are = by (turn
           happens = record {
             good = both.0;
             given = subst (λ l. AreGiven s (tried l)) same both.1;
-            tells = told_one s (past_in s now) t.this this answer some tells;
+            tells = (told_one s (past_in s now) t.this this answer some tells).0;
+            marked = (told_one s (past_in s now) t.this this answer some tells).1;
             taken_are = are t.run follows ∙ ap (λ s. history s (past_in s t.run)) setup ∙ ap (λ l. history s (past_after s l)) same;
           };
         }

@@ -3,7 +3,6 @@ use Rattle.std.proofs.Common.{◌≡◌, ℕ, zero, suc, ◌+◌, ◌≤◌, Boo
 use Rattle.plain_store.specs.declared.setups.Setup.{Setup}
 use Rattle.record.specs.declared.events.Event.{Event}
 use Rattle.record.specs.declared.events.Event.TheVariants.{Step}
-use Rattle.record.specs.Given.{AreGiven}
 use Rattle.record.specs.Records.{entry_of, past_of}
 use Rattle.scenario.specs.declared.lines.Line.{Line}
 use Rattle.scenario.specs.files.declared.faults.Fault.{Fault}
@@ -12,7 +11,7 @@ use Rattle.world.specs.Shows.{Shows, WorldState}
 use Rattle.world.specs.Walks.{StepsQuietly}
 use Rattle.course.specs.Courses.{CourseState, Follows, IsQuiet, Makes, QuietTurns, course}
 use Rattle.course.specs.Happenings.{Happening, Tries, tried}
-use Rattle.course.specs.Listening.{ComesOn, ComesTo, HearsStep, PassQuietly, StepsOn, TellsStep}
+use Rattle.course.specs.Listening.{ComesOn, ComesTo, HearsStep, PassQuietly, TellsStep}
 use Rattle.course.specs.Runs.{Run, next_step, past_in, stepped}
 use Rattle.course.specs.Telling.{AddsMarks, Tells, TellsOf}
 use Rattle.course.specs.Turns.{Turn, made_turn, rest_of, turn_of, turns_in}
@@ -73,14 +72,6 @@ quiet_entry w w' p flick events q shows = q.adds events shows
 pub quiet_adds : (w w' : WorldState) (p : ℕ) (flick : Bool) (run : Run) (source : FlickState) → StepsQuietly w p flick w' → Shows w (tried run.happened) → flick ≡ flick_of source → AddsMarks w.setup (past_in w.setup run) (next_step p (drawn_run run source)) []
 quiet_adds w w' p flick run source q shows is = subst (λ b. AddsMarks w.setup (past_in w.setup run) (Step p b) []) is (Some q.access, quiet_entry w w' p flick (tried run.happened) q shows)
 
--- it is made
-steps_on : (w w' : WorldState) (p : ℕ) (flick : Bool) (before : List Happening) → (q : StepsQuietly w p flick w') → Shows w (tried before) → StepsOn w.setup before (record { process = p; flick = flick; access = q.access })
-steps_on w w' p flick before q shows = record {
-  good = shows.good;
-  given = subst (λ (s : Setup). AreGiven s (Step p flick ∷ tried before)) q.setup (q.shows (tried before) shows).given;
-  adds = quiet_entry w w' p flick (tried before) q shows;
-}
-
 module _ {L : Type 0} (Hears : L → Setup → List Happening → List Happening → L → Type 0) where
   -- Before the first.
   pub comes_start : (line : Line) (start : Run) (old new : CourseState) (a : L) (Next : Setup → Line → Run → Type 0) → ((a : L) (s : Setup) (x : List Happening) → Hears a s x x a) → new ≡ old → Follows old start → Next old.world.setup line start → ComesOn Hears old.world.setup line old.left start a a new Next
@@ -128,7 +119,7 @@ module _ {L : Type 0} (Hears : L → Setup → List Happening → List Happening
         quiet = 1;
         now = now;
         turns = subst (λ (t : Turn). IsQuiet s (past_in s run) t.this × ((left' ≡ t.left) × (now ≡ t.run))) (sym step.turn) (adds, (refl, refl));
-        hears = subst (λ b. Hears was s run.happened (Tries (Step p b) ∷ run.happened) is) step.by (h.hears s run.happened (steps_on w w' p flick run.happened q step.shows));
+        hears = subst (λ b. Hears was s run.happened (Tries (Step p b) ∷ run.happened) is) step.by (h.hears run.happened step.shows);
         follows = record { shows = subst (λ b. Shows w' (Step p b ∷ tried run.happened)) step.by (q.shows (tried run.happened) step.shows); flicks = after };
         setup = q.setup;
         next = next;
@@ -148,7 +139,7 @@ module _ {L : Type 0} (Hears : L → Setup → List Happening → List Happening
         now = run;
         turns = (refl, refl);
         hears = nothing a s run.happened;
-        tells = subst (λ (t : Turn). Tells s (past_in s run) t.this (Some answer)) (sym step.turn) tells;
+        tells = subst (λ (t : Turn). Tells s (past_in s run) t.this (Some answer)) (sym step.turn) (tells, t.marked);
         follows = subst (λ (t : Turn). Follows (course w' flicks left') t.run) (sym step.turn) follows;
         left_is = subst (λ (t : Turn). left' ≡ t.left) (sym step.turn) refl;
         setup = t.setup;
@@ -206,4 +197,4 @@ one_stops Stops w w' line left p flick run source left' was is fault stops_befor
     let more : Grows t.run.happened (rest_of s line t.left t.run).happened = rest_grows s line t.left t.run in
     let same : t.run.happened ≡ here = ap (λ (t : Turn). t.run.happened) step.turn ∙ ap (λ b. Tries (Step p b) ∷ run.happened) (sym step.by) in
     let all : (rest_of s line left run).happened ≡ more.more ++ here = ap (λ (r : Run). r.happened) (turn_on s line left run few) ∙ more.is ∙ ap (λ l. more.more ++ l) same in
-    subst (λ l. Stops was s run.happened l fault is) (sym all) (stops_before was is s run.happened here more.more fault (h.hears s run.happened (steps_on w w' p flick run.happened h.step step.shows)))
+    subst (λ l. Stops was s run.happened l fault is) (sym all) (stops_before was is s run.happened here more.more fault (h.hears run.happened step.shows))

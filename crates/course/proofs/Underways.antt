@@ -8,7 +8,7 @@ use Rattle.scenario.specs.declared.lines.Line.TheVariants as line
 use Rattle.scenario.specs.declared.lines.Target.{Target}
 use Rattle.course.specs.Happenings.{Happening, Lacks}
 use Rattle.course.specs.Runs.{Run, is_there, movers, past_in}
-use Rattle.course.specs.Telling.{Tells, TellsOf}
+use Rattle.course.specs.Telling.{IsMarked, Tells, TellsOf}
 use Rattle.course.specs.Turns.{Turn, ends, go_turn, happens, on_turn, turn_of, wander_turn}
 use Rattle.course.specs.declared.told.Told.{Told}
 pub use Rattle.course.proofs.Counting.{with_events}
@@ -47,7 +47,7 @@ turned s (line.Wander n) (suc left) run = wander_turned left run (movers s (past
 turned s line.Show (suc left) run = One _ refl refl
 
 -- where something is told, it is what happens
-pub told_one : (s : Setup) (past : Past) (o : Option Happening) (this : Happening) (answer : Told) → o ≡ Some this → Tells s past o (Some answer) → TellsOf s past this answer
+pub told_one : (s : Setup) (past : Past) (o : Option Happening) (this : Happening) (answer : Told) → o ≡ Some this → Tells s past o (Some answer) → TellsOf s past this answer × IsMarked answer
 told_one s past o this answer is tells = subst (λ o. Tells s past o (Some answer)) is tells
 
 pub told_none : (s : Setup) (past : Past) (o : Option Happening) (answer : Told) → o ≡ None → Tells s past o (Some answer) → ⊥

@@ -1,23 +1,29 @@
 -- Who hears a run: what is told to it, and what it has heard once a line has made its turns.
-use Rattle.std.specs.Prelude.{◌≡◌, ◌+◌, ◌≤◌, ℕ, zero, suc, Bool, List, [], ◌∷◌, Option, None, Some, Ok}
+use Rattle.std.specs.Prelude.{◌≡◌, ◌+◌, ◌<◌, ◌≤◌, ℕ, zero, suc, Bool, List, [], ◌∷◌, Option, None, Some, Ok}
 use Rattle.plain_store.specs.declared.setups.Setup.{Setup}
 use Rattle.plain_store.specs.Setups.{checked}
 use Rattle.record.specs.declared.events.Event.{Event}
 use Rattle.record.specs.declared.events.Event.TheVariants.{Step}
 use Rattle.record.specs.declared.history.Taken.{Taken}
+use Rattle.record.specs.declared.access.Access.{Access}
+use Rattle.record.specs.Entries.{Past}
 use Rattle.record.specs.Given.{AreGiven}
 use Rattle.record.specs.Histories.{history}
 use Rattle.record.specs.Records.{entry_of, past_of}
 use Rattle.scenario.specs.declared.lines.Line.{Line}
 use Rattle.scenario.specs.files.declared.faults.Fault.{Fault}
+use Rattle.world.specs.laws.Doings.{doing}
+use Rattle.world.specs.process.Looks.{number_read}
+use Rattle.world.specs.process.Places.{left_at, process_after}
 use Rattle.world.specs.Events.{GoesOn}
 use Rattle.world.specs.Shows.{Shows, WorldState}
-use Rattle.world.specs.Walks.{StepsQuietly}
+use Rattle.world.specs.Walks.{MakesQuietly, StepsQuietly, Walks}
+use Rattle.world.specs.flicks.Flicks.{FlickState, after_flick, flick_of}
 use Rattle.course.specs.Courses.{CourseState, Follows, IsQuiet, QuietTurns}
 use Rattle.course.specs.Happenings.{Happening, Tries, past_after, tried}
 use Rattle.course.specs.Runs.{Run, past_in, run_after}
 use Rattle.course.specs.Steppers.{IsAlone}
-use Rattle.course.specs.Telling.{Tells, TellsOf}
+use Rattle.course.specs.Telling.{IsMarked, Tells, TellsOf}
 use Rattle.course.specs.Turns.{rest_of, turn_of, turns_in}
 use Rattle.course.specs.declared.told.Stepped.{Stepped}
 use Rattle.course.specs.declared.told.Told.{Told}
@@ -27,18 +33,41 @@ pub record Happens (s : Setup) (before : List Happening) (this : Happening) (tol
   pub good : checked s ≡ Ok tt
   pub given : AreGiven s (tried (this ∷ before))
   pub tells : TellsOf s (past_after s before) this told
+  pub marked : IsMarked told
   pub taken_are : taken ≡ history s (past_after s (this ∷ before))
 
--- a Step is made that has no mark
+-- a Step is made that has no mark. How much of a number was read before it is told, unless it is within a number access
 pub record StepsOn (s : Setup) (before : List Happening) (made : Stepped) : Type 0 where
   pub good : checked s ≡ Ok tt
   pub given : AreGiven s (Step made.process made.flick ∷ tried before)
   pub adds : entry_of s (past_after s before) (Step made.process made.flick) ≡ Some (record { process = made.process; access = Some made.access; marks = [] })
+  pub number : (n : ℕ) → made.number ≡ Some n → n ≡ number_read (doing s made.process (past_after s before))
+  pub within : made.number ≡ None → 0 < left_at (process_after s (past_after s before) made.process)
 
 -- so many events without a mark are made
 abbrev pub PassQuietly : Setup → ℕ → List Happening → List Happening → Type 0
 PassQuietly s zero before after = after ≡ before
 PassQuietly s (suc n) before after = (this : Happening) × IsQuiet s (past_after s before) (Some this) × PassQuietly s n (this ∷ before) after
+
+-- a Step of p by this flick is made within a number access, and has no mark
+pub record StepsWithin (s : Setup) (before : List Happening) (p : ℕ) (flick : Bool) : Type 0 where
+  pub good : checked s ≡ Ok tt
+  pub quiet : IsQuiet s (past_after s before) (Some (Tries (Step p flick)))
+  pub within : 0 < left_at (process_after s (past_after s before) p)
+
+-- so many of them are made
+abbrev pub PassWithin : Setup → ℕ → ℕ → List Happening → List Happening → Type 0
+PassWithin s p zero before after = after ≡ before
+PassWithin s p (suc n) before after = (flick : Bool) × StepsWithin s before p flick × PassWithin s p n (Tries (Step p flick) ∷ before) after
+
+-- the newest entry is one of p with this access, and without a mark
+abbrev pub IsNewest : Setup → ℕ → Access → List Happening → Type 0
+IsNewest s p access happened = (past : Past) × (past_after s happened ≡ record { process = p; access = Some access; marks = [] } ∷ past)
+
+-- the same, and the newest of them makes this access
+pub record PassBy (s : Setup) (p steps : ℕ) (newest : Access) (before after : List Happening) : Type 0 where
+  pub within : PassWithin s p steps before after
+  pub newest_is : IsNewest s p newest after
 
 -- room that a listener wants for what is told and the turns left after it
 abbrev pub room_wanted : Option Told → ℕ → ℕ
@@ -53,9 +82,9 @@ HearsTold Hears told taken was is = (s : Setup) (before : List Happening) (this 
 abbrev pub HearsUnmarked : {L : Type 0} → (L → Setup → List Happening → List Happening → L → Type 0) → Stepped → L → L → Type 0
 HearsUnmarked Hears made was is = (s : Setup) (before : List Happening) → StepsOn s before made → Hears was s before (Tries (Step made.process made.flick) ∷ before) is
 
--- so many Steps without a mark are heard of
-abbrev pub HearsPassing : {L : Type 0} → (L → Setup → List Happening → List Happening → L → Type 0) → ℕ → L → L → Type 0
-HearsPassing Hears steps was is = (s : Setup) (before after : List Happening) → PassQuietly s steps before after → Hears was s before after is
+-- so many Steps of p within a number access are heard of, and the access of the newest
+abbrev pub HearsPassing : {L : Type 0} → (L → Setup → List Happening → List Happening → L → Type 0) → ℕ → ℕ → Access → L → L → Type 0
+HearsPassing Hears p steps newest was is = (s : Setup) (before after : List Happening) → PassBy s p steps newest before after → Hears was s before after is
 
 -- who stops by this fault has heard a front of what it would have heard
 abbrev pub StopsBy : {L : Type 0} → (L → Setup → List Happening → List Happening → Fault → L → Type 0) → Fault → L → Setup → List Happening → List Happening → L → Type 0
@@ -82,11 +111,22 @@ pub record Plays {L : Type 0} (Hears : L → Setup → List Happening → List H
 -- a Step without a mark is made, and heard
 pub record HearsStep {L : Type 0} (Hears : L → Setup → List Happening → List Happening → L → Type 0) (old : WorldState) (p : ℕ) (flick : Bool) (new : WorldState) (was is : L) : Type 0 where
   pub step : StepsQuietly old p flick new
-  pub hears : (s : Setup) (before : List Happening) → StepsOn s before (record { process = p; flick = flick; access = step.access }) → Hears was s before (Tries (Step p flick) ∷ before) is
+  pub hears : (before : List Happening) → Shows old (tried before) → Hears was old.setup before (Tries (Step p flick) ∷ before) is
+
+-- so many Steps of p are made in a row, each by the flick that is next, and the newest makes this access
+pub record MakesSteps (old : WorldState) (flicks : FlickState) (p steps : ℕ) (new : WorldState) (flicks_then : FlickState) (access : Access) : Type 0 where
+  pub earlier : ℕ
+  pub count : steps ≡ suc earlier
+  pub world : WorldState
+  pub source : FlickState
+  pub walks : Walks old flicks p earlier world source
+  pub newest : MakesQuietly world p (flick_of source) access new
+  pub flicks_are : flicks_then ≡ after_flick source
 
 -- a Step is made or refused, and told
 pub record TellsStep (old : WorldState) (p : ℕ) (flick : Bool) (answer : Told) (new : WorldState) : Type 0 where
   pub tells : (events : List Event) → Shows old events → TellsOf old.setup (past_of old.setup events) (Tries (Step p flick)) answer
+  pub marked : IsMarked answer
   pub shows : GoesOn old (Step p flick) new
   pub setup : new.setup ≡ old.setup
 

@@ -1,5 +1,5 @@
 -- What a turn tells of what happens, and its text.
-use Rattle.std.specs.Prelude.{◌≡◌, ℕ, Bool, List, flat_map, map, Option, None, Some, Result, Ok, Err}
+use Rattle.std.specs.Prelude.{◌≡◌, ℕ, Bool, true, false, List, [], flat_map, map, Option, None, Some, Result, Ok, Err}
 use Rattle.record.specs.declared.access.Access.{Access}
 use Rattle.plain_store.specs.declared.setups.Setup.{Setup}
 use Rattle.record.specs.declared.events.Event.{Event}
@@ -43,10 +43,20 @@ TellsOf s past (Tires p) (told.Tired q) = q ≡ p
 TellsOf s past Looks (told.Shown store) = store ≡ newest_store s past
 TellsOf s past _ _ = ⊥
 
+-- an event that is told as accepted has a mark
+abbrev pub IsMarked : Told → Type 0
+IsMarked (told.Accepted made) = marks_made made ≡ [] → ⊥
+IsMarked _ = Unit {0}
+
+-- the event is a Step
+abbrev pub is_step : Event → Bool
+is_step (event.Step p flick) = true
+is_step _ = false
+
 -- the same, where something or nothing happens
 abbrev pub Tells : Setup → Past → Option Happening → Option Told → Type 0
 Tells s past None None = Unit {0}
-Tells s past (Some this) (Some answer) = TellsOf s past this answer
+Tells s past (Some this) (Some answer) = TellsOf s past this answer × IsMarked answer
 Tells s past _ _ = ⊥
 
 -- the text of what is told, where so many events were accepted before

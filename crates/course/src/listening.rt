@@ -1,5 +1,5 @@
 //! Who hears a run as its course makes it.
-ghost use Rattle.std.specs.Prelude.{◌≡◌, ◌+◌, ◌≤◌, ◌++◌, ℕ, List, ◌∷◌, Bool, false, OnOk, IfErr};
+ghost use Rattle.std.specs.Prelude.{◌≡◌, ◌+◌, ◌<◌, ◌≤◌, ◌++◌, ℕ, List, ◌∷◌, Bool, false, OnOk, IfErr};
 ghost use Rattle.plain_store.specs.declared.setups.Setup.{Setup};
 ghost use Rattle.record.specs.declared.events.Event.TheVariants.{Step};
 ghost use Rattle.scenario.specs.files.declared.faults.Fault.{Fault as WhyEnded};
@@ -8,13 +8,13 @@ ghost use Rattle.course.specs.Happenings.{Happening, Tries};
 ghost use Rattle.course.specs.Listening.{HearsPassing, HearsTold, HearsUnmarked, StopsBy, TakesRoom};
 
 use crate::told::{Stepped, Told};
-use record::Taken;
+use record::{Access, Taken};
 use scenario::Fault;
 
 /// Who hears a run. Two relations say what it has heard between two moments: of what happened in a run of a setup,
 /// from the one list of it to the other.
 pub trait Listener {
-    /// Whether each Step without a mark is heard. If not, they are passed by, many at once.
+    /// Whether each Step without a mark is heard. If not, those within a number access are passed by, many at once.
     ghost hears_steps: { Self → Bool };
 
     /// The same, as the course asks it.
@@ -46,10 +46,13 @@ pub trait Listener {
         ensures cut { IfErr result (λ fault.
             HearsUnmarked (StopsBy Stops fault) made self.old self.new) };
 
-    /// So many Steps without a mark are passed by.
-    fn pass(&mut self, steps: u32)
-        requires { HasRoom self.old steps }
-        ensures ok { hears_steps self.old ≡ false → HearsPassing Hears steps self.old self.new }
+    /// So many Steps of this process, within a number access of its call and without a mark, are passed by; the newest of
+    /// them made this access.
+    fn pass(&mut self, process: u8, steps: u32, newest: &Access)
+        requires some { 0 < steps }
+        requires room { HasRoom self.old steps }
+        ensures ok { hears_steps self.old ≡ false
+            → HearsPassing Hears process steps newest.now self.old self.new }
         ensures room { TakesRoom HasRoom self.old steps self.new };
 
     ghost room_less: { (a : Self) (n k : ℕ) → n ≤ k → HasRoom a k → HasRoom a n };

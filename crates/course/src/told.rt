@@ -1,6 +1,6 @@
 //! What the turns of a run tell.
 ghost use Rattle.std.specs.Prelude.{◌≡◌};
-ghost use Rattle.course.specs.Telling.{entry_made, marks_made, told_unmarked};
+ghost use Rattle.course.specs.Telling.{entry_made, marks_made};
 
 use plain_store::NestedTypes;
 use record::{Access, Act, Entry, Event, Mark, Refusal};
@@ -48,21 +48,8 @@ pub struct Stepped {
     pub process: u8,
     pub flick: bool,
     pub access: Access,
-}
-
-impl Stepped {
-    /// The same as an event that was accepted. Since it takes no command, its place does not matter.
-    pub fn accepted(self) -> Accepted
-        ensures { Told.Accepted result ≡ told_unmarked self }
-    {
-        let _nested: NestedTypes = None;
-        Accepted {
-            event: Event::Step(self.process, self.flick),
-            place: 0,
-            access: Some(self.access),
-            effect: Effect::Steps(world::StepTold::Nothing),
-        }
-    }
+    /// How much of a number its process had read before it; not told of a Step within a number access.
+    pub number: Option<u32>,
 }
 
 /// What a turn of a run tells.

@@ -14,6 +14,7 @@ ghost use Rattle.course.specs.Courses.{Follows, Makes, CourseState};
 ghost use Rattle.course.specs.Happenings.{Tries};
 ghost use Rattle.course.specs.Listening.{InItsRun, room_wanted};
 ghost use Rattle.course.specs.Runs.{Run, is_there as is_target, past_in, run_at_start, taken_in};
+ghost use Rattle.course.specs.Telling.{is_step};
 ghost use Rattle.course.specs.Texts.{newest_store};
 ghost use Rattle.course.specs.Turns.{happens, makes_steps, turn_of, turns_in as turns_of};
 
@@ -143,6 +144,7 @@ impl Course {
     fn event(&mut self, event: Event) -> Result<Option<Told>, AllocError>
         requires some_left { 0 < self.old.left }
         requires given { is_event event ≡ true }
+        requires still { is_step event ≡ false }
         ensures left { self.new.left ≡ self.old.left - 1 }
         ensures made { IfOk result (λ told. InItsRun self.old (λ run.
             Makes self.old run (happens (Tries event) (self.old.left - 1) run) told self.new)) }

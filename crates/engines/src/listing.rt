@@ -1,5 +1,5 @@
 //! The events of a run, and the record of events.
-ghost use Rattle.std.specs.Prelude.{◌≡◌, ◌++◌, [], ◌∷◌, ⊤, true, Ok, IfOk, OnOk, reverse};
+ghost use Rattle.std.specs.Prelude.{◌≡◌, ◌++◌, [], ◌∷◌, ⊤, true, Ok, IfOk, OnOk, reverse, false};
 ghost use Rattle.plain_store.specs.Setups.{checked};
 ghost use Rattle.course.specs.«record».declared.Refusal.TheVariants.{Memory};
 ghost use Rattle.course.specs.«record».Given.{AreGiven, is_event};
@@ -11,7 +11,9 @@ ghost use Rattle.engines.specs.Listings.{RecordsEvent, event_told};
 ghost use Rattle.engines.specs.RecordedRuns.{IsReadAgain};
 ghost use Rattle.course.specs.RunRecords.{accepted_events, listed};
 
-use course::{Course, Entry, Event, Listener, Record, Refusal, Stepped, Taken, Told, World};
+use course::{
+    Access, Course, Entry, Event, Listener, Record, Refusal, Stepped, Taken, Told, World,
+};
 use plain_store::{NestedTypes, Setup};
 use scenario::{Fault, Scenario};
 use std::alloc::{AllocError, Global};
@@ -61,7 +63,7 @@ impl Listener for Lister {
         Ok(add(Event::Step(made.process, made.flick), &mut self.events)?)
     }
 
-    fn pass(&mut self, _steps: u32) {}
+    fn pass(&mut self, _process: u8, _steps: u32, _newest: &Access) {}
 
     ghost room_less = { λ a n k few room. tt };
 

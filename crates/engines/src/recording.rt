@@ -1,6 +1,6 @@
 //! The engine `record`: the record of a scenario's run as text, each entry written before the next event is made. No
 //! record is held.
-ghost use Rattle.std.specs.Prelude.{◌≡◌, ◌+◌, ◌-◌, ◌^◌, ◌<◌, IfErr, IsOk, OnErr, OnOk, ⊤, true, refl};
+ghost use Rattle.std.specs.Prelude.{◌≡◌, ◌+◌, ◌-◌, ◌^◌, ◌<◌, IfErr, IsOk, OnErr, OnOk, ⊤, true, refl, false};
 ghost use Rattle.std.proofs.Common.{◌∙◌};
 ghost use Rattle.scenario.specs.files.Engines.{Ran, streams};
 ghost use Rattle.engines.specs.Sinks.{Wrote, WroteBytes, WroteBytesFront, WroteFront};
@@ -14,7 +14,7 @@ ghost use Rattle.course.specs.Takings.{Took, TookPart, part_before, part_on, par
 ghost use Rattle.course.specs.Replays.{ended};
 ghost use Rattle.course.specs.Writing.{IsWriteFault, failed_write};
 
-use course::{Course, Entry, Listener, Stepped, Taken, Told};
+use course::{Access, Course, Entry, Listener, Stepped, Taken, Told};
 use judge::{StepLine, print_entry, print_setup};
 use scenario::{Fault, Line, Scenario, Sink, Source, read_input, read_scenario, write_all};
 use std::alloc::{AllocError, Global};
@@ -145,7 +145,7 @@ impl<'a, W: Sink> Listener for Copier<'a, W> {
         Ok(())
     }
 
-    fn pass(&mut self, _steps: u32) {}
+    fn pass(&mut self, _process: u8, _steps: u32, _newest: &Access) {}
 
     ghost room_less = { λ a n k few room. room };
 

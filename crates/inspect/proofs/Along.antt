@@ -223,11 +223,11 @@ pub good_at : (s : Setup) (part : PartOfRun) (run : Run) → IsAt s part run →
 good_at s part run at = subst (λ s. checked s ≡ Ok tt) at.setup at.follows.shows.good
 
 -- how many events there were
-pub events_are : (s : Setup) (part : PartOfRun) (run : Run) → IsAt s part run → part.heard.snapshot.table.entries ≡ length (past_in s run)
-events_are s part run at = at.seen.heard.table.entries
+pub events_are : (s : Setup) (part : PartOfRun) (run : Run) → IsAt s part run → part.heard.snapshot.entries ≡ length (past_in s run)
+events_are s part run at = at.seen.heard.entries
 
 -- it has all events that it is to have
-pub along_whole : (s : Setup) (l : Line) (whole : Run) (part : PartOfRun) → part.most ≤ part.heard.snapshot.table.entries → ComesAlong s whole part → ComesAlong s (run_after s l whole) part
+pub along_whole : (s : Setup) (l : Line) (whole : Run) (part : PartOfRun) → part.most ≤ part.heard.snapshot.entries → ComesAlong s whole part → ComesAlong s (run_after s l whole) part
 along_whole s l whole part many u =
     let grows : Grows whole.happened (run_after s l whole).happened = line_grows s l whole in
     let events = events_are s part u.now u.at in
@@ -241,7 +241,7 @@ along_whole s l whole part many u =
     }
 
 -- or makes a part of the line
-pub along_part : (s : Setup) (l : Line) (whole : Run) (most : ℕ) (part part' : PartOfRun) → part.heard.snapshot.table.entries + most ≡ part.most → 0 < most → part'.most ≡ part.most → MakesPart l most part part' → ComesAlong s whole part → ComesAlong s (run_after s l whole) part'
+pub along_part : (s : Setup) (l : Line) (whole : Run) (most : ℕ) (part part' : PartOfRun) → part.heard.snapshot.entries + most ≡ part.most → 0 < most → part'.most ≡ part.most → MakesPart l most part part' → ComesAlong s whole part → ComesAlong s (run_after s l whole) part'
 along_part s l whole most part part' room some same makes u =
     let m : MadePart s l most u.now part' = makes s u.now u.at in
     let events = events_are s part u.now u.at in

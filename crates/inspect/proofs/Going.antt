@@ -120,26 +120,26 @@ module _ (s : Setup) (p : ℕ) (target : Target) (start : Run) (made most : ℕ)
       by zero all = absurd (omega (arith, all, short, few))
       by (suc left) all = (left, refl)
 
-  pub go_refused : part'.heard.snapshot.table.entries ≡ part.heard.snapshot.table.entries → MadePart s (line.Go p target) most start part'
+  pub go_refused : part'.heard.snapshot.entries ≡ part.heard.snapshot.entries → MadePart s (line.Go p target) most start part'
   go_refused same = by (may_step s p u.now) refl
     where
-      was : part.heard.snapshot.table.entries ≡ length (past_in s u.now)
+      was : part.heard.snapshot.entries ≡ length (past_in s u.now)
       was = events_are s part u.now u.at
 
-      is : part'.heard.snapshot.table.entries ≡ length (past_in s (stepped p u.now))
+      is : part'.heard.snapshot.entries ≡ length (past_in s (stepped p u.now))
       is = events_are s part' (stepped p u.now) then_at
 
       by : (may : Bool) → may_step s p u.now ≡ may → MadePart s (line.Go p target) most start part'
       by true may = let added = step_added s (good_at s part u.now u.at) u.now p may in absurd (omega (arith, added, was, is, same))
       by false may = ends_at s p target start (stepped p u.now) most part' then_at (omega (arith, was, is, same, u.events, short)) (turned one_less.0 one_less.1 false may)
 
-  pub go_on : (part'.heard.snapshot.table.entries ≡ part.heard.snapshot.table.entries → ⊥) → InGo s p target start (made + 1) part'
+  pub go_on : (part'.heard.snapshot.entries ≡ part.heard.snapshot.entries → ⊥) → InGo s p target start (made + 1) part'
   go_on differs = by (may_step s p u.now) refl
     where
-      was : part.heard.snapshot.table.entries ≡ length (past_in s u.now)
+      was : part.heard.snapshot.entries ≡ length (past_in s u.now)
       was = events_are s part u.now u.at
 
-      is : part'.heard.snapshot.table.entries ≡ length (past_in s (stepped p u.now))
+      is : part'.heard.snapshot.entries ≡ length (past_in s (stepped p u.now))
       is = events_are s part' (stepped p u.now) then_at
 
       by : (may : Bool) → may_step s p u.now ≡ may → InGo s p target start (made + 1) part'
@@ -156,7 +156,7 @@ module _ (s : Setup) (p : ℕ) (target : Target) (start : Run) (made most : ℕ)
           }
       by false may =
           let refused = step_refused s u.now p may in
-          let same : part'.heard.snapshot.table.entries ≡ part.heard.snapshot.table.entries = omega (arith, refused, was, is) in
+          let same : part'.heard.snapshot.entries ≡ part.heard.snapshot.entries = omega (arith, refused, was, is) in
           absurd (differs same)
 
 -- so many Steps were made

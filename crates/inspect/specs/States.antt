@@ -1,5 +1,5 @@
 -- The state after the first events of a scenario's run, and the part of the run that has those.
-use Rattle.std.specs.Prelude.{◌≡◌, ◌⊎◌, ◌+◌, ◌-◌, ◌≤◌, ◌^◌, ℕ, nat_lt, cond, if◌then◌else◌, List, [], ◌∷◌, ◌++◌, codes, drop, length, Option, None, Some, Result, Ok, Err, option_map}
+use Rattle.std.specs.Prelude.{◌≡◌, ◌⊎◌, ◌+◌, ◌-◌, ◌≤◌, ◌^◌, ℕ, nat_lt, false, cond, if◌then◌else◌, List, [], ◌∷◌, ◌++◌, codes, drop, length, Option, None, Some, Result, Ok, Err, option_map}
 use Rattle.std.specs.Fmt.{decimal}
 use Rattle.std.specs.Str.{bytes_eq}
 use Rattle.plain_store.specs.declared.setups.Setup.{Setup}
@@ -15,12 +15,14 @@ use Rattle.scenario.specs.declared.lines.Target.{Target}
 use Rattle.course.specs.Courses.{Follows}
 use Rattle.course.specs.Happenings.{Happening, past_after}
 use Rattle.course.specs.Runs.{Run, happenings, past_in, run_after}
-use Rattle.course.specs.Telling.{entry_made}
+use Rattle.course.specs.Telling.{IsMarked, entry_made}
+use Rattle.course.specs.declared.told.Accepted.{Accepted}
 use Rattle.course.specs.declared.told.Told.{Told}
 use Rattle.snapshot.specs.Processes.{newest_line}
 use Rattle.snapshot.specs.States.{HasHeard, state_lines}
 use Rattle.inspect.specs.Tables.{IsInTurn, past_with}
 use Rattle.inspect.specs.declared.heard.HeardRun.{HeardRun}
+use Rattle.inspect.specs.declared.heard.Unmarked.{Unmarked}
 use Rattle.inspect.specs.declared.part_of_run.PartOfRun.{PartOfRun}
 
 -- The text.
@@ -63,15 +65,28 @@ abbrev pub newest : Past → Option Entry
 newest [] = None
 newest (e ∷ past) = Some e
 
+-- the entry of a Step without a mark
+abbrev pub unmarked_entry : Unmarked → Entry
+unmarked_entry step = record { process = step.process; access = Some step.access; marks = [] }
+
+-- the entry of the newest event: one without a mark, or else the newest one with marks
+abbrev pub newest_heard : Option Unmarked → Option Accepted → Option Entry
+newest_heard None marked = option_map entry_made marked
+newest_heard (Some step) marked = Some (unmarked_entry step)
+
 -- these entries were heard
 pub record HasSeen (s : Setup) (past : Past) (kept : HeardRun) : Type 0 where
   pub setup : kept.snapshot.setup ≡ s
   pub heard : HasHeard kept.snapshot past
-  pub newest_is : newest past ≡ option_map entry_made kept.newest
+  pub newest_is : newest past ≡ newest_heard kept.unmarked kept.marked
+
+-- all that has happened between two moments was heard
+abbrev pub Hears : HeardRun → Setup → List Happening → List Happening → HeardRun → Type 0
+Hears old s before after new = HasSeen s (past_after s before) old → HasSeen s (past_after s after) new
 
 -- what is told is heard, whatever has happened before
 abbrev pub HearsTold : Told → HeardRun → HeardRun → Type 0
-HearsTold answer old new = (s : Setup) (past : Past) → IsInTurn s past answer → HasSeen s past old → HasSeen s (past_with past answer) new
+HearsTold answer old new = (s : Setup) (past : Past) → IsInTurn s past answer → IsMarked answer → HasSeen s past old → HasSeen s (past_with past answer) new
 
 -- these lines of what was heard are added to a text
 abbrev pub WritesSeen : (Past → List ℕ) → HeardRun → List ℕ → List ℕ → Type 0
@@ -98,7 +113,7 @@ pub record IsAt (s : Setup) (part : PartOfRun) (run : Run) : Type 0 where
 
 -- it has at most so many events more
 abbrev pub GrowsBy : ℕ → PartOfRun → PartOfRun → Type 0
-GrowsBy n old new = new.heard.snapshot.table.entries ≤ old.heard.snapshot.table.entries + n
+GrowsBy n old new = new.heard.snapshot.entries ≤ old.heard.snapshot.entries + n
 
 -- the lines of the state there are added to a text
 abbrev pub WritesState : PartOfRun → List ℕ → List ℕ → Type 0

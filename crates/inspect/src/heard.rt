@@ -1,26 +1,53 @@
 //! A listener that keeps the state of a run.
-ghost use Rattle.std.specs.Prelude.{◌≡◌, ◌+◌, ◌-◌, ◌^◌, ◌<◌, ◌≤◌, [], IfOk, Ok, OnOk, true, refl};
+ghost use Rattle.std.specs.Prelude.{◌≡◌, ◌+◌, ◌-◌, ◌^◌, ◌<◌, ◌≤◌, [], IfOk, Ok, OnOk, refl, false};
 ghost use Rattle.plain_store.specs.Setups.{checked};
 ghost use Rattle.scenario.specs.files.declared.faults.Fault.TheVariants.{Memory};
-ghost use Rattle.course.specs.Happenings.{past_after};
-ghost use Rattle.course.specs.Telling.{told_unmarked};
+ghost use Rattle.course.specs.Listening.{HearsPassing, HearsUnmarked};
 ghost use Rattle.course.specs.declared.told.Told.TheVariants.{Accepted as IsAccepted};
 ghost use Rattle.snapshot.specs.Processes.{newest_line};
-ghost use Rattle.inspect.specs.States.{HasSeen, HearsTold, WritesSeen, head_lines};
+ghost use Rattle.inspect.specs.States.{HasSeen, Hears, HearsTold, WritesSeen, head_lines, newest_heard, unmarked_entry};
 ghost use Rattle.inspect.specs.Tables.{fewer};
 
 use course::{Accepted, Listener, Stepped, Taken, Told};
 use plain_store::{NestedTypes, Setup};
+use record::{Access, Act, Entry};
 use scenario::Fault;
+use smallvec::SmallVec;
 use snapshot::Snapshot;
 use std::alloc::{AllocError, Global};
 
-/// What was heard of a run: its state, and the newest event.
+/// A Step without a mark: whose it is, and its access.
+#[derive(Clone, Copy)]
+struct Unmarked {
+    process: u8,
+    access: Access,
+}
+
+impl Unmarked {
+    /// Its entry. It takes no memory.
+    fn entry(&self, alloc: Global) -> Entry
+        ensures { result ≡ unmarked_entry self.now }
+    {
+        let _nested: NestedTypes = None;
+        Entry {
+            process: self.process,
+            act: Act {
+                access: Some(self.access),
+                marks: SmallVec::new(alloc),
+            },
+        }
+    }
+}
+
+/// What was heard of a run: its state, and the newest event. One with marks is large, and so it is written only where it comes.
 #[derive(Drop)]
 pub(crate) struct HeardRun {
     alloc: Global,
     pub snapshot: Snapshot,
-    newest: Option<Accepted>,
+    /// The newest event, if it has no mark.
+    unmarked: Option<Unmarked>,
+    /// The newest one with marks.
+    marked: Option<Accepted>,
 }
 
 impl HeardRun {
@@ -28,21 +55,22 @@ impl HeardRun {
     pub fn new(alloc: Global, setup: &Setup) -> Result<HeardRun, AllocError>
         requires { checked setup.now ≡ Ok tt }
         ensures seen { IfOk result (HasSeen setup.now []) }
-        ensures entries { IfOk result (λ heard. heard.snapshot.table.entries ≡ 0) }
+        ensures entries { IfOk result (λ heard. heard.snapshot.entries ≡ 0) }
     {
         let snapshot = Snapshot::new(alloc, setup)?;
         Ok(HeardRun {
             alloc,
             snapshot,
-            newest: None,
+            unmarked: None,
+            marked: None,
         })
     }
 
     /// Hears what a turn tells, if it is an event.
     #[inline(never)]
     fn hear_told(&mut self, told: &Told)
-        requires { self.old.snapshot.table.entries < 2 ^ 64 - 1 }
-        ensures entries { self.new.snapshot.table.entries ≤ self.old.snapshot.table.entries + 1 }
+        requires { self.old.snapshot.entries < 2 ^ 64 - 1 }
+        ensures entries { self.new.snapshot.entries ≤ self.old.snapshot.entries + 1 }
         ensures heard { HearsTold told.now self.old self.new }
     {
         let _nested: NestedTypes = None;
@@ -54,29 +82,50 @@ impl HeardRun {
         }
     }
 
-    /// Hears an event.
+    /// Hears an event with marks. One without is told as a Step.
     fn hear_event(&mut self, made: Accepted)
-        requires { self.old.snapshot.table.entries < 2 ^ 64 - 1 }
-        ensures entries { self.new.snapshot.table.entries ≡ self.old.snapshot.table.entries + 1 }
+        requires { self.old.snapshot.entries < 2 ^ 64 - 1 }
+        ensures entries { self.new.snapshot.entries ≤ self.old.snapshot.entries + 1 }
         ensures heard { HearsTold (IsAccepted made) self.old self.new }
     {
         let _nested: NestedTypes = None;
         let marks = made.marks(self.alloc);
-        self.snapshot
-            .hear(made.event.process(), &made.access, marks.as_slice());
-        self.newest = Some(made);
+        self.snapshot.hear(
+            made.event.process(),
+            made.access.is_some(),
+            marks.as_slice(),
+        );
+        self.unmarked = None;
+        self.marked = Some(made);
     }
 
-    /// Hears a Step without a mark.
-    #[inline(always)]
+    /// Hears a Step without a mark. One of which no number is told ends none.
     fn hear_step(&mut self, made: Stepped)
-        requires { self.old.snapshot.table.entries < 2 ^ 64 - 1 }
-        ensures entries { self.new.snapshot.table.entries ≡ self.old.snapshot.table.entries + 1 }
-        ensures heard { HearsTold (told_unmarked made) self.old self.new }
+        requires { self.old.snapshot.entries < 2 ^ 64 - 1 }
+        ensures entries { self.new.snapshot.entries ≡ self.old.snapshot.entries + 1 }
+        ensures heard { HearsUnmarked Hears made self.old self.new }
     {
         let _nested: NestedTypes = None;
-        self.snapshot.hear(made.process, &Some(made.access), &[]);
-        self.newest = Some(made.accepted());
+        let number = made.number.unwrap_or(0);
+        self.snapshot.step(made.process, &made.access, number);
+        self.unmarked = Some(Unmarked {
+            process: made.process,
+            access: made.access,
+        });
+    }
+
+    /// Steps of a process pass by, the newest of which made this access.
+    #[inline]
+    fn pass_steps(&mut self, process: u8, steps: u32, newest: &Access)
+        requires some { 0 < steps }
+        requires entries { self.old.snapshot.entries + steps < 2 ^ 64 }
+        ensures entries { self.new.snapshot.entries ≡ self.old.snapshot.entries + steps }
+        ensures heard { HearsPassing Hears process steps newest.now self.old self.new }
+    {
+        let _nested: NestedTypes = None;
+        self.snapshot.pass(process, steps);
+        let access = *newest;
+        self.unmarked = Some(Unmarked { process, access });
     }
 
     /// Writes how many events there were, and the entry of the newest one.
@@ -94,24 +143,38 @@ impl HeardRun {
         ensures { OnOk result (WritesSeen newest_line self.now text.old.items text.new.items) }
     {
         let _nested: NestedTypes = None;
-        match &self.newest {
+        match self.newest() {
             None => Ok(()),
-            Some(made) => { Snapshot::print_newest(self.alloc, &made.entry(self.alloc), text) }
+            Some(entry) => Snapshot::print_newest(self.alloc, &entry, text),
+        }
+    }
+
+    /// The entry of the newest event. It takes no memory.
+    fn newest(&self) -> Option<Entry>
+        ensures { result ≡ newest_heard self.now.unmarked self.now.marked }
+    {
+        let _nested: NestedTypes = None;
+        match &self.unmarked {
+            Some(step) => Some(step.entry(self.alloc)),
+            None => match &self.marked {
+                Some(made) => Some(made.entry(self.alloc)),
+                None => None,
+            },
         }
     }
 }
 
 impl Listener for HeardRun {
-    ghost hears_steps = { λ _. true };
+    ghost hears_steps = { λ _. false };
 
     #[inline(always)]
     fn hears_steps(&self) -> bool {
-        true
+        false
     }
 
-    ghost HasRoom = { λ heard more. heard.snapshot.table.entries + more < 2 ^ 64 };
+    ghost HasRoom = { λ heard more. heard.snapshot.entries + more < 2 ^ 64 };
 
-    ghost Hears = { λ a s x y b. HasSeen s (past_after s x) a → HasSeen s (past_after s y) b };
+    ghost Hears = { λ a s x y b. Hears a s x y b };
 
     ghost Stops = { λ a s x y fault b. fault ≡ Memory };
 
@@ -120,15 +183,17 @@ impl Listener for HeardRun {
         Ok(())
     }
 
-    #[inline(always)]
     fn step(&mut self, made: Stepped) -> Result<(), Fault> {
         self.hear_step(made);
         Ok(())
     }
 
-    fn pass(&mut self, _steps: u32) {}
+    #[inline(always)]
+    fn pass(&mut self, process: u8, steps: u32, newest: &Access) {
+        self.pass_steps(process, steps, newest);
+    }
 
-    ghost room_less = { λ a n k few room. fewer a.snapshot.table.entries n k few room };
+    ghost room_less = { λ a n k few room. fewer a.snapshot.entries n k few room };
 
     ghost hears_nothing = { λ a s x seen. seen };
 

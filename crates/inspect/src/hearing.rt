@@ -1,5 +1,5 @@
 //! A listener that tables the calls of a run: the line of each call that ends is written before the next event.
-ghost use Rattle.std.specs.Prelude.{◌≡◌, ◌+◌, ◌-◌, ◌^◌, ◌<◌, ◌∷◌, IfErr, OnErr, OnOk, length, true, refl};
+ghost use Rattle.std.specs.Prelude.{◌≡◌, ◌+◌, ◌-◌, ◌^◌, ◌<◌, ◌∷◌, IfErr, OnErr, OnOk, length, true, refl, false};
 ghost use Rattle.std.proofs.Common.{◌∙◌};
 ghost use Rattle.std.specs.Io.KnownBytes.{Appends};
 ghost use Rattle.record.specs.Entries.{Entry as Noted, Past};
@@ -48,7 +48,7 @@ impl<'a, W: Sink> Listener for Tabler<'a, W> {
         Ok(())
     }
 
-    fn pass(&mut self, _steps: u32) {}
+    fn pass(&mut self, _process: u8, _steps: u32, _newest: &Access) {}
 
     ghost room_less = { λ a n k few room. (fewer a.table.now.entries n k few room.0, room.1) };
 

@@ -28,7 +28,7 @@ impl PartOfRun {
     pub fn new(alloc: Global, setup: &Setup, most: u64) -> Result<PartOfRun, AllocError>
         requires { checked setup.now ≡ Ok tt }
         ensures most { IfOk result (λ part. part.most ≡ most) }
-        ensures entries { IfOk result (λ part. part.heard.snapshot.table.entries ≡ 0) }
+        ensures entries { IfOk result (λ part. part.heard.snapshot.entries ≡ 0) }
         ensures at { IfOk result (λ part. IsAt setup.now part run_at_start) }
     {
         let course = Course::new(alloc, setup)?;
@@ -42,14 +42,14 @@ impl PartOfRun {
 
     /// How many events there were.
     pub fn events(&self) -> u64
-        ensures { result ≡ self.now.heard.snapshot.table.entries }
+        ensures { result ≡ self.now.heard.snapshot.entries }
     {
         self.heard.snapshot.entries()
     }
 
     /// Makes the turns of a line, up to the last event that it is to have.
     pub fn make_line(&mut self, line: &Line) -> Result<(), AllocError>
-        requires { self.old.heard.snapshot.table.entries < 2 ^ 62 }
+        requires { self.old.heard.snapshot.entries < 2 ^ 62 }
         ensures most { self.new.most ≡ self.old.most }
         ensures entries { OnOk result (GrowsBy (2 ^ 48) self.old self.new) }
         ensures along { OnOk result (GoesAlong line.now self.old self.new) }
@@ -63,7 +63,7 @@ impl PartOfRun {
 
     /// Makes so many events of a line, or all, if there are fewer.
     fn make_part(&mut self, line: &Line, most: u64) -> Result<(), AllocError>
-        requires entries { self.old.heard.snapshot.table.entries < 2 ^ 62 }
+        requires entries { self.old.heard.snapshot.entries < 2 ^ 62 }
         requires some { 0 < most }
         ensures most { self.new.most ≡ self.old.most }
         ensures entries { OnOk result (GrowsBy (2 ^ 48) self.old self.new) }
@@ -77,7 +77,7 @@ impl PartOfRun {
 
     /// Makes so many Steps of a `go`, or all, if there are fewer.
     fn go(&mut self, process: u8, target: Target, most: u64) -> Result<(), AllocError>
-        requires entries { self.old.heard.snapshot.table.entries < 2 ^ 62 }
+        requires entries { self.old.heard.snapshot.entries < 2 ^ 62 }
         requires few { most < 65536 }
         ensures most { self.new.most ≡ self.old.most }
         ensures entries { OnOk result (GrowsBy (2 ^ 48) self.old self.new) }
@@ -104,7 +104,7 @@ impl PartOfRun {
 
     /// Makes the turns of a line, and hears them.
     fn play(&mut self, line: &Line) -> Result<(), AllocError>
-        requires { self.old.heard.snapshot.table.entries < 2 ^ 63 }
+        requires { self.old.heard.snapshot.entries < 2 ^ 63 }
         ensures most { self.new.most ≡ self.old.most }
         ensures entries { OnOk result (GrowsBy (2 ^ 32) self.old self.new) }
         ensures made { OnOk result (MakesLine line.now self.old self.new) }

@@ -1,5 +1,6 @@
+pub use Rattle.world.proofs as world
 pub mod Ranges
 pub mod Images
-pub mod Seeing
-pub mod Opened
+pub mod Keeps
+pub mod OfCalls
 pub mod Stand

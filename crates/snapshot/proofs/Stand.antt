@@ -12,6 +12,7 @@ use Rattle.record.specs.Stages.{stage}
 use Rattle.world.specs.Cores.{CoreState}
 use Rattle.world.specs.Events.{stage_in}
 use Rattle.world.specs.Shows.{WorldState}
+use Rattle.snapshot.specs.Knowing.{CoreShows}
 use Rattle.snapshot.specs.States.{SnapshotState, Stands}
 
 -- the past, by the snapshot's setup
@@ -33,6 +34,10 @@ stage_is t c taken past p there u =
 -- the entry that an event adds
 pub added_is : (t : SnapshotState) (c : CoreState) (taken : List Taken) (past : Past) (event : Event) (u : Stands t c taken past) → entry_of c.setup (past_of c.setup u.events) event ≡ entry_of t.setup past event
 added_is t c taken past event u = ap (λ (s : Setup). entry_of s (past_of c.setup u.events) event) u.setup ∙ ap (λ (q : Past). entry_of t.setup q event) (sym u.is_past)
+
+-- the core shows the past
+pub core_shows : (t : SnapshotState) (c : CoreState) (taken : List Taken) (past : Past) → Stands t c taken past → CoreShows c past
+core_shows t c taken past u = record { taken = taken; events = u.events; shows = u.shows; is = sym u.is_past }
 
 -- what follows, where there was memory
 pub ok_then : {A E : Type 0} (r : Result A E) {P Q : Type 0} → (P → Q) → OnOk r P → OnOk r Q

@@ -14,10 +14,11 @@ use Rattle.record.specs.declared.access.Access.{Access}
 use Rattle.record.specs.declared.access.Field.{Field}
 use Rattle.record.specs.declared.access.Field.TheVariants.{Choosing, Ticket, Commit, Stamp0, Stamp1, Image0, Image1}
 use Rattle.record.specs.Entries.{Past}
-use Rattle.record.specs.Moves.{moves_of}
 use Rattle.record.specs.Registers.{bytes_of_bits, image_bytes, opening_bit, processes, width}
 use Rattle.record_file.specs.Printing.{field_word}
-use Rattle.calls.specs.read_law.Looks.{held}
+use Rattle.calls.specs.read_law.laws.Held.{cell_held}
+use Rattle.world.specs.process.registers.Seeing.{bit_seen}
+use Rattle.world.specs.process.registers.declared.bit_seen.BitSeen.{BitSeen}
 use Rattle.snapshot.specs.Stores.{number_word, store_text}
 
 -- Bits.
@@ -26,9 +27,17 @@ use Rattle.snapshot.specs.Stores.{number_word, store_text}
 abbrev pub copy_of : ℕ → Field → ℕ → ℕ → Access
 copy_of owner field reader k = record { owner = owner; field = field; bit = k; reader = reader; how = BeginRead }
 
--- what it holds; none while a write of it is open
+-- what a bit holds; none while a write of it is open
+abbrev pub held_in : BitSeen → Option Bool
+held_in b = cond b.writing None (Some b.value)
+
+-- what it is
+abbrev pub bit_at : Setup → Past → Access → BitSeen
+bit_at s past a = bit_seen (cell_held s past a)
+
+-- what it holds
 abbrev pub bit_held : Setup → Past → Access → Option Bool
-bit_held s past a = held (opening_bit s a) (moves_of a past)
+bit_held s past a = held_in (bit_at s past a)
 
 -- the bit, where one is held
 abbrev pub is_one : Option Bool → Bool

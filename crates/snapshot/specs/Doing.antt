@@ -1,32 +1,34 @@
 -- How far a process is: its ticket, for whom it waits, what it or its unit reads, writes or settles, and what is open.
-use Rattle.std.specs.Prelude.{ℕ, zero, suc, ◌+◌, ◌-◌, ◌*◌, ◌==◌, Bool, true, false, ◌&&◌, ◌||◌, List, [], ◌++◌, codes, cond, Option, None, Some}
+use Rattle.std.specs.Prelude.{ℕ, zero, suc, ◌+◌, ◌-◌, ◌*◌, ◌/◌, ◌%◌, ◌==◌, nat_lt, Bool, true, false, not, ◌&&◌, ◌||◌, List, [], ◌++◌, codes, cond, Option, None, Some}
 use Rattle.std.specs.Fmt.{decimal}
 use Rattle.plain_store.specs.declared.setups.Setup.{Setup}
 use Rattle.record.specs.safe_bit.declared.Move.{Move}
-use Rattle.record.specs.safe_bit.declared.Move.TheVariants.{BeginWrite, EndWrite, BeginRead, EndRead, Settle}
-use Rattle.record.specs.safe_bit.SafeRule.{is_overlapped}
+use Rattle.record.specs.safe_bit.declared.Move.TheVariants.{BeginWrite, EndWrite, BeginRead, EndRead}
 use Rattle.record.specs.declared.access.Access.{Access}
 use Rattle.record.specs.declared.access.Field.{Field}
 use Rattle.record.specs.declared.access.Field.TheVariants.{Choosing, Ticket}
 use Rattle.record.specs.declared.events.Event.TheVariants.{Step}
 use Rattle.record.specs.declared.stages.Stage.{Stage}
 use Rattle.record.specs.declared.stages.Stage.TheVariants.{Doorway, Waiting, Inside, Settling}
-use Rattle.record.specs.Entries.{Entry, Past, own}
-use Rattle.record.specs.Moves.{moves_of}
+use Rattle.record.specs.Entries.{Entry, Past}
 use Rattle.record.specs.Records.{entry_of, with_event}
 use Rattle.record.specs.Registers.{width}
-use Rattle.record.specs.Unit.{is_begin}
 use Rattle.record_file.specs.Printing.{field_word}
 use Rattle.record_file.specs.scenario.Spelling.{bit_word}
 use Rattle.calls.specs.declared.called.Called.{Called}
-use Rattle.calls.specs.declared.called.FinishedRead.{FinishedRead}
-use Rattle.calls.specs.Columns.{holds_up, is_read_end, is_write_end}
+use Rattle.snapshot.specs.declared.kept.FinishedRead.{FinishedRead}
+use Rattle.calls.specs.Columns.{holds_up, is_read_end}
 use Rattle.calls.specs.Hearing.{open_call}
-use Rattle.snapshot.specs.declared.sight.Sight.{Sight}
-use Rattle.snapshot.specs.declared.sight.TornWrite.{TornWrite}
-use Rattle.snapshot.specs.Copies.{copy_text, is_image}
+use Rattle.calls.specs.read_law.laws.Doings.{Doing, doing}
+use Rattle.world.specs.process.Looks.{number_read, settling_of, ticket_known}
+use Rattle.world.specs.process.declared.looks.Settling.{Settling as Torn}
+use Rattle.world.specs.process.declared.looks.TicketKnown.{TicketKnown}
+use Rattle.world.specs.process.declared.looks.TicketKnown.TheVariants.{Above, Is}
+use Rattle.world.specs.process.registers.declared.bit_seen.BitSeen.{BitSeen}
+use Rattle.snapshot.specs.declared.kept.ProcessKept.{ProcessKept}
+use Rattle.snapshot.specs.Copies.{bit_at, copy_text, is_image}
+use Rattle.snapshot.specs.Keeping.{kept}
 use Rattle.snapshot.specs.Lines.{line_if, process_line}
-use Rattle.snapshot.specs.Sights.{sight}
 
 -- Its ticket.
 
@@ -37,27 +39,22 @@ ticket_words n = codes "ticket " ++ decimal n
 abbrev pub above_words : ℕ → List ℕ
 above_words n = codes "ticket above " ++ decimal n
 
-abbrev pub is_ticket : Field → Bool
-is_ticket Ticket = true
-is_ticket _ = false
-
--- in p's doorway, where this access comes next: its ticket is one more than the greatest that it has read, once it writes it
-abbrev pub doorway_ticket : ℕ → Access → Called → Option (List ℕ)
-doorway_ticket p next c =
-    cond (((next.owner == p) && is_ticket next.field) || c.accesses.takes)
-    (Some (ticket_words (c.accesses.greatest + 1)))
-    (cond c.accesses.raised (Some (above_words c.accesses.greatest)) None)
+-- in its doorway, by what is known of it
+abbrev pub doorway_ticket : Option TicketKnown → Option (List ℕ)
+doorway_ticket None = None
+doorway_ticket (Some (Above n)) = Some (above_words n)
+doorway_ticket (Some (Is n)) = Some (ticket_words n)
 
 -- the ticket with which it waits
 abbrev pub waiting_ticket : Option ℕ → Option (List ℕ)
 waiting_ticket None = None
 waiting_ticket (Some n) = Some (ticket_words n)
 
-abbrev pub ticket_at : ℕ → Stage → Access → Called → Option (List ℕ)
-ticket_at p Doorway next c = doorway_ticket p next c
-ticket_at p Waiting next c = waiting_ticket c.marks.ticket
-ticket_at p Inside next c = waiting_ticket c.marks.ticket
-ticket_at p _ next c = None
+abbrev pub ticket_at : Stage → Option TicketKnown → Called → Option (List ℕ)
+ticket_at Doorway known c = doorway_ticket known
+ticket_at Waiting known c = waiting_ticket c.marks.ticket
+ticket_at Inside known c = waiting_ticket c.marks.ticket
+ticket_at _ known c = None
 
 -- what of q it waits for, by the number read
 abbrev pub awaited : Field → ℕ → List ℕ
@@ -69,17 +66,17 @@ abbrev pub waits_by : ℕ → Option ℕ → Option FinishedRead → Option (Lis
 waits_by p (Some ticket) (Some read) = cond (holds_up p ticket read.owner read.field read.number) (Some (codes "waits for " ++ (decimal read.owner ++ awaited read.field read.number))) None
 waits_by p _ _ = None
 
-abbrev pub waits_at : ℕ → Stage → Called → Option (List ℕ)
-waits_at p Waiting c = waits_by p c.marks.ticket c.accesses.newest
-waits_at p _ c = None
+abbrev pub waits_at : ℕ → Stage → Option FinishedRead → Called → Option (List ℕ)
+waits_at p Waiting read c = waits_by p c.marks.ticket read
+waits_at p _ read c = None
 
--- both lines
-abbrev pub call_told : ℕ → Stage → Access → Called → List ℕ
-call_told p stage next c = line_if p (ticket_at p stage next c) ++ line_if p (waits_at p stage c)
+-- both lines, by what is known of the ticket, and by the number that was read last
+abbrev pub call_told : ℕ → Stage → Option TicketKnown → Option FinishedRead → Called → List ℕ
+call_told p stage known read c = line_if p (ticket_at stage known c) ++ line_if p (waits_at p stage read c)
 
-abbrev pub ticket_lines : ℕ → Stage → Access → Option Called → List ℕ
-ticket_lines p stage next None = []
-ticket_lines p stage next (Some c) = call_told p stage next c
+abbrev pub ticket_lines : ℕ → Stage → Option TicketKnown → Option FinishedRead → Option Called → List ℕ
+ticket_lines p stage known read None = []
+ticket_lines p stage known read (Some c) = call_told p stage known read c
 
 -- What it reads, writes or settles.
 
@@ -90,6 +87,11 @@ progress_words a made all = decimal a.owner ++ (codes "." ++ (field_word a.field
 -- one more, where a test holds
 abbrev pub one_if : Bool → ℕ
 one_if b = cond b 1 0
+
+-- a write ends
+abbrev pub is_write_end : Move → Bool
+is_write_end EndWrite = true
+is_write_end _ = false
 
 -- of the write of a number so many accesses come before this one, and there are so many: of each bit two on each copy
 abbrev pub writes_before : Setup → Access → ℕ
@@ -118,24 +120,37 @@ abbrev pub writes_words : Setup → Past → ℕ → Access → List ℕ
 writes_words s past p a = (codes "writes " ++ (progress_words a (writes_before s a) (writes_in_all s a) ++ codes " value ")) ++ value_written s past p a
 
 -- the bits of a number that are read so far; an image's are not told
-abbrev pub so_far : Access → Option Called → List ℕ
-so_far a None = []
-so_far a (Some c) = cond (is_image a.field || (a.bit == 0)) [] (codes " so far " ++ decimal c.accesses.number)
+abbrev pub so_far : Access → ℕ → List ℕ
+so_far a n = cond (is_image a.field || (a.bit == 0)) [] (codes " so far " ++ decimal n)
 
-abbrev pub reads_words : Setup → Access → Option Called → List ℕ
-reads_words s a call = codes "reads " ++ (progress_words a (reads_before a) (reads_in_all s a) ++ so_far a call)
+abbrev pub reads_words : Setup → Access → ℕ → List ℕ
+reads_words s a n = codes "reads " ++ (progress_words a (reads_before a) (reads_in_all s a) ++ so_far a n)
 
 -- the value that a unit has chosen, if it has
 abbrev pub chosen_words : Option Bool → List ℕ
 chosen_words None = []
 chosen_words (Some v) = codes " value " ++ bit_word v
 
--- a settling writes each copy of the bit, but for what of its write was made
-abbrev pub settles_words : Setup → TornWrite → List ℕ
-settles_words s t = codes "settles " ++ (progress_words t.access t.made (2 * s.processes - one_if (is_begin t.access.how)) ++ chosen_words t.chosen)
+-- the last access of the write that a failure of p has cut
+abbrev pub cut_access : ℕ → Torn → Access
+cut_access p t = record { owner = p; field = t.field; bit = t.bit; reader = t.cut / 2; how = BeginWrite t.written }
 
-abbrev pub torn_words : TornWrite → List ℕ
-torn_words t = codes "torn " ++ (decimal t.access.owner ++ (codes "." ++ (field_word t.access.field ++ (codes "." ++ (decimal t.access.bit ++ (codes " write " ++ bit_word t.value))))))
+-- the write of a copy was begun, and has not ended
+abbrev pub is_cut_open : Torn → Bool
+is_cut_open t = t.cut % 2 == 1
+
+-- of a settling so many accesses are made: two on each copy, but one on that whose write was open; and there are so many
+abbrev pub settled_before : Torn → ℕ
+settled_before t = 2 * t.copy + one_if t.begun - one_if (is_cut_open t && nat_lt (t.cut / 2) t.copy)
+
+abbrev pub settled_in_all : Setup → Torn → ℕ
+settled_in_all s t = 2 * s.processes - one_if (is_cut_open t)
+
+abbrev pub settles_words : Setup → ℕ → Torn → List ℕ
+settles_words s p t = codes "settles " ++ (progress_words (cut_access p t) (settled_before t) (settled_in_all s t) ++ chosen_words t.value)
+
+abbrev pub torn_words : ℕ → Torn → List ℕ
+torn_words p t = codes "torn " ++ (decimal p ++ (codes "." ++ (field_word t.field ++ (codes "." ++ (decimal t.bit ++ (codes " write " ++ bit_word t.written))))))
 
 abbrev pub is_writing : Move → Bool
 is_writing (BeginWrite v) = true
@@ -143,28 +158,41 @@ is_writing EndWrite = true
 is_writing _ = false
 
 -- what it is within, or begins with this access
-abbrev pub access_words : Setup → Past → ℕ → Access → Option Called → List ℕ
-access_words s past p a call = cond (is_writing a.how) (writes_words s past p a) (reads_words s a call)
+abbrev pub access_words : Setup → Past → ℕ → Access → ℕ → List ℕ
+access_words s past p a n = cond (is_writing a.how) (writes_words s past p a) (reads_words s a n)
 
-abbrev pub busy_lines : Setup → Past → ℕ → Access → Option Called → Option TornWrite → List ℕ
-busy_lines s past p a call None = process_line p (access_words s past p a call)
-busy_lines s past p a call (Some t) = process_line p (settles_words s t) ++ process_line p (torn_words t)
+abbrev pub busy_lines : Setup → Past → ℕ → Access → ℕ → Option Torn → List ℕ
+busy_lines s past p a n None = process_line p (access_words s past p a n)
+busy_lines s past p a n (Some t) = process_line p (settles_words s p t) ++ process_line p (torn_words p t)
 
 -- What is open.
 
--- how an access is open that begins with this move, and was overlapped or not
-abbrev pub open_how : Move → Bool → Option (List ℕ)
-open_how (BeginWrite v) overlapped = Some (codes " write " ++ bit_word v)
-open_how BeginRead overlapped = Some (cond overlapped (codes " read overlapped") (codes " read"))
-open_how _ overlapped = None
+abbrev pub written_word : Bool → List ℕ
+written_word v = codes " write " ++ bit_word v
 
-abbrev pub opened_words : Access → Option (List ℕ) → Option (List ℕ)
-opened_words a None = None
-opened_words a (Some how) = Some (codes "open " ++ (decimal a.owner ++ (codes "." ++ (field_word a.field ++ (codes "." ++ (decimal a.bit ++ (codes "." ++ (decimal a.reader ++ how))))))))
+abbrev pub read_word : Bool → List ℕ
+read_word overlapped = cond overlapped (codes " read overlapped") (codes " read")
 
-abbrev pub open_words : Past → Option Access → Option (List ℕ)
-open_words past None = None
-open_words past (Some a) = opened_words a (open_how a.how (is_overlapped (moves_of a past)))
+-- the access to this bit is open
+abbrev pub opened_words : Access → List ℕ → List ℕ
+opened_words a how = codes "open " ++ (decimal a.owner ++ (codes "." ++ (field_word a.field ++ (codes "." ++ (decimal a.bit ++ (codes "." ++ (decimal a.reader ++ how)))))))
+
+-- before the first access of a settling: the write that the failure has cut
+abbrev pub is_cut_first : Torn → Bool
+is_cut_first t = (t.copy == 0) && not t.begun && is_cut_open t
+
+abbrev pub cut_open : ℕ → Option Torn → Option (List ℕ)
+cut_open p None = None
+cut_open p (Some t) = cond (is_cut_first t) (Some (opened_words (cut_access p t) (written_word t.written))) None
+
+-- where the next access ends one, that one
+abbrev pub open_by : ℕ → Access → Move → BitSeen → Option Torn → Option (List ℕ)
+open_by p a EndWrite b torn = Some (opened_words a (written_word b.value))
+open_by p a (EndRead v) b torn = Some (opened_words a (read_word b.touched))
+open_by p a _ b torn = cut_open p torn
+
+abbrev pub open_words : Setup → Past → ℕ → Access → Option Torn → Option (List ℕ)
+open_words s past p a torn = open_by p a a.how (bit_at s past a) torn
 
 -- All of it.
 
@@ -173,11 +201,11 @@ abbrev pub failed_words : Stage → ℕ → Option (List ℕ)
 failed_words Settling at = Some (codes "failed at " ++ decimal at)
 failed_words _ at = None
 
--- where this access comes next
-abbrev pub doing_with : Setup → Past → ℕ → Stage → Option Called → Sight → Access → List ℕ
-doing_with s past p stage call k a =
+-- where it does this, and this access comes next
+abbrev pub doing_with : Setup → Past → ℕ → Stage → Option Called → ProcessKept → Doing → Access → List ℕ
+doing_with s past p stage call k d a =
     line_if p (failed_words stage k.failed)
-    ++ (ticket_lines p stage a call ++ (busy_lines s past p a call k.torn ++ line_if p (open_words past k.newest)))
+    ++ (ticket_lines p stage (ticket_known s d) k.read call ++ (busy_lines s past p a (number_read d) (settling_of d) ++ line_if p (open_words s past p a (settling_of d))))
 
 -- the access of an entry, if there is one
 abbrev pub access_in : Option Entry → Option Access
@@ -186,7 +214,7 @@ access_in (Some e) = e.access
 
 abbrev pub doing_by : Setup → Past → ℕ → Stage → Option Access → List ℕ
 doing_by s past p stage None = []
-doing_by s past p stage (Some a) = doing_with s past p stage (open_call s p past) (sight s.processes p past) a
+doing_by s past p stage (Some a) = doing_with s past p stage (open_call s p past) (kept s p past) (doing s p past) a
 
 -- of p at a stage, by the access of its next Step
 abbrev pub doing_lines : Setup → Past → ℕ → Stage → List ℕ

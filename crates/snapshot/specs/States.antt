@@ -2,41 +2,35 @@
 use Rattle.std.specs.Prelude.{◌≡◌, ◌<◌, ℕ, List, ◌++◌, Ok, Some, flat_map, length, slice_get}
 use Rattle.plain_store.specs.declared.setups.Setup.{Setup}
 use Rattle.plain_store.specs.Setups.{checked}
-use Rattle.record.specs.declared.access.Access.{Access}
 use Rattle.record.specs.declared.events.Event.{Event}
 use Rattle.record.specs.declared.history.Taken.{Taken}
-use Rattle.record.specs.Entries.{Past, own}
+use Rattle.record.specs.Entries.{Past}
 use Rattle.record.specs.Histories.{history}
 use Rattle.record.specs.Records.{past_of}
 use Rattle.record.specs.Registers.{processes}
-use Rattle.calls.specs.read_law.laws.Held.{IsThere}
-use Rattle.calls.specs.Hearing.{TableState}
-use Rattle.calls.specs.Hearing.{HasHeard as HasTabled}
 use Rattle.world.specs.Cores.{CoreState, with_history}
 use Rattle.world.specs.Shows.{Shows}
-use Rattle.snapshot.specs.declared.sight.Sight.{Sight}
+use Rattle.snapshot.specs.declared.kept.ProcessKept.{ProcessKept}
 use Rattle.snapshot.specs.Copies.{register_lines}
+use Rattle.snapshot.specs.Keeping.{kept}
 use Rattle.snapshot.specs.Processes.{process_lines}
-use Rattle.snapshot.specs.Sights.{newest_access, sight}
 use Rattle.snapshot.specs.Stores.{history_lines}
 
--- the table of the calls, and what is kept of each process beside its call
+-- what is kept of each process, and how many entries there were
 pub record SnapshotState : Type 0 where
   pub setup : Setup
-  pub table : TableState
-  pub sights : List Sight
+  pub kept : List ProcessKept
+  pub entries : ℕ
 
 -- there is something kept for each process of a good setup
 pub record IsSnapshot (t : SnapshotState) : Type 0 where
   pub good : checked t.setup ≡ Ok tt
-  pub tabled : t.table.setup ≡ t.setup
-  pub processes : length t.sights ≡ t.setup.processes
+  pub processes : length t.kept ≡ t.setup.processes
 
 -- it has heard these entries
 pub record HasHeard (t : SnapshotState) (past : Past) : Type 0 where
-  pub table : HasTabled t.table past
-  pub sights : (p : ℕ) → p < t.setup.processes → slice_get t.sights p ≡ Some (sight t.setup.processes p past)
-  pub there : (p : ℕ) (a : Access) → newest_access (own p past) ≡ Some a → IsThere t.setup a
+  pub kept : (p : ℕ) → p < t.setup.processes → slice_get t.kept p ≡ Some (kept t.setup p past)
+  pub entries : t.entries ≡ length past
 
 -- it has heard what the world shows that keeps this core and this history
 pub record Stands (t : SnapshotState) (c : CoreState) (taken : List Taken) (past : Past) : Type 0 where

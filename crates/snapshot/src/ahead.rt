@@ -3,16 +3,15 @@ ghost use Rattle.std.specs.Prelude.{◌≡◌, ◌+◌, ◌++◌, codes, drop, f
 ghost use Rattle.record.specs.declared.Event.{Event as Happening};
 ghost use Rattle.record.specs.declared.Event.TheVariants.{Step};
 ghost use Rattle.record.specs.declared.history.Taken.{Taken as Seen};
+ghost use Rattle.record.specs.Entries.{Past};
 ghost use Rattle.record.specs.Records.{entry_of, past_of, with_event};
 ghost use Rattle.record_file.specs.Printing.{entry_line};
 ghost use Rattle.world.specs.Cores.{with_history};
 ghost use Rattle.world.specs.Shows.{Shows};
-ghost use Rattle.calls.specs.read_law.Watching.{HasHeard};
 ghost use Rattle.snapshot.specs.Doing.{ahead};
 ghost use Rattle.snapshot.specs.Processes.{behind_process, lines_of_two, next_line, words_added};
-ghost use Rattle.snapshot.specs.Steps.{StepsAhead};
+ghost use Rattle.snapshot.specs.Knowing.{CoreShows};
 
-use calls::Watch;
 use plain_store::NestedTypes;
 use record::{Act, Entry, Event};
 use record_file::print_entry;
@@ -130,44 +129,26 @@ pub(crate) fn push_newest(
     print_entry(alloc, entry, text)
 }
 
-/// Makes so many Steps of a process on a twin of a run's core, and gives a watch that has heard these too.
-pub(crate) fn watch_ahead(
-    alloc: Global,
-    twin: &mut Core,
-    core: &Core,
-    watch: &Watch,
-    process: u8,
-    steps: u64,
-) -> Result<Watch, AllocError>
-    requires twin { twin.old.setup ≡ core.now.setup }
-    ensures twin { twin.new.setup ≡ core.now.setup }
-    ensures setup { IfOk result (λ ahead. ahead.setup ≡ watch.now.setup) }
-    ensures heard { IfOk result (λ heard. (history : List Seen) (events : List Happening)
-        → Shows (with_history core.now history) events
-        → HasHeard watch.now (past_of core.now.setup events)
-        → HasHeard heard (ahead core.now.setup (past_of core.now.setup events) process steps)) }
+/// Makes so many Steps of a process on a twin of a run's core.
+pub(crate) fn step_ahead(twin: &mut Core, core: &Core, process: u8, steps: u64)
+    requires { twin.old.setup ≡ core.now.setup }
+    ensures setup { twin.new.setup ≡ core.now.setup }
+    ensures shows { (past : Past) → CoreShows core.now past
+        → CoreShows twin.new (ahead core.now.setup past process steps) }
 {
     twin.copy_from(core);
-    let mut ahead = watch.twin(alloc)?;
     for step in 0..steps {
         let _made = step;
-        hear_step(twin, &mut ahead, process);
+        step_on(twin, process);
     }
-    Ok(ahead)
 }
 
-/// Makes a Step of a process, if it is not refused, and lets a watch hear it.
-fn hear_step(twin: &mut Core, watch: &mut Watch, process: u8)
-    ensures twin { twin.new.setup ≡ twin.old.setup }
-    ensures setup { watch.new.setup ≡ watch.old.setup }
-    ensures goes { (history : List Seen) (events : List Happening)
-        → Shows (with_history twin.old history) events
-        → HasHeard watch.old (past_of twin.old.setup events)
-        → StepsAhead twin.new watch.new (with_event twin.old.setup (Step process false)
-        (past_of twin.old.setup events)) }
+/// Makes a Step of a process, if it is not refused.
+fn step_on(twin: &mut Core, process: u8)
+    ensures setup { twin.new.setup ≡ twin.old.setup }
+    ensures goes { (past : Past) → CoreShows twin.old past
+        → CoreShows twin.new (with_event twin.old.setup (Step process false) past) }
 {
     let mut told = StepTold::Nothing;
-    if let Ok(access) = twin.step(process, false, &mut told) {
-        let _kept = watch.hear_access(access);
-    }
+    let _made = twin.step(process, false, &mut told);
 }

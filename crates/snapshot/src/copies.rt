@@ -9,23 +9,24 @@ ghost use Rattle.record.specs.Registers.{bytes_of_bits, image_bytes, processes, 
 ghost use Rattle.record.specs.store_image.Image.{IsStore};
 ghost use Rattle.safe_number.specs.Bytes.{IsBytesOf, number_of_bits};
 ghost use Rattle.safe_number.specs.Runs.{new_read};
-ghost use Rattle.calls.specs.read_law.Watching.{HasHeard};
-ghost use Rattle.snapshot.specs.Copies.{bit_held, copy_of, copy_text, has_changed, have_one_text, image_text, is_copy_changed, is_one, shown};
+ghost use Rattle.calls.specs.read_law.laws.Held.{IsThere};
+ghost use Rattle.snapshot.specs.Knowing.{CoreShows};
+ghost use Rattle.snapshot.specs.Copies.{bit_at, bit_held, copy_of, copy_text, has_changed, held_in, have_one_text, image_text, is_copy_changed, is_one, shown};
 
 use crate::stores::push_store;
-use calls::{Watch, width};
+use calls::width;
 use plain_store::Setup;
 use record::{Access, Field, Move, bytes_go_by_their_bits};
 use safe_number::{ReadRun, number_of, numbers_are_their_bits};
 use std::alloc::{AllocError, Global};
-use world::Image;
+use world::{BitSeen, Core, Image};
 
-/// The copies of a register, one for each reader, as a watch knows them.
+/// The copies of a register, one for each reader, as a core keeps them.
 #[derive(Clone, Copy)]
 pub(crate) struct RegisterCopies<'a> {
     pub alloc: Global,
     pub setup: &'a Setup,
-    pub watch: &'a Watch,
+    pub core: &'a Core,
     pub owner: u8,
     pub field: Field,
 }
@@ -35,26 +36,28 @@ impl RegisterCopies<'_> {
     #[inline]
     fn bit(&self, reader: u8, bit: usize) -> Option<bool>
         requires good { checked self.now.setup.now ≡ Ok tt }
-        requires setup { self.now.watch.now.setup ≡ self.now.setup.now }
+        requires setup { self.now.core.now.setup ≡ self.now.setup.now }
         requires owner { self.now.owner < self.now.setup.now.processes }
         requires reader { reader < self.now.setup.now.processes }
         requires bit { bit < width self.now.setup.now self.now.field }
         requires few { bit < 65536 }
-        ensures { (past : Past) → HasHeard self.now.watch.now past
+        ensures { (past : Past) → CoreShows self.now.core.now past
             → result ≡ bit_held self.now.setup.now past
             (copy_of self.now.owner self.now.field reader bit) }
     {
-        self.watch
-            .holds(&copy_of(self.owner, self.field, reader, bit))
+        held_in(
+            self.core
+                .bit_seen(&copy_of(self.owner, self.field, reader, bit)),
+        )
     }
 
     /// The copy for a reader as text.
     pub fn text(&self, reader: u8) -> Result<Vec<u8>, AllocError>
         requires good { checked self.now.setup.now ≡ Ok tt }
-        requires setup { self.now.watch.now.setup ≡ self.now.setup.now }
+        requires setup { self.now.core.now.setup ≡ self.now.setup.now }
         requires owner { self.now.owner < self.now.setup.now.processes }
         requires reader { reader < self.now.setup.now.processes }
-        ensures { IfOk result (λ text. (past : Past) → HasHeard self.now.watch.now past
+        ensures { IfOk result (λ text. (past : Past) → CoreShows self.now.core.now past
             → text.items ≡ copy_text self.now.setup.now past self.now.owner self.now.field reader) }
     {
         let width = width(self.setup, self.field);
@@ -72,21 +75,21 @@ impl RegisterCopies<'_> {
         shown(self.alloc, self.setup, self.field, &read)
     }
 
-    /// Whether a bit of the copy for a reader is not as in this watch, which has heard nothing.
-    pub fn is_copy_changed(&self, opening: &Watch, reader: u8) -> bool
+    /// Whether a bit of the copy for a reader is not as in this core, in whose run nothing has happened.
+    pub fn is_copy_changed(&self, opening: &Core, reader: u8) -> bool
         requires good { checked self.now.setup.now ≡ Ok tt }
-        requires setup { self.now.watch.now.setup ≡ self.now.setup.now }
+        requires setup { self.now.core.now.setup ≡ self.now.setup.now }
         requires opening { opening.now.setup ≡ self.now.setup.now }
-        requires unheard { HasHeard opening.now [] }
+        requires unheard { CoreShows opening.now [] }
         requires owner { self.now.owner < self.now.setup.now.processes }
         requires reader { reader < self.now.setup.now.processes }
-        ensures { (past : Past) → HasHeard self.now.watch.now past
+        ensures { (past : Past) → CoreShows self.now.core.now past
             → result ≡ is_copy_changed self.now.setup.now past self.now.owner self.now.field
             reader }
     {
         let mut changed = false;
         for bit in 0..width(self.setup, self.field) {
-            let before = opening.holds(&copy_of(self.owner, self.field, reader, bit));
+            let before = held_in(opening.bit_seen(&copy_of(self.owner, self.field, reader, bit)));
             let is_changed = has_changed(is_one(before), self.bit(reader, bit));
             changed = changed | is_changed;
         }
@@ -94,13 +97,13 @@ impl RegisterCopies<'_> {
     }
 
     /// Whether a copy is changed.
-    pub fn are_changed(&self, opening: &Watch) -> bool
+    pub fn are_changed(&self, opening: &Core) -> bool
         requires good { checked self.now.setup.now ≡ Ok tt }
-        requires setup { self.now.watch.now.setup ≡ self.now.setup.now }
+        requires setup { self.now.core.now.setup ≡ self.now.setup.now }
         requires opening { opening.now.setup ≡ self.now.setup.now }
-        requires unheard { HasHeard opening.now [] }
+        requires unheard { CoreShows opening.now [] }
         requires owner { self.now.owner < self.now.setup.now.processes }
-        ensures { (past : Past) → HasHeard self.now.watch.now past
+        ensures { (past : Past) → CoreShows self.now.core.now past
             → result ≡ list_any (is_copy_changed self.now.setup.now past self.now.owner
             self.now.field) (processes self.now.setup.now) }
     {
@@ -115,11 +118,11 @@ impl RegisterCopies<'_> {
     /// Whether the copies for two readers have one text.
     pub fn have_one_text(&self, one: u8, other: u8) -> Result<bool, AllocError>
         requires good { checked self.now.setup.now ≡ Ok tt }
-        requires setup { self.now.watch.now.setup ≡ self.now.setup.now }
+        requires setup { self.now.core.now.setup ≡ self.now.setup.now }
         requires owner { self.now.owner < self.now.setup.now.processes }
         requires one { one < self.now.setup.now.processes }
         requires other { other < self.now.setup.now.processes }
-        ensures { IfOk result (λ same. (past : Past) → HasHeard self.now.watch.now past
+        ensures { IfOk result (λ same. (past : Past) → CoreShows self.now.core.now past
             → same ≡ have_one_text (copy_text self.now.setup.now past self.now.owner
             self.now.field) one other) }
     {
@@ -142,6 +145,34 @@ fn copy_of(owner: u8, field: Field, reader: u8, bit: usize) -> Access
         reader,
         how: Move::BeginRead,
     }
+}
+
+/// What the copy of a bit is that an access names, if it is there.
+pub(crate) fn bit_at(core: &Core, setup: &Setup, access: &Access) -> BitSeen
+    requires good { checked setup.now ≡ Ok tt }
+    requires setup { core.now.setup ≡ setup.now }
+    ensures { (past : Past) → CoreShows core.now past → IsThere setup.now access.now
+        → result ≡ bit_at setup.now past access.now }
+{
+    let there = access.owner < setup.processes
+        && access.reader < setup.processes
+        && usize::from(access.bit) < width(setup, access.field);
+    if !there {
+        return BitSeen {
+            value: false,
+            writing: false,
+            touched: false,
+        };
+    }
+    core.bit_seen(access)
+}
+
+/// What a bit holds; none while a write of it is open.
+#[inline]
+fn held_in(seen: BitSeen) -> Option<bool>
+    ensures { result ≡ held_in seen }
+{
+    if seen.writing { None } else { Some(seen.value) }
 }
 
 /// Whether none is held, since a write of the bit is open.

@@ -4,14 +4,15 @@ ghost use Rattle.std.specs.String.{string_bytes};
 ghost use Rattle.plain_store.specs.Setups.{checked};
 ghost use Rattle.record_file.specs.scenario.Spelling.{bit_word};
 ghost use Rattle.snapshot.specs.Copies.{is_image};
-ghost use Rattle.snapshot.specs.Doing.{awaited, chosen_words, doorway_ticket, failed_words, is_ticket, is_writing, one_if, open_how, opened_words, progress_words, reads_before, reads_in_all, reads_words, settles_words, so_far, ticket_at, ticket_words, torn_words, waiting_ticket, waits_at, waits_by, writes_before, writes_in_all};
+ghost use Rattle.snapshot.specs.Doing.{awaited, chosen_words, cut_access, cut_open, doorway_ticket, failed_words, is_cut_open, is_writing, one_if, open_by, opened_words, progress_words, read_word, reads_words, settles_words, so_far, ticket_at, ticket_words, torn_words, waiting_ticket, waits_at, waits_by, writes_before, writes_in_all, written_word};
 
+use crate::kept::FinishedRead;
 use crate::register_lines::field_word;
-use crate::sight::TornWrite;
-use calls::{Called, FinishedRead, holds_up, width};
+use calls::{Called, holds_up, width};
 use plain_store::{NestedTypes, Setup};
 use record::{Access, Field, Move, Stage};
 use std::alloc::{AllocError, Global};
+use world::{BitSeen, Settling, TicketKnown};
 
 /// When a process failed, while its unit settles.
 pub(crate) fn failed_words(
@@ -27,51 +28,32 @@ pub(crate) fn failed_words(
     }
 }
 
-/// The ticket of a process at a stage of its call, where this access comes next.
+/// The ticket of a process at a stage of its call, of which so much is known in its doorway.
 pub(crate) fn ticket_at(
     alloc: Global,
-    process: u8,
     stage: Stage,
-    next: &Access,
+    known: &Option<TicketKnown>,
     called: &Called,
 ) -> Result<Option<String>, AllocError>
     ensures { IfOk result (λ words. option_map string_bytes words
-        ≡ ticket_at process stage next.now called.now) }
+        ≡ ticket_at stage known.now called.now) }
 {
     match stage {
-        Stage::Doorway => doorway_ticket(alloc, process, next, called),
+        Stage::Doorway => doorway_ticket(alloc, known),
         Stage::Waiting | Stage::Inside => waiting_ticket(alloc, called.marks.ticket),
         _ => Ok(None),
     }
 }
 
-/// That of one in its doorway: it is one more than the greatest ticket that it has read, once it writes it.
-fn doorway_ticket(
-    alloc: Global,
-    process: u8,
-    next: &Access,
-    called: &Called,
-) -> Result<Option<String>, AllocError>
-    ensures { IfOk result (λ words. option_map string_bytes words
-        ≡ doorway_ticket process next.now called.now) }
+/// That of one in its doorway.
+fn doorway_ticket(alloc: Global, known: &Option<TicketKnown>) -> Result<Option<String>, AllocError>
+    ensures { IfOk result (λ words. option_map string_bytes words ≡ doorway_ticket known.now) }
 {
-    let _nested: NestedTypes = None;
-    let accesses = &called.accesses;
-    let greatest = accesses.greatest;
-    if (next.owner == process && is_ticket(next.field)) || accesses.takes {
-        return Ok(Some(ticket_words(alloc, u128::from(greatest) + 1)?));
+    match known {
+        None => Ok(None),
+        Some(TicketKnown::Above(ticket)) => Ok(Some(format!(in alloc; "ticket above {ticket}")?)),
+        Some(TicketKnown::Is(ticket)) => Ok(Some(ticket_words(alloc, *ticket)?)),
     }
-    if !accesses.raised {
-        return Ok(None);
-    }
-    Ok(Some(format!(in alloc; "ticket above {greatest}")?))
-}
-
-/// Whether a register is a ticket.
-fn is_ticket(field: Field) -> bool
-    ensures { result ≡ is_ticket field }
-{
-    matches!(field, Field::Ticket)
 }
 
 /// That of one that waits.
@@ -80,30 +62,31 @@ fn waiting_ticket(alloc: Global, ticket: Option<u32>) -> Result<Option<String>, 
 {
     match ticket {
         None => Ok(None),
-        Some(ticket) => Ok(Some(ticket_words(alloc, u128::from(ticket))?)),
+        Some(ticket) => Ok(Some(ticket_words(alloc, ticket)?)),
     }
 }
 
-/// The words of a ticket: one more than any number of 64 bits may be.
-fn ticket_words(alloc: Global, ticket: u128) -> Result<String, AllocError>
+/// The words of a ticket.
+fn ticket_words(alloc: Global, ticket: u32) -> Result<String, AllocError>
     ensures { IfOk result (λ words. string_bytes words ≡ ticket_words ticket) }
 {
     format!(in alloc; "ticket {ticket}")
 }
 
-/// For whom a process waits at a stage of its call.
+/// For whom a process waits at a stage of its call, which has read this number last.
 pub(crate) fn waits_at(
     alloc: Global,
     process: u8,
     stage: Stage,
+    read: Option<FinishedRead>,
     called: &Called,
 ) -> Result<Option<String>, AllocError>
     ensures { IfOk result (λ words. option_map string_bytes words
-        ≡ waits_at process stage called.now) }
+        ≡ waits_at process stage read called.now) }
 {
     let _nested: NestedTypes = None;
     match stage {
-        Stage::Waiting => waits_by(alloc, process, called.marks.ticket, called.accesses.newest),
+        Stage::Waiting => waits_by(alloc, process, called.marks.ticket, read),
         _ => Ok(None),
     }
 }
@@ -187,31 +170,26 @@ pub(crate) fn reads_words(
     alloc: Global,
     setup: &Setup,
     access: &Access,
-    call: &Option<Called>,
+    number: u32,
 ) -> Result<String, AllocError>
     requires { checked setup.now ≡ Ok tt }
     ensures { IfOk result (λ words. string_bytes words
-        ≡ reads_words setup.now access.now call.now) }
+        ≡ reads_words setup.now access.now number) }
 {
     let made = 2 * u64::from(access.bit) + one_if(matches!(access.how, Move::EndRead(_)));
     let all = 2 * width(setup, access.field) as u64;
     let progress = progress_words(alloc, access, made, all)?;
-    let number = so_far(alloc, access, call)?;
+    let number = so_far(alloc, access, number)?;
     format!(in alloc; "reads {progress}{number}")
 }
 
 /// The bits of a number that are read so far; an image's are not told.
-fn so_far(alloc: Global, access: &Access, call: &Option<Called>) -> Result<String, AllocError>
-    ensures { IfOk result (λ words. string_bytes words ≡ so_far access.now call.now) }
+fn so_far(alloc: Global, access: &Access, number: u32) -> Result<String, AllocError>
+    ensures { IfOk result (λ words. string_bytes words ≡ so_far access.now number) }
 {
-    let _nested: NestedTypes = None;
-    let Some(called) = call else {
-        return Ok(String::new(alloc));
-    };
     if is_image(access.field) || access.bit == 0 {
         return Ok(String::new(alloc));
     }
-    let number = called.accesses.number;
     format!(in alloc; " so far {number}")
 }
 
@@ -222,18 +200,41 @@ fn is_image(field: Field) -> bool
     matches!(field, Field::Image0 | Field::Image1)
 }
 
+/// The last access of the write that a failure of a process has cut.
+fn cut_access(process: u8, torn: &Settling) -> Access
+    ensures { result ≡ cut_access process torn.now }
+{
+    Access {
+        owner: process,
+        field: torn.field,
+        bit: torn.bit,
+        reader: torn.cut / 2,
+        how: Move::BeginWrite(torn.written),
+    }
+}
+
+/// Whether the write of a copy was begun, and has not ended.
+fn is_cut_open(torn: &Settling) -> bool
+    ensures { result ≡ is_cut_open torn.now }
+{
+    torn.cut % 2 == 1
+}
+
 /// What a unit settles, how many accesses of that are made, and the value that it has chosen.
 pub(crate) fn settles_words(
     alloc: Global,
     setup: &Setup,
-    torn: &TornWrite,
+    process: u8,
+    torn: &Settling,
 ) -> Result<String, AllocError>
-    ensures { IfOk result (λ words. string_bytes words ≡ settles_words setup.now torn.now) }
+    ensures { IfOk result (λ words. string_bytes words ≡ settles_words setup.now process torn.now) }
 {
-    let begun = one_if(matches!(torn.access.how, Move::BeginWrite(_)));
-    let all = (2 * u64::from(setup.processes)).saturating_sub(begun);
-    let progress = progress_words(alloc, &torn.access, torn.made, all)?;
-    let chosen = chosen_words(alloc, torn.chosen)?;
+    let open = is_cut_open(torn);
+    let passed = open && torn.cut / 2 < torn.copy;
+    let made = (2 * u64::from(torn.copy) + one_if(torn.begun)).saturating_sub(one_if(passed));
+    let all = (2 * u64::from(setup.processes)).saturating_sub(one_if(open));
+    let progress = progress_words(alloc, &cut_access(process, torn), made, all)?;
+    let chosen = chosen_words(alloc, torn.value)?;
     format!(in alloc; "settles {progress}{chosen}")
 }
 
@@ -249,14 +250,13 @@ fn chosen_words(alloc: Global, chosen: Option<bool>) -> Result<String, AllocErro
 }
 
 /// The torn bit, and the value that was being written.
-pub(crate) fn torn_words(alloc: Global, torn: &TornWrite) -> Result<String, AllocError>
-    ensures { IfOk result (λ words. string_bytes words ≡ torn_words torn.now) }
+pub(crate) fn torn_words(alloc: Global, process: u8, torn: &Settling) -> Result<String, AllocError>
+    ensures { IfOk result (λ words. string_bytes words ≡ torn_words process torn.now) }
 {
-    let owner = torn.access.owner;
-    let field = field_word(torn.access.field);
-    let bit = torn.access.bit;
-    let value = bit_word(torn.value);
-    format!(in alloc; "torn {owner}.{field}.{bit} write {value}")
+    let field = field_word(torn.field);
+    let bit = torn.bit;
+    let value = bit_word(torn.written);
+    format!(in alloc; "torn {process}.{field}.{bit} write {value}")
 }
 
 /// The digit of a bit.
@@ -273,34 +273,67 @@ pub(crate) fn is_writing(how: Move) -> bool
     matches!(how, Move::BeginWrite(_) | Move::EndWrite)
 }
 
-/// Which access is open, if it has begun and not ended, and was overlapped or not.
+/// Which access of a process is open, where this one comes next, of a copy that is so, or this is torn.
 pub(crate) fn opened_words(
     alloc: Global,
-    access: &Access,
-    overlapped: bool,
+    process: u8,
+    next: &Access,
+    seen: BitSeen,
+    torn: &Option<Settling>,
 ) -> Result<Option<String>, AllocError>
     ensures { IfOk result (λ words. option_map string_bytes words
-        ≡ opened_words access.now (open_how access.now.how overlapped)) }
+        ≡ open_by process next.now next.now.how seen torn.now) }
 {
-    let Some(how) = open_how(access.how, overlapped) else {
+    match next.how {
+        Move::EndWrite => Ok(Some(open_access(alloc, next, written_word(seen.value))?)),
+        Move::EndRead(_) => Ok(Some(open_access(alloc, next, read_word(seen.touched))?)),
+        Move::BeginWrite(_) | Move::BeginRead | Move::Settle(_) => cut_open(alloc, process, torn),
+    }
+}
+
+/// The write that a failure has cut, if it is open and nothing of the settling is made.
+fn cut_open(
+    alloc: Global,
+    process: u8,
+    torn: &Option<Settling>,
+) -> Result<Option<String>, AllocError>
+    ensures { IfOk result (λ words. option_map string_bytes words ≡ cut_open process torn.now) }
+{
+    let Some(torn) = torn else {
         return Ok(None);
     };
+    if torn.copy == 0 && !torn.begun && is_cut_open(torn) {
+        let access = cut_access(process, torn);
+        return Ok(Some(open_access(alloc, &access, written_word(torn.written))?));
+    }
+    Ok(None)
+}
+
+/// An access that is open, and how.
+fn open_access(alloc: Global, access: &Access, how: &str) -> Result<String, AllocError>
+    ensures { IfOk result (λ words. string_bytes words ≡ opened_words access.now how.now) }
+{
     let owner = access.owner;
     let field = field_word(access.field);
     let bit = access.bit;
     let reader = access.reader;
-    Ok(Some(format!(in alloc; "open {owner}.{field}.{bit}.{reader}{how}")?))
+    format!(in alloc; "open {owner}.{field}.{bit}.{reader}{how}")
 }
 
-/// How an access is open that begins with this move.
-fn open_how(how: Move, overlapped: bool) -> Option<&'static str>
-    ensures { option_map (λ word. word.now) result ≡ open_how how overlapped }
+/// That a write is open.
+fn written_word(value: bool) -> &'static str
+    ensures { result.now ≡ written_word value }
 {
-    match how {
-        Move::BeginWrite(false) => Some(" write 0"),
-        Move::BeginWrite(true) => Some(" write 1"),
-        Move::BeginRead if overlapped => Some(" read overlapped"),
-        Move::BeginRead => Some(" read"),
-        _ => None,
+    if value { " write 1" } else { " write 0" }
+}
+
+/// That a read is open.
+fn read_word(overlapped: bool) -> &'static str
+    ensures { result.now ≡ read_word overlapped }
+{
+    if overlapped {
+        " read overlapped"
+    } else {
+        " read"
     }
 }

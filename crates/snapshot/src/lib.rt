@@ -1,6 +1,6 @@
 //! The state of a run after its first events: who stands where and does what next, what the registers hold, and the history.
-//! A snapshot hears the entries of a run one by one, in memory of a fixed size; what it prints is what looking back over them
-//! gives, and what the run's world would do next.
+//! A snapshot hears the entries of a run that have marks or end a number access, and how many others there are, in memory of a
+//! fixed size. All else that it prints it reads off the run's world.
 //!
 //! ```rust
 //! .print(alloc, self.course.core(), self.course.history(), text)
@@ -11,9 +11,9 @@ mod ahead;
 mod called;
 mod copies;
 mod doing;
+mod kept;
 mod known;
 mod register_lines;
-mod sight;
 mod snapshot;
 mod stores;
 

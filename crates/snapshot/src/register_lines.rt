@@ -5,15 +5,15 @@ ghost use Rattle.std.specs.String.{string_bytes};
 ghost use Rattle.plain_store.specs.Setups.{checked};
 ghost use Rattle.record.specs.Entries.{Past};
 ghost use Rattle.record_file.specs.Printing.{field_word};
-ghost use Rattle.calls.specs.read_law.Watching.{HasHeard};
+ghost use Rattle.snapshot.specs.Knowing.{CoreShows};
 ghost use Rattle.snapshot.specs.Copies.{copy_text, fields, have_one_text, line_of_first, lines_of_register, reader_if, register_lines, register_words};
 ghost use Rattle.snapshot.specs.Stores.{number_word};
 
 use crate::copies::RegisterCopies;
-use calls::Watch;
 use plain_store::Setup;
 use record::Field;
 use std::alloc::{AllocError, Global};
+use world::Core;
 
 /// The kinds of registers, in their order.
 const FIELDS: [Field; 7] = [
@@ -30,17 +30,17 @@ const FIELDS: [Field; 7] = [
 pub(crate) fn push_registers(
     alloc: Global,
     setup: &Setup,
-    watch: &Watch,
+    core: &Core,
     text: &mut Vec<u8>,
 ) -> Result<(), AllocError>
     requires good { checked setup.now ≡ Ok tt }
-    requires setup { watch.now.setup ≡ setup.now }
-    ensures { OnOk result ((past : Past) → HasHeard watch.now past
+    requires setup { core.now.setup ≡ setup.now }
+    ensures { OnOk result ((past : Past) → CoreShows core.now past
         → text.new.items ≡ text.old.items ++ register_lines setup.now past) }
 {
-    let opening = Watch::new(alloc, setup)?;
+    let opening = Core::new(alloc, setup)?;
     for owner in 0..setup.processes {
-        push_owned(alloc, setup, watch, &opening, owner, text)?;
+        push_owned(alloc, setup, core, &opening, owner, text)?;
     }
     Ok(())
 }
@@ -49,17 +49,17 @@ pub(crate) fn push_registers(
 fn push_owned(
     alloc: Global,
     setup: &Setup,
-    watch: &Watch,
-    opening: &Watch,
+    core: &Core,
+    opening: &Core,
     owner: u8,
     text: &mut Vec<u8>,
 ) -> Result<(), AllocError>
     requires good { checked setup.now ≡ Ok tt }
-    requires setup { watch.now.setup ≡ setup.now }
+    requires setup { core.now.setup ≡ setup.now }
     requires opening { opening.now.setup ≡ setup.now }
-    requires unheard { HasHeard opening.now [] }
+    requires unheard { CoreShows opening.now [] }
     requires owner { owner < setup.now.processes }
-    ensures { OnOk result ((past : Past) → HasHeard watch.now past
+    ensures { OnOk result ((past : Past) → CoreShows core.now past
         → text.new.items ≡ text.old.items ++ flat_map
         (lines_of_register setup.now past owner) fields) }
 {
@@ -67,7 +67,7 @@ fn push_owned(
         let copies = RegisterCopies {
             alloc,
             setup,
-            watch,
+            core,
             owner,
             field: *field,
         };
@@ -79,15 +79,15 @@ fn push_owned(
 /// Writes the lines of a register, if a copy is not as it opened, or is being written.
 fn push_register(
     copies: &RegisterCopies<'_>,
-    opening: &Watch,
+    opening: &Core,
     text: &mut Vec<u8>,
 ) -> Result<(), AllocError>
     requires good { checked copies.now.setup.now ≡ Ok tt }
-    requires setup { copies.now.watch.now.setup ≡ copies.now.setup.now }
+    requires setup { copies.now.core.now.setup ≡ copies.now.setup.now }
     requires opening { opening.now.setup ≡ copies.now.setup.now }
-    requires unheard { HasHeard opening.now [] }
+    requires unheard { CoreShows opening.now [] }
     requires owner { copies.now.owner < copies.now.setup.now.processes }
-    ensures { OnOk result ((past : Past) → HasHeard copies.now.watch.now past
+    ensures { OnOk result ((past : Past) → CoreShows copies.now.core.now past
         → text.new.items ≡ text.old.items ++ lines_of_register copies.now.setup.now past
         copies.now.owner copies.now.field) }
 {
@@ -112,9 +112,9 @@ fn register_words(alloc: Global, owner: u8, field: Field) -> Result<String, Allo
 /// Whether all copies have one text.
 fn have_all_one_text(copies: &RegisterCopies<'_>) -> Result<bool, AllocError>
     requires good { checked copies.now.setup.now ≡ Ok tt }
-    requires setup { copies.now.watch.now.setup ≡ copies.now.setup.now }
+    requires setup { copies.now.core.now.setup ≡ copies.now.setup.now }
     requires owner { copies.now.owner < copies.now.setup.now.processes }
-    ensures { IfOk result (λ all. (past : Past) → HasHeard copies.now.watch.now past
+    ensures { IfOk result (λ all. (past : Past) → CoreShows copies.now.core.now past
         → all ≡ list_all (λ r. have_one_text (copy_text copies.now.setup.now past copies.now.owner
         copies.now.field) r 0) (range_with_len 0 copies.now.setup.now.processes)) }
 {
@@ -133,9 +133,9 @@ fn push_one_text(
     text: &mut Vec<u8>,
 ) -> Result<(), AllocError>
     requires good { checked copies.now.setup.now ≡ Ok tt }
-    requires setup { copies.now.watch.now.setup ≡ copies.now.setup.now }
+    requires setup { copies.now.core.now.setup ≡ copies.now.setup.now }
     requires owner { copies.now.owner < copies.now.setup.now.processes }
-    ensures { OnOk result ((past : Past) → HasHeard copies.now.watch.now past
+    ensures { OnOk result ((past : Past) → CoreShows copies.now.core.now past
         → text.new.items ≡ text.old.items ++ (name.now ++ (codes " "
         ++ (copy_text copies.now.setup.now past copies.now.owner copies.now.field 0
         ++ codes "\n")))) }
@@ -150,9 +150,9 @@ fn push_one_text(
 /// Writes a line for each text, in the order of its first reader.
 fn push_texts(copies: &RegisterCopies<'_>, name: &str, text: &mut Vec<u8>) -> Result<(), AllocError>
     requires good { checked copies.now.setup.now ≡ Ok tt }
-    requires setup { copies.now.watch.now.setup ≡ copies.now.setup.now }
+    requires setup { copies.now.core.now.setup ≡ copies.now.setup.now }
     requires owner { copies.now.owner < copies.now.setup.now.processes }
-    ensures { OnOk result ((past : Past) → HasHeard copies.now.watch.now past
+    ensures { OnOk result ((past : Past) → CoreShows copies.now.core.now past
         → text.new.items ≡ text.old.items ++ flat_map (line_of_first name.now
         (copy_text copies.now.setup.now past copies.now.owner copies.now.field)
         copies.now.setup.now.processes) (range_with_len 0 copies.now.setup.now.processes)) }
@@ -171,10 +171,10 @@ fn push_if_first(
     text: &mut Vec<u8>,
 ) -> Result<(), AllocError>
     requires good { checked copies.now.setup.now ≡ Ok tt }
-    requires setup { copies.now.watch.now.setup ≡ copies.now.setup.now }
+    requires setup { copies.now.core.now.setup ≡ copies.now.setup.now }
     requires owner { copies.now.owner < copies.now.setup.now.processes }
     requires reader { reader < copies.now.setup.now.processes }
-    ensures { OnOk result ((past : Past) → HasHeard copies.now.watch.now past
+    ensures { OnOk result ((past : Past) → CoreShows copies.now.core.now past
         → text.new.items ≡ text.old.items ++ line_of_first name.now
         (copy_text copies.now.setup.now past copies.now.owner copies.now.field)
         copies.now.setup.now.processes reader) }
@@ -195,10 +195,10 @@ fn push_if_first(
 /// Whether an earlier reader's copy has the text of this one's.
 fn has_earlier(copies: &RegisterCopies<'_>, reader: u8) -> Result<bool, AllocError>
     requires good { checked copies.now.setup.now ≡ Ok tt }
-    requires setup { copies.now.watch.now.setup ≡ copies.now.setup.now }
+    requires setup { copies.now.core.now.setup ≡ copies.now.setup.now }
     requires owner { copies.now.owner < copies.now.setup.now.processes }
     requires reader { reader < copies.now.setup.now.processes }
-    ensures { IfOk result (λ has. (past : Past) → HasHeard copies.now.watch.now past
+    ensures { IfOk result (λ has. (past : Past) → CoreShows copies.now.core.now past
         → has ≡ list_any (λ q. have_one_text (copy_text copies.now.setup.now past copies.now.owner
         copies.now.field) q reader) (range_with_len 0 reader)) }
 {
@@ -217,10 +217,10 @@ fn push_readers(
     text: &mut Vec<u8>,
 ) -> Result<(), AllocError>
     requires good { checked copies.now.setup.now ≡ Ok tt }
-    requires setup { copies.now.watch.now.setup ≡ copies.now.setup.now }
+    requires setup { copies.now.core.now.setup ≡ copies.now.setup.now }
     requires owner { copies.now.owner < copies.now.setup.now.processes }
     requires reader { reader < copies.now.setup.now.processes }
-    ensures { OnOk result ((past : Past) → HasHeard copies.now.watch.now past
+    ensures { OnOk result ((past : Past) → CoreShows copies.now.core.now past
         → text.new.items ≡ text.old.items ++ flat_map (reader_if
         (copy_text copies.now.setup.now past copies.now.owner copies.now.field) reader)
         (range_with_len 0 copies.now.setup.now.processes)) }

@@ -1,37 +1,37 @@
-//! The state of a run, heard entry by entry.
-ghost use Rattle.std.specs.Prelude.{◌≡◌, ◌+◌, ◌-◌, ◌^◌, ◌<◌, ◌++◌, ◌∷◌, [], IfOk, List, Ok, OnOk, false, flat_map};
+//! The state of a run.
+ghost use Rattle.std.specs.Prelude.{◌≡◌, ◌+◌, ◌-◌, ◌^◌, ◌<◌, ◌≤◌, ◌++◌, ◌∷◌, [], IfOk, List, Ok, OnOk, Some, false, flat_map, is_some, true};
 ghost use Rattle.plain_store.specs.Setups.{checked};
 ghost use Rattle.record.specs.Entries.{Entry as Noted, Past};
 ghost use Rattle.record.specs.Records.{entry_of};
 ghost use Rattle.record.specs.Registers.{processes};
 ghost use Rattle.record.specs.declared.Event.TheVariants.{Step};
 ghost use Rattle.record.specs.declared.history.Taken.{Taken as Seen};
-ghost use Rattle.calls.specs.Hearing.{ComesInTurn, open_call};
 ghost use Rattle.snapshot.specs.Doing.{access_in, doing_lines};
+ghost use Rattle.snapshot.specs.Keeping.{Passes, TellsNumber, kept as kept_of};
 ghost use Rattle.snapshot.specs.Lines.{stage_word as word_of_stage};
 ghost use Rattle.snapshot.specs.Processes.{is_resting as rests, newest_line, process_lines, rest_line, running_lines};
 ghost use Rattle.snapshot.specs.States.{HasHeard, Stands, state_lines};
 
 use crate::ahead::{next_entry, push_newest, push_next};
 use crate::called::{push_line, push_open};
+use crate::kept::ProcessKept;
 use crate::known::Known;
 use crate::register_lines::push_registers;
-use crate::sight::Sight;
 use crate::stores::push_history;
-use calls::{CallTable, Called};
+use calls::{Accesses, CallStanding, Called, Marked};
 use plain_store::{NestedTypes, Setup};
 use record::{Access, Entry, Mark, Stage, Taken};
 use std::alloc::{AllocError, Global};
 use std::marker::Model;
 use world::Core;
 
-/// The state of a run, whose entries it takes one at a time. It keeps what is told of the last call of each process and of its
-/// accesses, and of each bit what the safe rule looks back at: so it needs the same memory however long the run is.
+/// What is kept of a run as it goes on: of each process its last call, when it failed, and what it has read last. So it needs the
+/// same memory however long the run is.
 #[derive(Drop)]
 pub struct Snapshot {
     setup: Setup,
-    table: CallTable,
-    sights: Vec<Sight>,
+    kept: Vec<ProcessKept>,
+    entries: u64,
 }
 
 impl Model for Snapshot {
@@ -39,52 +39,102 @@ impl Model for Snapshot {
 
     ghost Value = { SnapshotState };
 
-    ghost view = { λ t. record { setup = t.setup; table = t.table; sights = t.sights.items } };
+    ghost view = { λ t. record { setup = t.setup; kept = t.kept.items; entries = t.entries } };
 
-    ghost invariant = { λ t. IsSnapshot (record { setup = t.setup; table = t.table; sights = t.sights.items }) };
+    ghost invariant = { λ t. IsSnapshot (record { setup = t.setup; kept = t.kept.items; entries = t.entries }) };
 }
 
 impl Snapshot {
     /// Before the first entry. The one fault is want of memory; to hear takes none.
+    #[tactic(auto, using(crate::proofs::Keeps::nothing_more))]
     pub fn new(alloc: Global, setup: &Setup) -> Result<Snapshot, AllocError>
         requires { checked setup.now ≡ Ok tt }
         ensures setup { IfOk result (λ snapshot. snapshot.setup ≡ setup.now) }
         ensures heard { IfOk result (λ snapshot. HasHeard snapshot []) }
-        ensures entries { IfOk result (λ snapshot. snapshot.table.entries ≡ 0) }
+        ensures entries { IfOk result (λ snapshot. snapshot.entries ≡ 0) }
     {
-        let sights = vec![in alloc; Sight::none(); usize::from(setup.processes)]?;
-        let table = CallTable::new(alloc, setup)?;
+        let _nested: NestedTypes = None;
+        let _calls: Option<(Accesses, Called, CallStanding, Marked)> = None;
+        let mut kept = Vec::new(alloc);
+        for process in 0..setup.processes {
+            kept.push(ProcessKept::nothing(process))?;
+        }
         Ok(Snapshot {
             setup: *setup,
-            table,
-            sights,
+            kept,
+            entries: 0,
         })
     }
 
-    /// One more entry of a run.
-    pub fn hear(&mut self, process: u8, access: &Option<Access>, marks: &[Mark])
-        requires { self.old.table.entries < 2 ^ 64 - 1 }
+    /// One more entry of a run, with marks; `steps`: it has an access.
+    pub fn hear(&mut self, process: u8, steps: bool, marks: &[Mark])
+        requires { self.old.entries < 2 ^ 64 - 1 }
         ensures setup { self.new.setup ≡ self.old.setup }
-        ensures count { self.new.table.entries ≡ self.old.table.entries + 1 }
-        ensures heard { (past : Past) (e : Noted) → e.process ≡ process → e.access ≡ access.now
-            → e.marks ≡ marks.now → HasHeard self.old past → ComesInTurn self.old.setup past e
-            → HasHeard self.new (e ∷ past) }
+        ensures count { self.new.entries ≡ self.old.entries + 1 }
+        ensures heard { (past : Past) (e : Noted) → e.process ≡ process → is_some e.access ≡ steps → e.marks ≡ marks.now
+            → (marks.now ≡ [] → ⊥) → process < self.old.setup.processes → HasHeard self.old past → HasHeard self.new (e ∷ past) }
     {
         let _nested: NestedTypes = None;
-        let number = self.table.entries();
-        let _ended = self.table.hear(process, access, marks);
+        let number = self.entries;
+        self.entries += 1;
         let place = usize::from(process);
-        if place >= self.sights.len() {
+        if place >= self.kept.len() {
             return;
         }
-        self.sights[place].hear(self.setup.processes, number, access, marks);
+        self.kept[place].mark(number, steps, marks);
+    }
+
+    /// One more entry without a mark; `read`: so much of the number was read before it, which matters where the entry ends the
+    /// read of one.
+    pub fn step(&mut self, process: u8, access: &Access, read: u32)
+        requires { self.old.entries < 2 ^ 64 - 1 }
+        ensures setup { self.new.setup ≡ self.old.setup }
+        ensures count { self.new.entries ≡ self.old.entries + 1 }
+        ensures heard { (past : Past) (e : Noted) → e.process ≡ process → e.access ≡ Some access.now → e.marks ≡ []
+            → TellsNumber self.old.setup past process access.now read → process < self.old.setup.processes
+            → HasHeard self.old past → HasHeard self.new (e ∷ past) }
+    {
+        let _nested: NestedTypes = None;
+        let number = self.entries;
+        self.entries += 1;
+        let place = usize::from(process);
+        if place >= self.kept.len() {
+            return;
+        }
+        self.kept[place].step(&self.setup, number, access, read);
+    }
+
+    /// So many more entries of a process within a number access, without a mark.
+    pub fn pass(&mut self, process: u8, steps: u32)
+        requires { self.old.entries + steps < 2 ^ 64 }
+        ensures setup { self.new.setup ≡ self.old.setup }
+        ensures count { self.new.entries ≡ self.old.entries + steps }
+        ensures heard { (past after : Past) → Passes self.old.setup process steps past after → (0 < steps → process < self.old.setup.processes)
+            → HasHeard self.old past → HasHeard self.new after }
+    {
+        let _nested: NestedTypes = None;
+        let number = self.entries;
+        self.entries += u64::from(steps);
+        let place = usize::from(process);
+        if steps == 0 || place >= self.kept.len() {
+            return;
+        }
+        self.kept[place].open(number);
     }
 
     /// How many entries there were.
     pub fn entries(&self) -> u64
-        ensures { result ≡ self.now.table.entries }
+        ensures { result ≡ self.now.entries }
     {
-        self.table.entries()
+        self.entries
+    }
+
+    /// What is kept of a process.
+    fn kept(&self, process: u8) -> ProcessKept
+        requires { process < self.now.setup.processes }
+        ensures { (past : Past) → HasHeard self.now past → result ≡ kept_of self.now.setup process past }
+    {
+        self.kept[usize::from(process)]
     }
 
     /// Writes the line of the newest entry behind the text.
@@ -109,7 +159,7 @@ impl Snapshot {
             → text.new.items ≡ text.old.items ++ state_lines self.now.setup past) }
     {
         self.push_processes(alloc, core, history, text)?;
-        push_registers(alloc, &self.setup, self.table.watch(), text)?;
+        push_registers(alloc, &self.setup, core, text)?;
         push_history(alloc, &self.setup, history, text)
     }
 
@@ -153,10 +203,11 @@ impl Snapshot {
         let Some(stage) = core.stage(process) else {
             return Ok(());
         };
+        let kept = self.kept(process);
         if is_resting(stage) {
-            return push_rest(alloc, process, stage, self.table.calls(process), text);
+            return push_rest(alloc, process, stage, kept.standing.last.call, text);
         }
-        self.push_running(alloc, twin, core, history, process, stage, text)
+        self.push_running(alloc, twin, core, history, process, stage, &kept, text)
     }
 
     /// Writes the lines of a process that runs, or whose unit settles.
@@ -168,6 +219,7 @@ impl Snapshot {
         history: &[Taken],
         process: u8,
         stage: Stage,
+        kept: &ProcessKept,
         text: &mut Vec<u8>,
     ) -> Result<(), AllocError>
         requires core { core.now.setup ≡ self.now.setup }
@@ -175,15 +227,15 @@ impl Snapshot {
         requires process { process < self.now.setup.processes }
         ensures twin { twin.new.setup ≡ self.now.setup }
         ensures lines { OnOk result ((past : Past) → Stands self.now core.now history.now past
+            → kept.now ≡ kept_of self.now.setup process past
             → text.new.items ≡ text.old.items ++ running_lines self.now.setup past process stage) }
     {
         let taken = history.len() as u64;
         let first = next_entry(alloc, twin, core, taken, process, false);
         let second = next_entry(alloc, twin, core, taken, process, true);
-        let call = self.table.open_call(process);
         push_line(alloc, process, stage_word(stage), text)?;
-        push_open(alloc, process, history, &call, text)?;
-        self.push_doing(alloc, twin, core, process, stage, &call, &first, text)?;
+        push_open(alloc, process, history, &kept.open_call(), text)?;
+        self.push_doing(alloc, twin, core, process, stage, kept, &first, text)?;
         push_next(alloc, process, &first, &second, text)
     }
 
@@ -195,7 +247,7 @@ impl Snapshot {
         core: &Core,
         process: u8,
         stage: Stage,
-        call: &Option<Called>,
+        kept: &ProcessKept,
         next: &Option<Entry>,
         text: &mut Vec<u8>,
     ) -> Result<(), AllocError>
@@ -205,7 +257,7 @@ impl Snapshot {
         ensures twin { twin.new.setup ≡ self.now.setup }
         ensures lines { OnOk result ((history : List Seen) (past : Past)
             → Stands self.now core.now history past
-            → call.now ≡ open_call self.now.setup process past
+            → kept.now ≡ kept_of self.now.setup process past
             → next.now ≡ entry_of self.now.setup past (Step process false)
             → text.new.items ≡ text.old.items ++ doing_lines self.now.setup past process stage) }
     {
@@ -216,11 +268,9 @@ impl Snapshot {
             alloc,
             setup: &self.setup,
             core,
-            watch: self.table.watch(),
             process,
             stage,
-            call,
-            sight: &self.sights[usize::from(process)],
+            kept,
         };
         known.push(twin, &next, text)
     }

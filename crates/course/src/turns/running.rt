@@ -4,6 +4,7 @@ ghost use Rattle.std.specs.Prelude.{◌≡◌, ◌+◌, ◌<◌, ◌≤◌, ℕ,
 ghost use Rattle.world.specs.flicks.Flicks.{after_flick, after_pick, flick_of, pick_of};
 ghost use Rattle.plain_store.specs.declared.setups.Setup.{Setup};
 ghost use Rattle.record.specs.Stages.{stage};
+ghost use Rattle.record.specs.declared.access.Access.{Access as AccessSeen};
 ghost use Rattle.record.specs.declared.Event.TheVariants.{Step};
 ghost use Rattle.scenario.specs.declared.lines.Line.{Line as LineSeen};
 ghost use Rattle.scenario.specs.declared.lines.Line.TheVariants.{Go as GoLine, Wander as WanderLine};
@@ -11,7 +12,7 @@ ghost use Rattle.world.specs.Walks.{KeepOthers, left_in};
 ghost use Rattle.world.specs.process.declared.told.StepTold.TheVariants.{Nothing};
 ghost use Rattle.course.specs.Courses.{Follows, course};
 ghost use Rattle.course.specs.Happenings.{Happening, Tries};
-ghost use Rattle.course.specs.Listening.{Comes, HearsStep, HearsUnmarked, InItsRun, LeavesRoom, MakesStep, PassesAlone, RunsAlone, StopsAlone, StopsAmid, StopsBy, TakesRoom, room_wanted};
+ghost use Rattle.course.specs.Listening.{Comes, HearsStep, HearsUnmarked, InItsRun, LeavesRoom, MakesStep, MakesSteps, PassesAlone, RunsAlone, StopsAlone, StopsAmid, StopsBy, TakesRoom, room_wanted};
 ghost use Rattle.course.specs.Runs.{Run, has_step, is_there as is_target, movers, past_in};
 ghost use Rattle.course.specs.Steppers.{IsAlone, left_told};
 ghost use Rattle.course.specs.Telling.{told_step, with_told};
@@ -217,10 +218,27 @@ fn pass_by<L: Listener>(
     if listener.hears_steps() {
         return;
     }
-    let made = world.run(process, flicks, *left - floor - 1);
-    *left -= made;
+    let within = world.left(process).min(*left - floor - 1);
+    if within == 0 {
+        return;
+    }
+    let newest = run_within(world, flicks, process, within);
+    *left -= within;
     *quiet = 0;
-    listener.pass(made);
+    listener.pass(process, within, &newest);
+}
+
+/// So many Steps of a process, all of them within its number access: the access of the newest.
+#[inline]
+fn run_within(world: &mut World, flicks: &mut Flicks, process: u8, steps: u32) -> Access
+    requires some { 0 < steps }
+    requires within { steps ≤ left_in world.old.seats process }
+    ensures { MakesSteps world.old flicks.old process steps world.new flicks.new result }
+{
+    world.shown();
+    let _earlier = world.run(process, flicks, steps - 1);
+    let flick = flicks.flick();
+    world.make_step_within(process, flick)
 }
 
 /// Who is picked among these, and the flick of its Step.
@@ -266,17 +284,17 @@ fn step<L: Listener>(
         return Ok(());
     }
     *quiet = known - 1;
+    let access = world.make_step_within(process, flick);
     if listener.hears_steps() {
-        let access = world.make_step_told(process, flick);
         listener.step(Stepped {
             process,
             flick,
             access,
+            number: None,
         })?;
         return Ok(());
     }
-    world.make_step_within(process, flick);
-    listener.pass(1);
+    listener.pass(process, 1, &access);
     Ok(())
 }
 
@@ -310,6 +328,7 @@ fn any_step<L: Listener>(
     ensures others { KeepOthers world.old.seats process world.new.seats }
 {
     let mut leads = StepTold::Nothing;
+    let number = Some(world.number_read(process));
     let place = world.history().len() as u64;
     let stepped = world.step(process, flick, &mut leads);
     let Some(access) = unmarked(&stepped, &leads) else {
@@ -319,6 +338,7 @@ fn any_step<L: Listener>(
         process,
         flick,
         access,
+        number,
     })?;
     Ok(None)
 }
@@ -355,7 +375,8 @@ fn left_after(told: &Told, left: u32) -> u32
 /// The access of a Step that was made, if it has no mark.
 #[inline]
 fn unmarked(stepped: &Result<Access, Refusal>, leads: &StepTold) -> Option<Access>
-    ensures { IfSome result (λ access. (stepped.now ≡ Ok access) × (leads.now ≡ Nothing)) }
+    ensures some { IfSome result (λ access. (stepped.now ≡ Ok access) × (leads.now ≡ Nothing)) }
+    ensures none { result ≡ None → (access : AccessSeen) → stepped.now ≡ Ok access → leads.now ≡ Nothing → ⊥ }
 {
     let _nested: NestedTypes = None;
     match leads {

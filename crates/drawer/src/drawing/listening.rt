@@ -1,5 +1,5 @@
 //! A listener that draws a run as it hears it.
-ghost use Rattle.std.specs.Prelude.{◌≡◌, ◌+◌, ◌-◌, ◌^◌, ◌<◌, ℕ, Err, IfErr, OnOk, is_some, refl};
+ghost use Rattle.std.specs.Prelude.{◌≡◌, ◌+◌, ◌-◌, ◌^◌, ◌<◌, ℕ, Err, IfErr, OnOk, is_some, refl, false};
 ghost use Rattle.std.proofs.Common.{add-zero, ap, sym, ◌∙◌};
 ghost use Rattle.course.specs.Summaries.{CanCount, can_count_less};
 ghost use Rattle.course.specs.Writing.{IsWriteFault, failed_write};
@@ -8,6 +8,7 @@ ghost use Rattle.drawer.specs.Drawings.{DrawsLine, GoesOnDrawing};
 use super::Drawing;
 use companions::hear;
 use course::{Course, Listener, Stepped, Taken, Told};
+use record::Access;
 use scenario::{Fault, Line, Sink};
 
 /// Makes the turns of a line, and draws what each tells before the next is made.
@@ -62,7 +63,7 @@ impl<'a, W: Sink> Listener for Drawer<'a, W> {
         Ok(())
     }
 
-    fn pass(&mut self, steps: u32) {
+    fn pass(&mut self, _process: u8, steps: u32, _newest: &Access) {
         self.drawing.summary.events += u64::from(steps);
     }
 

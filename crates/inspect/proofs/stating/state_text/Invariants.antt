@@ -7,6 +7,6 @@ use Rattle.inspect.proofs.stating.state_text.Given as goal
 abbrev pub invariant-loop-line : goal.invariant-loop-line
 invariant-loop-line g l = record {
   most : l.part.most ≡ l.events;
-  entries : l.part.heard.snapshot.table.entries ≤ l.line-index * 2 ^ 48;
+  entries : l.part.heard.snapshot.entries ≤ l.line-index * 2 ^ 48;
   along : (whole : Run) × (runs l.scenario.setup (drop l.line-index l.scenario.lines.items) whole ≡ runs l.scenario.setup l.scenario.lines.items run_at_start) × ComesAlong l.scenario.setup whole l.part;
 }

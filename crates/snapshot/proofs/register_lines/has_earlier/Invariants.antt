@@ -1,10 +1,10 @@
 use Rattle.std.proofs.Common.{◌≡◌, ℕ}
 use Rattle.std.specs.List.{list_any, range_with_len}
 use Rattle.record.specs.Entries.{Past}
-use Rattle.calls.specs.read_law.Watching.{HasHeard}
+use Rattle.snapshot.specs.Knowing.{CoreShows}
 use Rattle.snapshot.specs.Copies.{copy_text, have_one_text}
 use Rattle.snapshot.proofs.register_lines.has_earlier.Given as goal
 
 -- one of those below has
 abbrev pub invariant-loop-earlier : goal.invariant-loop-earlier
-invariant-loop-earlier l = (past : Past) → HasHeard l.copies.watch.now past → l.has ≡ list_any (λ q. have_one_text (copy_text l.copies.setup.now past l.copies.owner l.copies.field) q l.reader) (range_with_len 0 l.earlier)
+invariant-loop-earlier l = (past : Past) → CoreShows l.copies.core.now past → l.has ≡ list_any (λ q. have_one_text (copy_text l.copies.setup.now past l.copies.owner l.copies.field) q l.reader) (range_with_len 0 l.earlier)

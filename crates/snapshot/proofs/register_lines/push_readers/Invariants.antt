@@ -1,10 +1,10 @@
 use Rattle.std.proofs.Common.{◌≡◌, ◌++◌, ℕ, List, flat_map}
 use Rattle.std.specs.List.{range_with_len}
 use Rattle.record.specs.Entries.{Past}
-use Rattle.calls.specs.read_law.Watching.{HasHeard}
+use Rattle.snapshot.specs.Knowing.{CoreShows}
 use Rattle.snapshot.specs.Copies.{copy_text, reader_if}
 use Rattle.snapshot.proofs.register_lines.push_readers.Given as goal
 
 -- those below were written
 abbrev pub invariant-loop-other : goal.invariant-loop-other
-invariant-loop-other l = (past : Past) → HasHeard l.copies.watch.now past → l.text.items ≡ l.fn.text.items ++ flat_map (reader_if (copy_text l.copies.setup.now past l.copies.owner l.copies.field) l.reader) (range_with_len 0 l.other)
+invariant-loop-other l = (past : Past) → CoreShows l.copies.core.now past → l.text.items ≡ l.fn.text.items ++ flat_map (reader_if (copy_text l.copies.setup.now past l.copies.owner l.copies.field) l.reader) (range_with_len 0 l.other)

@@ -1,10 +1,10 @@
 use Rattle.std.proofs.Common.{◌≡◌, ◌++◌, ℕ, List, flat_map}
 use Rattle.std.specs.List.{range_with_len}
 use Rattle.record.specs.Entries.{Past}
-use Rattle.calls.specs.read_law.Watching.{HasHeard}
+use Rattle.snapshot.specs.Knowing.{CoreShows}
 use Rattle.snapshot.specs.Copies.{fields, lines_of_register}
 use Rattle.snapshot.proofs.register_lines.push_registers.Given as goal
 
 -- those of the processes below were written
 abbrev pub invariant-loop-owner : goal.invariant-loop-owner
-invariant-loop-owner l = (past : Past) → HasHeard l.watch past → l.text.items ≡ l.fn.text.items ++ flat_map (λ owner. flat_map (lines_of_register l.setup past owner) fields) (range_with_len 0 l.owner)
+invariant-loop-owner l = (past : Past) → CoreShows l.core past → l.text.items ≡ l.fn.text.items ++ flat_map (λ owner. flat_map (lines_of_register l.setup past owner) fields) (range_with_len 0 l.owner)

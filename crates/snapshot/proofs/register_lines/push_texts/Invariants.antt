@@ -1,10 +1,10 @@
 use Rattle.std.proofs.Common.{◌≡◌, ◌++◌, ℕ, List, flat_map}
 use Rattle.std.specs.List.{range_with_len}
 use Rattle.record.specs.Entries.{Past}
-use Rattle.calls.specs.read_law.Watching.{HasHeard}
+use Rattle.snapshot.specs.Knowing.{CoreShows}
 use Rattle.snapshot.specs.Copies.{copy_text, line_of_first}
 use Rattle.snapshot.proofs.register_lines.push_texts.Given as goal
 
 -- those below were written
 abbrev pub invariant-loop-reader : goal.invariant-loop-reader
-invariant-loop-reader l = (past : Past) → HasHeard l.copies.watch.now past → l.text.items ≡ l.fn.text.items ++ flat_map (line_of_first l.name (copy_text l.copies.setup.now past l.copies.owner l.copies.field) l.copies.setup.now.processes) (range_with_len 0 l.reader)
+invariant-loop-reader l = (past : Past) → CoreShows l.copies.core.now past → l.text.items ≡ l.fn.text.items ++ flat_map (line_of_first l.name (copy_text l.copies.setup.now past l.copies.owner l.copies.field) l.copies.setup.now.processes) (range_with_len 0 l.reader)

@@ -20,7 +20,7 @@ returns-clause-made c =
     let family : Option Told → CourseState → Type 0 = λ answer old. (run : Run) → Follows old run → Makes old run (happens (Tries c.args.event) (old.left - 1) run) answer new in
     elim c.match-make.branch [
       | in-Ok w ↦ rw w.result-is (subst (family (Some (told.Accepted (made w.in-Ok.access)))) c.self.view_is
-          (event_accepted i.world c.make.new.self i.flicks i.left (made w.in-Ok.access) c.history.result.now c.history.ensures refl w.in-Ok.ensures.accepted w.in-Ok.ensures.shows w.in-Ok.ensures.setup))
+          (event_accepted i.world c.make.new.self i.flicks i.left (made w.in-Ok.access) c.history.result.now c.history.ensures refl w.in-Ok.ensures.accepted w.in-Ok.ensures.shows w.in-Ok.ensures.setup c.requires.still))
       | in-Err w ↦ rw w.result-is (subst (λ (old : CourseState). IfOk w.refused.result (λ answer. family answer old)) c.self.view_is
           (event_refused_by i.world c.make.new.self i.flicks i.left w.process.result c.args.event w.in-Err.refusal w.refused.result w.process.ensures c.requires.given w.in-Err.ensures.refused w.in-Err.ensures.unchanged w.refused.ensures))
     ]

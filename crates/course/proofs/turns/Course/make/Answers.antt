@@ -55,4 +55,4 @@ returns-in-Show-clause-made c =
     let new : CourseState = course i.world i.flicks (i.left - 1) in
     let family : CourseState → Type 0 = λ old. (run : Run) → Follows old run → Makes old run (turn_of old.world.setup c.args.line.now old.left run) (Some (told.Shown c.newest.result)) new in
     subst family c.self.view_is (turn_made (course i.world i.flicks i.left) new c.args.line.now line.Show (Some (told.Shown c.newest.result)) c.if-self-eq0.false c.in-Show.is
-    (show_made i.world i.flicks i.left (told.Shown c.newest.result) c.newest.ensures))
+    (show_made i.world i.flicks i.left (told.Shown c.newest.result) c.newest.ensures tt))

@@ -1,14 +1,16 @@
-use Rattle.std.proofs.Common.{◌+◌, arith, length, refl}
+use Rattle.std.proofs.Common.{◌≡◌, ◌+◌, ◌∙◌, Some, arith, length, refl}
+use Rattle.course.specs.Happenings.{tried}
 use Rattle.course.specs.Listening.{HearsStep}
 use Rattle.course.proofs.Played.{on_fault}
 use Rattle.course.proofs.StepsTold.{step_quiet, step_setup, step_told}
+use Rattle.course.proofs.Within.{some_is, steps_on}
 use Rattle.course.proofs.turns.running.any_step.Goals as goal
 
 pub returns-in_default-clause-ok : goal.returns-in_default-clause-ok
 returns-in_default-clause-ok g c =
     let w = c.args.world.now in
     let s = c.step-stepped in
-    (step_told w s.new.self c.args.process c.args.flick s.new.told s.result s.ensures.accepted s.ensures.shows s.ensures.setup (length c.history.result.now) c.history.result.now c.told_of.result c.history.ensures refl s.ensures.refused s.ensures.unchanged c.told_of.ensures, refl)
+    (step_told w s.new.self c.args.process c.args.flick s.new.told s.result s.ensures.accepted s.ensures.shows s.ensures.setup (length c.history.result.now) c.history.result.now c.told_of.result (c.unmarked.ensures.none c.in_default.is) c.history.ensures refl s.ensures.refused s.ensures.unchanged c.told_of.ensures, refl)
 
 pub returns-in_default-clause-setup : goal.returns-in_default-clause-setup
 returns-in_default-clause-setup g c = step_setup c.args.world.now c.step-stepped.new.self c.step-stepped.result c.step-stepped.ensures.setup c.step-stepped.ensures.unchanged
@@ -20,10 +22,11 @@ pub returns-clause-ok : goal.returns-clause-ok
 returns-clause-ok g c =
     let w = c.args.world.now in
     let s = c.step-stepped in
-    let made = c.in-Some.ensures in
+    let made = c.in-Some.ensures.some in
+    let quiet = step_quiet w s.new.self c.args.process c.args.flick s.new.told s.result s.ensures.accepted s.ensures.shows s.ensures.setup c.in-Some.access made.0 made.1 s.ensures.headline in
     record {
-      step = step_quiet w s.new.self c.args.process c.args.flick s.new.told s.result s.ensures.accepted s.ensures.shows s.ensures.setup c.in-Some.access made.0 made.1 s.ensures.headline;
-      hears = c.in_ok-step.ensures.ok;
+      step = quiet;
+      hears = λ before shows. c.in_ok-step.ensures.ok w.setup before (steps_on w s.new.self c.args.process c.args.flick (Some c.number_read.result) before quiet shows (λ n is. some_is c.number_read.result n is ∙ c.number_read.ensures (tried before) shows) (λ none. absurd (cc)));
     }
 
 pub returns-clause-room : goal.returns-clause-room
@@ -36,9 +39,10 @@ pub returns-in_err-step-clause-cut : goal.returns-in_err-step-clause-cut
 returns-in_err-step-clause-cut g c =
     let w = c.args.world.now in
     let s = c.step-stepped in
-    let made = c.in-Some.ensures in
+    let made = c.in-Some.ensures.some in
+    let quiet = step_quiet w s.new.self c.args.process c.args.flick s.new.told s.result s.ensures.accepted s.ensures.shows s.ensures.setup c.in-Some.access made.0 made.1 s.ensures.headline in
     on_fault c.from_residual.result c.in_err-step.field-0.0 (λ fault. HearsStep (λ was s x y is. g.L.Listener.Stops was s x y fault is) w c.args.process c.args.flick s.new.self c.args.listener.now c.step.new.self) c.from_residual.ensures.1
     (record {
-      step = step_quiet w s.new.self c.args.process c.args.flick s.new.told s.result s.ensures.accepted s.ensures.shows s.ensures.setup c.in-Some.access made.0 made.1 s.ensures.headline;
-      hears = c.in_err-step.ensures.cut;
+      step = quiet;
+      hears = λ before shows. c.in_err-step.ensures.cut w.setup before (steps_on w s.new.self c.args.process c.args.flick (Some c.number_read.result) before quiet shows (λ n is. some_is c.number_read.result n is ∙ c.number_read.ensures (tried before) shows) (λ none. absurd (cc)));
     })

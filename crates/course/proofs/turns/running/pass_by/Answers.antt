@@ -1,7 +1,7 @@
-use Rattle.std.proofs.Common.{◌+◌, ◌-◌, ◌∙◌, arith, refl, sym}
+use Rattle.std.proofs.Common.{◌+◌, ◌-◌, ◌∙◌, arith, false, refl, sym}
 use Rattle.course.specs.Courses.{course}
 use Rattle.course.specs.Steppers.{IsAlone}
-use Rattle.course.proofs.Alone.{alone_pass, walks_setup}
+use Rattle.course.proofs.Alone.{alone_pass, steps_setup}
 use Rattle.course.proofs.Runnings.{comes_start}
 use Rattle.course.proofs.turns.running.pass_by.Goals as goal
 
@@ -10,18 +10,24 @@ returns-then-hears_steps-clause-on g c = λ l run follows next.
     let here = course c.args.world.now c.args.flicks.now c.args.left.now in
     comes_start g.L.Listener.Hears l run here here c.args.listener.now (IsAlone c.args.process c.args.floor) g.met.L.Listener.hears_nothing refl follows next
 
-pub pass-requires : goal.pass-requires
-pass-requires g c = g.met.L.Listener.room_less c.args.listener.now c.run-made.result c.args.left.now (omega (arith, c.requires.floor, c.run-made.ensures.most)) c.requires.room
+pub returns-then-within-eq0-clause-on : goal.returns-then-within-eq0-clause-on
+returns-then-within-eq0-clause-on g c = λ l run follows next.
+    let here = course c.args.world.now c.args.flicks.now c.args.left.now in
+    comes_start g.L.Listener.Hears l run here here c.args.listener.now (IsAlone c.args.process c.args.floor) g.met.L.Listener.hears_nothing refl follows next
+
+pub pass-requires-clause-room : goal.pass-requires-clause-room
+pass-requires-clause-room g c = g.met.L.Listener.room_less c.args.listener.now c.min-within.result c.args.left.now (omega (arith, c.requires.floor, c.min-within.ensures)) c.requires.room
 
 pub returns-clause-setup : goal.returns-clause-setup
-returns-clause-setup g c = walks_setup c.run-made.result c.args.world.now c.run-made.new.self c.args.flicks.now c.run-made.new.flicks c.args.process c.run-made.ensures.runs
+returns-clause-setup g c = steps_setup c.args.world.now c.run_within-newest.new.world c.args.flicks.now c.run_within-newest.new.flicks c.args.process c.min-within.result c.run_within-newest.result c.run_within-newest.ensures
 
 pub returns-clause-on : goal.returns-clause-on
 returns-clause-on g c = λ l run follows next.
-    alone_pass g.L.Listener.Hears c.run-made.result c.args.world.now c.run-made.new.self c.args.flicks.now c.run-made.new.flicks l c.args.left.now _ c.args.process c.args.floor run c.args.listener.now c.pass.new.self refl
-    (omega (arith, c.requires.floor, c.run-made.ensures.most)) c.run-made.ensures.runs (c.pass.ensures.ok (sym c.hears_steps.ensures ∙ c.if-hears_steps.false)) follows next
+    let made = c.run_within-newest in
+    alone_pass g.L.Listener.Hears c.min-within.result c.args.world.now made.new.world c.args.flicks.now made.new.flicks made.result l c.args.left.now _ c.args.process c.args.floor run c.args.listener.now c.pass.new.self refl
+    (omega (arith, c.requires.floor, c.min-within.ensures)) (omega (arith, c.min-within.ensures, c.left.ensures)) made.ensures (c.pass.ensures.ok (sym c.hears_steps.ensures ∙ c.if-hears_steps.false)) follows next
 
 pub returns-clause-room : goal.returns-clause-room
 returns-clause-room g c = λ more room.
-    let left = c.args.left.now - c.run-made.result in
-    c.pass.ensures.room (more + left) (g.met.L.Listener.room_less c.args.listener.now (more + left + c.run-made.result) (more + c.args.left.now) (omega (arith, c.requires.floor, c.run-made.ensures.most)) room)
+    let left = c.args.left.now - c.min-within.result in
+    c.pass.ensures.room (more + left) (g.met.L.Listener.room_less c.args.listener.now (more + left + c.min-within.result) (more + c.args.left.now) (omega (arith, c.requires.floor, c.min-within.ensures)) room)

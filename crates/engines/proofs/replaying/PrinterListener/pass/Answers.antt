@@ -3,10 +3,12 @@ use Rattle.course.specs.Texts.{text_of}
 use Rattle.course.specs.Writing.{Counts}
 use Rattle.course.proofs.Counting.{counts_passed, text_passed, with_events}
 use Rattle.course.proofs.Endings.{took_same}
+use Rattle.course.proofs.Within.{within_quietly}
 use Rattle.engines.proofs.replaying.PrinterListener.pass.Goals as goal
 
 pub returns-clause-ok : goal.returns-clause-ok
-returns-clause-ok g c = λ off s before after passes.
+returns-clause-ok g c = λ off s before after passed.
+    let passes = within_quietly s _ c.args.steps before after passed.within in
     let old = c.args.self.now in (
       refl,
       (λ counts. subst (λ n. Counts s after (with_events n old.summary)) (sym c.from.ensures) (counts_passed s c.args.steps before after old.summary passes counts)),

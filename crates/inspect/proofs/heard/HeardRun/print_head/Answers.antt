@@ -6,7 +6,7 @@ use Rattle.inspect.proofs.heard.HeardRun.print_head.Goals as goal
 
 pub returns : goal.returns
 returns c = ok_then c.print_entry.result (λ newest s past seen.
-    let events = c.entries-events.ensures ∙ seen.heard.table.entries in
+    let events = c.entries-events.ensures ∙ seen.heard.entries in
     let head = c.in_ok-head.ensures.ok ∙ ap (λ n. codes "events " ++ (decimal n ++ codes "\n")) events in
     newest s past seen
     ∙ ap (λ l. l ++ newest_line past) (c.in_ok-extend_from_slice.ensures.items ∙ ap (λ l. c.args.text.now.items ++ l) (c.as_bytes.ensures.value ∙ head))

@@ -15,7 +15,7 @@ play-requires c = omega (arith, c.requires)
 
 pub returns-in-Ok-clause-entries : goal.returns-in-Ok-clause-entries
 returns-in-Ok-clause-entries c =
-    let had = c.args.self.now.heard.snapshot.table.entries in
+    let had = c.args.self.now.heard.snapshot.entries in
     let few = c.requires in
     let room = c.in-Ok.ensures.room (2 ^ 64 - 1 - 2 ^ 32 - had) (omega (arith, few)) in
     omega (arith, room, few)

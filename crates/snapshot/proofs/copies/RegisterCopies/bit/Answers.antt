@@ -1,17 +1,24 @@
-use Rattle.std.proofs.Common.{◌≡◌, sym, subst, ◌∙◌}
+use Rattle.std.proofs.Common.{◌≡◌, ◌<◌, sym, ap, subst, ◌∙◌}
 use Rattle.plain_store.specs.declared.setups.Setup.{Setup}
 use Rattle.record.specs.declared.access.Access.{Access}
-use Rattle.record.specs.Moves.{moves_of}
-use Rattle.record.specs.Registers.{opening_bit}
-use Rattle.calls.specs.read_law.laws.Held.{IsThere}
-use Rattle.calls.specs.read_law.Looks.{held}
-use Rattle.snapshot.specs.Copies.{copy_of}
+use Rattle.record.specs.Registers.{width}
+use Rattle.snapshot.specs.Copies.{bit_at, held_in}
 use Rattle.snapshot.proofs.copies.RegisterCopies.bit.Goals as goal
 
-pub returns : goal.returns
-returns c = λ past heard.
+pub bit_seen-requires-clause-owner : goal.bit_seen-requires-clause-owner
+bit_seen-requires-clause-owner c =
     let k = c.args.self.now in
-    let at : Access = copy_of k.owner k.field c.args.reader c.args.bit in
-    let there : IsThere k.setup.now at = record { owner = c.requires.owner; reader = c.requires.reader; bit = c.requires.bit } in
-    let here : IsThere k.watch.now.setup c.copy_of.result = subst (λ (a : Access). IsThere k.watch.now.setup a) (sym c.copy_of.ensures) (subst (λ (s : Setup). IsThere s at) (sym c.requires.setup) there) in
-    c.holds.ensures past heard here ∙ (λ i. held (opening_bit (c.requires.setup i) (c.copy_of.ensures i)) (moves_of (c.copy_of.ensures i) past))
+    subst (λ (a : Access). a.owner < k.core.now.setup.processes) (sym c.copy_of.ensures) (subst (λ (s : Setup). k.owner < s.processes) (sym c.requires.setup) c.requires.owner)
+
+pub bit_seen-requires-clause-reader : goal.bit_seen-requires-clause-reader
+bit_seen-requires-clause-reader c =
+    let k = c.args.self.now in
+    subst (λ (a : Access). a.reader < k.core.now.setup.processes) (sym c.copy_of.ensures) (subst (λ (s : Setup). c.args.reader < s.processes) (sym c.requires.setup) c.requires.reader)
+
+pub bit_seen-requires-clause-bit : goal.bit_seen-requires-clause-bit
+bit_seen-requires-clause-bit c =
+    let k = c.args.self.now in
+    subst (λ (a : Access). a.bit < width k.core.now.setup a.field) (sym c.copy_of.ensures) (subst (λ (s : Setup). c.args.bit < width s k.field) (sym c.requires.setup) c.requires.bit)
+
+pub returns : goal.returns
+returns c = λ past u. c.held_in.ensures ∙ ap held_in (c.bit_seen.ensures u.taken u.events u.shows ∙ (λ i. bit_at (c.requires.setup i) (u.is i) (c.copy_of.ensures i)))

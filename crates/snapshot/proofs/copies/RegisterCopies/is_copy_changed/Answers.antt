@@ -3,20 +3,32 @@ use Rattle.std.specs.List.{list_any, range_with_len}
 use Rattle.plain_store.specs.declared.setups.Setup.{Setup}
 use Rattle.record.specs.declared.access.Access.{Access}
 use Rattle.record.specs.Registers.{opening_bit, width}
-use Rattle.calls.specs.read_law.laws.Held.{IsThere}
-use Rattle.snapshot.specs.Copies.{copy_of, has_changed, is_changed, is_one}
+use Rattle.snapshot.specs.Copies.{bit_at, copy_of, has_changed, held_in, is_changed, is_one}
 use Rattle.snapshot.proofs.Ranges.{any_next}
 use Rattle.snapshot.proofs.copies.RegisterCopies.is_copy_changed.Goals as goal
+
+pub bit_seen-requires-clause-owner : goal.bit_seen-requires-clause-owner
+bit_seen-requires-clause-owner c =
+    let k = c.args.self.now in
+    subst (λ (a : Access). a.owner < c.args.opening.now.setup.processes) (sym c.copy_of.ensures) (subst (λ (s : Setup). k.owner < s.processes) (sym c.requires.opening) c.requires.owner)
+
+pub bit_seen-requires-clause-reader : goal.bit_seen-requires-clause-reader
+bit_seen-requires-clause-reader c =
+    subst (λ (a : Access). a.reader < c.args.opening.now.setup.processes) (sym c.copy_of.ensures) (subst (λ (s : Setup). c.args.reader < s.processes) (sym c.requires.opening) c.requires.reader)
+
+pub bit_seen-requires-clause-bit : goal.bit_seen-requires-clause-bit
+bit_seen-requires-clause-bit c =
+    let k = c.args.self.now in
+    let within : c.loop-bit.bit < width k.setup.now k.field = subst (λ n. c.loop-bit.bit < n) c.width-bit-end.ensures.width c.loop-bit-test.true in
+    subst (λ (a : Access). a.bit < width c.args.opening.now.setup a.field) (sym c.copy_of.ensures) (subst (λ (s : Setup). c.loop-bit.bit < width s k.field) (sym c.requires.opening) within)
 
 pub loop-bit-preserved : goal.loop-bit-preserved
 loop-bit-preserved c = λ past heard.
     let k = c.args.self.now in
     let s = k.setup.now in
     let at : Access = copy_of k.owner k.field c.args.reader c.loop-bit.bit in
-    let within : c.loop-bit.bit < width s k.field = subst (λ n. c.loop-bit.bit < n) c.width-bit-end.ensures.width c.loop-bit-test.true in
-    let there : IsThere s at = record { owner = c.requires.owner; reader = c.requires.reader; bit = within } in
-    let here : IsThere c.args.opening.now.setup c.copy_of.result = subst (λ (a : Access). IsThere c.args.opening.now.setup a) (sym c.copy_of.ensures) (subst (λ (s : Setup). IsThere s at) (sym c.requires.opening) there) in
-    let opens : c.is_one.result ≡ opening_bit s at = c.is_one.ensures ∙ ap is_one (c.holds-before.ensures [] c.requires.unheard here) ∙ (λ i. opening_bit (c.requires.opening i) (c.copy_of.ensures i)) in
+    let u = c.requires.unheard in
+    let opens : c.is_one.result ≡ opening_bit s at = c.is_one.ensures ∙ ap is_one (c.held_in-before.ensures ∙ ap held_in (c.bit_seen.ensures u.taken u.events u.shows ∙ (λ i. bit_at (c.requires.opening i) (u.is i) (c.copy_of.ensures i)))) in
     let is : c.has_changed-is_changed.result ≡ is_changed s past at = c.has_changed-is_changed.ensures ∙ (λ i. has_changed (opens i) (c.bit.ensures past heard i)) in
     (λ i. c.loop-bit.invariant past heard i || is i) ∙ sym (any_next (λ n. is_changed s past (copy_of k.owner k.field c.args.reader n)) c.loop-bit.bit)
 

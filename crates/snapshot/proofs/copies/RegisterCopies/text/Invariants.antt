@@ -3,7 +3,7 @@ use Rattle.std.specs.Prelude.{is_none}
 use Rattle.std.specs.List.{list_any, range_with_len}
 use Rattle.record.specs.Entries.{Past}
 use Rattle.record.specs.Registers.{width}
-use Rattle.calls.specs.read_law.Watching.{HasHeard}
+use Rattle.snapshot.specs.Knowing.{CoreShows}
 use Rattle.snapshot.specs.Copies.{bit_held, copy_of, is_one}
 use Rattle.snapshot.proofs.copies.RegisterCopies.text.Given as goal
 
@@ -13,6 +13,6 @@ invariant-loop-bit l = record {
   width : l.read.width ≡ width l.self.setup.now l.self.field;
   begun : l.read.begun ≡ false;
   count : length l.read.bits ≡ l.bit;
-  bits : (past : Past) → HasHeard l.self.watch.now past → l.read.bits ≡ map (λ k. is_one (bit_held l.self.setup.now past (copy_of l.self.owner l.self.field l.reader k))) (range_with_len 0 l.bit);
-  flickers : (past : Past) → HasHeard l.self.watch.now past → l.flickers ≡ list_any (λ k. is_none (bit_held l.self.setup.now past (copy_of l.self.owner l.self.field l.reader k))) (range_with_len 0 l.bit);
+  bits : (past : Past) → CoreShows l.self.core.now past → l.read.bits ≡ map (λ k. is_one (bit_held l.self.setup.now past (copy_of l.self.owner l.self.field l.reader k))) (range_with_len 0 l.bit);
+  flickers : (past : Past) → CoreShows l.self.core.now past → l.flickers ≡ list_any (λ k. is_none (bit_held l.self.setup.now past (copy_of l.self.owner l.self.field l.reader k))) (range_with_len 0 l.bit);
 }

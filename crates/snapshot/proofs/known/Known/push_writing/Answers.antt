@@ -1,11 +1,8 @@
 use Rattle.std.proofs.Common.{◌≡◌, ◌-◌, ◌++◌, ℕ, List, sym, ap, subst, ◌∙◌}
 use Rattle.std.specs.Prelude.{codes}
-use Rattle.plain_store.specs.declared.setups.Setup.{Setup}
-use Rattle.record.specs.Entries.{Past}
-use Rattle.record.specs.Records.{past_of}
-use Rattle.calls.specs.read_law.Watching.{HasHeard}
 use Rattle.snapshot.specs.Copies.{copy_text}
 use Rattle.snapshot.specs.Doing.{ahead, progress_words, value_written, writes_before, writes_in_all}
+use Rattle.snapshot.specs.Knowing.{CoreShows}
 use Rattle.snapshot.specs.Lines.{process_line}
 use Rattle.snapshot.proofs.Stand.{ok_then}
 use Rattle.snapshot.proofs.known.Known.push_writing.Goals as goal
@@ -18,11 +15,10 @@ returns-clause-lines c = ok_then c.push_value_line.result
     let a = c.args.next.now in
     let p = k.process in
     let left : c.saturating_sub-left.result ≡ writes_in_all s a - writes_before s a = c.saturating_sub-left.ensures ∙ (λ i. c.writes_in_all-all.ensures.all i - c.writes_before-made.ensures.before i) in
-    let same : past_of k.core.now.setup knows.events ≡ past = ap (λ (s : Setup). past_of s knows.events) c.requires.core ∙ knows.is_past in
-    let heard : HasHeard c.in_ok-ahead.ahead (ahead k.core.now.setup (past_of k.core.now.setup knows.events) p c.saturating_sub-left.result) =
-    c.in_ok-ahead.ensures.heard knows.taken knows.events knows.shows (subst (λ (q : Past). HasHeard k.watch.now q) (sym same) knows.heard) in
-    let last : ahead k.core.now.setup (past_of k.core.now.setup knows.events) p c.saturating_sub-left.result ≡ ahead s past p (writes_in_all s a - writes_before s a) = λ i. ahead (c.requires.core i) (same i) p (left i) in
-    let value = c.in_ok-value.ensures (ahead s past p (writes_in_all s a - writes_before s a)) (subst (HasHeard c.in_ok-ahead.ahead) last heard) in
+    let steps = writes_in_all s a - writes_before s a in
+    let stepped : CoreShows c.step_ahead.new.twin (ahead k.core.now.setup past p c.saturating_sub-left.result) = c.step_ahead.ensures.shows past knows in
+    let last : ahead k.core.now.setup past p c.saturating_sub-left.result ≡ ahead s past p steps = λ i. ahead (c.requires.core i) past p (left i) in
+    let value = c.in_ok-value.ensures (ahead s past p steps) (subst (CoreShows c.step_ahead.new.twin) last stepped) in
     let words = c.deref.ensures ∙ c.in_ok-words.ensures ∙ (λ i. codes "writes " ++ (progress_words a (c.writes_before-made.ensures.before i) (c.writes_in_all-all.ensures.all i) ++ codes " value ")) in
     wrote ∙ (λ i. c.args.text.now.items ++ process_line p (words i ++ (c.as_slice.ensures.value ∙ value) i)))
     c.push_value_line.ensures

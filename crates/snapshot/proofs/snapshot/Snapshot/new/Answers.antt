@@ -1,19 +1,21 @@
-use Rattle.std.proofs.Common.{◌≡◌, ℕ, [], List, Option, None, Some, length, replicate, slice_get, refl, sym, ap, subst, ◌∙◌, ◌<◌}
-use Rattle.std.proofs.lemmas.List.{get_or-replicate, length-replicate}
-use Rattle.std.proofs.lemmas.Option.{slice_get-get_or}
-use Rattle.snapshot.specs.Sights.{no_sight}
-use Rattle.snapshot.specs.declared.sight.Sight.{Sight}
+use Rattle.std.proofs.Common.{◌≡◌, ap, refl, ◌∙◌, arith, length, slice_get}
+use Rattle.std.specs.Prelude.{List}
+use Rattle.std.proofs.lemmas.List.FromFn.{length-map-range_with_len}
+use Rattle.snapshot.specs.Keeping.{nothing_kept}
+use Rattle.snapshot.specs.declared.kept.ProcessKept.{ProcessKept}
+use Rattle.snapshot.proofs.Keeps.{nothing_there}
 use Rattle.snapshot.proofs.snapshot.Snapshot.new.Goals as goal
 
 pub returns-clause-heard : goal.returns-clause-heard
-returns-clause-heard c =
-    let n : ℕ = c.args.setup.now.processes in
-    let kept : c.in_ok-sights.sights.items ≡ replicate n no_sight = c.in_ok-sights.ensures.items_if_clones_equal (λ y e. e) ∙ (λ i. replicate (c.from.ensures i) (c.none.ensures i)) in
+returns-clause-heard c = record {
+  kept = λ p below. ap (λ (l : List ProcessKept). slice_get l p) c.loop-process.invariant ∙ nothing_there c.loop-process.process p (omega (arith, below, c.loop-process-test.false));
+  entries = refl;
+}
+
+pub invariant_of-result : goal.invariant_of-result
+invariant_of-result c =
+    let all : c.loop-process.process ≡ c.args.setup.now.processes = omega (arith, c.loop-process-test.false, c.loop-process.auto.process-end) in
     record {
-      table = c.in_ok-table.ensures.heard;
-      sights = λ p below.
-          ap (λ (l : List Sight). slice_get l p) kept
-          ∙ slice_get-get_or (replicate n no_sight) p no_sight (subst (λ m. p < m) (sym (length-replicate {A = Sight} n no_sight)) below)
-          ∙ ap Some (get_or-replicate {A = Sight} n p no_sight no_sight below);
-      there = λ p a none. absurd (cc);
+      good = c.requires;
+      processes = ap (λ (l : List ProcessKept). length l) c.loop-process.invariant ∙ length-map-range_with_len nothing_kept 0 c.loop-process.process ∙ all;
     }

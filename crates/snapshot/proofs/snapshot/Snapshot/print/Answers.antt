@@ -3,9 +3,9 @@ use Rattle.record.specs.declared.history.Taken.{Taken}
 use Rattle.record.specs.Registers.{processes}
 use Rattle.snapshot.specs.Copies.{register_lines}
 use Rattle.snapshot.specs.Processes.{process_lines}
-use Rattle.snapshot.specs.States.{HasHeard, SnapshotState}
+use Rattle.snapshot.specs.States.{SnapshotState}
 use Rattle.snapshot.specs.Stores.{history_lines}
-use Rattle.snapshot.proofs.Stand.{ok_then, taken_is}
+use Rattle.snapshot.proofs.Stand.{core_shows, ok_then, taken_is}
 use Rattle.snapshot.proofs.snapshot.Snapshot.print.Goals as goal
 
 pub returns : goal.returns
@@ -13,9 +13,8 @@ returns c = record {
   lines = ok_then c.push_history.result
       (λ wrote past u.
       let t = c.args.self.now in
-      let heard = subst (λ (x : SnapshotState). HasHeard x past) (sym c.self.view_is) u.heard in
       let first = flat_map (process_lines t.setup past) (processes t.setup) in
-      let registers = c.in_ok-push_registers.ensures past (subst (λ w. Rattle.calls.specs.read_law.Watching.HasHeard w past) (sym c.watch.ensures.watch) heard.table.watch) ∙ ap (λ (x : SnapshotState). c.push_processes.new.text.items ++ register_lines x.setup past) c.self.view_is in
+      let registers = c.in_ok-push_registers.ensures past (core_shows t c.args.core.now c.args.history.now past u) ∙ ap (λ (x : SnapshotState). c.push_processes.new.text.items ++ register_lines x.setup past) c.self.view_is in
       let last = history_lines t.setup c.args.history.now in
       wrote ∙ ap (λ (x : SnapshotState). c.push_registers.new.text.items ++ history_lines x.setup c.args.history.now) c.self.view_is
       ∙ ap (λ l. l ++ last) (registers ∙ ap (λ l. l ++ register_lines t.setup past) (c.in_ok-push_processes.ensures past u))

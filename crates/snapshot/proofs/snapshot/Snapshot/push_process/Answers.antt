@@ -4,7 +4,7 @@ use Rattle.record.specs.Calls.{calls_in}
 use Rattle.record.specs.Entries.{own}
 use Rattle.record.specs.Stages.{stage}
 use Rattle.snapshot.specs.Processes.{is_resting, lines_at, rest_line, running_lines}
-use Rattle.snapshot.specs.States.{HasHeard, SnapshotState}
+use Rattle.snapshot.specs.declared.kept.ProcessKept.{ProcessKept}
 use Rattle.snapshot.proofs.Stand.{ok_then, stage_is}
 use Rattle.snapshot.proofs.snapshot.Snapshot.push_process.Goals as goal
 
@@ -22,9 +22,9 @@ returns-then-is_resting-clause-lines c = ok_then c.push_rest.result
     let two : Some c.in-Some.stage ≡ Some (stage p past) = sym c.in-Some.is ∙ c.stage.ensures c.args.history.now u.events u.shows ∙ stage_is t c.args.core.now c.args.history.now past p c.requires.process u in
     let same : c.in-Some.stage ≡ stage p past = cc in
     let rests : is_resting c.in-Some.stage ≡ true = sym c.is_resting.ensures ∙ c.if-is_resting.true in
-    let heard = subst (λ (x : SnapshotState). HasHeard x past) (sym c.self.view_is) u.heard in
+    let calls : c.kept-kept.result.standing.last.call ≡ calls_in (own p past) = ap (λ (k : ProcessKept). k.standing.last.call) (c.kept-kept.ensures past u.heard) in
     let words = rest_line p c.in-Some.stage (calls_in (own p past)) in
-    wrote ∙ ap (λ l. c.args.text.now.items ++ l) (ap (rest_line p c.in-Some.stage) (c.calls.ensures past heard.table) ∙ sym (ap (λ (b : Bool). cond b words (running_lines t.setup past p c.in-Some.stage)) rests) ∙ ap (lines_at t.setup past p) same))
+    wrote ∙ ap (λ l. c.args.text.now.items ++ l) (ap (rest_line p c.in-Some.stage) calls ∙ sym (ap (λ (b : Bool). cond b words (running_lines t.setup past p c.in-Some.stage)) rests) ∙ ap (lines_at t.setup past p) same))
     c.push_rest.ensures
 
 pub returns-clause-lines : goal.returns-clause-lines
@@ -36,5 +36,5 @@ returns-clause-lines c = ok_then c.push_running.result
     let same : c.in-Some.stage ≡ stage p past = cc in
     let runs : is_resting c.in-Some.stage ≡ false = sym c.is_resting.ensures ∙ c.if-is_resting.false in
     let words = rest_line p c.in-Some.stage (calls_in (own p past)) in
-    lines past u ∙ ap (λ l. c.args.text.now.items ++ l) (sym (ap (λ (b : Bool). cond b words (running_lines t.setup past p c.in-Some.stage)) runs) ∙ ap (lines_at t.setup past p) same))
+    lines past u (c.kept-kept.ensures past u.heard) ∙ ap (λ l. c.args.text.now.items ++ l) (sym (ap (λ (b : Bool). cond b words (running_lines t.setup past p c.in-Some.stage)) runs) ∙ ap (lines_at t.setup past p) same))
     c.push_running.ensures.lines

@@ -1,29 +1,30 @@
 use Rattle.std.proofs.Common.{◌≡◌, ℕ, Bool, false, true, List, ◌++◌, Option, refl, ap, sym, subst, ◌∙◌, append_assoc}
 use Rattle.record.specs.declared.events.Event.TheVariants.{Step}
 use Rattle.calls.specs.Hearing.{open_call}
-use Rattle.plain_store.specs.declared.setups.Setup.{Setup}
-use Rattle.snapshot.specs.States.{HasHeard, SnapshotState}
+use Rattle.snapshot.specs.Keeping.{call_kept}
 use Rattle.snapshot.specs.Doing.{doing_lines}
 use Rattle.snapshot.specs.Lines.{open_lines, process_line, stage_word}
 use Rattle.snapshot.specs.Processes.{lines_of_two, words_added}
+use Rattle.snapshot.proofs.OfCalls.{lines_kept}
 use Rattle.snapshot.proofs.Stand.{added_is, ok_then, taken_is}
 use Rattle.snapshot.proofs.snapshot.Snapshot.push_running.Goals as goal
 
 pub returns-clause-lines : goal.returns-clause-lines
 returns-clause-lines c = ok_then c.push_next.result
-    (λ wrote past u.
+    (λ wrote past u is.
     let t = c.args.self.now in
     let p = c.args.process in
     let head = process_line p (stage_word c.args.stage) in
-    let mid = open_lines p c.args.history.now c.open_call-call.result in
+    let mid = open_lines p c.args.history.now c.open_call.result in
     let told = doing_lines t.setup past p c.args.stage in
     let last = lines_of_two p (words_added c.next_entry-first.result) (words_added c.next_entry-second.result) in
     let first = c.next_entry-first.ensures.entry c.args.history.now u.events refl u.shows ∙ added_is t c.args.core.now c.args.history.now past (Step p false) u in
     let second = c.next_entry-second.ensures.entry c.args.history.now u.events refl u.shows ∙ added_is t c.args.core.now c.args.history.now past (Step p true) u in
-    let heard = subst (λ (x : SnapshotState). HasHeard x past) (sym c.self.view_is) u.heard in
-    let call = c.open_call-call.ensures past heard.table ∙ ap (λ (s : Setup). open_call s p past) c.self.invariant.tabled ∙ ap (λ (x : SnapshotState). open_call x.setup p past) c.self.view_is in
-    let doing = c.in_ok-push_doing.ensures.lines c.args.history.now past u call first in
+    let call : open_lines p c.args.history.now c.open_call.result ≡ open_lines p c.args.history.now (open_call t.setup p past) =
+    ap (open_lines p c.args.history.now) (c.open_call.ensures ∙ ap call_kept is) ∙ lines_kept t.setup p past c.args.history.now in
+    let doing = c.in_ok-push_doing.ensures.lines c.args.history.now past u is first in
     wrote ∙ ap (λ l. l ++ last) (doing ∙ ap (λ l. l ++ told) (c.in_ok-push_open.ensures ∙ ap (λ l. l ++ mid) (c.in_ok-push_line.ensures ∙ ap (λ (w : List ℕ). c.args.text.now.items ++ process_line p w) c.stage_word.ensures)))
     ∙ append_assoc ((c.args.text.now.items ++ head) ++ mid) told last ∙ append_assoc (c.args.text.now.items ++ head) mid (told ++ last) ∙ append_assoc c.args.text.now.items head (mid ++ (told ++ last))
-    ∙ (λ i. c.args.text.now.items ++ (head ++ (open_lines p (taken_is t c.args.core.now c.args.history.now past u i) (call i) ++ (told ++ lines_of_two p (words_added (first i)) (words_added (second i)))))))
+    ∙ ap (λ l. c.args.text.now.items ++ (head ++ (l ++ (told ++ last)))) call
+    ∙ (λ i. c.args.text.now.items ++ (head ++ (open_lines p (taken_is t c.args.core.now c.args.history.now past u i) (open_call t.setup p past) ++ (told ++ lines_of_two p (words_added (first i)) (words_added (second i)))))))
     c.push_next.ensures

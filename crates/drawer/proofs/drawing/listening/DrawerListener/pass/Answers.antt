@@ -1,10 +1,12 @@
 use Rattle.std.proofs.Common.{ap, refl}
 use Rattle.course.proofs.Counting.{with_events}
+use Rattle.course.proofs.Within.{within_quietly}
 use Rattle.drawer.proofs.Marked.{quiet_drawn, recalls_passed}
 use Rattle.drawer.proofs.drawing.listening.DrawerListener.pass.Goals as goal
 
 pub returns-clause-ok : goal.returns-clause-ok
-returns-clause-ok g c = λ none s before after passes.
+returns-clause-ok g c = λ none s before after passed.
+    let passes = within_quietly s _ c.args.steps before after passed.within in
     let drawing = c.args.self.now.drawing.now in (
       refl,
       refl,

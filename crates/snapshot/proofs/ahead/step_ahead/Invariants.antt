@@ -1,0 +1,12 @@
+use Rattle.std.proofs.Common.{◌≡◌, ℕ}
+use Rattle.record.specs.Entries.{Past}
+use Rattle.snapshot.specs.Doing.{ahead}
+use Rattle.snapshot.specs.Knowing.{CoreShows}
+use Rattle.snapshot.proofs.ahead.step_ahead.Given as goal
+
+-- so many Steps were made
+abbrev pub invariant-loop-step : goal.invariant-loop-step
+invariant-loop-step l = record {
+  setup : l.twin.setup ≡ l.core.setup;
+  shows : (past : Past) → CoreShows l.core past → CoreShows l.twin (ahead l.core.setup past l.process l.step);
+}

@@ -1,0 +1,47 @@
+use Rattle.std.proofs.Common.{◌≡◌, ℕ, false, List, ◌∷◌, Option, None, Some, length, IfErr, IfOk, OnErr, OnOk, Result, Ok, Err, sym, ap, subst, ◌∙◌}
+use Rattle.record.specs.declared.access.Access.{Access}
+use Rattle.record.specs.declared.events.Event.{Event}
+use Rattle.record.specs.declared.events.Event.TheVariants.{Step}
+use Rattle.record.specs.declared.history.Taken.{Taken}
+use Rattle.record.specs.declared.refusals.Refusal.{Refusal}
+use Rattle.record.specs.Entries.{Entry, Past}
+use Rattle.record.specs.Histories.{reply_taken}
+use Rattle.record.specs.Records.{added, entry_of, past_of, with_event}
+use Rattle.plain_store.specs.declared.setups.Setup.{Setup}
+use Rattle.world.specs.process.Telling.{marks_of}
+use Rattle.world.specs.process.declared.told.Effect.TheVariants.{Steps}
+use Rattle.world.specs.process.declared.told.StepTold.{StepTold}
+use Rattle.world.specs.Changes.{with_taken}
+use Rattle.world.specs.Cores.{CoreRefusesStep, CoreState, CoreSteps, call_in, with_history}
+use Rattle.world.specs.Shows.{Shows}
+use Rattle.snapshot.specs.Knowing.{CoreShows}
+use Rattle.snapshot.proofs.ahead.step_on.Goals as goal
+
+setup_by : (old new : CoreState) (r : Result Access Refusal) → OnOk r (new.setup ≡ old.setup) → OnErr r (new ≡ old) → new.setup ≡ old.setup
+setup_by old new (Ok access) made away = made
+setup_by old new (Err refusal) made away = ap (λ (c : CoreState). c.setup) away
+
+goes_by : (old new : CoreState) (p : ℕ) (told : StepTold) (r : Result Access Refusal) → OnOk r (CoreSteps old p false told new) → OnOk r (new.setup ≡ old.setup) → IfErr r (CoreRefusesStep old p false) → OnErr r (new ≡ old) →
+    (past : Past) → CoreShows old past → CoreShows new (with_event old.setup (Step p false) past)
+goes_by old new p told (Ok access) made same refused away past u = record {
+  taken = with_taken u.taken p (call_in new.seats p).0 (call_in new.seats p).1 (reply_taken (marks_of (Steps told)));
+  events = Step p false ∷ u.events;
+  shows = made.goes u.taken u.events u.shows;
+  is = ap (λ (s : Setup). past_of s (Step p false ∷ u.events)) same ∙ ap (with_event old.setup (Step p false)) u.is;
+}
+goes_by old new p told (Err refusal) made same refused away past u =
+    let s : Setup = old.setup in
+    let kept : past_of s u.events ≡ with_event s (Step p false) (past_of s u.events) =
+    sym (ap (λ (o : Option Refusal). elim (elim o as (λ _. Option Entry) [ Some r ↦ None | None ↦ added s (past_of s u.events) (Step p false) ]) as (λ _. Past) [ None ↦ past_of s u.events | Some e ↦ e ∷ past_of s u.events ]) (refused u.taken u.events u.shows)) in
+    record {
+      taken = u.taken;
+      events = u.events;
+      shows = subst (λ (c : CoreState). Shows (with_history c u.taken) u.events) (sym away) u.shows;
+      is = ap (λ (c : CoreState). past_of c.setup u.events) away ∙ kept ∙ ap (with_event s (Step p false)) u.is;
+    }
+
+pub returns-clause-setup : goal.returns-clause-setup
+returns-clause-setup c = setup_by c.args.twin.now c.step-made.new.self c.step-made.result c.step-made.ensures.setup c.step-made.ensures.unchanged
+
+pub returns-clause-goes : goal.returns-clause-goes
+returns-clause-goes c = goes_by c.args.twin.now c.step-made.new.self c.args.process c.step-made.new.told c.step-made.result c.step-made.ensures.shows c.step-made.ensures.setup c.step-made.ensures.refused c.step-made.ensures.unchanged

@@ -1,0 +1,8 @@
+use Rattle.std.proofs.Common.{◌≡◌, ◌<◌, ◌≤◌, sym, subst, ◌∙◌, arith}
+use Rattle.plain_store.specs.declared.setups.Setup.{Setup}
+use Rattle.record.specs.Registers.{width}
+use Rattle.snapshot.specs.Copies.{bit_at}
+use Rattle.snapshot.proofs.copies.bit_at.Goals as goal
+
+pub returns : goal.returns
+returns c = λ past u there. c.bit_seen.ensures u.taken u.events u.shows ∙ (λ i. bit_at (c.requires.setup i) (u.is i) c.args.access.now)
