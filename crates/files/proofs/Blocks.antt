@@ -2,14 +2,14 @@
 use Rattle.std.proofs.Common.{◌≡◌, ℕ, zero, suc, ◌+◌, ◌-◌, ◌<◌, ◌≤◌, not, nat_lt, Bool, true, false, cond, List, [], ◌∷◌, ◌++◌, length, take, drop, get_or, Option, Some, None, Result, Ok, refl, ap, sym, subst, ◌∙◌, arith}
 use Rattle.std.proofs.lemmas.Bool.{and_from}
 use Rattle.std.proofs.lemmas.Bool.Decides.{nat_tests}
-use Rattle.std.proofs.lemmas.List.{drop_all, drop-drop, drop_more, length-drop, length-take-le, take-append-drop, take_all, take_rest}
+use Rattle.std.proofs.lemmas.List.{drop_all, drop-drop, drop_more, length-drop, length-take, length-take-le, take-append-drop, take-take, take_all, take_rest}
 use Rattle.std.proofs.lemmas.List.Quantifiers.{position-Some}
 use Rattle.std.proofs.lemmas.List.Sums.{fails_before_first}
 use Rattle.std.specs.Io.{ReadsAtMost}
 use Rattle.std.specs.Io.KnownBytes.{Consumes, IsAtEnd, ReadConsumes, prepend_known}
 use Rattle.std.specs.List.{list_all, position, position_or_len}
 use Rattle.files.specs.declared.streams.Failed.{Failed}
-use Rattle.files.specs.Lines.{MovesAll, MovesEnded, ends_line, is_inner}
+use Rattle.files.specs.Lines.{MovesAll, MovesEnded, ends_line, is_inner, without_return}
 use Rattle.files.specs.SourceLines.{ComesToEnd, Stays, coming}
 
 -- Of the bytes that wait.
@@ -49,6 +49,13 @@ moves_ended items at count line longer place moved =
       split = cut_at (drop at items) count first.0 first.1 ∙ ap (λ l. take count (drop at items) ++ 10 ∷ l) (drop-drop (count + 1) at items);
       moved = moved ∙ ap (λ l. line ++ take count l) whole;
     }
+
+-- of a line that was found, the bytes without its end
+pub found_line : (items : List ℕ) (at count inner : ℕ) (line : List ℕ) → take (length items - at) (drop at items) ≡ line → inner ≤ length (take count line) → take inner (take count line) ≡ without_return (take count line) → take (at + inner - at) (drop at items) ≡ without_return (take count line)
+found_line items at count inner line is within same =
+    let less : at + inner - at ≡ inner = omega arith in
+    let few : inner ≤ count = omega (arith, within, length-take count line) in
+    ap (λ n. take n (drop at items)) less ∙ ap (take inner) (sym (take_rest items at) ∙ is) ∙ sym (take-take inner count line few) ∙ same
 
 -- or all
 pub moves_all : (items : List ℕ) (at end : ℕ) (line longer : List ℕ) → length items ≤ end → position ends_line (take (length items - at) (drop at items)) ≡ None → longer ≡ line ++ take (length items - at) (drop at items) → MovesAll (drop at items) (drop end items) line longer

@@ -2,13 +2,13 @@
 use Rattle.std.proofs.Common.{◌≡◌, ℕ, ◌+◌, ◌<◌, ◌≤◌, ◌==◌, ◌&&◌, not, Bool, true, false, if◌then◌else◌, List, [], ◌∷◌, ◌++◌, length, Option, Some, None, IfSome, refl, ap, sym, subst, ◌∙◌, append_assoc, append-nil, arith}
 use Rattle.std.proofs.lemmas.Bool.{and_from}
 use Rattle.std.proofs.lemmas.Bool.Decides.{nat_tests}
-use Rattle.std.proofs.lemmas.List.{length-append}
 use Rattle.std.proofs.lemmas.List.Folds.{list_all-append}
 use Rattle.std.specs.Io.KnownBytes.{Consumes, IsAtEnd, prepend_known}
 use Rattle.std.specs.List.{list_all}
 use Rattle.files.specs.Words.{lines, onto, begins_with}
-use Rattle.files.specs.Lines.{IsTooLong, MovesAll, MovesEnded, TakesLine, is_inner, without_return}
-use Rattle.files.specs.SourceLines.{ComesToEnd, Given, Stays, Told, coming, unless_ended}
+use Rattle.files.specs.Lines.{IsTooLong, MovesEnded, TakesLine, is_inner, without_return}
+use Rattle.files.specs.SourceLines.{ComesToEnd, FindsLine, Given, Held, Stays, Told, coming, shown_line, unless_ended}
+use Rattle.files.proofs.Blocks.{stays}
 
 -- the lines of a byte and those behind it, where it is no 0x0A
 behind : (b : ℕ) (bs : List ℕ) → (b == 10) ≡ false → lines (b ∷ bs) ≡ (if (b == 13) && begins_with 10 bs then lines bs else onto b (lines bs))
@@ -161,5 +161,12 @@ cut_long (Some text) (Some rest) xs all front many = subst IsTooLong (sym front)
 pub none_taken : (a : Option (List ℕ)) → Consumes a a []
 none_taken None = tt
 none_taken (Some text) = refl
+
+-- a line that was found where it stands
+pub found_first : (old new : Held) (to_come : Option (List ℕ)) (b : Bool) (moved : List ℕ) → b ≡ true → FindsLine old new → new.given.ended ≡ old.given.ended → Told (coming old.given to_come) (coming new.given to_come) (λ text left. TakesLine text (shown_line b new moved) left)
+found_first old new to_come true moved is found same =
+    let all = coming old.given to_come in
+    subst (λ (l : List ℕ). Told all (coming new.given to_come) (λ text left. TakesLine text l left)) (sym found.line) (fed all all old.given new.given to_come [] found.whole refl (none_taken all) (stays all) found.ends same)
+found_first old new to_come false moved is found same = absurd (cc)
 
 -- A source that has told its end.

@@ -1,6 +1,7 @@
 -- The end of a line.
-use Rattle.std.proofs.Common.{◌≡◌, ℕ, zero, suc, ◌-◌, ◌==◌, Bool, true, false, if◌then◌else◌, List, [], ◌∷◌, length, take, Some, refl, ap, sym, arith}
+use Rattle.std.proofs.Common.{◌≡◌, ℕ, zero, suc, ◌-◌, ◌==◌, Bool, true, false, if◌then◌else◌, List, [], ◌∷◌, length, take, Some, refl, ap, sym, ◌∙◌, arith}
 use Rattle.std.proofs.lemmas.Bool.Decides.{nat_tests}
+use Rattle.std.proofs.lemmas.List.{take_all}
 use Rattle.std.specs.List.{slice_get}
 use Rattle.files.specs.Lines.{without_return}
 
@@ -34,3 +35,6 @@ kept_at (suc n) (b ∷ c ∷ bs) is other = ap (λ l. b ∷ l) (kept_at n (c ∷
 pub with_none : (xs : List ℕ) → (slice_get xs (length xs - 1) ≡ Some 13 → ⊥) → xs ≡ without_return xs
 with_none [] other = refl
 with_none (b ∷ bs) other = kept_at (length (b ∷ bs) - 1) (b ∷ bs) (omega arith) other
+
+pub all_kept : (xs : List ℕ) → (slice_get xs (length xs - 1) ≡ Some 13 → ⊥) → take (length xs) xs ≡ without_return xs
+all_kept xs other = take_all (length xs) xs (omega arith) ∙ with_none xs other

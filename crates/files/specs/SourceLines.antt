@@ -1,16 +1,21 @@
 -- What a call that takes the next line of a source does.
-use Rattle.std.specs.Prelude.{◌≡◌, ℕ, ◌+◌, ◌<◌, ◌≤◌, Bool, true, false, List, [], length, Option, Some, None, IfSome, IfOk, Result, Ok, Err}
+use Rattle.std.specs.Prelude.{◌≡◌, ℕ, ◌+◌, ◌<◌, ◌≤◌, Bool, true, false, cond, List, [], length, Option, Some, None, IfSome, IfOk, Result, Ok, Err}
 use Rattle.std.specs.Global.{Vec}
 use Rattle.std.specs.Io.KnownBytes.{IsAtEnd, Keeps, prepend_known}
 use Rattle.files.specs.declared.faults.Fault.{Fault}
 use Rattle.files.specs.declared.faults.Fault.TheVariants as fault
 use Rattle.files.specs.declared.faults.FaultKind.TheVariants.{TooLong}
-use Rattle.files.specs.Lines.{IsTooLong, MovesAll, MovesEnded, TakesLine}
+use Rattle.files.specs.Lines.{IsTooLong, MovesAll, MovesEnded, TakesLine, without_return}
 
 -- the bytes that a source has given and that no line has taken, and whether the source has told its end
 pub record Given : Type 0 where
   pub bytes : List ℕ
   pub ended : Bool
+
+-- the same, and the line that was found last where it stands
+pub record Held : Type 0 where
+  pub given : Given
+  pub line : List ℕ
 
 -- how many lines were taken, the bytes of the last one, and what the source has given beyond it
 pub record LineState : Type 0 where
@@ -63,6 +68,16 @@ MovesToEnd ended old new line longer = IfOk ended (λ is. is ≡ true → MovesE
 abbrev pub MovesOn : {E : Type 0} → Result Bool E → Given → Given → (line longer : Vec ℕ) → Type 0
 MovesOn ended old new line longer = IfOk ended (λ is. is ≡ false → MovesAll old.bytes new.bytes line.items longer.items)
 
+-- The first line of the bytes that wait was found, if its end is among them; those behind it wait on.
+pub record FindsLine (old new : Held) : Type 0 where
+  pub whole : List ℕ
+  pub ends : MovesEnded old.given.bytes new.given.bytes [] whole
+  pub line : new.line ≡ without_return whole
+
+-- the line that was taken: where it was found, or what was moved behind it
+abbrev pub shown_line : Bool → Held → List ℕ → List ℕ
+shown_line in_place held moved = cond in_place held.line moved
+
 -- a fact on the bytes to come before a call and after it, where they are told
 abbrev pub Told : Option (List ℕ) → Option (List ℕ) → (List ℕ → List ℕ → Type 0) → Type 0
 Told None rest P = Unit {0}
@@ -70,13 +85,13 @@ Told (Some text) None P = ⊥
 Told (Some text) (Some rest) P = P text rest
 
 -- the first line of the bytes to come was taken, if it is short enough
-abbrev pub TakesShort : Result Bool Fault → Given → Option (List ℕ) → Given → Option (List ℕ) → Vec ℕ → Type 0
+abbrev pub TakesShort : Result Bool Fault → Given → Option (List ℕ) → Given → Option (List ℕ) → List ℕ → Type 0
 TakesShort found old to_come new rest line =
-    IfOk found (λ some. some ≡ true → length line.items ≤ 128 → Told (coming old to_come) (coming new rest) (λ text left. TakesLine text line.items left))
+    IfOk found (λ some. some ≡ true → length line ≤ 128 → Told (coming old to_come) (coming new rest) (λ text left. TakesLine text line left))
 
 -- a longer line is too long
-abbrev pub TakesLong : Result Bool Fault → Given → Option (List ℕ) → Vec ℕ → Type 0
-TakesLong found old to_come line = IfOk found (λ some. some ≡ true → 128 < length line.items → IfSome (coming old to_come) IsTooLong)
+abbrev pub TakesLong : Result Bool Fault → Given → Option (List ℕ) → List ℕ → Type 0
+TakesLong found old to_come line = IfOk found (λ some. some ≡ true → 128 < length line → IfSome (coming old to_come) IsTooLong)
 
 -- the next line was taken
 pub record TakesNext (old new : LineState) (to_come rest : Option (List ℕ)) : Type 0 where

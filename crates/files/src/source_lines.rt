@@ -20,21 +20,23 @@ const MOST_WITH_END: usize = MOST_BYTES + 2;
 const MOST_LINES: u64 = u64::MAX - 1;
 
 /// The lines of a source: how many were taken, and the bytes of the last one. The source is asked for blocks, so bytes
-/// behind that line may have left it. However long a line is, no more of it is held than two blocks of a kilobyte.
+/// behind that line may have left it. However long a line is, no more of it is held than two blocks of 8 kilobytes.
 #[derive(Drop)]
 pub struct Lines {
     taken: u64,
+    /// Whether the last line stands where it was found. One that a block cuts was moved together.
+    in_place: bool,
     bytes: Vec<u8>,
     ahead: Ahead,
 }
 
 impl Model for Lines {
     ghost use Rattle.std.specs.Prelude.{◌<◌, ◌^◌, ◌-◌};
-    ghost use Rattle.files.specs.SourceLines.{LineState};
+    ghost use Rattle.files.specs.SourceLines.{LineState, shown_line};
 
     ghost Value = { LineState };
 
-    ghost view = { λ l. record { taken = l.taken; line = l.bytes.items; ahead = l.ahead } };
+    ghost view = { λ l. record { taken = l.taken; line = shown_line l.in_place l.ahead l.bytes.items; ahead = l.ahead.given } };
 
     ghost invariant = { λ l. l.taken < 2 ^ 64 - 1 };
 }
@@ -48,6 +50,7 @@ impl Lines {
     {
         Lines {
             taken: 0,
+            in_place: false,
             bytes: Vec::new(alloc),
             ahead: Ahead::new(alloc),
         }
@@ -62,16 +65,22 @@ impl Lines {
     }
 
     /// The bytes of the line that was taken last, without its end.
+    #[inline(always)]
     pub fn line(&self) -> &[u8]
         ensures { result.now ≡ self.now.line }
     {
-        self.bytes.as_slice()
+        if self.in_place {
+            self.ahead.line()
+        } else {
+            self.bytes.as_slice()
+        }
     }
 
     /// Takes the next line; `false` if there is none. A line of more than 128 bytes is a fault. A file of 2^64 - 1 lines
     /// or more, whose numbers want more than 64 bits, ends with `Memory`. After an `Err` no more is to be taken. Once the
-    /// source has told its end it is not asked again, so a last line without an end asks a terminal no more than once. With
-    /// what it calls it stands in its caller's loop, since lines are short, and calls would cost a tenth of hearing one.
+    /// source has told its end it is not asked again, so a last line without an end asks a terminal no more than once. It
+    /// stands in its caller's loop, and a line where it was read, since lines are short: calls and moving the bytes would
+    /// cost as much as reading them.
     #[inline(always)]
     pub fn next<R: Source>(&mut self, input: &mut R) -> Result<bool, Fault>
         requires { R.failures input.old < 2 ^ 64 - 1 }
@@ -82,10 +91,10 @@ impl Lines {
         ensures left_alone { self.old.ahead.ended ≡ true → input.new ≡ input.old }
         ensures failures { R.failures input.new ≡ R.failures input.old + failed_reading result }
     {
-        if !take_line(input, &mut self.ahead, &mut self.bytes)? {
+        if !self.take(input)? {
             return Ok(false);
         }
-        if self.bytes.len() > MOST_BYTES {
+        if self.line().len() > MOST_BYTES {
             return Err(self.behind(FaultKind::TooLong));
         }
         if self.taken + 1 >= MOST_LINES {
@@ -93,6 +102,28 @@ impl Lines {
         }
         self.taken += 1;
         Ok(true)
+    }
+
+    /// Takes the bytes of the first line without its end, or more than 128 of them; `false` if there is no line.
+    #[inline(always)]
+    fn take<R: Source>(&mut self, input: &mut R) -> Result<bool, Fault>
+        requires { R.failures input.old < 2 ^ 64 - 1 }
+        ensures taken { self.new.taken ≡ self.old.taken }
+        ensures line { TakesShort result self.old.ahead (R.to_come input.old) self.new.ahead (R.to_come input.new) self.new.line }
+        ensures long { TakesLong result self.old.ahead (R.to_come input.old) self.new.line }
+        ensures end { NoneCome result self.old.ahead (R.to_come input.old) self.new.ahead (R.to_come input.new) }
+        ensures ended { IfOk result (λ some. some ≡ false → self.new.ahead.ended ≡ true) }
+        ensures holds { LinesKeepEnd self.old (R.to_come input.old) self.new (R.to_come input.new) }
+        ensures stays_ended { self.old.ahead.ended ≡ true → self.new.ahead.ended ≡ true }
+        ensures left_alone { self.old.ahead.ended ≡ true → input.new ≡ input.old }
+        ensures fault { IfErr result IsReadFault }
+        ensures failures { R.failures input.new ≡ R.failures input.old + failed_reading result }
+    {
+        self.in_place = self.ahead.find_line();
+        if self.in_place {
+            return Ok(true);
+        }
+        take_line(input, &mut self.ahead, &mut self.bytes)
     }
 
     /// A fault of the line that was taken last.
@@ -116,17 +147,18 @@ impl Lines {
     }
 }
 
-/// Takes the bytes of the first line without its end, or more than 128 of them; `false` if there is no line.
-#[inline(always)]
+/// Moves the bytes of the first line together, without its end, or more than 128 of them; `false` if there is no line. Few
+/// lines come to it.
+#[inline(never)]
 fn take_line<R: Source>(input: &mut R, ahead: &mut Ahead, line: &mut Vec<u8>) -> Result<bool, Fault>
     requires { R.failures input.old < 2 ^ 64 - 1 }
-    ensures line { TakesShort result ahead.old (R.to_come input.old) ahead.new (R.to_come input.new) line.new }
-    ensures long { TakesLong result ahead.old (R.to_come input.old) line.new }
-    ensures end { NoneCome result ahead.old (R.to_come input.old) ahead.new (R.to_come input.new) }
-    ensures ended { IfOk result (λ some. some ≡ false → ahead.new.ended ≡ true) }
-    ensures holds { KeepsEnd ahead.old (R.to_come input.old) ahead.new (R.to_come input.new) }
-    ensures stays_ended { ahead.old.ended ≡ true → ahead.new.ended ≡ true }
-    ensures left_alone { ahead.old.ended ≡ true → input.new ≡ input.old }
+    ensures line { TakesShort result ahead.old.given (R.to_come input.old) ahead.new.given (R.to_come input.new) line.new.items }
+    ensures long { TakesLong result ahead.old.given (R.to_come input.old) line.new.items }
+    ensures end { NoneCome result ahead.old.given (R.to_come input.old) ahead.new.given (R.to_come input.new) }
+    ensures ended { IfOk result (λ some. some ≡ false → ahead.new.given.ended ≡ true) }
+    ensures holds { KeepsEnd ahead.old.given (R.to_come input.old) ahead.new.given (R.to_come input.new) }
+    ensures stays_ended { ahead.old.given.ended ≡ true → ahead.new.given.ended ≡ true }
+    ensures left_alone { ahead.old.given.ended ≡ true → input.new ≡ input.old }
     ensures fault { IfErr result IsReadFault }
     ensures failures { R.failures input.new ≡ R.failures input.old + failed_reading result }
 {

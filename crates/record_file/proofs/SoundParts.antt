@@ -9,22 +9,17 @@ use Rattle.record.specs.safe_number.Bytes.{number_of_bits}
 use Rattle.record.specs.safe_number.Runs.{new_write}
 use Rattle.plain_store.specs.Store.{Contents, changes}
 use Rattle.plain_store.specs.declared.Answer.TheVariants as answer
-use Rattle.plain_store.specs.declared.Command.{Command}
 use Rattle.plain_store.specs.declared.Reply.{Reply}
-use Rattle.plain_store.specs.declared.Setup.{Setup}
-use Rattle.record.specs.Calls.{last_call, read_so_far}
+use Rattle.record.specs.Calls.{read_so_far}
 use Rattle.record.specs.Closings.{Closing, Withdraws, Settles, Frees, Lowers, Quit, Ended, closing_after, failing, freeing, is_last_settled, is_last_written, no_ticket, reply_with, settling_from}
-use Rattle.record.specs.Entries.{Entry, Past, is_called, own, since}
+use Rattle.record.specs.Entries.{Past, is_called, since}
 use Rattle.record.specs.Parts.{Part, Raises, Asks, TakesTicket, Refuses, Waits, AsksCommit, AsksStamp, AsksImage, WritesImage, WritesStamp, WritesCommit, Clears, Over, is_over, part_after, to_b, to_c, to_d, to_e, to_g}
 use Rattle.record.specs.Parts as part
-use Rattle.record.specs.Places.{Place, bits_with, enter, is_last, place_after, run_after, value_of, write_moved}
+use Rattle.record.specs.Places.{Place, bits_with, enter, is_last, place_after, run_after, write_moved}
 use Rattle.record.specs.Program.{Version, Wait, first_full, greatest, lets_by, max_of, newest_stamp, place_of, reply, store_read, waits_of}
-use Rattle.record.specs.Records.{start_in}
 use Rattle.record.specs.Registers.{others, processes}
 use Rattle.record.specs.Scripts.{Call, caller}
-use Rattle.record.specs.Unit.{is_commit, last_read, last_write, unfinished, value_written}
-use Rattle.record.specs.declared.marks.Mark.{Mark}
-use Rattle.record.specs.declared.marks.Mark.TheVariants.{Called, Waiting, Entered, Taken, Left, Answered, Failed, Settled, Down, Withdrew, Restarted}
+use Rattle.record.specs.Unit.{is_commit, last_read, last_write, unfinished}
 use Rattle.record.specs.reader_copies.Runs as copies
 use Rattle.record_file.specs.Given.{is_answer, is_reply}
 use Rattle.record_file.proofs.SoundReplies.{index_small, is_sound, read_sound, reply_sound}

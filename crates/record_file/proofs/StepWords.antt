@@ -14,6 +14,16 @@ pub one_digit : (bytes : List ℕ) (n : ℕ) → 1 ≤ length bytes → slice_in
 one_digit [] n some is small = absurd (omega (arith, some))
 one_digit (b ∷ bs) n some is small = ap (λ c. c ∷ bs) is ∙ ap (λ ds. ds ++ bs) (sym (decimal_digit n small)) ∙ ap (λ rest. decimal n ++ rest) (sym (take_rest (b ∷ bs) 1))
 
+-- the same in front of the byte that ends it
+pub only_digit : (bytes : List ℕ) (n end : ℕ) → 2 ≤ length bytes → slice_index_or bytes 0 0 ≡ 48 + n → n < 10 → slice_index_or bytes 1 0 ≡ end → bytes ≡ decimal n ++ (end ∷ take (length bytes - 2) (drop 2 bytes))
+only_digit [] n end some is small ended = absurd (omega (arith, some))
+only_digit (b ∷ []) n end some is small ended = absurd (omega (arith, some))
+only_digit (b ∷ c ∷ bs) n end some is small ended =
+    ap (λ d. d ∷ c ∷ bs) is
+    ∙ ap (λ d. (48 + n) ∷ d ∷ bs) ended
+    ∙ ap (λ ds. ds ++ (end ∷ bs)) (sym (decimal_digit n small))
+    ∙ ap (λ rest. decimal n ++ (end ∷ rest)) (sym (take_rest (b ∷ c ∷ bs) 2))
+
 -- a digit more behind a number other than 0
 digit_behind : (n m : ℕ) → m < 10 → 0 < n → n ≤ 6553 → decimal (n * 10 + m) ≡ decimal n ++ ((48 + m) ∷ [])
 digit_behind n m small some few =
@@ -22,6 +32,20 @@ digit_behind n m small some few =
     decimal_step (n * 10 + m) (omega (arith, some)) (omega (arith, small, few))
     ∙ ap (λ t. decimal t ++ ((48 + (n * 10 + m) % 10) ∷ [])) tens
     ∙ ap (λ o. decimal n ++ ((48 + o) ∷ [])) ones
+
+-- one digit more behind the digits of a number other than 0
+pub one_more_is : (digits : List ℕ) (n m d : ℕ) → decimal n ≡ digits → 0 < n → n < 1000 → d ≡ 48 + m → m < 10 → decimal (n * 10 + m) ≡ digits ++ (d ∷ [])
+one_more_is digits n m d so_far some few is small =
+    digit_behind n m small some (omega (arith, few))
+    ∙ ap (λ ds. ds ++ ((48 + m) ∷ [])) so_far
+    ∙ ap (λ e. digits ++ (e ∷ [])) (sym is)
+
+-- three digits of which the first is not 0
+pub three_are : (a b c x y z : ℕ) → a ≡ 48 + x → x < 10 → 0 < x → b ≡ 48 + y → y < 10 → c ≡ 48 + z → z < 10 → decimal ((x * 10 + y) * 10 + z) ≡ a ∷ b ∷ c ∷ []
+three_are a b c x y z is_a small_x some is_b small_y is_c small_z =
+    let first : decimal x ≡ a ∷ [] = decimal_digit x small_x ∙ ap (λ e. e ∷ []) (sym is_a) in
+    let second : decimal (x * 10 + y) ≡ a ∷ b ∷ [] = one_more_is (a ∷ []) x y b first some (omega (arith, small_x)) is_b small_y in
+    one_more_is (a ∷ b ∷ []) (x * 10 + y) z c second (omega (arith, some)) (omega (arith, small_x, small_y)) is_c small_z
 
 pub more_digits : (bytes rest : List ℕ) (n m : ℕ) → bytes ≡ decimal n ++ rest → 1 ≤ length rest → slice_index_or rest 0 0 ≡ 48 + m → m < 10 → 0 < n → n ≤ 6553 → bytes ≡ decimal (n * 10 + m) ++ take (length rest - 1) (drop 1 rest)
 more_digits bytes [] n m so_far more is small some few = absurd (omega (arith, more))

@@ -1,7 +1,8 @@
 //! Reading the line of a Step with an access and no mark, as most lines of a record are.
-ghost use Rattle.std.specs.Prelude.{◌≡◌, ◌+◌, ◌<◌, ◌∷◌, ◌++◌, codes, true, IfSome};
+ghost use Rattle.std.specs.Prelude.{◌≡◌, ◌+◌, ◌<◌, ◌∷◌, ◌++◌, [], codes, true, IfSome};
 ghost use Rattle.std.specs.Fmt.{decimal};
 ghost use Rattle.scenario.specs.Printing.{spaced};
+ghost use Rattle.scenario.specs.Spelling.{bit_word};
 ghost use Rattle.record_file.specs.Given.{is_entry};
 ghost use Rattle.record_file.specs.Printing.{access_text, entry_words, field_word, move_words, step_entry};
 
@@ -24,6 +25,7 @@ pub fn read_step(line: &[u8]) -> Option<(u8, Access)>
 }
 
 /// The access whose words these bytes are.
+#[inline(always)]
 #[tactic(auto, using(crate::proofs::StepWords::access_is))]
 fn access_in(bytes: &[u8]) -> Option<Access>
     ensures { IfSome result (λ access. bytes.now ≡ access_text access) }
@@ -43,6 +45,7 @@ fn access_in(bytes: &[u8]) -> Option<Access>
 }
 
 /// The number of a process before the first such byte, and what is behind that.
+#[inline(always)]
 fn process_before(bytes: &[u8], end: u8) -> Option<(u8, &[u8])>
     ensures { IfSome result (λ read. bytes.now ≡ decimal read.0 ++ (end ∷ read.1.now)) }
 {
@@ -53,10 +56,20 @@ fn process_before(bytes: &[u8], end: u8) -> Option<(u8, &[u8])>
     Some((number as u8, behind))
 }
 
-/// The number of a bit before a dot, and what is behind that.
+/// The number of a bit before a dot, and what is behind that. Most have three or four digits.
+#[inline(always)]
 fn bit_before_dot(bytes: &[u8]) -> Option<(u16, &[u8])>
     ensures { IfSome result (λ read. bytes.now ≡ decimal read.0 ++ (46 ∷ read.1.now)) }
 {
+    match bytes {
+        [a, b, c, b'.', behind @ ..] => {
+            return Some((three_digits(*a, *b, *c)? as u16, behind));
+        }
+        [a, b, c, d, b'.', behind @ ..] => {
+            return Some((four_digits(*a, *b, *c, *d)? as u16, behind));
+        }
+        _ => {}
+    }
     let (number, behind) = number_before(bytes, b'.')?;
     if number > 65_535 {
         return None;
@@ -64,11 +77,54 @@ fn bit_before_dot(bytes: &[u8]) -> Option<(u16, &[u8])>
     Some((number as u16, behind))
 }
 
+/// The number that three digits write.
+#[inline(always)]
+#[tactic(auto, using(crate::proofs::StepWords::three_are))]
+fn three_digits(a: u8, b: u8, c: u8) -> Option<u32>
+    ensures written { IfSome result (λ n. decimal n ≡ a ∷ b ∷ c ∷ []) }
+    ensures some { IfSome result (λ n. 0 < n) }
+    ensures few { IfSome result (λ n. n < 1000) }
+{
+    if a == b'0' {
+        return None;
+    }
+    let hundreds = digit(a)?;
+    let tens = digit(b)?;
+    let ones = digit(c)?;
+    Some((hundreds * 10 + tens) * 10 + ones)
+}
+
+/// The number that four digits write.
+#[inline(always)]
+#[tactic(auto, using(crate::proofs::StepWords::one_more_is))]
+fn four_digits(a: u8, b: u8, c: u8, d: u8) -> Option<u32>
+    ensures written { IfSome result (λ n. decimal n ≡ a ∷ b ∷ c ∷ d ∷ []) }
+    ensures few { IfSome result (λ n. n < 10000) }
+{
+    let number = three_digits(a, b, c)?;
+    let ones = digit(d)?;
+    Some(number * 10 + ones)
+}
+
+/// The number before the first such byte, and what is behind that. Most numbers have one digit.
+#[inline(always)]
+fn number_before(bytes: &[u8], end: u8) -> Option<(u32, &[u8])>
+    ensures { IfSome result (λ read. bytes.now ≡ decimal read.0 ++ (end ∷ read.1.now)) }
+{
+    if let [only, next, behind @ ..] = bytes {
+        if *next == end {
+            return Some((digit(*only)?, behind));
+        }
+    }
+    long_number_before(bytes, end)
+}
+
 /// The largest number behind which one more digit is read: each number of 16 bits has its digits within this.
 const MOST_BEFORE_A_DIGIT: u32 = 6_553;
 
-/// The number before the first such byte, and what is behind that.
-fn number_before(bytes: &[u8], end: u8) -> Option<(u32, &[u8])>
+/// The same of a number of any digits.
+#[inline(always)]
+fn long_number_before(bytes: &[u8], end: u8) -> Option<(u32, &[u8])>
     ensures { IfSome result (λ read. bytes.now ≡ decimal read.0 ++ (end ∷ read.1.now)) }
 {
     let [first, behind @ ..] = bytes else {
@@ -102,13 +158,21 @@ fn digit(byte: u8) -> Option<u32>
     }
 }
 
-/// The register that is named before a dot, and what is behind that.
+/// The register that is named before a dot, and what is behind that. Most accesses are to an image: its name comes first.
+#[inline(always)]
 fn field_before_dot(bytes: &[u8]) -> Option<(Field, &[u8])>
     ensures { IfSome result (λ read. bytes.now ≡ field_word read.0 ++ (46 ∷ read.1.now)) }
 {
+    if let [b'i', m, a, g, e, which, b'.', behind @ ..] = bytes {
+        if are(&[*m, *a, *g, *e], b"mage") {
+            return match which {
+                b'0' => Some((Field::Image0, behind)),
+                b'1' => Some((Field::Image1, behind)),
+                _ => None,
+            };
+        }
+    }
     match bytes {
-        [b'i', b'm', b'a', b'g', b'e', b'0', b'.', behind @ ..] => Some((Field::Image0, behind)),
-        [b'i', b'm', b'a', b'g', b'e', b'1', b'.', behind @ ..] => Some((Field::Image1, behind)),
         [b't', b'i', b'c', b'k', b'e', b't', b'.', behind @ ..] => Some((Field::Ticket, behind)),
         [b's', b't', b'a', b'm', b'p', b'0', b'.', behind @ ..] => Some((Field::Stamp0, behind)),
         [b's', b't', b'a', b'm', b'p', b'1', b'.', behind @ ..] => Some((Field::Stamp1, behind)),
@@ -129,19 +193,40 @@ fn field_before_dot(bytes: &[u8]) -> Option<(Field, &[u8])>
     }
 }
 
+/// Whether four bytes are those of a word: they are compared as one number.
+#[inline(always)]
+fn are(bytes: &[u8; 4], word: &[u8; 4]) -> bool
+    ensures { result ≡ true → bytes.now ≡ word.now }
+{
+    u32::from_le_bytes(*bytes) == u32::from_le_bytes(*word)
+}
+
 /// The move whose words these bytes are.
+#[inline(always)]
 fn move_in(bytes: &[u8]) -> Option<Move>
     ensures { IfSome result (λ how. bytes.now ≡ spaced (move_words how)) }
 {
     match bytes {
-        b"read" => Some(Move::BeginRead),
-        b"value 0" => Some(Move::EndRead(false)),
-        b"value 1" => Some(Move::EndRead(true)),
-        b"write 0" => Some(Move::BeginWrite(false)),
-        b"write 1" => Some(Move::BeginWrite(true)),
         b"end" => Some(Move::EndWrite),
+        [a, b, c, d] if are(&[*a, *b, *c, *d], b"read") => Some(Move::BeginRead),
+        [a, b, c, d, b'e', b' ', b'0'] => value_or_write(&[*a, *b, *c, *d], false),
+        [a, b, c, d, b'e', b' ', b'1'] => value_or_write(&[*a, *b, *c, *d], true),
         b"settle 0" => Some(Move::Settle(false)),
         b"settle 1" => Some(Move::Settle(true)),
         _ => None,
+    }
+}
+
+/// The end of a read or the begin of a write, with this value, whose first word begins so.
+#[inline(always)]
+fn value_or_write(start: &[u8; 4], value: bool) -> Option<Move>
+    ensures { IfSome result (λ how. start.now ++ (codes "e " ++ bit_word value) ≡ spaced (move_words how)) }
+{
+    if are(start, b"valu") {
+        Some(Move::EndRead(value))
+    } else if are(start, b"writ") {
+        Some(Move::BeginWrite(value))
+    } else {
+        None
     }
 }

@@ -9,11 +9,11 @@ use Rattle.files.proofs.source_lines.take_line.Given as goal
 -- alone, and no call has failed
 abbrev pub invariant-parts : goal.invariant-parts
 invariant-parts g l = record {
-  front : Consumes (coming l.fn.ahead (g.R.Source.to_come l.fn.input)) (coming l.ahead (g.R.Source.to_come l.input)) l.line.items;
+  front : Consumes (coming l.fn.ahead.given (g.R.Source.to_come l.fn.input)) (coming l.ahead.given (g.R.Source.to_come l.input)) l.line.items;
   inner : list_all is_inner l.line.items ≡ true;
-  holds : KeepsEnd l.fn.ahead (g.R.Source.to_come l.fn.input) l.ahead (g.R.Source.to_come l.input);
-  stays_ended : l.fn.ahead.ended ≡ true → l.ahead.ended ≡ true;
-  left_alone : l.fn.ahead.ended ≡ true → l.input ≡ l.fn.input;
+  holds : KeepsEnd l.fn.ahead.given (g.R.Source.to_come l.fn.input) l.ahead.given (g.R.Source.to_come l.input);
+  stays_ended : l.fn.ahead.given.ended ≡ true → l.ahead.given.ended ≡ true;
+  left_alone : l.fn.ahead.given.ended ≡ true → l.input ≡ l.fn.input;
   whole : g.R.Source.failures l.input ≡ g.R.Source.failures l.fn.input;
 }
 

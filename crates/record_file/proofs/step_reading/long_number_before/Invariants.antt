@@ -1,6 +1,6 @@
 use Rattle.std.proofs.Common.{◌≡◌, ◌++◌, length}
 use Rattle.std.specs.Fmt.{decimal}
-use Rattle.record_file.proofs.step_reading.number_before.Given as goal
+use Rattle.record_file.proofs.step_reading.long_number_before.Given as goal
 
 -- the number so far, and the bytes that are left
 abbrev pub invariant-digits : goal.invariant-digits
