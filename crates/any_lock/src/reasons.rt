@@ -13,7 +13,7 @@ use plain_store::{NestedTypes, Reply};
 use record::{Access, Mark, Move, Stage};
 
 /// How an entry has to be changed to keep all laws.
-#[derive(Clone, Copy, Debug, PartialEq, Eq)]
+#[derive(Clone, Copy, PartialEq, Eq)]
 pub enum Remedy {
     /// Its read ends with this value.
     Value(bool),
@@ -22,7 +22,7 @@ pub enum Remedy {
 }
 
 /// Why an entry is refused: by the table of accesses, or else by that of marks.
-#[derive(Clone, Copy, Debug, PartialEq, Eq)]
+#[derive(Clone, Copy, PartialEq, Eq)]
 pub enum Refused {
     Access(AccessRefusal),
     Marks(MarkRefusal),
@@ -32,7 +32,7 @@ pub enum Refused {
 const MOST_PROCESSES: usize = 16;
 
 /// What is looked up for an entry that breaks a law. Entries are told by their numbers, from 0.
-#[derive(Clone, Copy, Debug)]
+#[derive(Clone, Copy)]
 pub struct Reasons {
     /// How the entry would keep all laws: with the other value (`Safe`), or with the right place and reply
     /// (`History`).

@@ -12,14 +12,14 @@ use plain_store::{Command, NestedTypes, Reply, Setup};
 use record::{Access, Mark, Move, Stage};
 
 /// An access that begins, and the number of its entry.
-#[derive(Clone, Copy, Debug, PartialEq, Eq)]
+#[derive(Clone, Copy, PartialEq, Eq)]
 pub struct Begun {
     pub entry: u64,
     pub access: Access,
 }
 
 /// Where a process stands after the entries so far. Entries are told by their numbers, from 0.
-#[derive(Clone, Copy, Debug)]
+#[derive(Clone, Copy)]
 pub struct Standing {
     pub stage: Stage,
     /// Whether it has entered and not left since.

@@ -9,7 +9,7 @@ use crate::command_pages::{
 use std::fmt::{self, Display, Formatter};
 
 /// What runs a file.
-#[derive(Clone, Copy, Debug, PartialEq, Eq)]
+#[derive(Clone, Copy, PartialEq, Eq)]
 pub enum Engine {
     /// The calls of a scenario on the one-thread store.
     Plain,
@@ -38,7 +38,7 @@ pub enum Engine {
 }
 
 /// How an engine takes its file.
-#[derive(Clone, Copy, Debug, PartialEq, Eq)]
+#[derive(Clone, Copy, PartialEq, Eq)]
 pub enum Intake {
     /// It reads the whole file before it runs it.
     Whole,
@@ -47,7 +47,7 @@ pub enum Intake {
 }
 
 /// A command that runs a file.
-#[derive(Clone, Copy, Debug)]
+#[derive(Clone, Copy)]
 pub struct CommandEntry {
     /// What it is called by.
     pub name: &'static str,

@@ -20,7 +20,7 @@ const NOT_TEXT: &str =
 const MOST_SHOWN: usize = 64;
 
 /// What is told in place of a run: a page, the version, why the words ask for nothing that there is, or want of memory.
-#[derive(Debug, Drop)]
+#[derive(Drop)]
 pub struct Notice {
     error: Error,
 }

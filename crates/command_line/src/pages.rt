@@ -9,7 +9,7 @@ use files::{DONE, Fault};
 use std::alloc::{AllocError, Global};
 
 /// A page that tells the program's words.
-#[derive(Clone, Copy, Debug)]
+#[derive(Clone, Copy)]
 pub enum HelpPage {
     /// All words, the statuses, and where to read on.
     Words,

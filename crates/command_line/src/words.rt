@@ -15,7 +15,7 @@ use std::env::{self, Env};
 use std::io;
 
 /// A command, and the file that it is to run.
-#[derive(Clone, Copy, Debug)]
+#[derive(Clone, Copy)]
 pub struct Request<'a> {
     pub command: CommandEntry,
     /// The path of the file; `-` is standard input.
@@ -37,7 +37,7 @@ pub struct Request<'a> {
 }
 
 /// What the words ask for.
-#[derive(Clone, Copy, Debug)]
+#[derive(Clone, Copy)]
 pub enum Invocation<'a> {
     /// That a command runs a file.
     Run(Request<'a>),

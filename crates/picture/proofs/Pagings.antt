@@ -1,11 +1,11 @@
 -- A page from item to item.
-use Rattle.std.proofs.Common.{◌≡◌, ℕ, ◌+◌, ◌-◌, Bool, true, false, cond, nat_lt, zero, suc, ◌&&◌, length, map, take, drop, List, [], ◌∷◌, ◌++◌, slice_get, Option, None, Some, option_map, unwrap_or, refl, ap, sym, subst, ◌∙◌, append-nil}
+use Rattle.std.proofs.Common.{◌≡◌, ℕ, ◌+◌, ◌-◌, Bool, true, false, cond, nat_lt, ◌&&◌, length, map, take, drop, List, [], ◌∷◌, ◌++◌, Option, None, Some, unwrap_or, refl, ap, sym, subst, ◌∙◌, append-nil}
 use Rattle.std.proofs.lemmas.Grind.{fold-append}
 use Rattle.std.proofs.Math.Seq.{take-append_seam}
 use Rattle.std.proofs.lemmas.List.{length-map}
 use Rattle.markup.specs.Figures.{drawings}
 use Rattle.record.specs.declared.marks.Mark.{Mark}
-use Rattle.picture.specs.Bandings.{Bands, Item, Plan, Reads, Tells, bands_of, begun_by, behind_columns, columns_of, filled, framed, full_bytes, heights, last_in, layout_in, line_by, newest, newest_at, older, placing_before, placing_in, room_by, state_after, with_line, with_placed, with_put, with_room}
+use Rattle.picture.specs.Bandings.{Bands, Item, Plan, Reads, Tells, bands_of, begun_by, behind_columns, columns_of, filled, framed, full_bytes, heights, layout_in, line_by, newest, newest_at, older, placing_before, placing_in, room_by, state_after, with_line, with_placed, with_put, with_room}
 use Rattle.columns.specs.Columns.{Seen, alone, column_of_read, joined, joins, seen}
 use Rattle.picture.specs.Drawings.{band_shapes}
 use Rattle.picture.specs.Pages.{DrawsBand, GivesRest, GoesOn, MakesRoom, Places, Puts, SeenPage, band_text, page_by, page_holding}

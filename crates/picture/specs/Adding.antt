@@ -5,7 +5,6 @@ use Rattle.columns.specs.Told.{told_in}
 use Rattle.markup.specs.Figures.{Shape, drawings}
 use Rattle.markup.specs.Markup.{Said, attribute_text, said_text}
 use Rattle.markup.specs.Readings.{reading, with_begun, with_lines}
-use Rattle.markup.specs.Titles.{lines_in}
 use Rattle.markup.specs.declared.attributes.Attribute.{Attribute}
 use Rattle.picture.specs.Bandings.{framed}
 use Rattle.picture.specs.Drawings.{band_shapes, seen_band}

@@ -11,7 +11,7 @@ use markup::{Markup, Point};
 use std::alloc::{AllocError, Global};
 
 /// Whether a picture shows the reads that writes overlapped.
-#[derive(Clone, Copy, Debug, PartialEq, Eq)]
+#[derive(Clone, Copy, PartialEq, Eq)]
 pub enum Reads {
     Hidden,
     Shown,

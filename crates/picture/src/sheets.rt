@@ -30,8 +30,26 @@ pub fn page_head(
     ensures elements { IfOk result (λ markup. opens_in markup (Some []) ≡ Some page_names) }
 {
     let heading = heading(alloc, setup)?;
-    let heading = heading.as_bytes();
     let mut markup = Markup::new(alloc);
+    add_page_front(setup, heading.as_bytes(), printed, reads, &mut markup)?;
+    Ok(markup)
+}
+
+/// Adds the same to fresh markup. It is a function of its own, since values that are dropped at each way out of a function are
+/// dear to prove.
+fn add_page_front(
+    setup: &Setup,
+    heading: &[u8],
+    printed: &[u8],
+    reads: Reads,
+    markup: &mut Markup,
+) -> Result<(), AllocError>
+    requires heading { heading.now ≡ heading_of setup.now }
+    requires fresh { markup.old ≡ [] }
+    ensures draws { OnOk result (markup.new ≡ page_front setup.now printed.now reads) }
+    ensures lines { OnOk result (lines_in markup.new ≡ []) }
+    ensures elements { OnOk result (opens_in markup.new (Some []) ≡ Some page_names) }
+{
     markup.frame("<!doctype html>\n<html lang=\"en\"><head><meta charset=\"utf-8\">\n")?;
     markup.constant("<meta name=\"viewport\" content=\"width=device-width\">\n")?;
     markup.tell(Tag::Title, &[], heading)?;
@@ -39,18 +57,18 @@ pub fn page_head(
     markup.constant(STYLE)?;
     markup.constant("\n")?;
     markup.constant(PAGE_STYLE)?;
-    add_paper(setup.processes, &mut markup)?;
+    add_paper(setup.processes, markup)?;
     markup.frame("</style></head><body>\n")?;
     markup.tell(Tag::Heading, &[], heading)?;
-    begin_legend(reads, &mut markup)?;
+    begin_legend(reads, markup)?;
     markup.constant(PATTERNS)?;
     markup.constant("\n")?;
-    add_legend(reads, &mut markup)?;
+    add_legend(reads, markup)?;
     markup.constant("\n")?;
     markup.frame("</svg>\n<details open><summary>The scenario</summary><ol>\n")?;
-    list_lines(printed, &mut markup)?;
+    list_lines(printed, markup)?;
     markup.frame("</ol></details>\n")?;
-    Ok(markup)
+    Ok(())
 }
 
 /// How the page lies where it is printed.
@@ -168,20 +186,36 @@ pub fn picture_head(
     ensures elements { IfOk result (λ markup. opens_in markup (Some []) ≡ Some picture_names) }
 {
     let heading = heading(alloc, setup)?;
-    let heading = heading.as_bytes();
+    let mut markup = Markup::new(alloc);
+    add_picture_front(heading.as_bytes(), bands, reads, &mut markup)?;
+    Ok(markup)
+}
+
+/// Adds the same to fresh markup, under this heading.
+fn add_picture_front(
+    heading: &[u8],
+    bands: u64,
+    reads: Reads,
+    markup: &mut Markup,
+) -> Result<(), AllocError>
+    requires fresh { markup.old ≡ [] }
+    ensures draws { OnOk result ((setup : _) → heading.now ≡ heading_of setup
+        → markup.new ≡ picture_front setup bands reads) }
+    ensures lines { OnOk result (lines_in markup.new ≡ []) }
+    ensures elements { OnOk result (opens_in markup.new (Some []) ≡ Some picture_names) }
+{
     let height = bands
         .saturating_add(legend_height(reads))
         .saturating_add(FIRST_BAND + 8);
-    let mut markup = Markup::new(alloc);
-    begin_picture(height, &mut markup)?;
-    add_titles(heading, &mut markup)?;
+    begin_picture(height, markup)?;
+    add_titles(heading, markup)?;
     markup.frame("\n<style>\n")?;
     markup.constant(STYLE)?;
     markup.frame("\n</style>\n")?;
     markup.constant(PATTERNS)?;
     markup.constant("\n")?;
-    add_ground(height, heading, &mut markup)?;
-    Ok(markup)
+    add_ground(height, heading, markup)?;
+    Ok(())
 }
 
 /// Begins one picture of this height.

@@ -3,7 +3,7 @@ use flicks::Flick;
 use plain_store::Command;
 
 /// The stage up to which a process goes.
-#[derive(Clone, Copy, Debug, PartialEq, Eq)]
+#[derive(Clone, Copy, PartialEq, Eq)]
 pub enum Target {
     /// Past its doorway: none of Doorway, Settling.
     Wait,
@@ -16,7 +16,7 @@ pub enum Target {
 }
 
 /// A line behind the headings and opening pairs. A process may be one that is not there.
-#[derive(Clone, Copy, Debug, PartialEq, Eq)]
+#[derive(Clone, Copy, PartialEq, Eq)]
 pub enum Line {
     /// The process calls the command.
     Call(u8, Command),

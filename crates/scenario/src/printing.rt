@@ -116,11 +116,11 @@ impl fmt::Display for Line {
             Line::Fail(process) => write!(f, "fail {process}"),
             Line::Withdraw(process) => write!(f, "withdraw {process}"),
             Line::Restart(process) => write!(f, "restart {process}"),
-            Line::Flick(Flick::Zero) => write!(f, "flick 0"),
-            Line::Flick(Flick::One) => write!(f, "flick 1"),
+            Line::Flick(Flick::Zero) => f.write_str("flick 0"),
+            Line::Flick(Flick::One) => f.write_str("flick 1"),
             Line::Flick(Flick::Pcg(seed)) => write!(f, "flick pcg {seed}"),
             Line::Wander(turns) => write!(f, "wander {turns}"),
-            Line::Show => write!(f, "show"),
+            Line::Show => f.write_str("show"),
         }
     }
 }

@@ -146,7 +146,6 @@ impl Reader {
     }
 
     /// Sets a heading whose number is in range.
-    #[tactic(auto, using(crate::proofs::Good::good_with_heading))]
     fn set(&mut self, heading: Heading, n: u8)
         requires fits { is_in_range 1 (most_of heading self.old.setup.version) n ≡ true }
         requires none_open { self.old.setup.opening ≡ [] }
