@@ -321,11 +321,14 @@ def progress(counter, interrupter):
     terminal = Terminal()
     ran, *_ = interrupter.run(["sweep", "-"], "bakery 1\ncall 0 read a\nstep 0 31\n", tick=100, stderr=terminal.end)
     counter.compare("progress of sweep", (ran, terminal.text()), (Ran(0, swept, None), shown))
-    # it reads blocks of 1,024 bytes, of which each has eight of these lines
-    comments = "".join(f"{line:127}\n" for line in ["record 1", *["# a line"] * 255])
-    shown = "".join(f"\r{8 * blocks} lines read so far, 80 a second\x1b[K" for blocks in times) + CLEAR
+    # it reads blocks of 8,192 bytes, of which each has 64 of these lines; a pipe would give it fewer at a time
+    comments = "".join(f"{line:127}\n" for line in ["record 1", *["# a line"] * 2047])
+    shown = "".join(f"\r{64 * blocks} lines read so far, 640 a second\x1b[K" for blocks in times) + CLEAR
     terminal = Terminal()
-    ran, *_ = interrupter.run(["judge", "-"], comments, tick=100, stderr=terminal.end)
+    with tempfile.NamedTemporaryFile("w") as file:
+        file.write(comments)
+        file.flush()
+        ran, *_ = interrupter.run(["judge", file.name], "", tick=100, stderr=terminal.end)
     counter.compare("progress of judge", (ran, terminal.text()), (Ran(0, "good 0\n", None), shown))
 
 

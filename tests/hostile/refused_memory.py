@@ -57,7 +57,7 @@ WORKLOADS_WANTS_MEMORY = re.compile(r"Error: (out of memory|line \d+: memory|mem
 WORKED_IN_SHORT = ["one-process-write", "failure-commit-settled-new", "withdrawal", "comments-and-spaces"]
 COMMANDS_IN_SHORT = ["plain", "replay", "record", "audit"]
 # the programs of tests of which some are tried in short, and how many
-QUICK, DRAWN = ["picture_tests_tests", "record_tests_tests", "register_tests_tests", "store_tests_tests"], 20
+QUICK, DRAWN = ["register_tests_tests", "store_tests_tests"], 20
 # and the tests that are tried there always: of calls that no command makes, or makes on threads
 ALWAYS = {
     "store_tests_tests": ["prints_scenarios", "weighs_lists"],

@@ -1,17 +1,12 @@
-//! The section of a process alone, driven by hand: its cursor over a plain memory, and its steps on registers.
-ghost use Rattle.std.specs.Prelude.{◌≡◌, zero, true, Ok, IfOk};
-ghost use Rattle.record.specs.safe_bit.declared.Move.TheVariants.{BeginWrite};
-ghost use Rattle.record.specs.declared.access.Field.TheVariants.{Commit};
+//! The section of a process alone, driven by hand: its cursor over a plain memory.
+ghost use Rattle.std.specs.Prelude.{◌≡◌, true, Ok};
 ghost use Rattle.plain_store.specs.Setups.{checked};
-ghost use Rattle.memory_unit.specs.section.Registers.{row_from, opening_cell, after_access};
 ghost use Rattle.memory_unit.specs.section.Sections.{is_going, goes_on};
 
 use super::memory::Memory;
-use memory_unit::{DataRow, Section, SectionProgress};
+use memory_unit::{Section, SectionProgress};
 use plain_store::{Command, Name, NestedTypes, Reply, Setup, Value};
-use reader_copies::Made;
 use record::{Access, Field, Move};
-use std::alloc::{AllocError, Global};
 use std::test::Fail;
 
 /// Whether an access is left.
@@ -82,38 +77,5 @@ fn bytes_that_are_no_image(rt: HostRuntime) -> Result<(), Fail> {
     memory.make(&own(Field::Image1, 176, Move::BeginWrite(true)));
     let ran = taken(&mut section, &mut memory, Command::Read(name()?));
     assert!(rt; ran == Some((Reply::NoName, 374)));
-    Ok(())
-}
-
-/// The registers of a setup, on which process 0 has begun a write of its commit bit.
-fn with_begun_commit(alloc: Global, setup: &Setup) -> Result<DataRow, AllocError>
-    requires good { checked setup.now ≡ Ok tt }
-    requires processes { setup.now.processes ≡ 1 }
-    ensures { IfOk result (λ row. row ≡ after_access (row_from (opening_cell setup.now) setup.now) (record { owner = 0; field = Commit; bit = 0; reader = 0; how = BeginWrite true })) }
-{
-    let mut row = DataRow::new(alloc, setup)?;
-    let opens = Made {
-        reader: 0,
-        how: Move::BeginWrite(true),
-    };
-    row.own(0).apply(Field::Commit, 0, opens);
-    Ok(row)
-}
-
-// While a write of the commit bit is open, its read on the registers ends with the flick.
-#[test]
-fn steps_on_registers(rt: HostRuntime) -> Result<(), Fail> {
-    let setup = Setup::one(1, 2, 2, 1);
-    let mut row = with_begun_commit(rt.alloc(), &setup)?;
-    let mut section = Section::new(rt.alloc(), 0, &setup)?;
-    section.start(Command::Read(name()?), 0);
-    let (access, progress) = section.step(&mut row, false);
-    assert!(rt; access == own(Field::Commit, 0, Move::BeginRead));
-    let SectionProgress::Reading = progress else {
-        panic!(rt; "the section does not read: {progress:?}");
-    };
-    let (access, progress) = section.step(&mut row, false);
-    assert!(rt; access == own(Field::Commit, 0, Move::EndRead(false)));
-    assert!(rt; progress == SectionProgress::Reading);
     Ok(())
 }

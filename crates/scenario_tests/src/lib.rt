@@ -1,5 +1,5 @@
-//! Tests that cross crates, of what no file shows: worlds under single events, and the calls of the library by which a run is
-//! listed, recorded, audited and swept; and two uses of the headline, as callers have it.
+//! Tests that cross crates, of what no file shows: worlds under single events, the calls of the library by which a run is
+//! listed, recorded, audited and swept, and the words of entries; and two uses of the headline, as callers have it.
 #![tactic(auto)]
 
 #[cfg(test)]
@@ -8,6 +8,8 @@ mod failing;
 mod growths;
 #[cfg(test)]
 mod listed;
+#[cfg(test)]
+mod record_files;
 #[cfg(test)]
 mod scenarios;
 #[cfg(test)]

@@ -84,23 +84,43 @@ fn comes_inside(record: &Record) -> bool {
     }
 }
 
-// The record of a run has its entries and is good, and one without an access breaks the local program.
-#[test]
-fn hears_and_audits_a_record(rt: HostRuntime) -> Result<(), Fail> {
-    let scenario = read_scenario(rt.alloc(), LONE_WRITE.as_bytes())?;
-    let events = events_of(rt.alloc(), &scenario)?;
-    let setup = &scenario.setup;
-    let mut record = record_of(rt.alloc(), setup, &events)?;
-    assert!(rt; events.len() == 761 && record.entries.len() == 761 && comes_inside(&record));
-    hear_all(&rt, rt.alloc(), setup, &record)?;
-    let verdict = audit_again(rt.alloc(), setup, &record)?;
+/// The setup of the lone write.
+fn setup_of_lone_write() -> Setup
+    ensures { checked result ≡ Ok tt }
+{
+    Setup::one(1, 2, 2, 1)
+}
+
+/// The events of the lone write.
+fn events_of_lone_write(alloc: Global) -> Result<Vec<Event>, Fail> {
+    let scenario = read_scenario(alloc, LONE_WRITE.as_bytes())?;
+    let events = events_of(alloc, &scenario);
+    drop(scenario);
+    Ok(events?)
+}
+
+/// The record of the lone write is good, and without an access it breaks the local program.
+fn audit_both(rt: &(impl Abort + AllocGlobal), record: &mut Record) -> Result<(), Fail> {
+    let setup = setup_of_lone_write();
+    assert!(rt; record.entries.len() == 761 && comes_inside(record));
+    hear_all(rt, rt.alloc(), &setup, record)?;
+    let verdict = audit_again(rt.alloc(), &setup, record)?;
     assert!(rt; matches!(verdict, Verdict::Good));
     if let Some(entry) = record.entries.get_mut(756) {
         entry.act.access = None;
     }
-    let verdict = audit_again(rt.alloc(), setup, &record)?;
+    let verdict = audit_again(rt.alloc(), &setup, record)?;
     assert!(rt; matches!(verdict, Verdict::Bad(756, Law::Program)));
     Ok(())
+}
+
+// The record of a run has its entries and is good, and one without an access breaks the local program.
+#[test]
+fn hears_and_audits_a_record(rt: HostRuntime) -> Result<(), Fail> {
+    let events = events_of_lone_write(rt.alloc())?;
+    assert!(rt; events.len() == 761);
+    let mut record = record_of(rt.alloc(), &setup_of_lone_write(), &events)?;
+    audit_both(&rt, &mut record)
 }
 
 #[test]

@@ -1,22 +1,27 @@
-//! Worlds that are driven by single events.
+//! Worlds that are driven by single events. Each is held by a function with one exit, which lends it.
 use crate::uses::two_events;
 use plain_store::{Command, Name, Setup};
 use record::{Event, Mark, Refusal, Stage};
 use std::alloc::Global;
+use std::process::Abort;
 use std::test::Fail;
 use world::World;
 
-// Who finished its doorway before a call began is ahead of it, until it gives up waiting.
-#[test]
-fn tells_who_is_ahead(rt: HostRuntime) -> Result<(), Fail> {
+/// A process reads, and makes 20 steps: where it is then.
+fn comes_to_wait(world: &mut World, process: u8, read: Command) -> Result<Option<Stage>, Fail> {
+    world.event(Event::Call(process, read))?;
+    for _ in 0..20 {
+        world.event(Event::Step(process, false))?;
+    }
+    Ok(world.stage(process))
+}
+
+/// Two processes wait, of which the first gives up.
+fn one_gives_up(rt: &impl Abort, world: &mut World) -> Result<(), Fail> {
     let read = Command::Read(Name::new(b"a")?);
-    let mut world = World::new(rt.alloc(), &Setup::one(2, 2, 2, 1))?;
     for process in 0..2 {
-        world.event(Event::Call(process, read))?;
-        for _ in 0..20 {
-            world.event(Event::Step(process, false))?;
-        }
-        assert!(rt; matches!(world.stage(process), Some(Stage::Waiting)));
+        let stage = comes_to_wait(world, process, read)?;
+        assert!(rt; matches!(stage, Some(Stage::Waiting)));
     }
     assert!(rt; world.ahead(0).is_empty() && matches!(world.ahead(1).as_slice(), [0]));
     world.event(Event::Withdraw(0))?;
@@ -24,39 +29,64 @@ fn tells_who_is_ahead(rt: HostRuntime) -> Result<(), Fail> {
     Ok(())
 }
 
-// Two events have the acts that each would have alone, and the first refusal is told.
+// Who finished its doorway before a call began is ahead of it, until it gives up waiting.
 #[test]
-fn makes_two_events(rt: HostRuntime) -> Result<(), Fail> {
-    let mut world = World::new(rt.alloc(), &Setup::one(2, 4, 4, 1))?;
-    let (called, stepped) = two_events(
-        &mut world,
-        Event::Call(1, Command::Ask),
-        Event::Step(1, false),
-    )?;
-    assert!(rt; matches!(called.marks.as_slice(), [Mark::Called(Command::Ask)]));
-    assert!(rt; called.access.is_none());
-    assert!(rt; stepped.marks.is_empty() && stepped.access.is_some());
-    let refused = two_events(&mut world, Event::Step(1, false), Event::Step(0, false));
+fn tells_who_is_ahead(rt: HostRuntime) -> Result<(), Fail> {
+    let mut world = World::new(rt.alloc(), &Setup::one(2, 2, 2, 1))?;
+    one_gives_up(&rt, &mut world)
+}
+
+/// Whether a call and a step have the acts that each would have alone.
+fn calls_and_steps(world: &mut World) -> Result<bool, Fail> {
+    let call = Event::Call(1, Command::Ask);
+    let (called, stepped) = two_events(world, call, Event::Step(1, false))?;
+    let calls = matches!(called.marks.as_slice(), [Mark::Called(Command::Ask)]);
+    let steps = stepped.marks.is_empty() && stepped.access.is_some();
+    Ok(calls && called.access.is_none() && steps)
+}
+
+/// Makes a call and a step, and then a step and one of a process that does not run.
+fn makes_them(rt: &impl Abort, world: &mut World) -> Result<(), Fail> {
+    assert!(rt; calls_and_steps(world)?);
+    let refused = two_events(world, Event::Step(1, false), Event::Step(0, false));
     assert!(rt; matches!(refused, Err(Refusal::NotRunning)));
     Ok(())
 }
 
-/// What a process's call is refused for after 65,535 calls that failed before their first access.
+// Two events have the acts that each would have alone, and the first refusal is told.
+#[test]
+fn makes_two_events(rt: HostRuntime) -> Result<(), Fail> {
+    let mut world = World::new(rt.alloc(), &Setup::one(2, 4, 4, 1))?;
+    makes_them(&rt, &mut world)
+}
+
+/// A call that fails before its first access, up to its process's restart.
+fn call_that_fails(world: &mut World, read: Command) -> Result<(), Fail> {
+    world.event(Event::Call(0, read))?;
+    world.event(Event::Fail(0))?;
+    for _ in 0..4 {
+        world.event(Event::Step(0, false))?;
+    }
+    world.event(Event::Restart(0))?;
+    Ok(())
+}
+
+/// What a call is refused for after 65,535 such calls.
+fn refused_after(world: &mut World) -> Result<Option<Refusal>, Fail> {
+    let read = Command::Read(Name::new(b"a")?);
+    for _ in 0..65_535 {
+        call_that_fails(world, read)?;
+    }
+    Ok(world.event(Event::Call(0, read)).err())
+}
+
+/// The same in a world of one process.
 fn refused_after_calls(alloc: Global, version: u8) -> Result<Option<Refusal>, Fail> {
     let mut setup = Setup::one(1, 1, 4, 1);
     setup.version = version;
     setup.check()?;
-    let read = Command::Read(Name::new(b"a")?);
     let mut world = World::new(alloc, &setup)?;
-    for _ in 0..65_535 {
-        world.event(Event::Call(0, read))?;
-        world.event(Event::Fail(0))?;
-        for _ in 0..4 {
-            world.event(Event::Step(0, false))?;
-        }
-        world.event(Event::Restart(0))?;
-    }
-    Ok(world.event(Event::Call(0, read)).err())
+    refused_after(&mut world)
 }
 
 // In version 2 a process makes 65,535 calls; in version 1 there is no such bound.

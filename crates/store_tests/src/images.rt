@@ -45,7 +45,12 @@ fn readers_refuse_bytes_that_are_no_image(rt: HostRuntime) {
 }
 
 fn are_zeros(bytes: &[u8]) -> bool {
-    bytes.iter().all(|byte| *byte == 0)
+    for byte in bytes {
+        if *byte != 0 {
+            return false;
+        }
+    }
+    true
 }
 
 fn is_within(byte: u8, least: u8, greatest: u8) -> bool {
@@ -54,6 +59,24 @@ fn is_within(byte: u8, least: u8, greatest: u8) -> bool {
 
 fn is_of_name(byte: u8) -> bool {
     is_within(byte, b'a', b'z') || is_within(byte, b'0', b'9') || byte == b'_'
+}
+
+fn are_of_name(bytes: &[u8]) -> bool {
+    for byte in bytes {
+        if !is_of_name(*byte) {
+            return false;
+        }
+    }
+    true
+}
+
+fn are_of_text(bytes: &[u8]) -> bool {
+    for byte in bytes {
+        if !is_within(*byte, 0x21, 0x7e) {
+            return false;
+        }
+    }
+    true
 }
 
 /// What stands in a slot, by the table of its bytes: `Some(None)` where it is unused.
@@ -71,15 +94,23 @@ fn table(slot: &[u8]) -> Option<Option<&[u8]>> {
     }
     let name = &slot[2..2 + name_length];
     let value = &slot[11..11 + value_length];
-    let good_value = (slot[0] == 1 && value_length == 8)
-        || (slot[0] == 2 && value.iter().all(|byte| is_within(*byte, 0x21, 0x7e)));
-    let good_name = name.iter().all(|byte| is_of_name(*byte));
+    let good_value = (slot[0] == 1 && value_length == 8) || (slot[0] == 2 && are_of_text(value));
     let clean = are_zeros(&slot[2 + name_length..10]) && are_zeros(&slot[11 + value_length..]);
-    if good_name && good_value && clean {
+    if are_of_name(name) && good_value && clean {
         Some(Some(name))
     } else {
         None
     }
+}
+
+/// Whether one of so many slots has this name.
+fn has_name(bytes: &[u8], slots: usize, name: Option<&[u8]>) -> bool {
+    for slot in bytes.chunks_exact(23).take(slots) {
+        if table(slot) == Some(name) {
+            return true;
+        }
+    }
+    false
 }
 
 /// The first of so many slots that the table, or a slot before it, makes bad.
@@ -93,11 +124,7 @@ fn first_fault(bytes: &[u8], slots: usize) -> Option<usize> {
             unused_before = true;
             continue;
         }
-        let twice = bytes
-            .chunks_exact(23)
-            .take(place)
-            .any(|earlier| table(earlier) == Some(name));
-        if unused_before || twice {
+        if unused_before || has_name(bytes, place, name) {
             return Some(place);
         }
     }

@@ -1,5 +1,6 @@
 //! Scenarios as text.
 use scenario::{print_scenario, read_scenario};
+use std::alloc::Global;
 use std::test::Fail;
 
 // Worked examples, and what they print as: all headings, and single spaces.
@@ -34,11 +35,16 @@ const EACH: &str = "bakery 2\nprocesses 3\ntickets 32\nstamps 1\nslots 2\nopen a
     go 0 down\nfail 0\nwithdraw 1\nrestart 0\nflick 0\nflick 1\n\
     flick pcg 18446744073709551615\nwander 0\nshow\n";
 
+/// What a file prints as.
+fn printed(alloc: Global, text: &str) -> Result<Vec<u8>, Fail> {
+    let scenario = read_scenario(alloc, text.as_bytes())?;
+    Ok(print_scenario(alloc, &scenario)?)
+}
+
 #[test]
 fn prints_scenarios(rt: HostRuntime) -> Result<(), Fail> {
     for (text, prints) in PRINTED {
-        let scenario = read_scenario(rt.alloc(), text.as_bytes())?;
-        let printed = print_scenario(rt.alloc(), &scenario)?;
+        let printed = printed(rt.alloc(), text)?;
         assert!(rt; printed.as_slice() == prints.as_bytes(), "{prints}");
     }
     Ok(())

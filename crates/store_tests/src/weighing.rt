@@ -305,20 +305,41 @@ const OTHER_ANSWERS: [(usize, usize, Answer); 9] = [
     (1, 2, Answer::TicketsFull { process: 1 }),
 ];
 
-// With another place, with another answer, or cut, and taken all the same.
+/// The true run in which a call is another one weighs this.
+fn weighs_so(
+    rt: &(impl Abort + AllocGlobal),
+    port: usize,
+    index: usize,
+    change: &Change,
+    verdict: &Weighed,
+) -> Result<(), Fail> {
+    let found = weighed_with(rt.alloc(), port, index, change)?;
+    assert!(rt; found == *verdict, "{port} {index}");
+    Ok(())
+}
+
 #[test]
-fn weighs_changes_of_the_true_run(rt: HostRuntime) -> Result<(), Fail> {
+fn weighs_other_places(rt: HostRuntime) -> Result<(), Fail> {
     for (port, index, place, verdict) in OTHER_PLACES {
-        let found = weighed_with(rt.alloc(), port, index, &Change::Place(place))?;
-        assert!(rt; found == verdict, "{port} {index}");
+        weighs_so(&rt, port, index, &Change::Place(place), &verdict)?;
     }
+    Ok(())
+}
+
+#[test]
+fn weighs_other_answers(rt: HostRuntime) -> Result<(), Fail> {
     for (port, index, answer) in OTHER_ANSWERS {
-        let found = weighed_with(rt.alloc(), port, index, &Change::Answer(Some(answer)))?;
-        assert!(rt; found == Weighed::Bad(port, index), "{port} {index}");
+        let change = Change::Answer(Some(answer));
+        weighs_so(&rt, port, index, &change, &Weighed::Bad(port, index))?;
     }
+    Ok(())
+}
+
+// Cut, and taken all the same.
+#[test]
+fn weighs_cut_calls(rt: HostRuntime) -> Result<(), Fail> {
     for (port, index) in [(0, 0), (0, 1), (0, 2), (1, 0), (1, 1), (1, 2)] {
-        let found = weighed_with(rt.alloc(), port, index, &Change::Answer(None))?;
-        assert!(rt; found == Weighed::Good, "{port} {index}");
+        weighs_so(&rt, port, index, &Change::Answer(None), &Weighed::Good)?;
     }
     Ok(())
 }

@@ -1,5 +1,5 @@
 use Rattle.board.proofs.Orders.{first_are_made, made_moved}
-use Rattle.board_tests.proofs.closings.ports_come_in_any_order.Goals as goal
+use Rattle.race_tests.proofs.closings.ports_come_in_any_order.Goals as goal
 
 pub close-requires : goal.close-requires
 close-requires g c = record {

@@ -1,7 +1,7 @@
 //! Entries as lines: each is read, and what is printed for it is that line again.
-use files::FaultKind::{self, Words};
 use record::Entry;
 use record_file::{StepLine, print_entry, read_entry, read_step};
+use scenario::FaultKind::{self, Words};
 use std::alloc::{AllocError, Global};
 use std::test::Fail;
 

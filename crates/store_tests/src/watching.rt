@@ -1,8 +1,7 @@
 //! The watch: the law of reads, move by move on one bit, and on bits that are told apart.
 use plain_store::Setup;
 use read_law::Watch;
-use record::{Access, Act, Entry, Field};
-use safe_bit::Move;
+use record::{Access, Act, Entry, Field, Move};
 use smallvec::SmallVec;
 use std::alloc::{AllocError, Global};
 use std::test::Fail;

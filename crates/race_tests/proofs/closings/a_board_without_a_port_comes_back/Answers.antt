@@ -1,7 +1,7 @@
 use Rattle.std.proofs.Common.{◌≡◌, Some, subst, sym}
 use Rattle.std.specs.Prelude.{option_to_list, slice_get}
 use Rattle.board.proofs.PortLists.{at_front}
-use Rattle.board_tests.proofs.closings.a_board_without_a_port_comes_back.Goals as goal
+use Rattle.race_tests.proofs.closings.a_board_without_a_port_comes_back.Goals as goal
 
 pub close-requires : goal.close-requires
 close-requires g c = let made = c.in_ok-board.ensures.ports in record {
