@@ -20,6 +20,7 @@ ghost use Rattle.course.specs.Turns.{happens, makes_steps, turn_of, turns_in as 
 
 mod playing;
 mod running;
+mod steps;
 
 use crate::told::{Accepted, Told};
 use plain_store::{NestedTypes, Setup};

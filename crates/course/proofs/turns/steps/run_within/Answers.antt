@@ -1,7 +1,7 @@
 use Rattle.std.proofs.Common.{◌≡◌, ◌<◌, ◌+◌, ◌-◌, ◌∙◌, Bool, arith, subst, suc}
 use Rattle.world.specs.Walks.{MakesQuietly}
 use Rattle.course.proofs.Within.{all_made, walks_left}
-use Rattle.course.proofs.turns.running.run_within.Goals as goal
+use Rattle.course.proofs.turns.steps.run_within.Goals as goal
 
 pub make_step_within-requires : goal.make_step_within-requires
 make_step_within-requires c =

@@ -3,7 +3,7 @@ use Rattle.course.specs.Courses.{course}
 use Rattle.course.specs.Steppers.{IsAlone}
 use Rattle.course.proofs.Alone.{alone_pass, steps_setup}
 use Rattle.course.proofs.Runnings.{comes_start}
-use Rattle.course.proofs.turns.running.pass_by.Goals as goal
+use Rattle.course.proofs.turns.steps.pass_by.Goals as goal
 
 pub returns-then-hears_steps-clause-on : goal.returns-then-hears_steps-clause-on
 returns-then-hears_steps-clause-on g c = λ l run follows next.

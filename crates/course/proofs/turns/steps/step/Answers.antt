@@ -5,7 +5,7 @@ use Rattle.course.specs.Happenings.{Tries, tried}
 use Rattle.course.specs.Listening.{HearsStep, StepsOn}
 use Rattle.course.proofs.Played.{on_fault, untold}
 use Rattle.course.proofs.Within.{on_within, pass_one}
-use Rattle.course.proofs.turns.running.step.Goals as goal
+use Rattle.course.proofs.turns.steps.step.Goals as goal
 
 pub returns-then-hears_steps-clause-ok : goal.returns-then-hears_steps-clause-ok
 returns-then-hears_steps-clause-ok g c =

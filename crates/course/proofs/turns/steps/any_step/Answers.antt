@@ -4,7 +4,7 @@ use Rattle.course.specs.Listening.{HearsStep}
 use Rattle.course.proofs.Played.{on_fault}
 use Rattle.course.proofs.StepsTold.{step_quiet, step_setup, step_told}
 use Rattle.course.proofs.Within.{some_is, steps_on}
-use Rattle.course.proofs.turns.running.any_step.Goals as goal
+use Rattle.course.proofs.turns.steps.any_step.Goals as goal
 
 pub returns-in_default-clause-ok : goal.returns-in_default-clause-ok
 returns-in_default-clause-ok g c =
