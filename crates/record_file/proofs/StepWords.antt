@@ -1,7 +1,8 @@
 -- The bytes of the line of a Step, from its front to its end.
-use Rattle.std.proofs.Common.{◌≡◌, ℕ, ◌+◌, ◌-◌, ◌*◌, ◌/◌, ◌%◌, ◌<◌, ◌≤◌, List, [], ◌∷◌, ◌++◌, length, take, drop, slice_index_or, codes, refl, ap, sym, ◌∙◌, append_assoc, arith}
+use Rattle.std.proofs.Common.{◌≡◌, ℕ, ◌+◌, ◌-◌, ◌*◌, ◌/◌, ◌%◌, ◌<◌, ◌≤◌, List, [], ◌∷◌, ◌++◌, length, take, drop, slice_index_or, suc, Bool, true, false, codes, refl, subst, ap, sym, ◌∙◌, append_assoc, arith}
 use Rattle.std.proofs.lemmas.Fmt.{decimal_digit, decimal_step}
-use Rattle.std.proofs.lemmas.List.{take_rest}
+use Rattle.std.proofs.Math.Seq.{drop-append_seam, split_at}
+use Rattle.std.proofs.lemmas.List.{length-append, take-append-le, take_rest}
 use Rattle.std.specs.Fmt.{decimal}
 use Rattle.safe_bit.specs.declared.Move.{Move}
 use Rattle.safe_bit.specs.declared.Move.TheVariants as move
@@ -40,12 +41,124 @@ one_more_is digits n m d so_far some few is small =
     ∙ ap (λ ds. ds ++ ((48 + m) ∷ [])) so_far
     ∙ ap (λ e. digits ++ (e ∷ [])) (sym is)
 
--- three digits of which the first is not 0
+-- one to three digits, of which the first of some is not 0
+pub one_is : (a x : ℕ) → a ≡ 48 + x → x < 10 → decimal x ≡ a ∷ []
+one_is a x is small = decimal_digit x small ∙ ap (λ e. e ∷ []) (sym is)
+
+pub two_are : (a b x y : ℕ) → a ≡ 48 + x → x < 10 → 0 < x → b ≡ 48 + y → y < 10 → decimal (x * 10 + y) ≡ a ∷ b ∷ []
+two_are a b x y is_a small_x some is_b small_y = one_more_is (a ∷ []) x y b (one_is a x is_a small_x) some (omega (arith, small_x)) is_b small_y
+
 pub three_are : (a b c x y z : ℕ) → a ≡ 48 + x → x < 10 → 0 < x → b ≡ 48 + y → y < 10 → c ≡ 48 + z → z < 10 → decimal ((x * 10 + y) * 10 + z) ≡ a ∷ b ∷ c ∷ []
 three_are a b c x y z is_a small_x some is_b small_y is_c small_z =
-    let first : decimal x ≡ a ∷ [] = decimal_digit x small_x ∙ ap (λ e. e ∷ []) (sym is_a) in
-    let second : decimal (x * 10 + y) ≡ a ∷ b ∷ [] = one_more_is (a ∷ []) x y b first some (omega (arith, small_x)) is_b small_y in
-    one_more_is (a ∷ b ∷ []) (x * 10 + y) z c second (omega (arith, some)) (omega (arith, small_x, small_y)) is_c small_z
+    one_more_is (a ∷ b ∷ []) (x * 10 + y) z c (two_are a b x y is_a small_x some is_b small_y) (omega (arith, some)) (omega (arith, small_x, small_y)) is_c small_z
+
+-- what is known of a byte if it is a digit, and of the number that is made of it
+abbrev IsDigit : ℕ → Type 0
+IsDigit byte = (48 ≤ byte) × (byte ≤ 57)
+
+abbrev Valued : ℕ → ℕ → Type 0
+Valued byte n = 48 ≤ byte → byte ≡ 48 + n
+
+small_digit : (byte n : ℕ) → IsDigit byte → Valued byte n → n < 10
+small_digit byte n is valued = let e : byte ≡ 48 + n = valued is.0 in omega (arith, e, is.1)
+
+-- a number and how many digits write it, at the front of these bytes
+abbrev pub Written : (ℕ × ℕ) → List ℕ → Type 0
+Written read bytes = (decimal read.0 ≡ take read.1 bytes) × (100 ≤ read.0 → read.1 ≡ 3)
+
+pub few_are : (a b c x y z : ℕ) (two three : Bool) (second last : ℕ × ℕ) → IsDigit a → (two ≡ true → 48 < a) → (two ≡ true → IsDigit b) → (three ≡ true → (two ≡ true) × IsDigit c) → Valued a x → Valued b y → Valued c z →
+    (two ≡ true → second ≡ (x * 10 + y, 2)) → (two ≡ false → second ≡ (x, 1)) → (three ≡ true → last ≡ ((x * 10 + y) * 10 + z, second.1 + 1)) → (three ≡ false → last ≡ second) → Written last (a ∷ b ∷ c ∷ [])
+few_are a b c x y z two true second last is some is_b is_c va vb vc yes2 no2 yes3 no3 =
+    let of2 : two ≡ true = (is_c refl).0 in
+    let dc : IsDigit c = (is_c refl).1 in
+    let small : x < 10 = small_digit a x is va in
+    let small_b : y < 10 = small_digit b y (is_b of2) vb in
+    let small_c : z < 10 = small_digit c z dc vc in
+    let ea : a ≡ 48 + x = va is.0 in
+    let more : 48 < a = some of2 in
+    let places : last ≡ ((x * 10 + y) * 10 + z, 3) = yes3 refl ∙ ap (λ k. ((x * 10 + y) * 10 + z, k + 1)) (ap (λ (r : ℕ × ℕ). r.1) (yes2 of2)) in
+    subst (λ read. Written read (a ∷ b ∷ c ∷ [])) (sym places)
+    (three_are a b c x y z ea small (omega (arith, ea, more)) (vb (is_b of2).0) small_b (vc dc.0) small_c, (λ _. refl))
+few_are a b c x y z true false second last is some is_b is_c va vb vc yes2 no2 yes3 no3 =
+    let small : x < 10 = small_digit a x is va in
+    let small_b : y < 10 = small_digit b y (is_b refl) vb in
+    let ea : a ≡ 48 + x = va is.0 in
+    let more : 48 < a = some refl in
+    subst (λ read. Written read (a ∷ b ∷ c ∷ [])) (sym (no3 refl ∙ yes2 refl))
+    (two_are a b x y ea small (omega (arith, ea, more)) (vb (is_b refl).0) small_b, (λ many. absurd (omega (arith, many, small, small_b))))
+few_are a b c x y z false false second last is some is_b is_c va vb vc yes2 no2 yes3 no3 =
+    let small : x < 10 = small_digit a x is va in
+    subst (λ read. Written read (a ∷ b ∷ c ∷ [])) (sym (no3 refl ∙ no2 refl))
+    (one_is a x (va is.0) small, (λ many. absurd (omega (arith, many, small))))
+
+-- the first four bytes
+abbrev pub heads : List ℕ → List ℕ
+heads bytes = slice_index_or bytes 0 0 ∷ slice_index_or bytes 1 0 ∷ slice_index_or bytes 2 0 ∷ slice_index_or bytes 3 0 ∷ []
+
+-- the last four bytes
+abbrev pub tails : List ℕ → List ℕ
+tails bytes =
+    slice_index_or bytes (length bytes - 4) 0
+    ∷ slice_index_or bytes (length bytes - 3) 0
+    ∷ slice_index_or bytes (length bytes - 2) 0
+    ∷ slice_index_or bytes (length bytes - 1) 0
+    ∷ []
+
+-- the first three
+abbrev pub three_heads : List ℕ → List ℕ
+three_heads bytes = slice_index_or bytes 0 0 ∷ slice_index_or bytes 1 0 ∷ slice_index_or bytes 2 0 ∷ []
+
+heads_are : (bytes : List ℕ) (count : ℕ) → 3 ≤ length bytes → count ≤ 3 → take count (three_heads bytes) ≡ take count bytes
+heads_are [] count some few = absurd (omega (arith, some))
+heads_are (a ∷ []) count some few = absurd (omega (arith, some))
+heads_are (a ∷ b ∷ []) count some few = absurd (omega (arith, some))
+heads_are (a ∷ b ∷ c ∷ rest) count some few = sym (take-append-le count (a ∷ b ∷ c ∷ []) rest few)
+
+-- a few digits, and the dot behind them
+pub digits_and_dot : (bytes : List ℕ) (n count : ℕ) → 5 ≤ length bytes → count ≤ 3 → decimal n ≡ take count (three_heads bytes) → slice_index_or bytes count 0 ≡ 46 →
+    bytes ≡ decimal n ++ (46 ∷ take (length bytes - (count + 1)) (drop (count + 1) bytes))
+digits_and_dot bytes n count some few digits dot =
+    let next : suc count ≡ count + 1 = omega arith in
+    split_at bytes count 0 (omega (arith, some, few))
+    ∙ ap (λ e. take count bytes ++ (e ∷ drop (suc count) bytes)) dot
+    ∙ ap (λ ds. ds ++ (46 ∷ drop (suc count) bytes)) (sym (digits ∙ heads_are bytes count (omega (arith, some)) few))
+    ∙ ap (λ rest. decimal n ++ (46 ∷ rest)) (sym (take_rest bytes (suc count)))
+    ∙ ap (λ k. decimal n ++ (46 ∷ take (length bytes - k) (drop k bytes))) next
+
+-- three digits, one more, and the dot behind them
+pub fourth_digit : (bytes : List ℕ) (n count last : ℕ) → 5 ≤ length bytes → decimal n ≡ take count (three_heads bytes) → (100 ≤ n → count ≡ 3) → 100 ≤ n → n < 1000 → slice_index_or bytes 3 0 ≡ 48 + last → last < 10 → slice_index_or bytes 4 0 ≡ 46 →
+    bytes ≡ decimal (n * 10 + last) ++ (46 ∷ take (length bytes - 5) (drop 5 bytes))
+fourth_digit [] n count last some digits all many few is small dot = absurd (omega (arith, some))
+fourth_digit (a ∷ []) n count last some digits all many few is small dot = absurd (omega (arith, some))
+fourth_digit (a ∷ b ∷ []) n count last some digits all many few is small dot = absurd (omega (arith, some))
+fourth_digit (a ∷ b ∷ c ∷ []) n count last some digits all many few is small dot = absurd (omega (arith, some))
+fourth_digit (a ∷ b ∷ c ∷ d ∷ []) n count last some digits all many few is small dot = absurd (omega (arith, some))
+fourth_digit (a ∷ b ∷ c ∷ d ∷ e ∷ rest) n count last some digits all many few is small dot =
+    let three : decimal n ≡ a ∷ b ∷ c ∷ [] = digits ∙ ap (λ k. take k (a ∷ b ∷ c ∷ [])) (all many) in
+    let four : decimal (n * 10 + last) ≡ a ∷ b ∷ c ∷ d ∷ [] = one_more_is (a ∷ b ∷ c ∷ []) n last d three (omega (arith, many)) few is small in
+    ap (λ x. a ∷ b ∷ c ∷ d ∷ x ∷ rest) dot ∙ ap (λ ds. ds ++ (46 ∷ rest)) (sym four) ∙ ap (λ r. decimal (n * 10 + last) ++ (46 ∷ r)) (sym (take_rest (a ∷ b ∷ c ∷ d ∷ e ∷ rest) 5))
+
+-- four to eight bytes are told by the first four and the last four
+pub ends_are : (bytes : List ℕ) → 4 ≤ length bytes → length bytes ≤ 8 → bytes ≡ heads bytes ++ drop (8 - length bytes) (tails bytes)
+ends_are [] some few = absurd (omega (arith, some))
+ends_are (a ∷ []) some few = absurd (omega (arith, some))
+ends_are (a ∷ b ∷ []) some few = absurd (omega (arith, some))
+ends_are (a ∷ b ∷ c ∷ []) some few = absurd (omega (arith, some))
+ends_are (a ∷ b ∷ c ∷ d ∷ []) some few = refl
+ends_are (a ∷ b ∷ c ∷ d ∷ e ∷ []) some few = refl
+ends_are (a ∷ b ∷ c ∷ d ∷ e ∷ f ∷ []) some few = refl
+ends_are (a ∷ b ∷ c ∷ d ∷ e ∷ f ∷ g ∷ []) some few = refl
+ends_are (a ∷ b ∷ c ∷ d ∷ e ∷ f ∷ g ∷ h ∷ []) some few = refl
+ends_are (a ∷ b ∷ c ∷ d ∷ e ∷ f ∷ g ∷ h ∷ i ∷ rest) some few = absurd (omega (arith, few))
+
+-- what is behind a word and a space, from the space on
+pub from_end : (bytes word behind : List ℕ) → bytes ≡ word ++ (32 ∷ behind) →
+    bytes ≡ word ++ take (length bytes - (length bytes - length behind - 1)) (drop (length bytes - length behind - 1) bytes)
+from_end bytes word behind is =
+    let long : length bytes ≡ length word + length (32 ∷ behind) = ap length is ∙ length-append word (32 ∷ behind) in
+    let at : length bytes - length behind - 1 ≡ length word = omega (arith, long) in
+    is
+    ∙ ap (λ rest. word ++ rest) (sym (drop-append_seam word (32 ∷ behind)) ∙ ap (λ bs. drop (length word) bs) (sym is) ∙ ap (λ k. drop k bytes) (sym at) ∙ sym (take_rest bytes (length bytes - length behind - 1)))
 
 pub more_digits : (bytes rest : List ℕ) (n m : ℕ) → bytes ≡ decimal n ++ rest → 1 ≤ length rest → slice_index_or rest 0 0 ≡ 48 + m → m < 10 → 0 < n → n ≤ 6553 → bytes ≡ decimal (n * 10 + m) ++ take (length rest - 1) (drop 1 rest)
 more_digits bytes [] n m so_far more is small some few = absurd (omega (arith, more))
@@ -57,14 +170,14 @@ more_digits bytes (b ∷ bs) n m so_far more is small some few =
     ∙ ap (λ rest. decimal (n * 10 + m) ++ rest) (sym (take_rest (b ∷ bs) 1))
 
 -- the word of a copy of a bit, and the words of a move
-pub access_is : (bytes second third fourth last : List ℕ) (a : Access) → bytes ≡ decimal a.owner ++ (46 ∷ second) → second ≡ field_word a.field ++ (46 ∷ third) → third ≡ decimal a.bit ++ (46 ∷ fourth) → fourth ≡ decimal a.reader ++ (32 ∷ last) → last ≡ spaced (move_words a.how) →
+pub access_is : (bytes second third fourth last : List ℕ) (a : Access) → bytes ≡ decimal a.owner ++ (46 ∷ second) → second ≡ field_word a.field ++ (46 ∷ third) → third ≡ decimal a.bit ++ (46 ∷ fourth) → fourth ≡ decimal a.reader ++ last → last ≡ codes " " ++ spaced (move_words a.how) →
     bytes ≡ copy_word a ++ (codes " " ++ spaced (move_words a.how))
 access_is bytes second third fourth last a one two three four five =
     one
     ∙ ap (λ bs. decimal a.owner ++ (46 ∷ bs)) two
     ∙ ap (λ bs. decimal a.owner ++ (46 ∷ (field_word a.field ++ (46 ∷ bs)))) three
     ∙ ap (λ bs. decimal a.owner ++ (46 ∷ (field_word a.field ++ (46 ∷ (decimal a.bit ++ (46 ∷ bs)))))) four
-    ∙ ap (λ bs. decimal a.owner ++ (46 ∷ (field_word a.field ++ (46 ∷ (decimal a.bit ++ (46 ∷ (decimal a.reader ++ (32 ∷ bs)))))))) five
+    ∙ ap (λ bs. decimal a.owner ++ (46 ∷ (field_word a.field ++ (46 ∷ (decimal a.bit ++ (46 ∷ (decimal a.reader ++ bs))))))) five
     ∙ together
   where
     together : decimal a.owner ++ (46 ∷ (field_word a.field ++ (46 ∷ (decimal a.bit ++ (46 ∷ (decimal a.reader ++ (32 ∷ spaced (move_words a.how)))))))) ≡ copy_word a ++ (codes " " ++ spaced (move_words a.how))

@@ -1,8 +1,8 @@
-//! Reading the line of a Step with an access and no mark, as most lines of a record are.
-ghost use Rattle.std.specs.Prelude.{◌≡◌, ◌+◌, ◌<◌, ◌∷◌, ◌++◌, [], codes, true, IfSome};
+//! Reading the line of a Step with an access and no mark, as most lines of a record are. Whose turn it was, nothing foretells:
+//! so what differs from line to line is looked up and compared, and is no branch.
+ghost use Rattle.std.specs.Prelude.{◌≡◌, ◌+◌, ◌-◌, ◌<◌, ◌≤◌, ◌∷◌, ◌++◌, [], codes, drop, take, false, true, IfSome};
 ghost use Rattle.std.specs.Fmt.{decimal};
 ghost use Rattle.scenario.specs.Printing.{spaced};
-ghost use Rattle.scenario.specs.Spelling.{bit_word};
 ghost use Rattle.record_file.specs.Given.{is_entry};
 ghost use Rattle.record_file.specs.Printing.{access_text, entry_words, field_word, move_words, step_entry};
 
@@ -33,8 +33,8 @@ fn access_in(bytes: &[u8]) -> Option<Access>
     let (owner, behind) = process_before(bytes, b'.')?;
     let (field, behind) = field_before_dot(behind)?;
     let (bit, behind) = bit_before_dot(behind)?;
-    let (reader, behind) = process_before(behind, b' ')?;
-    let how = move_in(behind)?;
+    let (reader, text) = reader_in(behind)?;
+    let how = move_in(text)?;
     Some(Access {
         owner,
         field,
@@ -56,19 +56,23 @@ fn process_before(bytes: &[u8], end: u8) -> Option<(u8, &[u8])>
     Some((number as u8, behind))
 }
 
-/// The number of a bit before a dot, and what is behind that. Most have three or four digits.
+/// The number of a bit before a dot, and what is behind that. Most have one to three digits, and how many is no branch. A fourth
+/// is one: making it ready too for each line takes longer.
 #[inline(always)]
+#[tactic(auto, using(crate::proofs::StepWords::digits_and_dot, crate::proofs::StepWords::fourth_digit))]
 fn bit_before_dot(bytes: &[u8]) -> Option<(u16, &[u8])>
     ensures { IfSome result (λ read. bytes.now ≡ decimal read.0 ++ (46 ∷ read.1.now)) }
 {
-    match bytes {
-        [a, b, c, b'.', behind @ ..] => {
-            return Some((three_digits(*a, *b, *c)? as u16, behind));
+    if let [a, b, c, d, e, behind @ ..] = bytes {
+        if let Some((number, count)) = few_digits(*a, *b, *c) {
+            if bytes[count] == b'.' {
+                return Some((number as u16, &bytes[count + 1..]));
+            }
+            if *e == b'.' && number >= 100 {
+                let last = digit(*d)?;
+                return Some(((number * 10 + last) as u16, behind));
+            }
         }
-        [a, b, c, d, b'.', behind @ ..] => {
-            return Some((four_digits(*a, *b, *c, *d)? as u16, behind));
-        }
-        _ => {}
     }
     let (number, behind) = number_before(bytes, b'.')?;
     if number > 65_535 {
@@ -77,33 +81,63 @@ fn bit_before_dot(bytes: &[u8]) -> Option<(u16, &[u8])>
     Some((number as u16, behind))
 }
 
-/// The number that three digits write.
+/// The number that the digits at the front of three bytes write, and how many they are. All that they may write is made ready,
+/// so that it is only chosen.
 #[inline(always)]
-#[tactic(auto, using(crate::proofs::StepWords::three_are))]
-fn three_digits(a: u8, b: u8, c: u8) -> Option<u32>
-    ensures written { IfSome result (λ n. decimal n ≡ a ∷ b ∷ c ∷ []) }
-    ensures some { IfSome result (λ n. 0 < n) }
-    ensures few { IfSome result (λ n. n < 1000) }
+fn few_digits(a: u8, b: u8, c: u8) -> Option<(u32, usize)>
+    ensures written { IfSome result (λ read. decimal read.0 ≡ take read.1 (a ∷ b ∷ c ∷ [])) }
+    ensures all { IfSome result (λ read. 100 ≤ read.0 → read.1 ≡ 3) }
+    ensures small { IfSome result (λ read. read.0 < 1000) }
+    ensures few { IfSome result (λ read. read.1 ≤ 3) }
 {
-    if a == b'0' {
+    let two = goes_on(true, b);
+    let three = goes_on(two, c);
+    if !begins(a, two) {
         return None;
     }
-    let hundreds = digit(a)?;
-    let tens = digit(b)?;
-    let ones = digit(c)?;
-    Some((hundreds * 10 + tens) * 10 + ones)
+    let of_one = value_of(a);
+    let of_two = of_one * 10 + value_of(b);
+    let of_three = of_two * 10 + value_of(c);
+    let read = or_longer((of_one, 1), two, of_two);
+    Some(or_longer(read, three, of_three))
 }
 
-/// The number that four digits write.
+/// Whether the byte behind a number so far is a digit of it.
 #[inline(always)]
-#[tactic(auto, using(crate::proofs::StepWords::one_more_is))]
-fn four_digits(a: u8, b: u8, c: u8, d: u8) -> Option<u32>
-    ensures written { IfSome result (λ n. decimal n ≡ a ∷ b ∷ c ∷ d ∷ []) }
-    ensures few { IfSome result (λ n. n < 10000) }
+fn goes_on(so_far: bool, byte: u8) -> bool
+    ensures before { result ≡ true → so_far ≡ true }
+    ensures digit { result ≡ true → (48 ≤ byte) × (byte ≤ 57) }
 {
-    let number = three_digits(a, b, c)?;
-    let ones = digit(d)?;
-    Some(number * 10 + ones)
+    so_far & byte.is_ascii_digit()
+}
+
+/// Whether a byte is the first digit of a number of one digit, or of more.
+#[inline(always)]
+fn begins(byte: u8, more: bool) -> bool
+    ensures digit { result ≡ true → (48 ≤ byte) × (byte ≤ 57) }
+    ensures some { result ≡ true → more ≡ true → 48 < byte }
+{
+    byte.is_ascii_digit() & (!more | (byte != b'0'))
+}
+
+/// The number of a byte that is a digit.
+#[inline(always)]
+fn value_of(byte: u8) -> u32
+    ensures value { 48 ≤ byte → byte ≡ 48 + result }
+    ensures small { result < 256 }
+{
+    u32::from(byte.wrapping_sub(b'0'))
+}
+
+/// A number and how many its digits are, or the one that has a digit more.
+#[inline(always)]
+fn or_longer(shorter: (u32, usize), more: bool, number: u32) -> (u32, usize)
+    requires { shorter.1 < 3 }
+    ensures yes { more ≡ true → result ≡ (number, shorter.1 + 1) }
+    ensures no { more ≡ false → result ≡ shorter }
+{
+    let chosen = if more { number } else { shorter.0 };
+    (chosen, shorter.1 + usize::from(more))
 }
 
 /// The number before the first such byte, and what is behind that. Most numbers have one digit.
@@ -158,24 +192,18 @@ fn digit(byte: u8) -> Option<u32>
     }
 }
 
-/// The register that is named before a dot, and what is behind that. Most accesses are to an image: its name comes first.
+/// The register that is named before a dot, and what is behind that.
 #[inline(always)]
 fn field_before_dot(bytes: &[u8]) -> Option<(Field, &[u8])>
     ensures { IfSome result (λ read. bytes.now ≡ field_word read.0 ++ (46 ∷ read.1.now)) }
 {
-    if let [b'i', m, a, g, e, which, b'.', behind @ ..] = bytes {
-        if are(&[*m, *a, *g, *e], b"mage") {
-            return match which {
-                b'0' => Some((Field::Image0, behind)),
-                b'1' => Some((Field::Image1, behind)),
-                _ => None,
-            };
+    if let [a, b, c, d, e, f, b'.', behind @ ..] = bytes {
+        let (field, front, end) = likely_field(*a, *f);
+        if are(&[*a, *b, *c, *d], &front) && are_two(&[*e, *f], &end) {
+            return Some((field, behind));
         }
     }
     match bytes {
-        [b't', b'i', b'c', b'k', b'e', b't', b'.', behind @ ..] => Some((Field::Ticket, behind)),
-        [b's', b't', b'a', b'm', b'p', b'0', b'.', behind @ ..] => Some((Field::Stamp0, behind)),
-        [b's', b't', b'a', b'm', b'p', b'1', b'.', behind @ ..] => Some((Field::Stamp1, behind)),
         [
             b'c',
             b'h',
@@ -188,8 +216,23 @@ fn field_before_dot(bytes: &[u8]) -> Option<(Field, &[u8])>
             b'.',
             behind @ ..,
         ] => Some((Field::Choosing, behind)),
-        [b'c', b'o', b'm', b'm', b'i', b't', b'.', behind @ ..] => Some((Field::Commit, behind)),
         _ => None,
+    }
+}
+
+/// The register whose name has six letters, this one first and this one last, if there is one, and its name: the first four
+/// letters, and the last two. Three bits of the two letters tell it.
+#[inline(always)]
+fn likely_field(first: u8, last: u8) -> (Field, [u8; 4], [u8; 2])
+    ensures { field_word result.0 ≡ result.1 ++ result.2 }
+{
+    match (first >> 1) & 9 | (last & 1) << 1 {
+        0 => (Field::Image0, *b"imag", *b"e0"),
+        2 => (Field::Image1, *b"imag", *b"e1"),
+        8 | 10 => (Field::Ticket, *b"tick", *b"et"),
+        9 => (Field::Stamp0, *b"stam", *b"p0"),
+        11 => (Field::Stamp1, *b"stam", *b"p1"),
+        _ => (Field::Commit, *b"comm", *b"it"),
     }
 }
 
@@ -201,32 +244,65 @@ fn are(bytes: &[u8; 4], word: &[u8; 4]) -> bool
     u32::from_le_bytes(*bytes) == u32::from_le_bytes(*word)
 }
 
-/// The move whose words these bytes are.
+/// The same of two bytes.
 #[inline(always)]
-fn move_in(bytes: &[u8]) -> Option<Move>
-    ensures { IfSome result (λ how. bytes.now ≡ spaced (move_words how)) }
+fn are_two(bytes: &[u8; 2], word: &[u8; 2]) -> bool
+    ensures { result ≡ true → bytes.now ≡ word.now }
 {
-    match bytes {
-        b"end" => Some(Move::EndWrite),
-        [a, b, c, d] if are(&[*a, *b, *c, *d], b"read") => Some(Move::BeginRead),
-        [a, b, c, d, b'e', b' ', b'0'] => value_or_write(&[*a, *b, *c, *d], false),
-        [a, b, c, d, b'e', b' ', b'1'] => value_or_write(&[*a, *b, *c, *d], true),
-        b"settle 0" => Some(Move::Settle(false)),
-        b"settle 1" => Some(Move::Settle(true)),
+    u16::from_le_bytes(*bytes) == u16::from_le_bytes(*word)
+}
+
+/// The number of a process before a space, and what is behind that, from the space on.
+#[inline(always)]
+#[tactic(auto, using(crate::proofs::StepWords::one_digit, crate::proofs::StepWords::from_end))]
+fn reader_in(bytes: &[u8]) -> Option<(u8, &[u8])>
+    ensures { IfSome result (λ read. bytes.now ≡ decimal read.0 ++ read.1.now) }
+{
+    if let [only, b' ', ..] = bytes {
+        let number = digit(*only)?;
+        return Some((number as u8, &bytes[1..]));
+    }
+    let (reader, behind) = process_before(bytes, b' ')?;
+    Some((reader, &bytes[bytes.len() - behind.len() - 1..]))
+}
+
+/// The move whose words these bytes are, each behind a space. Their first four and their last four are compared: most have
+/// no more than eight.
+#[inline(always)]
+#[tactic(auto, using(crate::proofs::StepWords::ends_are))]
+fn move_in(text: &[u8]) -> Option<Move>
+    ensures { IfSome result (λ how. text.now ≡ codes " " ++ spaced (move_words how)) }
+{
+    let [a, b, c, d, ..] = text else {
+        return None;
+    };
+    let [.., w, x, y, z] = text else {
+        return None;
+    };
+    let (how, count, front, end) = likely_move(*c, *z);
+    if text.len() == count && are(&[*a, *b, *c, *d], &front) && are(&[*w, *x, *y, *z], &end) {
+        return Some(how);
+    }
+    match text {
+        b" settle 0" => Some(Move::Settle(false)),
+        b" settle 1" => Some(Move::Settle(true)),
         _ => None,
     }
 }
 
-/// The end of a read or the begin of a write, with this value, whose first word begins so.
+/// The move whose words have this letter at the second place and this one at the end, if there is one, and its words, each
+/// behind a space: how many bytes they are, the first four, and the last four. Three bits of the two letters tell it.
 #[inline(always)]
-fn value_or_write(start: &[u8; 4], value: bool) -> Option<Move>
-    ensures { IfSome result (λ how. start.now ++ (codes "e " ++ bit_word value) ≡ spaced (move_words how)) }
+fn likely_move(second: u8, last: u8) -> (Move, usize, [u8; 4], [u8; 4])
+    ensures words { codes " " ++ spaced (move_words result.0) ≡ result.2 ++ drop (8 - result.1) result.3 }
+    ensures few { (4 ≤ result.1) × (result.1 ≤ 8) }
 {
-    if are(start, b"valu") {
-        Some(Move::EndRead(value))
-    } else if are(start, b"writ") {
-        Some(Move::BeginWrite(value))
-    } else {
-        None
+    match (second & 5) | (last & 1) << 1 {
+        0 => (Move::BeginWrite(false), 8, *b" wri", *b"te 0"),
+        2 => (Move::BeginWrite(true), 8, *b" wri", *b"te 1"),
+        1 => (Move::EndRead(false), 8, *b" val", *b"ue 0"),
+        3 => (Move::EndRead(true), 8, *b" val", *b"ue 1"),
+        5 | 7 => (Move::BeginRead, 5, *b" rea", *b"read"),
+        _ => (Move::EndWrite, 4, *b" end", *b" end"),
     }
 }
