@@ -3,6 +3,7 @@ use Rattle.std.proofs.Common.{◌≡◌, ℕ, zero, suc, arith, ◌-◌, ◌<◌
 use Rattle.std.proofs.lemmas.Bool.Decides.{nat_tests}
 use Rattle.std.specs.declared.alloc.AllocError.{AllocError}
 use Rattle.plain_store.specs.declared.setups.Setup.{Setup}
+use Rattle.record.specs.declared.access.Access.{Access}
 use Rattle.record.specs.declared.events.Event.{Event}
 use Rattle.record.specs.declared.history.Taken.{Taken}
 use Rattle.record.specs.declared.refusals.Refusal.{Refusal}
@@ -13,6 +14,7 @@ use Rattle.record.specs.Histories.{history}
 use Rattle.record.specs.declared.events.Event.TheVariants as event
 use Rattle.record.specs.declared.marks.Mark.{Mark}
 use Rattle.record.specs.Entries.{Entry, Past}
+use Rattle.record.specs.Moves.{moves_of}
 use Rattle.record.specs.Records.{added, entry_of, marked, past_of, process_of, refused}
 use Rattle.record.specs.Stages.{stage}
 use Rattle.scenario.specs.declared.lines.Line.{Line}
@@ -23,10 +25,11 @@ use Rattle.world.specs.Events.{Adds, GoesOn, IsTurnedAway, entry_with, stage_in}
 use Rattle.world.specs.flicks.Flicks.{FlickState, after_set}
 use Rattle.world.specs.flicks.declared.Flick.{Flick}
 use Rattle.world.specs.Shows.{Shows, WorldState}
+use Rattle.world.specs.Walks.{ends_overlapped, ends_overlapped_read}
 use Rattle.course.specs.Courses.{CourseState, Follows, Makes, course}
 use Rattle.course.specs.Happenings.{Tries, Lacks, Looks, tried}
 use Rattle.course.specs.Runs.{Run, has_step, is_there, past_in}
-use Rattle.course.specs.Telling.{IsMarked, TellsOf, is_step}
+use Rattle.course.specs.Telling.{IsMarked, TellsOf, entry_made, is_step}
 use Rattle.course.specs.Turns.{Turn, ends, go_turn, happens, next_turn, on_turn, turn_of}
 use Rattle.course.specs.declared.told.Accepted.{Accepted}
 use Rattle.course.specs.declared.told.Told.{Told}
@@ -55,16 +58,34 @@ event_marked s past event e still is none = by (refused s past event) is
     by (Some r) is = absurd (cc)
     by None is = added_marked s past event e still is none
 
+-- and no access, so that with it no read ends
+one_unread : (p : ℕ) (mark : Mark) (past : Past) (e : Entry) → marked p mark ≡ Some e → false ≡ ends_overlapped_read past e
+one_unread p mark past e is = let same : Some None ≡ Some e.access = ap (option_map (λ (e : Entry). e.access)) is in let none : None ≡ e.access = cc in ap (λ (o : Option Access). elim o as (λ _. Bool) [ None ↦ false | Some a ↦ ends_overlapped (moves_of a past) a.how ]) none
+
+added_unread : (s : Setup) (past : Past) (event : Event) (e : Entry) → is_step event ≡ false → added s past event ≡ Some e → false ≡ ends_overlapped_read past e
+added_unread s past (event.Call p c) e still is = one_unread p _ past e is
+added_unread s past (event.Step p flick) e still is = absurd (cc)
+added_unread s past (event.Fail p) e still is = one_unread p _ past e is
+added_unread s past (event.Withdraw p) e still is = one_unread p _ past e is
+added_unread s past (event.Restart p) e still is = one_unread p _ past e is
+
+event_unread : (s : Setup) (past : Past) (event : Event) (e : Entry) → is_step event ≡ false → entry_of s past event ≡ Some e → false ≡ ends_overlapped_read past e
+event_unread s past event e still is = by (refused s past event) is
+  where
+    by : (o : Option Refusal) → (elim o as (λ _. Option Entry) [ Some r ↦ None | None ↦ added s past event ]) ≡ Some e → false ≡ ends_overlapped_read past e
+    by (Some r) is = absurd (cc)
+    by None is = added_unread s past event e still is
+
 -- an event that is accepted
 pub event_accepted : (w w' : WorldState) (flicks : FlickState) (left : ℕ) (made : Accepted) (taken : List Taken) → ((events : List Event) → Shows w events → taken ≡ history w.setup (past_of w.setup events)) → made.place ≡ length taken →
-    Adds w made.event (process_of made.event) (act_of (length w.history) (record { access = made.access; effect = made.effect })) → GoesOn w made.event w' → w'.setup ≡ w.setup → is_step made.event ≡ false →
+    Adds w made.event (process_of made.event) (act_of (length w.history) (record { access = made.access; effect = made.effect })) → GoesOn w made.event w' → w'.setup ≡ w.setup → is_step made.event ≡ false → made.overlapped ≡ false →
     (run : Run) → Follows (course w flicks left) run → Makes (course w flicks left) run (happens (Tries made.event) (left - 1) run) (Some (told.Accepted made)) (course w' flicks (left - 1))
-event_accepted w w' flicks left made taken taken_is place_at adds on same still run follows =
+event_accepted w w' flicks left made taken taken_is place_at adds on same still unread run follows =
     let at : length w.history ≡ made.place = place_is w (tried run.happened) taken made.place follows.shows (taken_is (tried run.happened) follows.shows) place_at in
     let family : ℕ → Type 0 = λ n. entry_of w.setup (past_in w.setup run) made.event ≡ Some (entry_with (process_of made.event) (act_of n (record { access = made.access; effect = made.effect }))) in
     let entry : family made.place = subst family at (adds (tried run.happened) follows.shows) in
     record {
-      tells = ((refl, entry), event_marked w.setup (past_in w.setup run) made.event _ still entry);
+      tells = ((refl, entry, unread ∙ event_unread w.setup (past_in w.setup run) made.event (entry_made made) still entry), event_marked w.setup (past_in w.setup run) made.event _ still entry);
       follows = record { shows = on (tried run.happened) follows.shows; flicks = follows.flicks };
       left = refl;
       setup = same;

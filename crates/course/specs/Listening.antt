@@ -1,5 +1,5 @@
 -- Who hears a run: what is told to it, and what it has heard once a line has made its turns.
-use Rattle.std.specs.Prelude.{◌≡◌, ◌+◌, ◌<◌, ◌≤◌, ℕ, zero, suc, Bool, List, [], ◌∷◌, Option, None, Some, Ok}
+use Rattle.std.specs.Prelude.{◌≡◌, ◌+◌, ◌<◌, ◌≤◌, ℕ, zero, suc, Bool, if◌then◌else◌, List, [], ◌∷◌, Option, None, Some, Ok}
 use Rattle.plain_store.specs.declared.setups.Setup.{Setup}
 use Rattle.plain_store.specs.Setups.{checked}
 use Rattle.record.specs.declared.events.Event.{Event}
@@ -9,6 +9,7 @@ use Rattle.record.specs.declared.access.Access.{Access}
 use Rattle.record.specs.Entries.{Past}
 use Rattle.record.specs.Given.{AreGiven}
 use Rattle.record.specs.Histories.{history}
+use Rattle.record.specs.Moves.{moves_of}
 use Rattle.record.specs.Records.{entry_of, past_of}
 use Rattle.scenario.specs.declared.lines.Line.{Line}
 use Rattle.scenario.specs.files.declared.faults.Fault.{Fault}
@@ -17,7 +18,7 @@ use Rattle.world.specs.process.Looks.{number_read}
 use Rattle.world.specs.process.Places.{left_at, process_after}
 use Rattle.world.specs.Events.{GoesOn}
 use Rattle.world.specs.Shows.{Shows, WorldState}
-use Rattle.world.specs.Walks.{MakesQuietly, StepsQuietly, Walks}
+use Rattle.world.specs.Walks.{MakesQuietly, StepsQuietly, Walks, ends_overlapped, ends_overlapped_read}
 use Rattle.world.specs.flicks.Flicks.{FlickState, after_flick, flick_of}
 use Rattle.course.specs.Courses.{CourseState, Follows, IsQuiet, QuietTurns}
 use Rattle.course.specs.Happenings.{Happening, Tries, past_after, tried}
@@ -43,6 +44,7 @@ pub record StepsOn (s : Setup) (before : List Happening) (made : Stepped) : Type
   pub adds : entry_of s (past_after s before) (Step made.process made.flick) ≡ Some (record { process = made.process; access = Some made.access; marks = [] })
   pub number : (n : ℕ) → made.number ≡ Some n → n ≡ number_read (doing s made.process (past_after s before))
   pub within : made.number ≡ None → 0 < left_at (process_after s (past_after s before) made.process)
+  pub overlapped : made.overlapped ≡ ends_overlapped (moves_of made.access (past_after s before)) made.access.how
 
 -- so many events without a mark are made
 abbrev pub PassQuietly : Setup → ℕ → List Happening → List Happening → Type 0
@@ -64,10 +66,17 @@ PassWithin s p (suc n) before after = (flick : Bool) × StepsWithin s before p f
 abbrev pub IsNewest : Setup → ℕ → Access → List Happening → Type 0
 IsNewest s p access happened = (past : Past) × (past_after s happened ≡ record { process = p; access = Some access; marks = [] } ∷ past)
 
--- the same, and the newest of them makes this access
-pub record PassBy (s : Setup) (p steps : ℕ) (newest : Access) (before after : List Happening) : Type 0 where
+-- of the newest n entries so many
+abbrev pub overlapped_in : ℕ → Past → ℕ
+overlapped_in zero past = 0
+overlapped_in (suc n) [] = 0
+overlapped_in (suc n) (e ∷ past) = overlapped_in n past + (if ends_overlapped_read past e then 1 else 0)
+
+-- the same, the newest of them makes this access, and so many end a read that a write overlapped
+pub record PassBy (s : Setup) (p steps : ℕ) (newest : Access) (overlapped : ℕ) (before after : List Happening) : Type 0 where
   pub within : PassWithin s p steps before after
   pub newest_is : IsNewest s p newest after
+  pub overlapped_are : overlapped ≡ overlapped_in steps (past_after s after)
 
 -- room that a listener wants for what is told and the turns left after it
 abbrev pub room_wanted : Option Told → ℕ → ℕ
@@ -82,9 +91,9 @@ HearsTold Hears told taken was is = (s : Setup) (before : List Happening) (this 
 abbrev pub HearsUnmarked : {L : Type 0} → (L → Setup → List Happening → List Happening → L → Type 0) → Stepped → L → L → Type 0
 HearsUnmarked Hears made was is = (s : Setup) (before : List Happening) → StepsOn s before made → Hears was s before (Tries (Step made.process made.flick) ∷ before) is
 
--- so many Steps of p within a number access are heard of, and the access of the newest
-abbrev pub HearsPassing : {L : Type 0} → (L → Setup → List Happening → List Happening → L → Type 0) → ℕ → ℕ → Access → L → L → Type 0
-HearsPassing Hears p steps newest was is = (s : Setup) (before after : List Happening) → PassBy s p steps newest before after → Hears was s before after is
+-- so many Steps of p within a number access are heard of, the access of the newest, and how many end a read that a write overlapped
+abbrev pub HearsPassing : {L : Type 0} → (L → Setup → List Happening → List Happening → L → Type 0) → ℕ → ℕ → Access → ℕ → L → L → Type 0
+HearsPassing Hears p steps newest overlapped was is = (s : Setup) (before after : List Happening) → PassBy s p steps newest overlapped before after → Hears was s before after is
 
 -- who stops by this fault has heard a front of what it would have heard
 abbrev pub StopsBy : {L : Type 0} → (L → Setup → List Happening → List Happening → Fault → L → Type 0) → Fault → L → Setup → List Happening → List Happening → L → Type 0
@@ -113,15 +122,18 @@ pub record HearsStep {L : Type 0} (Hears : L → Setup → List Happening → Li
   pub step : StepsQuietly old p flick new
   pub hears : (before : List Happening) → Shows old (tried before) → Hears was old.setup before (Tries (Step p flick) ∷ before) is
 
--- so many Steps of p are made in a row, each by the flick that is next, and the newest makes this access
-pub record MakesSteps (old : WorldState) (flicks : FlickState) (p steps : ℕ) (new : WorldState) (flicks_then : FlickState) (access : Access) : Type 0 where
+-- so many Steps of p are made in a row, each by the flick that is next; the newest makes this access, and so many end a read that a write overlapped
+pub record MakesSteps (old : WorldState) (flicks : FlickState) (p steps : ℕ) (new : WorldState) (flicks_then : FlickState) (access : Access) (overlapped : ℕ) : Type 0 where
   pub earlier : ℕ
   pub count : steps ≡ suc earlier
   pub world : WorldState
   pub source : FlickState
-  pub walks : Walks old flicks p earlier world source
-  pub newest : MakesQuietly world p (flick_of source) access new
+  pub overlapped_before : ℕ
+  pub walks : Walks old flicks p earlier overlapped_before world source
+  pub last : Bool
+  pub newest : MakesQuietly world p (flick_of source) access last new
   pub flicks_are : flicks_then ≡ after_flick source
+  pub overlapped_are : overlapped ≡ overlapped_before + (if last then 1 else 0)
 
 -- a Step is made or refused, and told
 pub record TellsStep (old : WorldState) (p : ℕ) (flick : Bool) (answer : Told) (new : WorldState) : Type 0 where

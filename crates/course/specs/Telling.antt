@@ -11,9 +11,10 @@ use Rattle.record.specs.Entries.{Entry, Past}
 use Rattle.record.specs.Records.{entry_of, placed, process_of, refused}
 use Rattle.world.specs.process.Telling.{marks_of}
 use Rattle.world.specs.process.declared.told.Effect.TheVariants.{Steps}
-use Rattle.world.specs.process.declared.told.EventMade.{EventMade}
 use Rattle.world.specs.process.declared.told.StepTold.{StepTold as Leads}
 use Rattle.world.specs.process.declared.told.StepTold.TheVariants as step
+use Rattle.world.specs.process.registers.declared.access_made.AccessMade.{AccessMade}
+use Rattle.world.specs.Walks.{ends_overlapped_read}
 use Rattle.course.specs.Happenings.{Happening, Tries, Lacks, Tires, Looks}
 use Rattle.course.specs.Texts.{mark_line, newest_store, store_text, turns_line}
 use Rattle.record.specs.Shown.{refusal_line}
@@ -36,7 +37,7 @@ AddsMarks s past event marks = (access : Option Access) × (entry_of s past even
 
 -- what is told is what happens after this past
 abbrev pub TellsOf : Setup → Past → Happening → Told → Type 0
-TellsOf s past (Tries event) (told.Accepted made) = (made.event ≡ event) × (entry_of s past event ≡ Some (entry_made made))
+TellsOf s past (Tries event) (told.Accepted made) = (made.event ≡ event) × (entry_of s past event ≡ Some (entry_made made)) × (made.overlapped ≡ ends_overlapped_read past (entry_made made))
 TellsOf s past (Tries event) (told.Refused p refusal) = (p ≡ process_of event) × (refused s past event ≡ Some refusal)
 TellsOf s past (Lacks p) (told.Refused q refusal) = (q ≡ p) × (refusal ≡ NoProcess)
 TellsOf s past (Tires p) (told.Tired q) = q ≡ p
@@ -66,16 +67,11 @@ told_text number (told.Refused p refusal) = refusal_line p refusal
 told_text number (told.Tired p) = turns_line p
 told_text number (told.Shown store) = store_text store
 
--- a Step that is made or refused, with what it leads to
-abbrev pub with_told : Leads → Result Access Refusal → Result EventMade Refusal
-with_told leads (Ok access) = Ok (record { access = Some access; effect = Steps leads })
-with_told leads (Err refusal) = Err refusal
-
--- what a Step of a process tells, with its flick and the place of a command that it takes
-abbrev pub told_step : ℕ → Bool → ℕ → Result EventMade Refusal → Told
-told_step p flick place (Ok made) = told.Accepted (record { event = event.Step p flick; place = place; access = made.access; effect = made.effect })
-told_step p flick place (Err refusal) = told.Refused p refusal
+-- what a Step of a process tells, made or refused, with its flick, the place of a command that it takes, and what it leads to
+abbrev pub told_step : ℕ → Bool → ℕ → Leads → Result AccessMade Refusal → Told
+told_step p flick place leads (Ok made) = told.Accepted (record { event = event.Step p flick; place = place; access = Some made.access; overlapped = made.overlapped; effect = Steps leads })
+told_step p flick place leads (Err refusal) = told.Refused p refusal
 
 -- what a Step tells that has no mark; since it takes no command, its place does not matter
 abbrev pub told_unmarked : Stepped → Told
-told_unmarked made = told.Accepted (record { event = event.Step made.process made.flick; place = 0; access = Some made.access; effect = Steps step.Nothing })
+told_unmarked made = told.Accepted (record { event = event.Step made.process made.flick; place = 0; access = Some made.access; overlapped = made.overlapped; effect = Steps step.Nothing })

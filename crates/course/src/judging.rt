@@ -147,8 +147,8 @@ impl<L: Listener + Drop> Listener for Overheard<L> {
         self.listener.step(made)
     }
 
-    fn pass(&mut self, process: u8, steps: u32, newest: &Access) {
-        self.listener.pass(process, steps, newest);
+    fn pass(&mut self, process: u8, steps: u32, newest: &Access, overlapped: u32) {
+        self.listener.pass(process, steps, newest, overlapped);
     }
 
     ghost room_less = { λ a n k. L.room_less a.listener n k };

@@ -47,12 +47,12 @@ pub trait Listener {
             HearsUnmarked (StopsBy Stops fault) made self.old self.new) };
 
     /// So many Steps of this process, within a number access of its call and without a mark, are passed by; the newest of
-    /// them made this access.
-    fn pass(&mut self, process: u8, steps: u32, newest: &Access)
+    /// them made this access, and so many of them ended a read that a write overlapped.
+    fn pass(&mut self, process: u8, steps: u32, newest: &Access, overlapped: u32)
         requires some { 0 < steps }
         requires room { HasRoom self.old steps }
         ensures ok { hears_steps self.old ≡ false
-            → HearsPassing Hears process steps newest.now self.old self.new }
+            → HearsPassing Hears process steps newest.now overlapped self.old self.new }
         ensures room { TakesRoom HasRoom self.old steps self.new };
 
     ghost room_less: { (a : Self) (n k : ℕ) → n ≤ k → HasRoom a k → HasRoom a n };

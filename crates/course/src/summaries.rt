@@ -82,7 +82,7 @@ impl Listener for Summary {
     }
 
     #[tactic(auto, using(crate::proofs::Counting::counts_passed))]
-    fn pass(&mut self, _process: u8, steps: u32, _newest: &Access) {
+    fn pass(&mut self, _process: u8, steps: u32, _newest: &Access, _overlapped: u32) {
         self.events += u64::from(steps);
     }
 

@@ -15,6 +15,8 @@ pub struct Accepted {
     pub event: Event,
     pub place: u64,
     pub access: Option<Access>,
+    /// Whether the access ends a read that a write overlapped.
+    pub overlapped: bool,
     pub effect: Effect,
 }
 
@@ -48,6 +50,8 @@ pub struct Stepped {
     pub process: u8,
     pub flick: bool,
     pub access: Access,
+    /// Whether the access ends a read that a write overlapped.
+    pub overlapped: bool,
     /// How much of a number its process had read before it; not told of a Step within a number access.
     pub number: Option<u32>,
 }

@@ -159,6 +159,8 @@ impl Course {
                     event,
                     place,
                     access,
+                    // Only a Step has an access, and this event is none.
+                    overlapped: false,
                     effect,
                 };
                 Ok(Some(Told::Accepted(made)))

@@ -47,4 +47,4 @@ pub told_listed : (s : Setup) (before : List Happening) (this : Happening) (told
 told_listed s before this told taken events events' h more are = more ∙ ap (λ l. l ++ event_told told) are ∙ listed_more s before this told h.tells
 
 pub step_listed : (s : Setup) (before : List Happening) (made : Stepped) (events events' : List Event) → StepsOn s before made → events' ≡ events ++ Step made.process made.flick ∷ [] → events ≡ listed s before → events' ≡ listed s (Tries (Step made.process made.flick) ∷ before)
-step_listed s before made events events' on more are = more ∙ ap (λ l. l ++ Step made.process made.flick ∷ []) are ∙ listed_more s before (Tries (Step made.process made.flick)) (told_unmarked made) (refl, on.adds)
+step_listed s before made events events' on more are = more ∙ ap (λ l. l ++ Step made.process made.flick ∷ []) are ∙ listed_more s before (Tries (Step made.process made.flick)) (told_unmarked made) (refl, on.adds, on.overlapped)

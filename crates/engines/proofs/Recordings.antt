@@ -52,7 +52,7 @@ entry_is s before Looks (told.Tired q) tells = absurd tells
 
 -- a Step without a mark too
 step_is : (s : Setup) (before : List Happening) (made : Stepped) → StepsOn s before made → entries_text s (Tries (Step made.process made.flick) ∷ before) ≡ entries_text s before ++ entry_line (step_entry made.process made.access)
-step_is s before made on = entry_is s before (Tries (Step made.process made.flick)) (told_unmarked made) (refl, on.adds)
+step_is s before made on = entry_is s before (Tries (Step made.process made.flick)) (told_unmarked made) (refl, on.adds, on.overlapped)
 
 -- what is written of what is told
 pub entry_copied : (s : Setup) (before : List Happening) (this : Happening) (told : Told) (taken : List Taken) (a b : Option (List ℕ)) → Happens s before this told taken → Appends a b (entry_told told) → Writes (entries_text s before) (entries_text s (this ∷ before)) a b

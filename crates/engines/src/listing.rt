@@ -63,7 +63,7 @@ impl Listener for Lister {
         Ok(add(Event::Step(made.process, made.flick), &mut self.events)?)
     }
 
-    fn pass(&mut self, _process: u8, _steps: u32, _newest: &Access) {}
+    fn pass(&mut self, _process: u8, _steps: u32, _newest: &Access, _overlapped: u32) {}
 
     ghost room_less = { λ a n k few room. tt };
 

@@ -145,7 +145,7 @@ impl<'a, W: Sink> Listener for Copier<'a, W> {
         Ok(())
     }
 
-    fn pass(&mut self, _process: u8, _steps: u32, _newest: &Access) {}
+    fn pass(&mut self, _process: u8, _steps: u32, _newest: &Access, _overlapped: u32) {}
 
     ghost room_less = { λ a n k few room. room };
 

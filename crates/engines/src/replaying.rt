@@ -134,7 +134,7 @@ impl<'a, W: Sink> Listener for Printer<'a, W> {
         Ok(())
     }
 
-    fn pass(&mut self, _process: u8, steps: u32, _newest: &Access) {
+    fn pass(&mut self, _process: u8, steps: u32, _newest: &Access, _overlapped: u32) {
         self.summary.events += u64::from(steps);
     }
 

@@ -79,14 +79,14 @@ impl Follower {
         }
         self.tried.copy_from(self.auditor.core());
         let mut told = StepTold::Nothing;
-        let Ok(access) = self.tried.step(process, flick, &mut told) else {
+        let Ok(made) = self.tried.step(process, flick, &mut told) else {
             return None;
         };
         let place = self.auditor.taken()?;
         Some(Entry {
             process,
             act: Act {
-                access: Some(access),
+                access: Some(made.access),
                 marks: told.marks(alloc, place),
             },
         })

@@ -17,7 +17,7 @@ use Rattle.record.specs.Registers.{width}
 use Rattle.record.specs.Scripts.{Call}
 use Rattle.laws.specs.Doings.{Doing, Rests, Lies, Runs, Closes, call, runs}
 use Rattle.laws.specs.Steps.{does_then, marks_with}
-use Rattle.process.specs.Places.{ProcessState, left_at, left_of, marks_on, rest_of, stage_doing, stepped}
+use Rattle.process.specs.Places.{ProcessState, is_told, left_at, left_of, marks_on, rest_of, stage_doing, stepped}
 
 -- WITHIN A NUMBER ACCESS
 
@@ -108,15 +108,32 @@ within c part (Writing w) v more = write-within c part w v more
 
 -- WHAT IS LEFT
 
+-- where the first access of a part is not told, it has no mark
+untold : (part : Part) → is_told part ≡ false → first_marks part ≡ []
+untold Raises none = refl
+untold (Asks j js ts) none = refl
+untold (TakesTicket t) none = refl
+untold (Lowers t) none = refl
+untold (Refuses full) none = refl
+untold (Waits t w ws) none = refl
+untold (AsksCommit k ks vs) none = refl
+untold (AsksStamp k ks vs commit) none = refl
+untold (AsksImage vs) none = refl
+untold (WritesImage vs st) none = refl
+untold (WritesStamp vs st) none = refl
+untold (WritesCommit vs st) none = refl
+untold (Clears answer) none = absurd (cc)
+untold Over none = refl
+
 -- where some are left, they are those before the last one, and the next one has no mark
-left-by : (fresh : Bool) (marks : List Mark) (rest : ℕ) → 0 < cond fresh (elim marks as (λ _. ℕ) [ [] ↦ rest - 1 | mark ∷ more ↦ 0 ]) (rest - 1) →
-    (1 < rest) × (cond fresh marks [] ≡ []) × (cond fresh (elim marks as (λ _. ℕ) [ [] ↦ rest - 1 | mark ∷ more ↦ 0 ]) (rest - 1) ≡ rest - 1)
-left-by true [] rest more = (omega (arith, more), refl, refl)
-left-by true (mark ∷ marks) rest more = absurd (omega (arith, more))
-left-by false marks rest more = (omega (arith, more), refl, refl)
+left-by : (fresh told : Bool) (marks : List Mark) (rest : ℕ) → (told ≡ false → marks ≡ []) → 0 < cond (fresh && told) 0 (rest - 1) →
+    (1 < rest) × (cond fresh marks [] ≡ []) × (cond (fresh && told) 0 (rest - 1) ≡ rest - 1)
+left-by true true marks rest none more = absurd (omega (arith, more))
+left-by true false marks rest none more = (omega (arith, more), none refl, refl)
+left-by false told marks rest none more = (omega (arith, more), refl, refl)
 
 pub left-some : (c : Call) (part : Part) (run : Run) → 0 < left_of c part run → (1 < rest_of c part run) × (cond (is_fresh run) (first_marks part) [] ≡ []) × (left_of c part run ≡ rest_of c part run - 1)
-left-some c part run more = left-by (is_fresh run) (first_marks part) (rest_of c part run) more
+left-some c part run more = left-by (is_fresh run) (is_told part) (first_marks part) (rest_of c part run) (untold part) more
 
 -- a call of which some are left is not over
 pub live-by : (over : Bool) (left : ℕ) → 0 < cond over 0 left → (over ≡ false) × (0 < left)
@@ -169,7 +186,7 @@ fewer-by now (Runs command number at) flick v more =
     let left = left-some c at.part at.run live.1 in
     let w = within c at.part at.run v left.0 in
     let next : Run = run_after c at.part at.run v in
-    let then : left_of c at.part next ≡ rest_of c at.part next - 1 = ap (λ b. cond b (elim (first_marks at.part) as (λ _. ℕ) [ [] ↦ rest_of c at.part next - 1 | mark ∷ marks ↦ 0 ]) (rest_of c at.part next - 1)) w.goes in
+    let then : left_of c at.part next ≡ rest_of c at.part next - 1 = ap (λ b. cond (b && is_told at.part) 0 (rest_of c at.part next - 1)) w.goes in
     ap (λ d. left_at (does now d) + 1) (left-runs now.setup now.process command number at flick v live.0 live.1)
     ∙ ap (λ b. cond b 0 (left_of c at.part next) + 1) live.0
     ∙ (let e : left_of c at.part next + 1 ≡ left_of c at.part at.run = omega (arith, then, left.0, left.2, w.fewer) in e)

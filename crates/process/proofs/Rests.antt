@@ -1,10 +1,9 @@
 -- How many accesses are left, by the cursor.
-use Rattle.std.proofs.Common.{◌≡◌, ℕ, ◌-◌, ◌*◌, Bool, true, false, cond, List, [], ◌∷◌, get_or, None, Some, refl, sym, ap, ◌∙◌, arith, inl, inr}
+use Rattle.std.proofs.Common.{◌≡◌, ℕ, ◌-◌, ◌*◌, ◌&&◌, Bool, true, false, cond, get_or, None, Some, sym, ap, ◌∙◌, arith, inl, inr}
 use Rattle.std.proofs.Math.Nat.{mul-sub}
 use Rattle.std.proofs.lemmas.Bool.{cases_eq, eq-eqb, ne_eqb}
 use Rattle.record.specs.reader_copies.Runs.{Writing}
-use Rattle.record.specs.declared.marks.Mark.{Mark}
-use Rattle.record.specs.Parts.{Part, first_marks, is_read, read_at, written_at}
+use Rattle.record.specs.Parts.{Part, is_read, read_at, written_at}
 use Rattle.record.specs.Places as places
 use Rattle.record.specs.Scripts.{Call}
 use Rattle.registers.specs.AtParts.{IsAtPart, ReadsAt, WritesAt, run_at, run_by}
@@ -14,7 +13,7 @@ use Rattle.registers.specs.Cursors as cursors
 use Rattle.registers.specs.Rows.{bit_begun}
 use Rattle.registers.specs.declared.cursor.NumberRun.TheVariants.{Reads, Writes}
 use Rattle.registers.proofs.CursorRuns.{Moves, moves}
-use Rattle.process.specs.Places.{left_of, rest_of}
+use Rattle.process.specs.Places.{is_told, left_of, rest_of}
 
 -- what is made of the present bit
 begun-made : (made : ℕ) (value : Bool) → elim (bit_begun made value) as (λ _. ℕ) [ None ↦ 0 | Some bit ↦ bit.made ] ≡ made
@@ -51,13 +50,8 @@ rest-is c part cur at = by (is_read part) at
     by false writes = rest-write c part cur writes
 
 -- those before the last one
-before-last : (fresh : Bool) (marks : List Mark) (rest : ℕ) → cond fresh marks [] ≡ [] → cond fresh (elim marks as (λ _. ℕ) [ [] ↦ rest - 1 | mark ∷ more ↦ 0 ]) (rest - 1) ≡ rest - 1
-before-last true [] rest none = refl
-before-last true (mark ∷ marks) rest none = absurd (cc)
-before-last false marks rest none = refl
-
-pub left-before : (c : Call) (part : Part) (cur : CursorState) → IsAtPart c part cur → cond (is_fresh cur) (first_marks part) [] ≡ [] → left_of c part (run_at cur) ≡ cursors.rest_of cur - 1
+pub left-before : (c : Call) (part : Part) (cur : CursorState) → IsAtPart c part cur → (is_fresh cur && is_told part) ≡ false → left_of c part (run_at cur) ≡ cursors.rest_of cur - 1
 left-before c part cur at none =
     let m : Moves c part cur false = moves c part cur false at in
-    before-last (places.is_fresh (run_at cur)) (first_marks part) (rest_of c part (run_at cur)) (ap (λ b. cond b (first_marks part) []) m.fresh ∙ none)
+    ap (λ b. cond b 0 (rest_of c part (run_at cur) - 1)) (ap (λ b. b && is_told part) m.fresh ∙ none)
     ∙ ap (λ n. n - 1) (rest-is c part cur at)

@@ -14,7 +14,7 @@ use Rattle.record.specs.Places.{Place, run_after, value_of}
 use Rattle.record.specs.Registers.{width}
 use Rattle.record.specs.Scripts.{Call}
 use Rattle.laws.specs.Doings.{Runs}
-use Rattle.registers.specs.Accesses.{answered, applied, cursor_after, lane_of_access, move_by, next_access, next_answered, read_move, run_of}
+use Rattle.registers.specs.Accesses.{answered, applied, cursor_after, ends_overlapped, lane_of_access, move_by, next_access, next_answered, overlapped_of, read_move, run_of}
 use Rattle.registers.specs.AtParts.{IsAtPart, ReadsAt, WritesAt, moved, run_at}
 use Rattle.registers.specs.Begins.{is_settling}
 use Rattle.registers.specs.Cursors.{CursorState, Fits, IsAtCopy}
@@ -29,7 +29,7 @@ use Rattle.process.specs.declared.work.ProcessWork.{ProcessWork}
 use Rattle.process.specs.declared.work.ProcessWork.TheVariants as work
 use Rattle.process.specs.CallParts.{PartState}
 use Rattle.process.specs.Places.{ProcessState, left_at, left_of, may_step, stepped}
-use Rattle.process.specs.Serving.{answered_at, step_by, step_of, steps_of}
+use Rattle.process.specs.Serving.{answered_at, overlapped_steps, overlaps_step, step_by, step_of, steps_of}
 use Rattle.process.specs.Working.{KeepsPlace, SettlesAt, doing_at, given, state_at}
 use Rattle.process.proofs.Left.{left-fewer, left-runs, left-some, live-by, within}
 use Rattle.process.proofs.NextAt.{next-is}
@@ -200,9 +200,10 @@ pub record Served (made : ℕ) (k : PartState) (cur : CursorState) (memory : Lis
   pub keeps : KeepsPlace k work.Runs (run_of made (cur, memory, flicks)).0
   pub left : left_at (state_at k work.Runs (run_of made (cur, memory, flicks)).0) + made ≡ left_at (state_at k work.Runs cur)
   pub now : (let then : ProcessState × List (List Cell) × FlickState = (state_at k work.Runs (run_of made (cur, memory, flicks)).0, (run_of made (cur, memory, flicks)).1, (run_of made (cur, memory, flicks)).2) in then ≡ steps_of made (state_at k work.Runs cur, memory, flicks))
+  pub overlapped : overlapped_of made (cur, memory, flicks) ≡ overlapped_steps made (state_at k work.Runs cur, memory, flicks)
 
 pub served : (made : ℕ) (k : PartState) (cur : CursorState) (memory : List (List Cell)) (flicks : FlickState) → KeepsPlace k work.Runs cur → made ≤ left_at (state_at k work.Runs cur) → Served made k cur memory flicks
-served zero k cur memory flicks keeps within = record { keeps = keeps; left = omega arith; now = refl }
+served zero k cur memory flicks keeps within = record { keeps = keeps; left = omega arith; now = refl; overlapped = refl }
 served (suc made) k cur memory flicks keeps within =
     let before : Served made k cur memory flicks = served made k cur memory flicks keeps (omega (arith, within)) in
     let x : CursorState × List (List Cell) × FlickState = run_of made (cur, memory, flicks) in
@@ -212,10 +213,16 @@ served (suc made) k cur memory flicks keeps within =
     let one = serves-one k x.0 x.1 flick before.keeps more in
     let step = serves-step k x.0 x.1 flick before.keeps more in
     let fewer : left_at (stepped (state_at k work.Runs x.0) flick (value_of a.how)) + 1 ≡ left_at (state_at k work.Runs x.0) = left-fewer (state_at k work.Runs x.0) flick (value_of a.how) more in
+    let start : ProcessState × List (List Cell) × FlickState = (state_at k work.Runs cur, memory, flicks) in
+    let copies : x.0.copies ≡ k.call.setup.processes = (runs-stand k x.0 before.keeps).0.copies in
+    let same : a ≡ answered_at (state_at k work.Runs x.0) x.1 flick = answered-is k work.Runs x.0 x.1 flick before.keeps refl in
     record {
       keeps = one.0;
       left = omega (arith, ap left_at one.1, fewer, before.left);
       now =
           (λ i. ((step i).0, (step i).1, after_flick x.2))
           ∙ ap step_of before.now;
+      overlapped =
+          (λ i. before.overlapped i + cond (ends_overlapped (copies i) x.1 (same i)) 1 0)
+          ∙ ap (λ y. overlapped_steps made start + cond (overlaps_step y) 1 0) before.now;
     }

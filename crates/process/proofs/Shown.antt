@@ -8,7 +8,7 @@ use Rattle.record.specs.Parts.{Part, is_over, is_read, read_at, written_at}
 use Rattle.record.specs.Scripts.{Call}
 use Rattle.laws.specs.Doings.{Doing, Rests, Lies, Runs, Closes}
 use Rattle.laws.specs.Steps.{reads_of}
-use Rattle.registers.specs.Accesses.{applied, cursor_after, next_answered, run_of}
+use Rattle.registers.specs.Accesses.{applied, cursor_after, next_answered, overlapped_of, run_of}
 use Rattle.registers.specs.AtParts.{ReadsAt, WritesAt, run_at}
 use Rattle.registers.specs.Cursors.{CursorState, Fits, first_lane, lane_number, rest_of}
 use Rattle.registers.specs.Memory.{without_reads}
@@ -17,7 +17,7 @@ use Rattle.process.specs.declared.work.ProcessWork.{ProcessWork}
 use Rattle.process.specs.declared.work.ProcessWork.TheVariants as work
 use Rattle.process.specs.CallParts.{PartState}
 use Rattle.process.specs.Places.{ProcessState, left_at, left_of, may_step}
-use Rattle.process.specs.Serving.{answered_at, dropped, step_by, steps_of}
+use Rattle.process.specs.Serving.{answered_at, dropped, overlapped_steps, step_by, steps_of}
 use Rattle.process.specs.Working.{KeepsPlace, state_at}
 use Rattle.process.proofs.Left.{left-some, live-by}
 use Rattle.process.proofs.Rests.{rest-is}
@@ -38,6 +38,11 @@ pub shown-fits : (k : PartState) (w : ProcessWork) (cur : CursorState) (now : Pr
 shown-fits k w cur now memory keeps shown goes of =
     stands-fit k.call.setup memory cur (subst (λ s. AreOf s memory) (sym (ap (λ (x : ProcessState). x.setup) shown)) of)
     (stands k w cur keeps (ap (λ (x : ProcessState). may_step x.doing) shown ∙ goes))
+
+-- of whose bits there is a copy for each process
+pub shown-copies : (k : PartState) (w : ProcessWork) (cur : CursorState) (now : ProcessState) → KeepsPlace k w cur → state_at k w cur ≡ now → may_step now.doing ≡ true → cur.copies ≡ now.setup.processes
+shown-copies k w cur now keeps shown goes =
+    (stands k w cur keeps (ap (λ (x : ProcessState). may_step x.doing) shown ∙ goes)).copies ∙ ap (λ (x : ProcessState). x.setup.processes) shown
 
 -- it is answered as its cursor is
 pub shown-answered : (k : PartState) (w : ProcessWork) (cur : CursorState) (now : ProcessState) (memory : List (List Cell)) (flick : Bool) → KeepsPlace k w cur → state_at k w cur ≡ now → may_step now.doing ≡ true →
@@ -63,19 +68,21 @@ shown-step k w cur now memory flick keeps shown more =
 pub shown-run : (steps : ℕ) (k : PartState) (w : ProcessWork) (cur : CursorState) (now : ProcessState) (memory : List (List Cell)) (flicks : FlickState) → KeepsPlace k w cur → state_at k w cur ≡ now → 0 < steps → steps ≤ left_at now →
     let x : CursorState × List (List Cell) × FlickState = run_of steps (cur, memory, flicks) in
     KeepsPlace k w x.0 × (let then : ProcessState × List (List Cell) × FlickState = (state_at k w x.0, x.1, x.2) in then ≡ steps_of steps (now, memory, flicks)) × (steps ≤ rest_of cur)
+    × (overlapped_of steps (cur, memory, flicks) ≡ overlapped_steps steps (now, memory, flicks))
 shown-run steps k w cur now memory flicks keeps shown some within =
     let here : steps ≤ left_at (state_at k w cur) = omega (arith, within, ap left_at shown) in
     let x : CursorState × List (List Cell) × FlickState = run_of steps (cur, memory, flicks) in
     let P : ProcessWork → Type 0 = λ w. KeepsPlace k w cur → steps ≤ left_at (state_at k w cur) →
-    KeepsPlace k w x.0 × (let then : ProcessState × List (List Cell) × FlickState = (state_at k w x.0, x.1, x.2) in then ≡ steps_of steps (state_at k w cur, memory, flicks)) × (steps ≤ rest_of cur) in
+    KeepsPlace k w x.0 × (let then : ProcessState × List (List Cell) × FlickState = (state_at k w x.0, x.1, x.2) in then ≡ steps_of steps (state_at k w cur, memory, flicks)) × (steps ≤ rest_of cur)
+    × (overlapped_of steps (cur, memory, flicks) ≡ overlapped_steps steps (state_at k w cur, memory, flicks)) in
     let runs : P work.Runs = λ keeps within.
     let all = served steps k cur memory flicks keeps within in
     let live = live-by (is_over k.part) (left_of k.call k.part (run_at cur)) (omega (arith, some, within)) in
     let left = left-some k.call k.part (run_at cur) live.1 in
     let same : left_at (state_at k work.Runs cur) ≡ left_of k.call k.part (run_at cur) = ap (λ b. cond b 0 (left_of k.call k.part (run_at cur))) live.0 in
-    (all.keeps, all.now, omega (arith, within, same, left.2, rest-is k.call k.part cur keeps.working.at)) in
+    (all.keeps, all.now, omega (arith, within, same, left.2, rest-is k.call k.part cur keeps.working.at), all.overlapped) in
     let one = subst P (sym (left-works k w cur (omega (arith, some, here)))) runs keeps here in
-    (one.0, one.1 ∙ ap (λ (x : ProcessState). steps_of steps (x, memory, flicks)) shown, one.2)
+    (one.0, one.1 ∙ ap (λ (x : ProcessState). steps_of steps (x, memory, flicks)) shown, one.2, one.3 ∙ ap (λ (x : ProcessState). overlapped_steps steps (x, memory, flicks)) shown)
 
 -- A DROPPED READ
 

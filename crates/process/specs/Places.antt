@@ -122,11 +122,17 @@ abbrev pub rest_of : Call → Part → Run → ℕ
 rest_of c part (Reading bits begun) = 2 * width c.setup (read_at c part).1 - (2 * length bits + (if begun then 1 else 0))
 rest_of c part (Writing w) = 2 * (c.setup.processes * (w.width - w.bit)) - elim w.run as (λ _. ℕ) [ None ↦ 0 | Some bit ↦ bit.made ]
 
--- how many accesses a place has before the last one; none, where the next one has a mark
-abbrev pub left_of : Call → Part → Run → ℕ
-left_of c part run = cond (is_fresh run) (elim (first_marks part) [ [] ↦ rest_of c part run - 1 | mark ∷ marks ↦ 0 ]) (rest_of c part run - 1)
+-- the first access of a part begins its call, or has a mark
+abbrev pub is_told : Part → Bool
+is_told Raises = true
+is_told part = elim (first_marks part) [ [] ↦ false | mark ∷ marks ↦ true ]
 
--- how many of its next accesses are within a number access of its call: they have no mark, and none is the last
+-- how many accesses a place has before the last one; none, where the next one begins the call or has a mark
+abbrev pub left_of : Call → Part → Run → ℕ
+left_of c part run = cond (is_fresh run && is_told part) 0 (rest_of c part run - 1)
+
+-- how many of its next accesses are within a number access of its call: they have no mark, and none is the first of the call or
+-- the last of the access
 abbrev pub left_at : ProcessState → ℕ
 left_at now = elim now.doing as (λ _. ℕ) [
   | Rests ↦ 0

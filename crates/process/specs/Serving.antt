@@ -1,5 +1,5 @@
 -- A process that is served by a memory: a step, and so many of them.
-use Rattle.std.specs.Prelude.{ℕ, zero, suc, Bool, List, None, Some, unwrap_or}
+use Rattle.std.specs.Prelude.{ℕ, zero, suc, ◌+◌, Bool, if◌then◌else◌, List, None, Some, unwrap_or}
 use Rattle.registers.specs.safe_bit.Cell.{Cell}
 use Rattle.registers.specs.safe_bit.declared.moves.Move.TheVariants.{BeginRead}
 use Rattle.flicks.specs.Flicks.{FlickState, after_flick, flick_of}
@@ -7,7 +7,7 @@ use Rattle.record.specs.declared.access.Access.{Access}
 use Rattle.record.specs.declared.access.Field.TheVariants.{Choosing}
 use Rattle.record.specs.Places.{value_of}
 use Rattle.laws.specs.Steps.{next_of, reads_of}
-use Rattle.registers.specs.Accesses.{answered, applied}
+use Rattle.registers.specs.Accesses.{answered, applied, ends_overlapped}
 use Rattle.registers.specs.Cursors.{lane_number}
 use Rattle.registers.specs.Memory.{without_reads}
 use Rattle.process.specs.Places.{ProcessState, stepped}
@@ -36,6 +36,15 @@ step_of (now, memory, flicks) = ((step_by (flick_of flicks) (now, memory)).0, (s
 abbrev pub steps_of : ℕ → ProcessState × List (List Cell) × FlickState → ProcessState × List (List Cell) × FlickState
 steps_of zero now = now
 steps_of (suc k) now = step_of (steps_of k now)
+
+-- the next step ends a read that a write overlapped
+abbrev pub overlaps_step : ProcessState × List (List Cell) × FlickState → Bool
+overlaps_step (now, memory, flicks) = ends_overlapped now.setup.processes memory (answered_at now memory (flick_of flicks))
+
+-- how many of so many steps do
+abbrev pub overlapped_steps : ℕ → ProcessState × List (List Cell) × FlickState → ℕ
+overlapped_steps zero now = 0
+overlapped_steps (suc k) now = overlapped_steps k now + (if overlaps_step (steps_of k now) then 1 else 0)
 
 -- the memory without the open read of the process, if it has one
 abbrev pub dropped : ProcessState → List (List Cell) → List (List Cell)

@@ -13,7 +13,7 @@ ghost use Rattle.store_image.specs.Image.{image_of};
 ghost use Rattle.process.specs.Alone.{answer_at, full_at, ticket_at};
 ghost use Rattle.process.specs.CallParts.{IsAsked, IsOutcome, reads_image, writes_image};
 ghost use Rattle.process.specs.Looks.{ticket_known_at};
-ghost use Rattle.process.specs.Places.{changes_at};
+ghost use Rattle.process.specs.Places.{changes_at, is_told};
 ghost use Rattle.process.specs.Telling.{changes_told, marks_told};
 ghost use Rattle.process.specs.Working.{reply_taken};
 
@@ -134,6 +134,14 @@ impl CallPart {
         ensures { first_marks self.now.part ≡ cond result (Left ∷ []) [] }
     {
         matches!(self.part, ProcessPart::Clears(_))
+    }
+
+    /// Whether its first access begins the call, or has a mark.
+    #[inline]
+    pub fn is_told(&self) -> bool
+        ensures { result ≡ is_told self.now.part }
+    {
+        matches!(self.part, ProcessPart::Raises | ProcessPart::Clears(_))
     }
 
     /// Whether it reads the image; any other register that it reads has at most 32 bits.

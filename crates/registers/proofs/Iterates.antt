@@ -49,11 +49,11 @@ access-write c memory flicks writes =
     ∙ ap (λ how. of_write (after_flick flicks) (after_by Writes c how, moved memory (first_lane c + c.copy) c.bit how)) (unanswered (read_answer (cell_at memory (first_lane c + c.copy) c.bit) (flick_of flicks)) _ c.begun)
 
 -- reads and writes stay what they are
-reads-stay : (k : ℕ) (now : CursorState × List (List Cell) × FlickState) → ((reads_of k now).0.run ≡ now.0.run) × ((reads_of k now).0.copy ≡ now.0.copy)
+pub reads-stay : (k : ℕ) (now : CursorState × List (List Cell) × FlickState) → ((reads_of k now).0.run ≡ now.0.run) × ((reads_of k now).0.copy ≡ now.0.copy)
 reads-stay zero now = (refl, refl)
 reads-stay (suc k) now = reads-stay k now
 
-writes-stay : (k : ℕ) (now : CursorState × List (List Cell)) → (writes_of k now).0.run ≡ now.0.run
+pub writes-stay : (k : ℕ) (now : CursorState × List (List Cell)) → (writes_of k now).0.run ≡ now.0.run
 writes-stay zero now = refl
 writes-stay (suc k) now = writes-stay k now
 

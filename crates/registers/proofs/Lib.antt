@@ -10,6 +10,7 @@ pub mod Masks
 pub mod Numbers
 pub mod Openings
 pub mod Over
+pub mod Overlaps
 pub mod PlaceMoves
 pub mod Quiet
 pub mod Rows

@@ -1,5 +1,5 @@
 -- The single access of a cursor, and so many of them.
-use Rattle.std.specs.Prelude.{ℕ, zero, suc, ◌+◌, ◌==◌, ◌&&◌, ◌||◌, Bool, false, not, if◌then◌else◌, List, [], ◌∷◌, ◌++◌, Option, Some, unwrap_or, slice_index_or}
+use Rattle.std.specs.Prelude.{ℕ, zero, suc, ◌+◌, ◌==◌, ◌&&◌, ◌||◌, Bool, true, false, not, if◌then◌else◌, List, [], ◌∷◌, ◌++◌, Option, Some, unwrap_or, slice_index_or}
 use Rattle.safe_bit.specs.Cell.{Cell, read_answer}
 use Rattle.safe_bit.specs.declared.moves.Move.{Move}
 use Rattle.safe_bit.specs.declared.moves.Move.TheVariants.{BeginWrite, EndWrite, BeginRead, EndRead, Settle}
@@ -114,10 +114,34 @@ made_by c memory flicks a = (cursor_after c a.how, applied c.copies memory a, af
 abbrev pub access_of : CursorState × List (List Cell) × FlickState → CursorState × List (List Cell) × FlickState
 access_of (c, memory, flicks) = made_by c memory flicks (next_answered c memory (flick_of flicks))
 
+-- THE END OF A READ THAT A WRITE OVERLAPPED
+
+-- a move ends a read
+abbrev pub ends_read : Move → Bool
+ends_read (EndRead v) = true
+ends_read _ = false
+
+-- of a copy on which a write was open as the read began, or has begun since
+abbrev pub ends_touched : Cell → Move → Bool
+ends_touched c how = ends_read how && c.touched
+
+-- so does an access to a memory where each bit has so many copies
+abbrev pub ends_overlapped : ℕ → List (List Cell) → Access → Bool
+ends_overlapped copies memory a = ends_touched (cell_at memory (lane_of_access copies a) a.bit) a.how
+
+-- so does the next access
+abbrev pub overlaps_next : CursorState × List (List Cell) × FlickState → Bool
+overlaps_next (c, memory, flicks) = ends_overlapped c.copies memory (next_answered c memory (flick_of flicks))
+
 -- SO MANY
 abbrev pub run_of : ℕ → CursorState × List (List Cell) × FlickState → CursorState × List (List Cell) × FlickState
 run_of zero now = now
 run_of (suc k) now = access_of (run_of k now)
+
+-- how many of them end a read that a write overlapped
+abbrev pub overlapped_of : ℕ → CursorState × List (List Cell) × FlickState → ℕ
+overlapped_of zero now = 0
+overlapped_of (suc k) now = overlapped_of k now + (if overlaps_next (run_of k now) then 1 else 0)
 
 -- THE SAME OF A READ ALONE, AND OF A WRITE
 
@@ -137,3 +161,11 @@ reads_of (suc k) now = read_access (reads_of k now)
 abbrev pub writes_of : ℕ → CursorState × List (List Cell) → CursorState × List (List Cell)
 writes_of zero now = now
 writes_of (suc k) now = write_access (writes_of k now)
+
+-- the next access of a read ends one that a write overlapped
+abbrev pub read_overlaps : CursorState → List (List Cell) → Bool
+read_overlaps c memory = c.begun && (cell_at memory (first_lane c) c.bit).touched
+
+abbrev pub overlapped_reads : ℕ → CursorState × List (List Cell) × FlickState → ℕ
+overlapped_reads zero now = 0
+overlapped_reads (suc k) now = overlapped_reads k now + (if read_overlaps (reads_of k now).0 (reads_of k now).1 then 1 else 0)

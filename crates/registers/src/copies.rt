@@ -136,6 +136,7 @@ impl BitLane {
     }
 
     /// What the copy of bit `k` is.
+    #[inline]
     pub fn seen(&self, k: usize) -> BitSeen
         requires { k < length self.now }
         ensures { result ≡ bit_seen (cell_in self.now k) }

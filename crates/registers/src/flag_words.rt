@@ -132,6 +132,7 @@ impl LaneFlags {
     }
 
     /// What copy `k` is.
+    #[inline]
     pub fn seen(&self, k: usize) -> BitSeen
         requires { k < 64 }
         ensures { result ≡ bit_seen (cell_in_flags self.now k) }

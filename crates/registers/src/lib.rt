@@ -3,6 +3,7 @@
 //! are the single access so many times. How quickly they go is their own affair.
 #![tactic(auto)]
 
+mod access_made;
 mod bit_seen;
 mod copies;
 mod cursor;
@@ -12,6 +13,7 @@ mod laws;
 mod memory;
 mod word_bytes;
 
+pub use access_made::AccessMade;
 pub use bit_seen::BitSeen;
 pub use cursor::{Cursor, NumberRun, given};
 pub use fields::{FIELDS, RegisterName, width_of};

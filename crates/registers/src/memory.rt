@@ -3,7 +3,7 @@ ghost use Rattle.std.specs.Prelude.{◌≡◌, ◌≢◌, ℕ, ◌<◌, ◌≤�
 ghost use Rattle.plain_store.specs.Setups.{checked};
 ghost use Rattle.record.specs.Registers.{width};
 ghost use Rattle.flicks.specs.Flicks.{FlickState, flicks_after};
-ghost use Rattle.registers.specs.Accesses.{answer_of, applied, cursor_after, next_access, next_answered, read_after, read_move, reads_of, run_of, write_access, writes_of};
+ghost use Rattle.registers.specs.Accesses.{answer_of, applied, cursor_after, ends_overlapped, ends_read, next_access, next_answered, overlapped_of, overlapped_reads, read_after, read_move, read_overlaps, reads_of, run_of, write_access, writes_of};
 ghost use Rattle.registers.specs.Begins.{is_settling};
 ghost use Rattle.registers.specs.Cursors.{Fits, first_lane, rest_of, rest_by};
 ghost use Rattle.registers.specs.Flags.{flag_in};
@@ -15,6 +15,7 @@ ghost use Rattle.registers.specs.Wordwise.{after_write, over, over_lanes};
 mod held;
 mod seeing;
 
+use crate::access_made::AccessMade;
 use crate::copies::BitLane;
 use crate::cursor::{Cursor, NumberRun};
 use crate::fields::{FIELDS, width_of};
@@ -78,56 +79,69 @@ impl BitMemory {
     }
 
     /// Makes the next `steps` accesses of a number access, each by the flick that is next: the single access, so many times.
+    /// It answers how many of them ended a read that a write overlapped.
     #[inline(always)]
-    pub fn run(&mut self, cursor: &mut Cursor, flicks: &mut Flicks, steps: u32)
+    pub fn run(&mut self, cursor: &mut Cursor, flicks: &mut Flicks, steps: u32) -> u32
         requires within { steps ≤ rest_of cursor.old }
         requires fits { Fits self.old cursor.old }
         ensures run { (cursor.new, self.new, flicks.new) ≡ run_of steps (cursor.old, self.old, flicks.old) }
         ensures fits { Fits self.new cursor.new }
+        ensures overlapped { result ≡ overlapped_of steps (cursor.old, self.old, flicks.old) }
     {
         match cursor.run() {
             NumberRun::Reads => self.read_on(cursor, flicks, steps),
             NumberRun::Writes => {
                 self.write_on(cursor, steps);
                 flicks.skip(steps);
+                0
             }
             NumberRun::Settles { .. } => {
                 if steps == 1 {
-                    let access = self.make(cursor, flicks.flick());
-                    cursor.advance(access.how);
+                    let made = self.make(cursor, flicks.flick());
+                    cursor.advance(made.access.how);
                 }
+                0
             }
         }
     }
 
-    /// Makes the next access of a number access, by this flick, and tells it. The cursor stays, until it is told too.
+    /// Makes the next access of a number access, by this flick, and tells it, and whether it ended a read that a write
+    /// overlapped. The cursor stays, until it is told too.
     #[inline]
-    pub fn make(&mut self, cursor: &Cursor, flick: bool) -> Access
+    pub fn make(&mut self, cursor: &Cursor, flick: bool) -> AccessMade
         requires going { cursor.now.bit ≢ cursor.now.width }
         requires fits { Fits self.old cursor.now }
         ensures inside { cursor.now.bit < cursor.now.width }
-        ensures access { result ≡ next_answered cursor.now self.old flick }
-        ensures memory { self.new ≡ applied cursor.now.copies self.old result }
+        ensures access { result.access ≡ next_answered cursor.now self.old flick }
+        ensures overlapped { result.overlapped ≡ ends_overlapped cursor.now.copies self.old result.access }
+        ensures memory { self.new ≡ applied cursor.now.copies self.old result.access }
     {
         let (lane, bit) = (cursor.copy_lane(), cursor.bit());
         let access = self.next(cursor, flick);
-        self.lanes[lane].go_on(bit, access.how);
-        access
+        let copies = &mut self.lanes[lane];
+        let overlapped = ends_read(access.how) && copies.seen(bit).touched;
+        copies.go_on(bit, access.how);
+        AccessMade { access, overlapped }
     }
 
-    /// Makes the next access of a read or a write, by this flick, and tells it; the cursor goes on.
+    /// Makes the next access of a read or a write, by this flick, and tells it, and whether it ended a read that a write
+    /// overlapped; the cursor goes on.
     #[inline(always)]
-    pub fn step(&mut self, cursor: &mut Cursor, flick: bool) -> Access
+    pub fn step(&mut self, cursor: &mut Cursor, flick: bool) -> AccessMade
         requires kind { is_settling cursor.old.run ≡ false }
         requires going { cursor.old.bit < cursor.old.width }
         requires fits { Fits self.old cursor.old }
-        ensures access { result ≡ next_answered cursor.old self.old flick }
-        ensures cursor { cursor.new ≡ cursor_after cursor.old result.how }
-        ensures memory { self.new ≡ applied cursor.old.copies self.old result }
+        ensures access { result.access ≡ next_answered cursor.old self.old flick }
+        ensures overlapped { result.overlapped ≡ ends_overlapped cursor.old.copies self.old result.access }
+        ensures cursor { cursor.new ≡ cursor_after cursor.old result.access.how }
+        ensures memory { self.new ≡ applied cursor.old.copies self.old result.access }
     {
         match cursor.run() {
             NumberRun::Reads => self.read_step(cursor, flick),
-            _ => self.write_step(cursor),
+            _ => AccessMade {
+                access: self.write_step(cursor),
+                overlapped: false,
+            },
         }
     }
 
@@ -151,21 +165,23 @@ impl BitMemory {
 
     /// One access of a read, without a branch on whether it is a begin or an end.
     #[inline(always)]
-    fn read_step(&mut self, cursor: &mut Cursor, flick: bool) -> Access
+    fn read_step(&mut self, cursor: &mut Cursor, flick: bool) -> AccessMade
         requires reads { cursor.old.run ≡ NumberRun.Reads }
         requires going { cursor.old.bit < cursor.old.width }
         requires there { HasLanes self.old (first_lane cursor.old) 1 cursor.old.width }
-        ensures access { result ≡ next_access cursor.old (answer_of cursor.old self.old flick) }
+        ensures access { result.access ≡ next_access cursor.old (answer_of cursor.old self.old flick) }
+        ensures overlapped { result.overlapped ≡ read_overlaps cursor.old self.old }
         ensures cursor { cursor.new ≡ read_after cursor.old (answer_of cursor.old self.old flick) }
         ensures memory { self.new ≡ moved self.old (first_lane cursor.old) cursor.old.bit (read_move cursor.old.begun (answer_of cursor.old self.old flick)) }
     {
         let (bit, begun) = (cursor.bit(), cursor.has_begun());
         let copies = &mut self.lanes[cursor.lane()];
         let value = copies.answer(bit, flick);
+        let overlapped = begun && copies.seen(bit).touched;
         copies.read_next(bit, begun);
         let access = cursor.next(value);
         cursor.read_on(value);
-        access
+        AccessMade { access, overlapped }
     }
 
     /// One access of a write.
@@ -189,37 +205,43 @@ impl BitMemory {
         access
     }
 
-    /// So many accesses of a read.
-    fn read_on(&mut self, cursor: &mut Cursor, flicks: &mut Flicks, steps: u32)
+    /// So many accesses of a read. It answers how many of them ended a read that a write overlapped.
+    fn read_on(&mut self, cursor: &mut Cursor, flicks: &mut Flicks, steps: u32) -> u32
         requires reads { cursor.old.run ≡ NumberRun.Reads }
         requires within { steps ≤ rest_by NumberRun.Reads cursor.old }
         requires there { HasLanes self.old (first_lane cursor.old) 1 cursor.old.width }
-        ensures { (cursor.new, self.new, flicks.new) ≡ reads_of steps (cursor.old, self.old, flicks.old) }
+        ensures now { (cursor.new, self.new, flicks.new) ≡ reads_of steps (cursor.old, self.old, flicks.old) }
+        ensures overlapped { result ≡ overlapped_reads steps (cursor.old, self.old, flicks.old) }
     {
-        let mut made = 0;
+        let (mut made, mut overlapped) = (0, 0);
         'steps: while made < steps {
-            made += self.read_some(cursor, flicks, steps - made);
+            let some = self.read_some(cursor, flicks, steps - made);
+            made += some.0;
+            overlapped += some.1;
         }
+        overlapped
     }
 
-    /// Some of so many accesses of a read: those of the bits that can be read at once, else one.
-    fn read_some(&mut self, cursor: &mut Cursor, flicks: &mut Flicks, steps: u32) -> u32
+    /// Some of so many accesses of a read: those of the bits that can be read at once, else one. It answers how many they
+    /// are, and how many of them ended a read that a write overlapped.
+    fn read_some(&mut self, cursor: &mut Cursor, flicks: &mut Flicks, steps: u32) -> (u32, u32)
         requires reads { cursor.old.run ≡ NumberRun.Reads }
         requires some { 1 ≤ steps }
         requires within { steps ≤ rest_by NumberRun.Reads cursor.old }
         requires there { HasLanes self.old (first_lane cursor.old) 1 cursor.old.width }
-        ensures some { 1 ≤ result }
-        ensures within { result ≤ steps }
-        ensures now { (cursor.new, self.new, flicks.new) ≡ reads_of result (cursor.old, self.old, flicks.old) }
+        ensures some { 1 ≤ result.0 }
+        ensures within { result.0 ≤ steps }
+        ensures now { (cursor.new, self.new, flicks.new) ≡ reads_of result.0 (cursor.old, self.old, flicks.old) }
+        ensures overlapped { result.1 ≡ overlapped_reads result.0 (cursor.old, self.old, flicks.old) }
     {
         let bits = self.quiet_ahead(cursor, steps);
         if bits == 0 {
-            let _access = self.read_step(cursor, flicks.flick());
-            1
+            let made = self.read_step(cursor, flicks.flick());
+            (1, u32::from(made.overlapped))
         } else {
             self.read_word(cursor, bits);
             flicks.skip(2 * bits);
-            2 * bits
+            (2 * bits, 0)
         }
     }
 
@@ -249,7 +271,8 @@ impl BitMemory {
         requires word { cursor.old.bit % 64 + bits ≤ 64 }
         requires there { HasLanes self.old (first_lane cursor.old) 1 cursor.old.width }
         requires quiet { (j : ℕ) → j < bits → (cell_at self.old (first_lane cursor.old) (cursor.old.bit + j)).writing ≡ false }
-        ensures { (f : FlickState) → (cursor.new, self.new, flicks_after (2 * bits) f) ≡ reads_of (2 * bits) (cursor.old, self.old, f) }
+        ensures now { (f : FlickState) → (cursor.new, self.new, flicks_after (2 * bits) f) ≡ reads_of (2 * bits) (cursor.old, self.old, f) }
+        ensures none { (f : FlickState) → overlapped_reads (2 * bits) (cursor.old, self.old, f) ≡ 0 }
     {
         let bit = cursor.bit();
         let copies = &mut self.lanes[cursor.lane()];
@@ -325,6 +348,14 @@ impl BitMemory {
             self.lanes[lane + copy].write_word(bit, n, word);
         }
     }
+}
+
+/// Whether a move ends a read.
+#[inline]
+fn ends_read(how: Move) -> bool
+    ensures { result ≡ ends_read how }
+{
+    matches!(how, Move::EndRead(_))
 }
 
 /// A lane as it opens.

@@ -133,14 +133,14 @@ impl Runner {
         ensures setup { self.new.core.setup ≡ self.old.core.setup }
     {
         let mut told = StepTold::Nothing;
-        let Ok(access) = self.core.step(process, value, &mut told) else {
+        let Ok(made) = self.core.step(process, value, &mut told) else {
             return false;
         };
         let law = hear_step(
             &mut self.auditor,
             self.alloc,
             process,
-            access,
+            made.access,
             &told,
             self.taken,
         );

@@ -27,7 +27,7 @@ use Rattle.world.specs.Walks.{HasOneFewer, KeepOthers, left_in}
 use Rattle.world.proofs.CoreKeeps.{IsNext, next-keeps}
 use Rattle.world.proofs.CoreRefused.{full-is, stage-told}
 use Rattle.flicks.specs.Flicks.{FlickState}
-use Rattle.process.specs.Serving.{answered_at, steps_of}
+use Rattle.process.specs.Serving.{answered_at, overlapped_steps, steps_of}
 use Rattle.world.proofs.CoreWalks.{core_ran, has-run, left-core, next-others, told-same, within-after, within-fewer, within-goes, within-next}
 use Rattle.process.proofs.Left.{left-stays}
 use Rattle.world.proofs.WorldOpen.{IsSeated, is-allowed, is-seated, seat-below, seat-indexed, seat-left, seat-there}
@@ -168,11 +168,13 @@ module _ (c : CoreState) (p : ℕ) (seat : Seat) (f : FlickState) (there : slice
 pub run-keeps : (c new : CoreState) (p : ℕ) (seat : Seat) (f : FlickState) (there : slice_get c.seats p ≡ Some seat) (n : ℕ) → KeepsCore c → n ≤ left_at seat.process → new ≡ core_ran c p seat f there n → KeepsCore new
 run-keeps c new p seat f there n k within is = subst KeepsCore (sym is) (has-run c p seat f there k n within).keeps
 
-pub run-walks : (c d new : CoreState) (p : ℕ) (seat : Seat) (f g : FlickState) (there : slice_get c.seats p ≡ Some seat) (n : ℕ) → KeepsCore c → c ≡ d → n ≤ left_at seat.process → new ≡ core_ran c p seat f there n →
-    g ≡ (steps_of n (seat.process, c.registers, f)).2 → CoreWalks d f p n new g
-run-walks c d new p seat f g there n k view within is flicks =
-    subst (λ (d : CoreState). CoreWalks d f p n new g) view (subst (λ g. CoreWalks c f p n new g) (sym flicks) (subst (λ (new : CoreState). CoreWalks c f p n new (steps_of n (seat.process, c.registers, f)).2) (sym is)
-    (has-run c p seat f there k n within).walks))
+pub run-walks : (c d new : CoreState) (p : ℕ) (seat : Seat) (f g : FlickState) (there : slice_get c.seats p ≡ Some seat) (n overlapped : ℕ) → KeepsCore c → c ≡ d → n ≤ left_at seat.process → new ≡ core_ran c p seat f there n →
+    g ≡ (steps_of n (seat.process, c.registers, f)).2 → overlapped ≡ overlapped_steps n (seat.process, c.registers, f) → CoreWalks d f p n overlapped new g
+run-walks c d new p seat f g there n overlapped k view within is flicks count =
+    let all : ℕ = overlapped_steps n (seat.process, c.registers, f) in
+    subst (λ (d : CoreState). CoreWalks d f p n overlapped new g) view (subst (λ m. CoreWalks c f p n m new g) (sym count) (subst (λ g. CoreWalks c f p n all new g) (sym flicks)
+    (subst (λ (new : CoreState). CoreWalks c f p n all new (steps_of n (seat.process, c.registers, f)).2) (sym is)
+    (has-run c p seat f there k n within).walks)))
 
 pub run-left : (c d new : CoreState) (p : ℕ) (seat : Seat) (f : FlickState) (there : slice_get c.seats p ≡ Some seat) (n : ℕ) → c ≡ d → n ≤ left_at seat.process → new ≡ core_ran c p seat f there n → left_in new.seats p + n ≡ left_in d.seats p
 run-left c d new p seat f there n view within is =

@@ -11,18 +11,20 @@ use Rattle.flicks.specs.Flicks.{FlickState, flick_of}
 use Rattle.process.specs.declared.told.Effect.TheVariants.{Steps}
 use Rattle.process.specs.declared.told.StepTold.TheVariants.{Nothing}
 use Rattle.process.specs.Places.{ProcessState, left_at, stage_doing}
-use Rattle.process.specs.Serving.{answered_at, step_by, steps_of}
+use Rattle.process.specs.Serving.{answered_at, overlapped_steps, overlaps_step, step_by, steps_of}
+use Rattle.process.specs.registers.Accesses.{ends_overlapped}
 use Rattle.world.specs.Changes.{pending_in, told}
-use Rattle.world.specs.Cores.{CoreState, CoreStepsQuietly, CoreWalks, KeepsCore, with_history}
+use Rattle.world.specs.Cores.{CoreState, CoreStepsQuietly, CoreTellsOverlapped, CoreWalks, KeepsCore, with_history}
 use Rattle.world.specs.Going.{CoreGoes, core_after}
 use Rattle.world.specs.Seats.{Seat, is_at_door, is_waiting, seat_stepped}
 use Rattle.world.specs.Walks.{KeepOthers, left_in}
 use Rattle.world.proofs.CoreKeeps.{IsNext, next-goes, next-keeps}
+use Rattle.world.proofs.CoreOverlaps.{tells-overlapped}
 use Rattle.world.proofs.CoreRefused.{step-within}
 use Rattle.process.proofs.Left.{left-fewer, left-quiet, left-stays}
 use Rattle.world.proofs.WorldHeadline.{keeps_headline}
 use Rattle.world.proofs.WorldLists.{map-same}
-use Rattle.world.proofs.WorldOpen.{seat-left}
+use Rattle.world.proofs.WorldOpen.{is-seated, seat-left}
 
 -- How many accesses are left to another process.
 
@@ -185,13 +187,24 @@ module _ (c : CoreState) (p : ℕ) (seat : Seat) (f : FlickState) (there : slice
   -- each is a step without a mark
   pub record HasRun (n : ℕ) : Type 0 where
     pub keeps : KeepsCore (core_ran n)
-    pub walks : CoreWalks c f p n (core_ran n) (ran n).2
+    pub walks : CoreWalks c f p n (overlapped_steps n (seat.process, c.registers, f)) (core_ran n) (ran n).2
 
   run-more : (n : ℕ) → suc n ≤ left_at seat.process → HasRun n → HasRun (suc n)
+  unfolding quietly-by
   run-more n l before = record {
     keeps = next-keeps (core_ran n) (core_ran (suc n)) (Step p flick) (seat_ran n) before.keeps next (sym (core-more n l));
     walks = record {
-      walks = λ taken. (with_history (core_ran n) taken, (ran n).2, before.walks.walks taken, quietly.steps taken, refl);
+      walks = λ taken. (
+        with_history (core_ran n) taken,
+        (ran n).2,
+        overlapped_steps n (seat.process, c.registers, f),
+        before.walks.walks taken,
+        access,
+        overlaps_step (ran n),
+        (quietly.steps taken, refl, tells taken),
+        refl,
+        refl,
+      );
       pending = let was = before.walks.pending in let now = quietly.pending in omega (arith, was, now);
     };
   }
@@ -208,15 +221,25 @@ module _ (c : CoreState) (p : ℕ) (seat : Seat) (f : FlickState) (there : slice
       next : IsNext (core_ran n) (Step p flick) (seat_ran n)
       next = within-next (core_ran n) p flick (seat_ran n) is some
 
+      access : Access
+      access = answered_at (seat_ran n).process (core_ran n).registers flick
+
+      goes : CoreGoes (core_ran n) (Step p flick) (Steps Nothing) (Some access) (core_ran (suc n))
+      goes = within-goes (core_ran n) (core_ran n) (core_ran (suc n)) p flick access (seat_ran n) refl is some refl (sym (core-more n l))
+
       quietly : CoreStepsQuietly (core_ran n) p flick (core_ran (suc n))
-      quietly = quietly-by (core_ran n) (core_ran (suc n)) p flick (answered_at (seat_ran n).process (core_ran n).registers flick)
-          (within-goes (core_ran n) (core_ran n) (core_ran (suc n)) p flick (answered_at (seat_ran n).process (core_ran n).registers flick) (seat_ran n) refl is some refl (sym (core-more n l)))
+      quietly = quietly-by (core_ran n) (core_ran (suc n)) p flick access goes
+
+      tells : CoreTellsOverlapped (core_ran n) access (overlaps_step (ran n))
+      tells = tells-overlapped (core_ran n) (core_ran n) p flick access (Steps Nothing) (overlaps_step (ran n)) (seat_ran n).process.setup refl
+          (is-seated (core_ran n) before.keeps.taken before.keeps.events p (seat_ran n) before.keeps.shows is).setup
+          (ap (λ (now : ProcessState). ends_overlapped now.setup.processes (ran n).1 (answered_at now (ran n).1 flick)) (sym (seat-ran n))) goes.adds
 
   pub has-run : KeepsCore c → (n : ℕ) → n ≤ left_at seat.process → HasRun n
   has-run k zero l = record {
     keeps = subst KeepsCore (sym core-zero) k;
     walks = record {
-      walks = λ taken. (ap (λ (x : CoreState). with_history x taken) core-zero, refl);
+      walks = λ taken. (ap (λ (x : CoreState). with_history x taken) core-zero, refl, refl);
       pending = let same = ap (λ (x : CoreState). pending_in x.seats) core-zero in omega (arith, same);
     };
   }

@@ -18,10 +18,12 @@ pub mod CoreGoes
 pub mod WorldPending
 pub mod CoreKeeps
 pub mod CoreLooks
+pub mod CoreOverlaps
 pub mod WorldHeadline
 pub mod CoreRefused
 pub mod CoreWalks
 pub mod WorldWithin
+pub mod WorldTurns
 pub mod CoreCode
 -- A world is a core with its history
 pub mod CoreNew

@@ -70,15 +70,15 @@ pub step_keeps : (c new : CoreState) (h then : List Taken) (p : ℕ) (flick : Bo
 step_keeps c new h then p flick told capacity more keeps steps fewer is grown = let room = keeps.room in made_keeps c new h then (Step p flick) (Steps told) capacity more keeps steps (omega (arith, room, fewer, grown)) is
 
 -- after a walk
-walks-shown : (n : ℕ) (old new : WorldState) (f g : FlickState) (p : ℕ) (events : List Event) → Walks old f p n new g → Shows old events → (later : List Event) × Shows new later
-walks-shown zero old new f g p events (same, same_flicks) shows = (events, subst (λ w. Shows w events) (sym same) shows)
-walks-shown (suc n) old new f g p events (w, x, walks, quietly, after) shows =
-    let before : (later : List Event) × Shows w later = walks-shown n old w f x p events walks shows in
-    (Step p (flick_of x) ∷ before.0, quietly.shows before.0 before.1)
+walks-shown : (n overlapped : ℕ) (old new : WorldState) (f g : FlickState) (p : ℕ) (events : List Event) → Walks old f p n overlapped new g → Shows old events → (later : List Event) × Shows new later
+walks-shown zero overlapped old new f g p events (same, same_flicks, none) shows = (events, subst (λ w. Shows w events) (sym same) shows)
+walks-shown (suc n) overlapped old new f g p events (w, x, count, walks, access, last, made, after, counts) shows =
+    let before : (later : List Event) × Shows w later = walks-shown n count old w f x p events walks shows in
+    (Step p (flick_of x) ∷ before.0, made.0.shows before.0 before.1)
 
-pub walk_keeps : (n : ℕ) (c new : CoreState) (h : List Taken) (f g : FlickState) (p capacity : ℕ) → KeepsWorld (with_history c h) capacity → CoreWalks c f p n new g → KeepsWorld (with_history new h) capacity
-walk_keeps n c new h f g p capacity keeps walks =
-    let then : (later : List Event) × Shows (with_history new h) later = walks-shown n (with_history c h) (with_history new h) f g p keeps.events (walks.walks h) keeps.shows in
+pub walk_keeps : (n overlapped : ℕ) (c new : CoreState) (h : List Taken) (f g : FlickState) (p capacity : ℕ) → KeepsWorld (with_history c h) capacity → CoreWalks c f p n overlapped new g → KeepsWorld (with_history new h) capacity
+walk_keeps n overlapped c new h f g p capacity keeps walks =
+    let then : (later : List Event) × Shows (with_history new h) later = walks-shown n overlapped (with_history c h) (with_history new h) f g p keeps.events (walks.walks h) keeps.shows in
     record { events = then.0; shows = then.1; room = let room = keeps.room in let fewer = walks.pending in omega (arith, room, fewer) }
 
 -- after a step without a mark

@@ -24,7 +24,7 @@ use Rattle.world.specs.Events.{AddsEvent, GoesOn, InEachPast, IsRefused, IsTurne
 use Rattle.flicks.specs.Flicks.{FlickState}
 use Rattle.world.specs.Seats.{Seat}
 use Rattle.world.specs.Shows.{Shows, WorldState}
-use Rattle.world.specs.Walks.{AddsQuietly, StepsQuietly, Walks}
+use Rattle.world.specs.Walks.{AddsQuietly, StepsQuietly, TellsOverlapped, Walks}
 
 -- the registers, and what is kept of each process: of fixed size
 pub record CoreState : Type 0 where
@@ -84,6 +84,10 @@ CoreAddsStep c p flick told access = CoreAdds c (Step p flick) (Steps told) (Som
 abbrev pub CoreAddsQuietly : CoreState → ℕ → Bool → Access → Type 0
 CoreAddsQuietly c p flick access = (taken : List Taken) → AddsQuietly (with_history c taken) p flick access
 
+-- and whether an access to come ends a read that a write overlapped
+abbrev pub CoreTellsOverlapped : CoreState → Access → Bool → Type 0
+CoreTellsOverlapped c access overlapped = (taken : List Taken) → TellsOverlapped (with_history c taken) access overlapped
+
 -- an event of a process that there is: the world goes on, with the command in its history that the event takes
 pub record CoreMakes (old : CoreState) (event : Event) (effect : Effect) (new : CoreState) : Type 0 where
   pub there : process_of event < length new.seats
@@ -122,7 +126,7 @@ pub record CoreStepsQuietly (old : CoreState) (p : ℕ) (flick : Bool) (new : Co
   pub steps : (taken : List Taken) → StepsQuietly (with_history old taken) p flick (with_history new taken)
   pub pending : pending_in new.seats ≤ pending_in old.seats
 
--- so many steps without a mark, with each history; no more calls are pending
-pub record CoreWalks (old : CoreState) (flicks : FlickState) (p n : ℕ) (new : CoreState) (flicks_then : FlickState) : Type 0 where
-  pub walks : (taken : List Taken) → Walks (with_history old taken) flicks p n (with_history new taken) flicks_then
+-- so many steps without a mark, of which so many ended a read that a write overlapped, with each history; no more calls are pending
+pub record CoreWalks (old : CoreState) (flicks : FlickState) (p n overlapped : ℕ) (new : CoreState) (flicks_then : FlickState) : Type 0 where
+  pub walks : (taken : List Taken) → Walks (with_history old taken) flicks p n overlapped (with_history new taken) flicks_then
   pub pending : pending_in new.seats ≤ pending_in old.seats

@@ -8,7 +8,7 @@ ghost use Rattle.record.specs.Doorways.{ahead};
 ghost use Rattle.record.specs.Newest.{newest};
 ghost use Rattle.process.specs.declared.told.Effect.TheVariants.{Calls, Fails, Restarts, Steps, Withdraws};
 ghost use Rattle.process.specs.Places.{WantsNoMemory};
-ghost use Rattle.world.specs.Cores.{CoreAdds, CoreAddsQuietly, CoreAddsStep, CoreMakes, CoreRefuses, CoreRefusesStep, CoreSteps, CoreStepsQuietly, CoreWalks, InEachCorePast, PendedBefore, PendedUnlessCall, UnlessCoreRefuses, pending_with, taken_by, with_history};
+ghost use Rattle.world.specs.Cores.{CoreAdds, CoreAddsQuietly, CoreAddsStep, CoreMakes, CoreRefuses, CoreRefusesStep, CoreSteps, CoreStepsQuietly, CoreTellsOverlapped, CoreWalks, InEachCorePast, PendedBefore, PendedUnlessCall, UnlessCoreRefuses, pending_with, taken_by, with_history};
 ghost use Rattle.world.specs.Events.{stage_in};
 ghost use Rattle.world.specs.Going.{CoreGoes};
 ghost use Rattle.world.specs.Shows.{Shows};
@@ -20,9 +20,10 @@ mod looking;
 use crate::queue::listed;
 use crate::seat::Seat;
 use crate::seats::{is_occupied, tell, waiting};
+use crate::steps_made::StepsMade;
 use flicks::Flicks;
 use plain_store::{Command, NestedTypes, Reply, Setup};
-use process::{BitMemory, Effect, Image, StepTold, newest, open_memory};
+use process::{AccessMade, BitMemory, Effect, Image, StepTold, newest, open_memory};
 use record::{Access, Event, Refusal, Stage, Taken};
 use smallvec::SmallVec;
 use std::alloc::{AllocError, Global};
@@ -161,11 +162,18 @@ impl Core {
         Ok(self.make_event(event, effect))
     }
 
-    /// One step of a process, or of its memory unit: its access, and in `told` what it leads to. The command that it
-    /// takes, if it takes one, is that of the process's last call. A step that is refused leaves `told` as it is.
+    /// One step of a process, or of its memory unit: its access, whether that ended a read that a write overlapped, and in
+    /// `told` what it leads to. The command that it takes, if it takes one, is that of the process's last call. A step that
+    /// is refused leaves `told` as it is.
     #[inline]
-    pub fn step(&mut self, process: u8, flick: bool, told: &mut StepTold) -> Result<Access, Refusal>
-        ensures accepted { IfOk result (CoreAddsStep self.old process flick told.new) }
+    pub fn step(
+        &mut self,
+        process: u8,
+        flick: bool,
+        told: &mut StepTold,
+    ) -> Result<AccessMade, Refusal>
+        ensures accepted { IfOk result (λ made. CoreAddsStep self.old process flick told.new made.access) }
+        ensures overlapped { IfOk result (λ made. CoreTellsOverlapped self.old made.access made.overlapped) }
         ensures shows { OnOk result (CoreSteps self.old process flick told.new self.new) }
         ensures pending { OnOk result (PendedBefore self.old (Steps told.new) self.new) }
         ensures refused { IfErr result (CoreRefusesStep self.old process flick) }
@@ -205,37 +213,50 @@ impl Core {
 
     /// The next access of a process, or of its memory unit, and in `told` what it leads to.
     #[inline]
-    fn make_step(&mut self, process: u8, flick: bool, told: &mut StepTold) -> Access
+    fn make_step(&mut self, process: u8, flick: bool, told: &mut StepTold) -> AccessMade
         requires { CoreRefuses self.old (Step process flick) None }
-        ensures goes { CoreGoes self.old (Step process flick) (Steps told.new) (Some result) self.new }
+        ensures goes { CoreGoes self.old (Step process flick) (Steps told.new) (Some result.access) self.new }
+        ensures overlapped { CoreTellsOverlapped self.old result.access result.overlapped }
         ensures others { KeepOthers self.old.seats process self.new.seats }
     {
         let seat = &mut self.seats[usize::from(process)];
         let waited = seat.is_waiting();
-        let access = seat.step(&mut self.registers, flick, told);
+        let made = seat.step(&mut self.registers, flick, told);
         let waits = seat.is_waiting();
         tell(&mut self.seats, process, waited, waits);
-        access
+        made
     }
 
     /// Steps of a process while they are within a number access of its call, at most so many: each as `step` makes it, by
-    /// the flick that is next, and without a mark. It answers how many it has made: none where the next access is the last
-    /// of a number access, or has a mark, or is of the memory unit, or where there is no such process.
+    /// the flick that is next, and without a mark. It answers how many it has made, and how many of them ended a read that a
+    /// write overlapped: none where the next access is the last of a number access, or has a mark, or is of the memory
+    /// unit, or where there is no such process.
     #[inline]
-    pub fn run(&mut self, process: u8, flicks: &mut Flicks, most: u32) -> u32
-        ensures most { result ≤ most }
-        ensures runs { CoreWalks self.old flicks.old process result self.new flicks.new }
-        ensures stops { result < most → left_in self.new.seats process ≡ 0 }
+    pub fn run(&mut self, process: u8, flicks: &mut Flicks, most: u32) -> StepsMade
+        ensures most { result.steps ≤ most }
+        ensures runs { CoreWalks self.old flicks.old process result.steps result.overlapped self.new flicks.new }
+        ensures stops { result.steps < most → left_in self.new.seats process ≡ 0 }
     {
         let steps = self.left(process).min(most);
         if steps > 0 {
-            self.seats[usize::from(process)].run(&mut self.registers, flicks, steps);
+            StepsMade {
+                steps,
+                overlapped: self.seats[usize::from(process)].run(
+                    &mut self.registers,
+                    flicks,
+                    steps,
+                ),
+            }
+        } else {
+            StepsMade {
+                steps,
+                overlapped: 0,
+            }
         }
-        steps
     }
 
     /// How many of the next steps of a process are within a number access of its call, whatever other processes do: they
-    /// have no mark, and none is the last of the access. 0, if there is no such process.
+    /// have no mark, and none is the first of the call or the last of the access. 0, if there is no such process.
     #[inline]
     pub fn left(&self, process: u8) -> u32
         ensures { result ≡ left_in self.now.seats process }
@@ -247,13 +268,15 @@ impl Core {
         self.seats[at].process().left()
     }
 
-    /// One step, by this flick, of a process that is within a number access, and its access: it has no mark. So few words
-    /// are looked at that it is quicker than a step which may lead to something.
+    /// One step, by this flick, of a process that is within a number access, and its access: it has no mark. It answers too
+    /// whether it ended a read that a write overlapped. So few words are looked at that it is quicker than a step which may
+    /// lead to something.
     #[inline(always)]
-    pub fn make_step_within(&mut self, process: u8, flick: bool) -> Access
+    pub fn make_step_within(&mut self, process: u8, flick: bool) -> AccessMade
         requires { 0 < left_in self.old.seats process }
         ensures quietly { CoreStepsQuietly self.old process flick self.new }
-        ensures accepted { CoreAddsQuietly self.old process flick result }
+        ensures accepted { CoreAddsQuietly self.old process flick result.access }
+        ensures overlapped { CoreTellsOverlapped self.old result.access result.overlapped }
         ensures there { process < length self.new.seats }
         ensures fewer { HasOneFewer self.old.seats process self.new.seats }
         ensures others { KeepOthers self.old.seats process self.new.seats }
@@ -275,9 +298,9 @@ impl Core {
             }
             Event::Step(process, flick) => {
                 let mut told = StepTold::Nothing;
-                let access = self.make_step(*process, *flick, &mut told);
+                let made = self.make_step(*process, *flick, &mut told);
                 *effect = Effect::Steps(told);
-                Some(access)
+                Some(made.access)
             }
             Event::Fail(process) => {
                 self.fail(*process);

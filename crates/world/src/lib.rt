@@ -12,12 +12,16 @@ mod cores;
 mod queue;
 mod seat;
 mod seats;
+mod steps_made;
 mod world;
 
 pub use cores::Core;
 pub use flicks::{Flick, Flicks};
 pub use history_laws;
 pub use laws;
-pub use process::{BitSeen, Effect, EventMade, Image, Process, Settling, StepTold, TicketKnown};
+pub use process::{
+    AccessMade, BitSeen, Effect, EventMade, Image, Process, Settling, StepTold, TicketKnown,
+};
 pub use record::{Act, Event, Mark, Refusal, Stage, Taken};
+pub use steps_made::StepsMade;
 pub use world::World;

@@ -3,18 +3,17 @@ ghost use Rattle.std.specs.Prelude.{◌≡◌, ◌<◌, ◌≤◌, true, [], Ok}
 ghost use Rattle.plain_store.specs.Setups.{checked};
 ghost use Rattle.record.specs.Places.{value_of};
 ghost use Rattle.record.specs.declared.Stage.TheVariants.{Waiting};
-ghost use Rattle.process.specs.registers.Accesses.{applied};
+ghost use Rattle.process.specs.registers.Accesses.{applied, ends_overlapped};
 ghost use Rattle.process.specs.registers.Openings.{AreOf};
 ghost use Rattle.process.specs.Places.{failed, left_at, marks_on, may_fail, may_step, restarted, stage_doing, stepped, withdrawn};
-ghost use Rattle.process.specs.Serving.{answered_at, dropped, step_by, steps_of};
+ghost use Rattle.process.specs.Serving.{answered_at, dropped, overlapped_steps, step_by, steps_of};
 ghost use Rattle.process.specs.Telling.{marks_told};
 ghost use Rattle.world.specs.Changes.{told};
 ghost use Rattle.world.specs.Seats.{is_at_door, is_waiting, seat_called, seat_of, seat_stepped, seat_with};
 
 use flicks::Flicks;
 use plain_store::{Command, Setup};
-use process::{BitMemory, Process, StepTold};
-use record::Access;
+use process::{AccessMade, BitMemory, Process, StepTold};
 use std::marker::Model;
 
 /// One process of a world, whether the doorway of its last call has begun, and which of 16 processes wait in a
@@ -123,26 +122,37 @@ impl Seat {
         self.process.fail(registers);
     }
 
-    /// Makes the next access on the registers, of the process or of its memory unit; in `leads` is what it leads to.
+    /// Makes the next access on the registers, of the process or of its memory unit, and tells whether it ended a read that a
+    /// write overlapped; in `leads` is what it leads to.
     #[inline]
-    pub fn step(&mut self, registers: &mut BitMemory, flick: bool, leads: &mut StepTold) -> Access
+    pub fn step(
+        &mut self,
+        registers: &mut BitMemory,
+        flick: bool,
+        leads: &mut StepTold,
+    ) -> AccessMade
         requires goes { may_step self.old.process.doing ≡ true }
         requires registers { AreOf self.old.process.setup registers.old }
-        ensures access { result ≡ answered_at self.old.process registers.old flick }
-        ensures seat { self.new ≡ seat_stepped (stepped self.old.process flick (value_of result.how)) self.old }
-        ensures marks { marks_told leads.new ≡ marks_on self.old.process flick (value_of result.how) }
-        ensures registers { registers.new ≡ applied self.old.process.setup.processes registers.old result }
+        ensures access { result.access ≡ answered_at self.old.process registers.old flick }
+        ensures overlapped { result.overlapped ≡
+            ends_overlapped self.old.process.setup.processes registers.old result.access }
+        ensures seat { self.new ≡ seat_stepped (stepped self.old.process flick (value_of result.access.how)) self.old }
+        ensures marks { marks_told leads.new ≡ marks_on self.old.process flick (value_of result.access.how) }
+        ensures registers { registers.new ≡
+            applied self.old.process.setup.processes registers.old result.access }
     {
         self.begun = self.begun || self.process.is_at_door();
         self.process.step(registers, flick, leads)
     }
 
-    /// Makes the next access, within a number access of a call.
+    /// Makes the next access, within a number access of a call, and tells whether it ended a read that a write overlapped.
     #[inline(always)]
-    pub fn step_within(&mut self, registers: &mut BitMemory, flick: bool) -> Access
+    pub fn step_within(&mut self, registers: &mut BitMemory, flick: bool) -> AccessMade
         requires within { 0 < left_at self.old.process }
         requires registers { AreOf self.old.process.setup registers.old }
-        ensures access { result ≡ answered_at self.old.process registers.old flick }
+        ensures access { result.access ≡ answered_at self.old.process registers.old flick }
+        ensures overlapped { result.overlapped ≡
+            ends_overlapped self.old.process.setup.processes registers.old result.access }
         ensures seat { self.new ≡ seat_stepped (step_by flick (self.old.process, registers.old)).0 self.old }
         ensures registers { registers.new ≡ (step_by flick (self.old.process, registers.old)).1 }
     {
@@ -150,17 +160,19 @@ impl Seat {
         self.process.step_within(registers, flick)
     }
 
-    /// Makes so many of the next accesses, one at least, within a number access of a call.
+    /// Makes so many of the next accesses, one at least, within a number access of a call. It answers how many of them ended
+    /// a read that a write overlapped.
     #[inline(always)]
-    pub fn run(&mut self, registers: &mut BitMemory, flicks: &mut Flicks, steps: u32)
+    pub fn run(&mut self, registers: &mut BitMemory, flicks: &mut Flicks, steps: u32) -> u32
         requires within { steps ≤ left_at self.old.process }
         requires registers { AreOf self.old.process.setup registers.old }
         ensures seat { self.new ≡ seat_stepped (steps_of steps (self.old.process, registers.old, flicks.old)).0 self.old }
         ensures registers { registers.new ≡ (steps_of steps (self.old.process, registers.old, flicks.old)).1 }
         ensures flicks { flicks.new ≡ (steps_of steps (self.old.process, registers.old, flicks.old)).2 }
+        ensures overlapped { result ≡ overlapped_steps steps (self.old.process, registers.old, flicks.old) }
     {
         self.begun = self.begun || self.process.is_at_door();
-        self.process.run(registers, flicks, steps);
+        self.process.run(registers, flicks, steps)
     }
 
     /// Becomes as the other, of the same setup. It takes no memory.

@@ -13,14 +13,15 @@ ghost use Rattle.world.specs.Events.{Adds, AddsEvent, AddsStep, EventKeepsHeadli
 ghost use Rattle.record.specs.Newest.{newest};
 ghost use Rattle.world.specs.Shows.{Shows};
 ghost use Rattle.process.specs.declared.told.Effect.TheVariants.{Steps};
-ghost use Rattle.world.specs.Walks.{HasOneFewer, KeepOthers, MakesQuietly, Walks, left_in};
+ghost use Rattle.world.specs.Walks.{HasOneFewer, KeepOthers, MakesQuietly, TellsOverlapped, Walks, left_in};
 
 mod looking;
 
 use crate::cores::Core;
+use crate::steps_made::StepsMade;
 use flicks::Flicks;
 use plain_store::{NestedTypes, Reply, Setup};
-use process::{Effect, EventMade, Image, StepTold};
+use process::{AccessMade, Effect, EventMade, Image, StepTold};
 use record::{Access, Act, Event, Refusal, Stage, Taken};
 use smallvec::SmallVec;
 use std::alloc::{AllocError, Global};
@@ -114,46 +115,53 @@ impl World {
         }
     }
 
-    /// One step of a process, or of its memory unit, as `event` makes it: its access, and in `told` what it leads to.
+    /// One step of a process, or of its memory unit, as `event` makes it: its access, whether that ended a read that a write
+    /// overlapped, and in `told` what it leads to.
     /// An act has room for three marks, which few steps have, and so few lead to anything that what they lead to is
     /// best written in place. The place of a command that it takes is the length of the history before. A step that is
     /// refused leaves `told` as it is.
     #[inline(never)]
-    pub fn step(&mut self, process: u8, flick: bool, told: &mut StepTold) -> Result<Access, Refusal>
-        ensures accepted { IfOk result (AddsStep self.old process flick told.new) }
+    pub fn step(
+        &mut self,
+        process: u8,
+        flick: bool,
+        told: &mut StepTold,
+    ) -> Result<AccessMade, Refusal>
+        ensures accepted { IfOk result (λ made. AddsStep self.old process flick told.new made.access) }
+        ensures overlapped { IfOk result (λ made. TellsOverlapped self.old made.access made.overlapped) }
         ensures shows { OnOk result (GoesOn self.old (Step process flick) self.new) }
         ensures refused { IfErr result (λ why. IsRefused self.old (Step process flick) (Some why)) }
         ensures unchanged { OnErr result (self.new ≡ self.old) }
         ensures untold { OnErr result (told.new ≡ told.old) }
         ensures setup { OnOk result (self.new.setup ≡ self.old.setup) }
         ensures through { UnlessRefused self.old (Step process flick) (IsOk result) }
-        ensures headline { IfOk result (StepKeepsHeadline self.old process told.new) }
+        ensures headline { IfOk result (λ made. StepKeepsHeadline self.old process told.new made.access) }
         ensures others { KeepOthers self.old.seats process self.new.seats }
     {
         match self.core.step(process, flick, told) {
-            Ok(access) => {
+            Ok(made) => {
                 take(&mut self.history, &self.core, process, told.reply());
-                Ok(access)
+                Ok(made)
             }
             Err(refusal) => Err(refusal),
         }
     }
 
     /// Steps of a process while they are within a number access of its call, at most so many: each as `step` makes it, by
-    /// the flick that is next, and without a mark; of each the headline holds. It answers how many it has made: none where
-    /// the next access is the last of a number access, or has a mark, or is of the memory unit, or where there is no such
-    /// process.
+    /// the flick that is next, and without a mark; of each the headline holds. It answers how many it has made, and how many
+    /// of them ended a read that a write overlapped: none where the next access is the last of a number access, or has a
+    /// mark, or is of the memory unit, or where there is no such process.
     #[inline(never)]
-    pub fn run(&mut self, process: u8, flicks: &mut Flicks, most: u32) -> u32
-        ensures most { result ≤ most }
-        ensures runs { Walks self.old flicks.old process result self.new flicks.new }
-        ensures stops { result < most → left_in self.new.seats process ≡ 0 }
+    pub fn run(&mut self, process: u8, flicks: &mut Flicks, most: u32) -> StepsMade
+        ensures most { result.steps ≤ most }
+        ensures runs { Walks self.old flicks.old process result.steps result.overlapped self.new flicks.new }
+        ensures stops { result.steps < most → left_in self.new.seats process ≡ 0 }
     {
         self.core.run(process, flicks, most)
     }
 
     /// How many of the next steps of a process are within a number access of its call, whatever other processes do: they
-    /// have no mark, and none is the last of the access. 0, if there is no such process.
+    /// have no mark, and none is the first of the call or the last of the access. 0, if there is no such process.
     #[inline]
     pub fn left(&self, process: u8) -> u32
         ensures { result ≡ left_in self.now.seats process }
@@ -162,11 +170,12 @@ impl World {
     }
 
     /// One step, by this flick, of a process that is within a number access as those of `run` are: as `step` makes it, and
-    /// without a mark; of it the headline holds. It answers its access, which costs nothing where nobody looks at it.
+    /// without a mark; of it the headline holds. It answers its access, and whether that ended a read that a write
+    /// overlapped, which costs nothing where nobody looks at it.
     #[inline(always)]
-    pub fn make_step_within(&mut self, process: u8, flick: bool) -> Access
+    pub fn make_step_within(&mut self, process: u8, flick: bool) -> AccessMade
         requires { 0 < left_in self.old.seats process }
-        ensures quietly { MakesQuietly self.old process flick result self.new }
+        ensures quietly { MakesQuietly self.old process flick result.access result.overlapped self.new }
         ensures fewer { HasOneFewer self.old.seats process self.new.seats }
         ensures others { KeepOthers self.old.seats process self.new.seats }
     {

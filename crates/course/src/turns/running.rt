@@ -53,11 +53,13 @@ impl Course {
             );
             self.left -= 1;
             let flick = self.flicks.flick();
+            let is_last = self.left == floor;
             step(
                 &mut self.world,
                 &mut quiet,
                 process,
                 flick,
+                is_last,
                 listener,
                 &mut told,
             )?;
@@ -142,11 +144,13 @@ impl Course {
             next = drawn(&mut ahead, movers);
             let at = usize::from(process);
             let mut quiet = within[at];
+            let is_last = self.left == 0;
             step(
                 &mut self.world,
                 &mut quiet,
                 process,
                 flick,
+                is_last,
                 listener,
                 &mut told,
             )?;

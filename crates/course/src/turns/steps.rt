@@ -1,19 +1,19 @@
 //! Steps of a run: they pass a listener by, are heard by it, or are told.
-ghost use Rattle.std.specs.Prelude.{◌≡◌, ◌<◌, ◌≤◌, IfErr, IfOk, IfSome, None, Ok, OnOk};
-ghost use Rattle.record.specs.declared.access.Access.{Access as AccessSeen};
+ghost use Rattle.std.specs.Prelude.{◌≡◌, ◌+◌, ◌<◌, ◌≤◌, IfErr, IfOk, IfSome, None, Ok, OnOk};
 ghost use Rattle.record.specs.declared.Event.TheVariants.{Step};
 ghost use Rattle.world.specs.Walks.{KeepOthers, left_in};
 ghost use Rattle.world.specs.process.declared.told.StepTold.TheVariants.{Nothing};
+ghost use Rattle.world.specs.process.registers.declared.access_made.AccessMade.{AccessMade as MadeSeen};
 ghost use Rattle.course.specs.Courses.{course};
 ghost use Rattle.course.specs.Listening.{HearsStep, LeavesRoom, MakesStep, MakesSteps, PassesAlone, StopsBy};
-ghost use Rattle.course.specs.Telling.{told_step, with_told};
+ghost use Rattle.course.specs.Telling.{told_step};
 
 use crate::listening::Listener;
 use crate::told::{Accepted, Stepped, Told};
 use plain_store::NestedTypes;
 use record::{Access, Event, Refusal};
 use scenario::Fault;
-use world::{Effect, Flicks, StepTold, World};
+use world::{AccessMade, Effect, Flicks, StepTold, World};
 
 /// Steps of a process within a number access, of which none has a mark, while more than one turn is left above so
 /// many: they pass by the listener, unless it hears each Step.
@@ -45,34 +45,40 @@ pub(super) fn pass_by<L: Listener>(
     if within == 0 {
         return;
     }
-    let newest = run_within(world, flicks, process, within);
+    let made = run_within(world, flicks, process, within);
     *left -= within;
     *quiet = 0;
-    listener.pass(process, within, &newest);
+    listener.pass(process, within, &made.0, made.1);
 }
 
-/// So many Steps of a process, all of them within its number access: the access of the newest.
+/// So many Steps of a process, all of them within its number access: the access of the newest, and how many of them ended a
+/// read that a write overlapped.
 #[inline]
-fn run_within(world: &mut World, flicks: &mut Flicks, process: u8, steps: u32) -> Access
+fn run_within(world: &mut World, flicks: &mut Flicks, process: u8, steps: u32) -> (Access, u32)
     requires some { 0 < steps }
     requires within { steps ≤ left_in world.old.seats process }
-    ensures { MakesSteps world.old flicks.old process steps world.new flicks.new result }
+    ensures { MakesSteps world.old flicks.old process steps world.new flicks.new result.0 result.1 }
 {
     world.shown();
-    let _earlier = world.run(process, flicks, steps - 1);
+    let earlier = world.run(process, flicks, steps - 1);
     let flick = flicks.flick();
-    world.make_step_within(process, flick)
+    let newest = world.make_step_within(process, flick);
+    (
+        newest.access,
+        earlier.overlapped + u32::from(newest.overlapped),
+    )
 }
 
 /// A Step by this flick: it is heard or passed by, if it has no mark, and else it is told in `told`, which is written then
-/// alone: it is large. `quiet`: so many of the process's next Steps, at least, are within its number access, of which this
-/// Step is one.
+/// alone: it is large. The last one of its line is heard: so a listener knows the newest access where a line ends. `quiet`: so
+/// many of the process's next Steps, at least, are within its number access, of which this Step is one.
 #[inline(always)]
 pub(super) fn step<L: Listener>(
     world: &mut World,
     quiet: &mut u32,
     process: u8,
     flick: bool,
+    is_last: bool,
     listener: &mut L,
     told: &mut Option<Told>,
 ) -> Result<(), Fault>
@@ -88,51 +94,57 @@ pub(super) fn step<L: Listener>(
     ensures setup { world.new.setup ≡ world.old.setup }
     ensures others { KeepOthers world.old.seats process world.new.seats }
 {
-    let known = quiet_known(world, *quiet, process);
+    let known = quiet_known(world, *quiet, process, is_last);
     if known == 0 {
         *quiet = 0;
-        *told = any_step(world, process, flick, listener)?;
-        return Ok(());
+        return any_step(world, process, flick, listener, told);
     }
     *quiet = known - 1;
-    let access = world.make_step_within(process, flick);
+    let made = world.make_step_within(process, flick);
     if listener.hears_steps() {
         listener.step(Stepped {
             process,
             flick,
-            access,
+            access: made.access,
+            overlapped: made.overlapped,
             number: None,
         })?;
         return Ok(());
     }
-    listener.pass(process, 1, &access);
+    listener.pass(process, 1, &made.access, u32::from(made.overlapped));
     Ok(())
 }
 
-/// So many of a process's next Steps, at least, are within its number access: the world is asked, if none is known.
+/// So many of a process's next Steps, at least, are within its number access: the world is asked, if none is known. Of the last
+/// Step of its line none is taken for one.
 #[inline(always)]
-fn quiet_known(world: &World, known: u32, process: u8) -> u32
+fn quiet_known(world: &World, known: u32, process: u8, is_last: bool) -> u32
     requires { known ≤ left_in world.now.seats process }
     ensures { result ≤ left_in world.now.seats process }
 {
+    if is_last {
+        return 0;
+    }
     if known == 0 {
         return world.left(process);
     }
     known
 }
 
-/// A Step by this flick, wherever its process is: it is heard, if it has no mark, and else it is told.
+/// A Step by this flick, wherever its process is: it is heard, if it has no mark, and else it is told in `told`.
 #[inline(never)]
 fn any_step<L: Listener>(
     world: &mut World,
     process: u8,
     flick: bool,
     listener: &mut L,
-) -> Result<Option<Told>, Fault>
-    requires { L.HasRoom listener.old 1 }
-    ensures ok { IfOk result (λ told.
-        MakesStep L.Hears world.old process flick told world.new listener.old listener.new) }
-    ensures room { IfOk result (LeavesRoom L.HasRoom listener.old 1 listener.new 0) }
+    told: &mut Option<Told>,
+) -> Result<(), Fault>
+    requires room { L.HasRoom listener.old 1 }
+    requires untold { told.old ≡ None }
+    ensures ok { OnOk result
+        (MakesStep L.Hears world.old process flick told.new world.new listener.old listener.new) }
+    ensures room { OnOk result (LeavesRoom L.HasRoom listener.old 1 listener.new 0 told.new) }
     ensures cut { IfErr result (λ fault.
         HearsStep (StopsBy L.Stops fault) world.old process flick world.new listener.old listener.new) }
     ensures setup { world.new.setup ≡ world.old.setup }
@@ -142,28 +154,30 @@ fn any_step<L: Listener>(
     let number = Some(world.number_read(process));
     let place = world.history().len() as u64;
     let stepped = world.step(process, flick, &mut leads);
-    let Some(access) = unmarked(&stepped, &leads) else {
-        return Ok(Some(told_of(process, flick, place, &stepped, &leads)));
+    let Some(made) = unmarked(&stepped, &leads) else {
+        *told = Some(told_of(process, flick, place, &stepped, &leads));
+        return Ok(());
     };
     listener.step(Stepped {
         process,
         flick,
-        access,
+        access: made.access,
+        overlapped: made.overlapped,
         number,
     })?;
-    Ok(None)
+    Ok(())
 }
 
 /// The access of a Step that was made, if it has no mark.
 #[inline]
-fn unmarked(stepped: &Result<Access, Refusal>, leads: &StepTold) -> Option<Access>
-    ensures some { IfSome result (λ access. (stepped.now ≡ Ok access) × (leads.now ≡ Nothing)) }
-    ensures none { result ≡ None → (access : AccessSeen) → stepped.now ≡ Ok access → leads.now ≡ Nothing → ⊥ }
+fn unmarked(stepped: &Result<AccessMade, Refusal>, leads: &StepTold) -> Option<AccessMade>
+    ensures some { IfSome result (λ made. (stepped.now ≡ Ok made) × (leads.now ≡ Nothing)) }
+    ensures none { result ≡ None → (made : MadeSeen) → stepped.now ≡ Ok made → leads.now ≡ Nothing → ⊥ }
 {
     let _nested: NestedTypes = None;
     match leads {
         StepTold::Nothing => match stepped {
-            Ok(access) => Some(*access),
+            Ok(made) => Some(*made),
             Err(_) => None,
         },
         _ => None,
@@ -176,17 +190,18 @@ fn told_of(
     process: u8,
     flick: bool,
     place: u64,
-    stepped: &Result<Access, Refusal>,
+    stepped: &Result<AccessMade, Refusal>,
     leads: &StepTold,
 ) -> Told
-    ensures { result ≡ told_step process flick place (with_told leads.now stepped.now) }
+    ensures { result ≡ told_step process flick place leads.now stepped.now }
 {
     let _nested: NestedTypes = None;
     match stepped {
-        Ok(access) => Told::Accepted(Accepted {
+        Ok(made) => Told::Accepted(Accepted {
             event: Event::Step(process, flick),
             place,
-            access: Some(*access),
+            access: Some(made.access),
+            overlapped: made.overlapped,
             effect: Effect::Steps(*leads),
         }),
         Err(refusal) => Told::Refused {

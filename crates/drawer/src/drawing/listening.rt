@@ -63,7 +63,7 @@ impl<'a, W: Sink> Listener for Drawer<'a, W> {
         Ok(())
     }
 
-    fn pass(&mut self, _process: u8, steps: u32, _newest: &Access) {
+    fn pass(&mut self, _process: u8, steps: u32, _newest: &Access, _overlapped: u32) {
         self.drawing.summary.events += u64::from(steps);
     }
 

@@ -2,11 +2,11 @@
 ghost use Rattle.std.specs.Prelude.{◌≡◌, ℕ, ◌<◌, ◌≤◌, IfSome, false, true};
 ghost use Rattle.record.specs.Places.{value_of};
 ghost use Rattle.record.specs.declared.stages.Stage.TheVariants.{Waiting};
-ghost use Rattle.registers.specs.Accesses.{applied};
+ghost use Rattle.registers.specs.Accesses.{applied, ends_overlapped};
 ghost use Rattle.registers.specs.AtParts.{IsAtPart, run_at};
 ghost use Rattle.registers.specs.Openings.{AreOf};
 ghost use Rattle.process.specs.Places.{changes_read, failed, left_at, left_of, marks_on, may_fail, may_step, stage_doing, stepped, withdrawn};
-ghost use Rattle.process.specs.Serving.{answered_at, dropped, step_by, steps_of};
+ghost use Rattle.process.specs.Serving.{answered_at, dropped, overlapped_steps, step_by, steps_of};
 ghost use Rattle.process.specs.Telling.{changes_told, marks_told};
 
 use super::Process;
@@ -14,11 +14,11 @@ use crate::call_part::CallPart;
 use crate::told::StepTold;
 use crate::work::ProcessWork;
 use flicks::Flicks;
-use record::Access;
-use registers::{BitMemory, Cursor, given};
+use registers::{AccessMade, BitMemory, Cursor, given};
 
 impl Process {
-    /// How many of its next accesses are within a number access of its call: they have no mark, and none is the last.
+    /// How many of its next accesses are within a number access of its call: they have no mark, and none is the first of the
+    /// call or the last of the access.
     #[inline]
     pub fn left(&self) -> u32
         ensures { result ≡ left_at self.now }
@@ -29,41 +29,48 @@ impl Process {
         }
     }
 
-    /// Makes its next access on the memory, by this flick, and tells it and what it leads to.
+    /// Makes its next access on the memory, by this flick, and tells it, what it leads to, and whether it ended a read that a
+    /// write overlapped.
     #[inline]
-    pub fn step(&mut self, memory: &mut BitMemory, flick: bool, told: &mut StepTold) -> Access
+    pub fn step(&mut self, memory: &mut BitMemory, flick: bool, told: &mut StepTold) -> AccessMade
         requires goes { may_step self.old.doing ≡ true }
         requires memory { AreOf self.old.setup memory.old }
-        ensures access { result ≡ answered_at self.old memory.old flick }
-        ensures process { self.new ≡ stepped self.old flick (value_of result.how) }
-        ensures marks { marks_told told.new ≡ marks_on self.old flick (value_of result.how) }
+        ensures access { result.access ≡ answered_at self.old memory.old flick }
+        ensures overlapped { result.overlapped ≡ ends_overlapped self.old.setup.processes memory.old result.access }
+        ensures process { self.new ≡ stepped self.old flick (value_of result.access.how) }
+        ensures marks { marks_told told.new ≡ marks_on self.old flick (value_of result.access.how) }
         ensures changes { IfSome (changes_told told.new) (λ changes. changes ≡ changes_read self.old.doing) }
-        ensures memory { memory.new ≡ applied self.old.setup.processes memory.old result }
+        ensures memory { memory.new ≡ applied self.old.setup.processes memory.old result.access }
     {
-        let access = memory.make(&self.cursor, flick);
-        *told = self.advance(flick, given(access.how));
-        access
+        let made = memory.make(&self.cursor, flick);
+        *told = self.advance(flick, given(made.access.how));
+        made
     }
 
     /// The same within a number access, where it leads to nothing.
     #[inline(always)]
-    pub fn step_within(&mut self, memory: &mut BitMemory, flick: bool) -> Access
+    pub fn step_within(&mut self, memory: &mut BitMemory, flick: bool) -> AccessMade
         requires left { 0 < left_at self.old }
         requires memory { AreOf self.old.setup memory.old }
-        ensures access { result ≡ answered_at self.old memory.old flick }
+        ensures access { result.access ≡ answered_at self.old memory.old flick }
+        ensures overlapped { result.overlapped ≡ ends_overlapped self.old.setup.processes memory.old result.access }
         ensures step { (self.new, memory.new) ≡ step_by flick (self.old, memory.old) }
     {
         memory.step(&mut self.cursor, flick)
     }
 
-    /// So many steps within a number access, each by the flick that is next.
-    pub fn run(&mut self, memory: &mut BitMemory, flicks: &mut Flicks, steps: u32)
+    /// So many steps within a number access, each by the flick that is next. It answers how many of them ended a read that
+    /// a write overlapped.
+    pub fn run(&mut self, memory: &mut BitMemory, flicks: &mut Flicks, steps: u32) -> u32
         requires left { steps ≤ left_at self.old }
         requires memory { AreOf self.old.setup memory.old }
-        ensures { (self.new, memory.new, flicks.new) ≡ steps_of steps (self.old, memory.old, flicks.old) }
+        ensures steps { (self.new, memory.new, flicks.new) ≡ steps_of steps (self.old, memory.old, flicks.old) }
+        ensures overlapped { result ≡ overlapped_steps steps (self.old, memory.old, flicks.old) }
     {
         if steps > 0 {
-            memory.run(&mut self.cursor, flicks, steps);
+            memory.run(&mut self.cursor, flicks, steps)
+        } else {
+            0
         }
     }
 
@@ -100,13 +107,13 @@ impl Process {
     }
 }
 
-/// How many accesses of a part come before its last one; none, where the next one has a mark.
+/// How many accesses of a part come before its last one; none, where the next one begins the call or has a mark.
 #[inline]
 fn left_of(called: &CallPart, cursor: &Cursor) -> u32
     requires { IsAtPart called.now.call called.now.part cursor.now }
     ensures { result ≡ left_of called.now.call called.now.part (run_at cursor.now) }
 {
-    if cursor.is_fresh() && called.leaves() {
+    if cursor.is_fresh() && called.is_told() {
         0
     } else {
         cursor.left().saturating_sub(1)

@@ -1,4 +1,4 @@
-use Rattle.std.proofs.Common.{◌+◌, ◌-◌, ◌∙◌, arith, false, refl, sym}
+use Rattle.std.proofs.Common.{◌+◌, ◌-◌, ◌∙◌, arith, refl, sym}
 use Rattle.course.specs.Courses.{course}
 use Rattle.course.specs.Steppers.{IsAlone}
 use Rattle.course.proofs.Alone.{alone_pass, steps_setup}
@@ -19,12 +19,12 @@ pub pass-requires-clause-room : goal.pass-requires-clause-room
 pass-requires-clause-room g c = g.met.L.Listener.room_less c.args.listener.now c.min-within.result c.args.left.now (omega (arith, c.requires.floor, c.min-within.ensures)) c.requires.room
 
 pub returns-clause-setup : goal.returns-clause-setup
-returns-clause-setup g c = steps_setup c.args.world.now c.run_within-newest.new.world c.args.flicks.now c.run_within-newest.new.flicks c.args.process c.min-within.result c.run_within-newest.result c.run_within-newest.ensures
+returns-clause-setup g c = steps_setup c.args.world.now c.run_within-made.new.world c.args.flicks.now c.run_within-made.new.flicks c.args.process c.min-within.result c.run_within-made.result.0 c.run_within-made.result.1 c.run_within-made.ensures
 
 pub returns-clause-on : goal.returns-clause-on
 returns-clause-on g c = λ l run follows next.
-    let made = c.run_within-newest in
-    alone_pass g.L.Listener.Hears c.min-within.result c.args.world.now made.new.world c.args.flicks.now made.new.flicks made.result l c.args.left.now _ c.args.process c.args.floor run c.args.listener.now c.pass.new.self refl
+    let made = c.run_within-made in
+    alone_pass g.L.Listener.Hears c.min-within.result c.args.world.now made.new.world c.args.flicks.now made.new.flicks made.result.0 made.result.1 l c.args.left.now _ c.args.process c.args.floor run c.args.listener.now c.pass.new.self refl
     (omega (arith, c.requires.floor, c.min-within.ensures)) (omega (arith, c.min-within.ensures, c.left.ensures)) made.ensures (c.pass.ensures.ok (sym c.hears_steps.ensures ∙ c.if-hears_steps.false)) follows next
 
 pub returns-clause-room : goal.returns-clause-room

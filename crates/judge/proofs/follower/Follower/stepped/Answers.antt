@@ -30,6 +30,6 @@ returns-clause-added c = λ s past h few.
     let place : c.in_ok-place.place ≡ length (history s past) = cc in
     let marks = c.marks.ensures ∙ ap (λ (n : ℕ). map (placed n) (marks_told c.step.new.told)) place in
     let adds = followed c.args.self.now s past
-    (λ (taken : List Taken) (s : Setup) (past : Past). entry_of s past (Step c.args.process c.args.flick) ≡ Some (entry_with c.args.process (act_of (length taken) (record { access = Some c.in-Ok.access; effect = Steps c.step.new.told }))))
+    (λ (taken : List Taken) (s : Setup) (past : Past). entry_of s past (Step c.args.process c.args.flick) ≡ Some (entry_with c.args.process (act_of (length taken) (record { access = Some c.in-Ok.made.access; effect = Steps c.step.new.told }))))
     c.copy_from.new.self same h c.in-Ok.ensures.accepted in
-    (λ i. Some (record { process = c.args.process; access = Some c.in-Ok.access; marks = marks i })) ∙ sym adds
+    (λ i. Some (record { process = c.args.process; access = Some c.in-Ok.made.access; marks = marks i })) ∙ sym adds

@@ -20,7 +20,12 @@ invariant_of-self c =
     let all = shown-run c.args.steps c.self.inside.called c.self.inside.work c.self.inside.cursor c.args.self.now c.args.memory.now c.args.flicks.now c.self.invariant c.self.view_is c.if-steps-gt0.true c.requires.left in
     subst (λ (x : CursorState × List (List Cell) × FlickState). KeepsPlace c.self.inside.called c.self.inside.work x.0) (sym c.run.ensures.run) all.0
 
-pub returns-then-steps-gt0 : goal.returns-then-steps-gt0
-returns-then-steps-gt0 c =
+pub returns-then-steps-gt0-clause-steps : goal.returns-then-steps-gt0-clause-steps
+returns-then-steps-gt0-clause-steps c =
     let all = shown-run c.args.steps c.self.inside.called c.self.inside.work c.self.inside.cursor c.args.self.now c.args.memory.now c.args.flicks.now c.self.invariant c.self.view_is c.if-steps-gt0.true c.requires.left in
     ap (λ (x : CursorState × List (List Cell) × FlickState). let then : ProcessState × List (List Cell) × FlickState = (state_at c.self.inside.called c.self.inside.work x.0, x.1, x.2) in then) c.run.ensures.run ∙ all.1
+
+pub returns-then-steps-gt0-clause-overlapped : goal.returns-then-steps-gt0-clause-overlapped
+returns-then-steps-gt0-clause-overlapped c =
+    c.run.ensures.overlapped
+    ∙ (shown-run c.args.steps c.self.inside.called c.self.inside.work c.self.inside.cursor c.args.self.now c.args.memory.now c.args.flicks.now c.self.invariant c.self.view_is c.if-steps-gt0.true c.requires.left).3

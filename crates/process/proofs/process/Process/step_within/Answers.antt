@@ -1,10 +1,10 @@
 use Rattle.std.proofs.Common.{List, sym, ap, subst, ◌∙◌}
 use Rattle.registers.specs.safe_bit.Cell.{Cell}
 use Rattle.record.specs.declared.access.Access.{Access}
-use Rattle.registers.specs.Accesses.{applied, cursor_after}
+use Rattle.registers.specs.Accesses.{applied, cursor_after, ends_overlapped}
 use Rattle.process.specs.Places.{ProcessState}
 use Rattle.process.specs.Working.{KeepsPlace, state_at}
-use Rattle.process.proofs.Shown.{left-goes, shown-answered, shown-fits, shown-step}
+use Rattle.process.proofs.Shown.{left-goes, shown-answered, shown-copies, shown-fits, shown-step}
 use Rattle.process.proofs.process.Process.step_within.Goals as goal
 
 pub step-requires-clause-fits : goal.step-requires-clause-fits
@@ -20,6 +20,11 @@ pub returns-clause-access : goal.returns-clause-access
 returns-clause-access c =
     c.step.ensures.access
     ∙ shown-answered c.self.inside.called c.self.inside.work c.self.inside.cursor c.args.self.now c.args.memory.now c.args.flick c.self.invariant c.self.view_is (left-goes c.args.self.now c.requires.left)
+
+pub returns-clause-overlapped : goal.returns-clause-overlapped
+returns-clause-overlapped c =
+    c.step.ensures.overlapped
+    ∙ ap (λ n. ends_overlapped n c.args.memory.now c.step.result.access) (shown-copies c.self.inside.called c.self.inside.work c.self.inside.cursor c.args.self.now c.self.invariant c.self.view_is (left-goes c.args.self.now c.requires.left))
 
 pub returns-clause-step : goal.returns-clause-step
 returns-clause-step c =

@@ -1,9 +1,11 @@
-use Rattle.std.proofs.Common.{◌-◌, ◌≤◌}
+use Rattle.std.proofs.Common.{◌≡◌, ◌-◌, ◌≤◌}
+use Rattle.registers.specs.Accesses.{overlapped_reads}
 use Rattle.registers.specs.Loops.{HasRead}
 use Rattle.registers.proofs.memory.BitMemory.read_on.Given as goal
 
 abbrev pub invariant-steps : goal.invariant-steps
 invariant-steps l = HasRead l.made (l.initial.cursor, l.initial.self, l.initial.flicks) (l.cursor, l.self, l.flicks) × (l.made ≤ l.steps)
+    × (l.overlapped ≡ overlapped_reads l.made (l.initial.cursor, l.initial.self, l.initial.flicks)) × (l.overlapped ≤ l.made)
 
 abbrev pub decreases-steps : goal.decreases-steps
 decreases-steps l = l.steps - l.made

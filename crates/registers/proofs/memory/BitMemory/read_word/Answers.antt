@@ -1,15 +1,17 @@
-use Rattle.std.proofs.Common.{◌*◌, ◌≡◌, ◌<◌, ◌/◌, ℕ, List, [], set, length, arith, sym, ◌∙◌, ap}
+use Rattle.std.proofs.Common.{◌*◌, ◌≡◌, ◌<◌, ◌/◌, ℕ, Bool, List, [], set, length, arith, sym, ◌∙◌, ap}
 use Rattle.std.proofs.lemmas.List.{get_or_default}
 use Rattle.safe_bit.specs.Cell.{Cell}
 use Rattle.flicks.specs.Flicks.{FlickState, flicks_after}
+use Rattle.registers.specs.Accesses.{overlapped_reads}
 use Rattle.registers.specs.Memory.{lane_of}
 use Rattle.registers.specs.Cursors.{CursorState, first_lane}
 use Rattle.registers.specs.Wordwise.{after_read, over}
 use Rattle.registers.proofs.AtOnce.{read-at_once}
+use Rattle.registers.proofs.Overlaps.{none-overlapped}
 use Rattle.registers.proofs.memory.BitMemory.read_word.Goals as goal
 
-pub returns : goal.returns
-returns c = λ f.
+pub returns-clause-now : goal.returns-clause-now
+returns-clause-now c = λ f.
     let run = c.args.cursor.now in
     let memory = c.args.self.now in
     let copies = c.index_mut-copies.result.now in
@@ -23,3 +25,12 @@ returns c = λ f.
     (λ i same inside. c.word-word.ensures i (same ∙ ap (λ b. b / 64) (sym c.bit-bit.ensures.bit)) inside)
     (c.read_word.ensures ∙ ap (λ b. over c.args.bits (λ i x. after_read x) b copies) c.bit-bit.ensures.bit)
     c.keep_word.ensures
+
+pub returns-clause-none : goal.returns-clause-none
+returns-clause-none c = λ f.
+    let run = c.args.cursor.now in
+    let memory = c.args.self.now in
+    let there = c.requires.there in
+    let wide = there.wide (first_lane run) (omega arith) (omega arith) in
+    ap (λ (begun : Bool). let r : CursorState = record run { begun = begun } in overlapped_reads (2 * c.args.bits) (r, memory, f)) c.requires.closed
+    ∙ none-overlapped c.args.bits run run.bit run.bits memory f (omega (arith, there.lanes)) (omega (arith, wide, c.requires.inside)) c.requires.quiet

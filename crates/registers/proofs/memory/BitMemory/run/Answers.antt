@@ -5,6 +5,7 @@ use Rattle.registers.specs.Cursors.{CursorState, Fits, IsAtCopy}
 use Rattle.registers.specs.declared.cursor.NumberRun.{NumberRun}
 use Rattle.registers.specs.declared.cursor.NumberRun.TheVariants.{Reads, Writes}
 use Rattle.registers.proofs.Iterates.{of_write, run-reads, run-writes}
+use Rattle.registers.proofs.Overlaps.{overlapped-read, overlapped-write}
 use Rattle.registers.proofs.Runs.{run-fits}
 use Rattle.registers.proofs.memory.BitMemory.run.Goals as goal
 
@@ -13,7 +14,7 @@ returns-in-Reads-clause-run c =
     let cursor = c.args.cursor.now in
     let reads : cursor.run ≡ Reads = sym c.run.ensures ∙ c.in-Reads.is in
     let P : NumberRun → Type 0 = λ r. IsAtCopy r cursor.reader cursor.copy in
-    c.read_on.ensures ∙ sym (run-reads c.args.steps (cursor, c.args.self.now, c.args.flicks.now) reads (subst P reads c.requires.fits.at))
+    c.read_on.ensures.now ∙ sym (run-reads c.args.steps (cursor, c.args.self.now, c.args.flicks.now) reads (subst P reads c.requires.fits.at))
 
 pub returns-in-Reads-clause-fits : goal.returns-in-Reads-clause-fits
 returns-in-Reads-clause-fits c =
@@ -35,3 +36,16 @@ returns-in-Writes-clause-fits c =
     let before : CursorState × List (List Cell) × FlickState = (c.args.cursor.now, c.args.self.now, c.args.flicks.now) in
     let P : CursorState × List (List Cell) × FlickState → Type 0 = λ now. Fits now.1 now.0 in
     subst P (sym (returns-in-Writes-clause-run c)) (run-fits c.args.steps before c.requires.fits)
+
+pub returns-in-Reads-clause-overlapped : goal.returns-in-Reads-clause-overlapped
+returns-in-Reads-clause-overlapped c =
+    let cursor = c.args.cursor.now in
+    let reads : cursor.run ≡ Reads = sym c.run.ensures ∙ c.in-Reads.is in
+    let P : NumberRun → Type 0 = λ r. IsAtCopy r cursor.reader cursor.copy in
+    c.read_on.ensures.overlapped ∙ sym (overlapped-read c.args.steps (cursor, c.args.self.now, c.args.flicks.now) reads (subst P reads c.requires.fits.at))
+
+pub returns-in-Writes-clause-overlapped : goal.returns-in-Writes-clause-overlapped
+returns-in-Writes-clause-overlapped c =
+    let cursor = c.args.cursor.now in
+    let writes : cursor.run ≡ Writes = sym c.run.ensures ∙ c.in-Writes.is in
+    sym (overlapped-write c.args.steps c.args.flicks.now (cursor, c.args.self.now) writes)

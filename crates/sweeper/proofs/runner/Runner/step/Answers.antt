@@ -38,12 +38,12 @@ invariant_of-self-2 c =
     let step : Event = Step c.args.process c.args.value in
     let marks : List Mark = map (placed i.taken) (marks_told c.step.new.told) in
     let old : RunnerState = record { core = i.core; auditor = i.auditor; taken = i.taken } in
-    let made : IsMade old step (Some c.in-Ok.access) (Steps c.step.new.told) c.step.new.self = record { adds = c.in-Ok.ensures.accepted; makes = c.in-Ok.ensures.shows; setup = c.in-Ok.ensures.setup } in
-    let answered : IsAnswered i.auditor (entry_by c.args.process (Some c.in-Ok.access) marks) c.hear_step-law.result c.hear_step-law.new.auditor = record { heard = c.hear_step-law.ensures.heard; setup = c.hear_step-law.ensures.setup } in
-    let none : c.hear_step-law.result ≡ None = none_broken old step (Some c.in-Ok.access) (Steps c.step.new.told) c.step.new.self made kept.events kept.follows c.args.process marks c.hear_step-law.result c.hear_step-law.new.auditor refl refl answered in
+    let made : IsMade old step (Some c.in-Ok.made.access) (Steps c.step.new.told) c.step.new.self = record { adds = c.in-Ok.ensures.accepted; makes = c.in-Ok.ensures.shows; setup = c.in-Ok.ensures.setup } in
+    let answered : IsAnswered i.auditor (entry_by c.args.process (Some c.in-Ok.made.access) marks) c.hear_step-law.result c.hear_step-law.new.auditor = record { heard = c.hear_step-law.ensures.heard; setup = c.hear_step-law.ensures.setup } in
+    let none : c.hear_step-law.result ≡ None = none_broken old step (Some c.in-Ok.made.access) (Steps c.step.new.told) c.step.new.self made kept.events kept.follows c.args.process marks c.hear_step-law.result c.hear_step-law.new.auditor refl refl answered in
     record {
       events = step ∷ kept.events;
-      follows = follows_made old step (Some c.in-Ok.access) (Steps c.step.new.told) c.step.new.self made kept.events kept.follows c.args.process marks c.hear_step-law.result c.hear_step-law.new.auditor c.more-self-inside.result
+      follows = follows_made old step (Some c.in-Ok.made.access) (Steps c.step.new.told) c.step.new.self made kept.events kept.follows c.args.process marks c.hear_step-law.result c.hear_step-law.new.auditor c.more-self-inside.result
           refl refl c.more-self-inside.ensures answered;
       processes = kept.processes ∙ ap (λ (s : Setup). s.processes) (sym c.in-Ok.ensures.setup);
       none_bad = c.first_bad-self-inside.ensures none ∙ kept.none_bad;
@@ -56,11 +56,11 @@ returns-clause-follows c =
     let marks : List Mark = map (placed i.taken) (marks_told c.step.new.told) in
     let old : RunnerState = record { core = i.core; auditor = i.auditor; taken = i.taken } in
     let then : RunnerState = record { core = c.step.new.self; auditor = c.hear_step-law.new.auditor; taken = c.more-self-inside.result } in
-    let made : IsMade old step (Some c.in-Ok.access) (Steps c.step.new.told) c.step.new.self = record { adds = c.in-Ok.ensures.accepted; makes = c.in-Ok.ensures.shows; setup = c.in-Ok.ensures.setup } in
-    let answered : IsAnswered i.auditor (entry_by c.args.process (Some c.in-Ok.access) marks) c.hear_step-law.result c.hear_step-law.new.auditor = record { heard = c.hear_step-law.ensures.heard; setup = c.hear_step-law.ensures.setup } in
+    let made : IsMade old step (Some c.in-Ok.made.access) (Steps c.step.new.told) c.step.new.self = record { adds = c.in-Ok.ensures.accepted; makes = c.in-Ok.ensures.shows; setup = c.in-Ok.ensures.setup } in
+    let answered : IsAnswered i.auditor (entry_by c.args.process (Some c.in-Ok.made.access) marks) c.hear_step-law.result c.hear_step-law.new.auditor = record { heard = c.hear_step-law.ensures.heard; setup = c.hear_step-law.ensures.setup } in
     let family : RunnerState → Type 0 = λ r. RunsOn r then (λ events. step ∷ events) in
     subst family c.self.view_is (λ events follows.
-    follows_made old step (Some c.in-Ok.access) (Steps c.step.new.told) c.step.new.self made events follows c.args.process marks c.hear_step-law.result c.hear_step-law.new.auditor c.more-self-inside.result
+    follows_made old step (Some c.in-Ok.made.access) (Steps c.step.new.told) c.step.new.self made events follows c.args.process marks c.hear_step-law.result c.hear_step-law.new.auditor c.more-self-inside.result
     refl refl c.more-self-inside.ensures answered)
 
 pub returns-clause-accepted : goal.returns-clause-accepted
@@ -68,6 +68,6 @@ returns-clause-accepted c =
     let i = c.self.inside in
     let step : Event = Step c.args.process c.args.value in
     let old : RunnerState = record { core = i.core; auditor = i.auditor; taken = i.taken } in
-    let made : IsMade old step (Some c.in-Ok.access) (Steps c.step.new.told) c.step.new.self = record { adds = c.in-Ok.ensures.accepted; makes = c.in-Ok.ensures.shows; setup = c.in-Ok.ensures.setup } in
+    let made : IsMade old step (Some c.in-Ok.made.access) (Steps c.step.new.told) c.step.new.self = record { adds = c.in-Ok.ensures.accepted; makes = c.in-Ok.ensures.shows; setup = c.in-Ok.ensures.setup } in
     let family : RunnerState → Type 0 = λ r. (events : List Event) → Follows r events → true ≡ is_accepted r.core.setup events step in
-    subst family c.self.view_is (λ events follows. sym (made_accepted old step (Some c.in-Ok.access) (Steps c.step.new.told) c.step.new.self made events follows))
+    subst family c.self.view_is (λ events follows. sym (made_accepted old step (Some c.in-Ok.made.access) (Steps c.step.new.told) c.step.new.self made events follows))

@@ -7,8 +7,8 @@ use Rattle.world.proofs.cores.Core.make_event.Goals as goal
 pub call-requires-clause-accepted : goal.call-requires-clause-accepted
 call-requires-clause-accepted c = subst (λ e. CoreRefuses c.args.self.now e None) c.in-Call.is c.requires
 
-pub make_step-access-requires : goal.make_step-access-requires
-make_step-access-requires c = subst (λ e. CoreRefuses c.args.self.now e None) c.in-Step.is c.requires
+pub make_step-made-requires : goal.make_step-made-requires
+make_step-made-requires c = subst (λ e. CoreRefuses c.args.self.now e None) c.in-Step.is c.requires
 
 pub fail-requires : goal.fail-requires
 fail-requires c = subst (λ e. CoreRefuses c.args.self.now e None) c.in-Fail.is c.requires
@@ -23,7 +23,7 @@ pub returns-in-Call : goal.returns-in-Call
 returns-in-Call c = subst (λ e. CoreGoes c.args.self.now e (effect.Calls c.in-Call.command) None c.call.new.self) (sym c.in-Call.is) c.call.ensures
 
 pub returns-in-Step : goal.returns-in-Step
-returns-in-Step c = subst (λ e. CoreGoes c.args.self.now e (effect.Steps c.make_step-access.new.told) (Some c.make_step-access.result) c.make_step-access.new.self) (sym c.in-Step.is) c.make_step-access.ensures.goes
+returns-in-Step c = subst (λ e. CoreGoes c.args.self.now e (effect.Steps c.make_step-made.new.told) (Some c.make_step-made.result.access) c.make_step-made.new.self) (sym c.in-Step.is) c.make_step-made.ensures.goes
 
 pub returns-in-Fail : goal.returns-in-Fail
 returns-in-Fail c = subst (λ e. CoreGoes c.args.self.now e effect.Fails None c.fail.new.self) (sym c.in-Fail.is) c.fail.ensures

@@ -12,6 +12,7 @@ use Rattle.world.specs.Going.{registers_after, seat_after}
 use Rattle.world.specs.Seats.{is_waiting, seat_stepped}
 use Rattle.world.proofs.CoreCode.{seated, step-may, told-after}
 use Rattle.world.proofs.CoreKeeps.{IsNext, core_in, next-at, next-goes, next-keeps}
+use Rattle.world.proofs.CoreOverlaps.{tells-overlapped}
 use Rattle.world.proofs.CoreWalks.{next-others}
 use Rattle.world.proofs.WorldTelling.{told-back}
 use Rattle.world.proofs.cores.Core.make_step.Goals as goal
@@ -23,8 +24,8 @@ index_mut-seat-requires c =
     let inside = core_in core c.args.self.now (Step c.args.process c.args.flick) c.self.invariant c.self.view_is c.requires in
     omega (arith, inside, c.from.ensures, i.seats.ok.0)
 
-pub step-access-requires : goal.step-access-requires
-step-access-requires c =
+pub step-made-requires : goal.step-made-requires
+step-made-requires c =
     let i = c.self.inside in
     let core : CoreState = record { setup = i.setup; registers = i.registers; seats = i.seats.items } in
     let seat = c.index_mut-seat.result.now in
@@ -45,13 +46,13 @@ invariant_of-self c =
     let core : CoreState = record { setup = i.setup; registers = i.registers; seats = i.seats.items } in
     let seat = c.index_mut-seat.result.now in
     let n : IsNext core (Step c.args.process c.args.flick) c.index_mut-seat.result.now = next-at core c.args.self.now (Step c.args.process c.args.flick) c.from.result c.index_mut-seat.result.now c.self.invariant c.self.view_is c.requires refl c.from.ensures c.index_mut-seat.ensures.value in
-    let then = c.step-access.new.self in
+    let then = c.step-made.new.self in
     let long = length-set i.seats.items c.from.result then in
     let same = told-back (told c.args.process c.is_waiting-waited.result c.is_waiting-waits.result) i.seats.len c.tell.new.seats c.deref_mut.result.now (slice_set i.seats.items c.from.result then) (drop (length c.tell.new.seats) (slice_set i.seats.items c.from.result then)) c.tell.ensures c.deref_mut.ensures.value (omega (arith, long, i.seats.ok.0)) in
-    let a = c.step-access.ensures.access in
-    let stepped_is : then ≡ seat_after core seat (Step c.args.process c.args.flick) = c.step-access.ensures.seat ∙ ap (λ (a : Access). seat_stepped (stepped seat.process c.args.flick (value_of a.how)) seat) a in
-    let registers_are : c.step-access.new.registers ≡ registers_after core seat (Step c.args.process c.args.flick) = c.step-access.ensures.registers ∙ ap (applied seat.process.setup.processes i.registers) a in
-    let is = told-after core (Step c.args.process c.args.flick) seat then c.step-access.new.registers _ c.is_waiting-waited.result c.is_waiting-waits.result c.from.result c.args.process c.from.ensures refl stepped_is registers_are c.is_waiting-waited.ensures (c.is_waiting-waits.ensures ∙ ap is_waiting stepped_is) same in
+    let a = c.step-made.ensures.access in
+    let stepped_is : then ≡ seat_after core seat (Step c.args.process c.args.flick) = c.step-made.ensures.seat ∙ ap (λ (a : Access). seat_stepped (stepped seat.process c.args.flick (value_of a.how)) seat) a in
+    let registers_are : c.step-made.new.registers ≡ registers_after core seat (Step c.args.process c.args.flick) = c.step-made.ensures.registers ∙ ap (applied seat.process.setup.processes i.registers) a in
+    let is = told-after core (Step c.args.process c.args.flick) seat then c.step-made.new.registers _ c.is_waiting-waited.result c.is_waiting-waits.result c.from.result c.args.process c.from.ensures refl stepped_is registers_are c.is_waiting-waited.ensures (c.is_waiting-waits.ensures ∙ ap is_waiting stepped_is) same in
     next-keeps core _ (Step c.args.process c.args.flick) seat c.self.invariant n is
 
 pub returns-clause-goes : goal.returns-clause-goes
@@ -60,26 +61,36 @@ returns-clause-goes c =
     let core : CoreState = record { setup = i.setup; registers = i.registers; seats = i.seats.items } in
     let seat = c.index_mut-seat.result.now in
     let n : IsNext core (Step c.args.process c.args.flick) c.index_mut-seat.result.now = next-at core c.args.self.now (Step c.args.process c.args.flick) c.from.result c.index_mut-seat.result.now c.self.invariant c.self.view_is c.requires refl c.from.ensures c.index_mut-seat.ensures.value in
-    let then = c.step-access.new.self in
+    let then = c.step-made.new.self in
     let long = length-set i.seats.items c.from.result then in
     let same = told-back (told c.args.process c.is_waiting-waited.result c.is_waiting-waits.result) i.seats.len c.tell.new.seats c.deref_mut.result.now (slice_set i.seats.items c.from.result then) (drop (length c.tell.new.seats) (slice_set i.seats.items c.from.result then)) c.tell.ensures c.deref_mut.ensures.value (omega (arith, long, i.seats.ok.0)) in
-    let a = c.step-access.ensures.access in
-    let stepped_is : then ≡ seat_after core seat (Step c.args.process c.args.flick) = c.step-access.ensures.seat ∙ ap (λ (a : Access). seat_stepped (stepped seat.process c.args.flick (value_of a.how)) seat) a in
-    let registers_are : c.step-access.new.registers ≡ registers_after core seat (Step c.args.process c.args.flick) = c.step-access.ensures.registers ∙ ap (applied seat.process.setup.processes i.registers) a in
-    let is = told-after core (Step c.args.process c.args.flick) seat then c.step-access.new.registers _ c.is_waiting-waited.result c.is_waiting-waits.result c.from.result c.args.process c.from.ensures refl stepped_is registers_are c.is_waiting-waited.ensures (c.is_waiting-waits.ensures ∙ ap is_waiting stepped_is) same in
-    next-goes core c.args.self.now _ (Step c.args.process c.args.flick) (Steps c.step-access.new.leads) (Some c.step-access.result) seat c.self.view_is n (ap Some a)
-    (c.step-access.ensures.marks ∙ ap (λ (a : Access). marks_on seat.process c.args.flick (value_of a.how)) a) is
+    let a = c.step-made.ensures.access in
+    let stepped_is : then ≡ seat_after core seat (Step c.args.process c.args.flick) = c.step-made.ensures.seat ∙ ap (λ (a : Access). seat_stepped (stepped seat.process c.args.flick (value_of a.how)) seat) a in
+    let registers_are : c.step-made.new.registers ≡ registers_after core seat (Step c.args.process c.args.flick) = c.step-made.ensures.registers ∙ ap (applied seat.process.setup.processes i.registers) a in
+    let is = told-after core (Step c.args.process c.args.flick) seat then c.step-made.new.registers _ c.is_waiting-waited.result c.is_waiting-waits.result c.from.result c.args.process c.from.ensures refl stepped_is registers_are c.is_waiting-waited.ensures (c.is_waiting-waits.ensures ∙ ap is_waiting stepped_is) same in
+    next-goes core c.args.self.now _ (Step c.args.process c.args.flick) (Steps c.step-made.new.leads) (Some c.step-made.result.access) seat c.self.view_is n (ap Some a)
+    (c.step-made.ensures.marks ∙ ap (λ (a : Access). marks_on seat.process c.args.flick (value_of a.how)) a) is
+
+pub returns-clause-overlapped : goal.returns-clause-overlapped
+returns-clause-overlapped c =
+    let i = c.self.inside in
+    let core : CoreState = record { setup = i.setup; registers = i.registers; seats = i.seats.items } in
+    let seat = c.index_mut-seat.result.now in
+    let n : IsNext core (Step c.args.process c.args.flick) c.index_mut-seat.result.now = next-at core c.args.self.now (Step c.args.process c.args.flick) c.from.result c.index_mut-seat.result.now c.self.invariant c.self.view_is c.requires refl c.from.ensures c.index_mut-seat.ensures.value in
+    let made = c.step-made.result in
+    tells-overlapped core c.args.self.now c.args.process c.args.flick made.access (Steps c.step-made.new.leads) made.overlapped seat.process.setup c.self.view_is (seated core c.args.process seat c.self.invariant n.there).setup c.step-made.ensures.overlapped
+    (returns-clause-goes c).adds
 
 pub returns-clause-others : goal.returns-clause-others
 returns-clause-others c =
     let i = c.self.inside in
     let core : CoreState = record { setup = i.setup; registers = i.registers; seats = i.seats.items } in
     let seat = c.index_mut-seat.result.now in
-    let then = c.step-access.new.self in
+    let then = c.step-made.new.self in
     let long = length-set i.seats.items c.from.result then in
     let same = told-back (told c.args.process c.is_waiting-waited.result c.is_waiting-waits.result) i.seats.len c.tell.new.seats c.deref_mut.result.now (slice_set i.seats.items c.from.result then) (drop (length c.tell.new.seats) (slice_set i.seats.items c.from.result then)) c.tell.ensures c.deref_mut.ensures.value (omega (arith, long, i.seats.ok.0)) in
-    let a = c.step-access.ensures.access in
-    let stepped_is : then ≡ seat_after core seat (Step c.args.process c.args.flick) = c.step-access.ensures.seat ∙ ap (λ (a : Access). seat_stepped (stepped seat.process c.args.flick (value_of a.how)) seat) a in
-    let registers_are : c.step-access.new.registers ≡ registers_after core seat (Step c.args.process c.args.flick) = c.step-access.ensures.registers ∙ ap (applied seat.process.setup.processes i.registers) a in
-    let is = told-after core (Step c.args.process c.args.flick) seat then c.step-access.new.registers _ c.is_waiting-waited.result c.is_waiting-waits.result c.from.result c.args.process c.from.ensures refl stepped_is registers_are c.is_waiting-waited.ensures (c.is_waiting-waits.ensures ∙ ap is_waiting stepped_is) same in
+    let a = c.step-made.ensures.access in
+    let stepped_is : then ≡ seat_after core seat (Step c.args.process c.args.flick) = c.step-made.ensures.seat ∙ ap (λ (a : Access). seat_stepped (stepped seat.process c.args.flick (value_of a.how)) seat) a in
+    let registers_are : c.step-made.new.registers ≡ registers_after core seat (Step c.args.process c.args.flick) = c.step-made.ensures.registers ∙ ap (applied seat.process.setup.processes i.registers) a in
+    let is = told-after core (Step c.args.process c.args.flick) seat then c.step-made.new.registers _ c.is_waiting-waited.result c.is_waiting-waits.result c.from.result c.args.process c.from.ensures refl stepped_is registers_are c.is_waiting-waited.ensures (c.is_waiting-waits.ensures ∙ ap is_waiting stepped_is) same in
     next-others core c.args.self.now _ c.args.process c.args.flick seat c.self.view_is is

@@ -36,7 +36,7 @@ returns-then-steps-gt0-clause-runs c =
     let l : IsLeft core c.args.process seat = is-left core c.args.self.now c.args.process c.from.result seat c.self.view_is some c.from.ensures c.index_mut.ensures.value in
     let within = run-within core c.args.self.now c.args.process seat n c.self.view_is l.there (omega (arith, c.left.ensures, c.min-steps.ensures)) in
     let is = run-code core c.args.process seat c.args.flicks.now l.there n c.if-steps-gt0.true c.from.result c.run.new.self c.run.new.registers c.from.ensures c.run.ensures.seat c.run.ensures.registers in
-    run-walks core c.args.self.now _ c.args.process seat c.args.flicks.now c.run.new.flicks l.there n c.self.invariant c.self.view_is within is c.run.ensures.flicks
+    run-walks core c.args.self.now _ c.args.process seat c.args.flicks.now c.run.new.flicks l.there n c.run.result c.self.invariant c.self.view_is within is c.run.ensures.flicks c.run.ensures.overlapped
 
 pub returns-then-steps-gt0-clause-stops : goal.returns-then-steps-gt0-clause-stops
 returns-then-steps-gt0-clause-stops c = λ less.

@@ -20,8 +20,9 @@ returns-clause-quietly c =
     let new : WorldState = with_history c.make_step_within.new.self taken in
     let q = c.make_step_within.ensures.quietly.steps taken in
     let adds = c.make_step_within.ensures.accepted taken in
-    subst (λ (w : WorldState). MakesQuietly w c.args.process c.args.flick c.make_step_within.result new) c.self.view_is
-    (record { access = c.make_step_within.result; adds = adds; shows = q.shows; headline = keeps_headline old new (Step c.args.process c.args.flick) c.args.process _ adds q.shows q.setup; setup = q.setup }, refl)
+    let made = c.make_step_within.result in
+    subst (λ (w : WorldState). MakesQuietly w c.args.process c.args.flick made.access made.overlapped new) c.self.view_is
+    (record { access = made.access; adds = adds; shows = q.shows; headline = keeps_headline old new (Step c.args.process c.args.flick) c.args.process _ adds q.shows q.setup; setup = q.setup }, refl, c.make_step_within.ensures.overlapped taken)
 
 pub returns-clause-fewer : goal.returns-clause-fewer
 returns-clause-fewer c = subst (λ (w : WorldState). left_in w.seats c.args.process ≡ left_in c.make_step_within.new.self.seats c.args.process + 1) c.self.view_is c.make_step_within.ensures.fewer

@@ -7,12 +7,20 @@ use Rattle.world.specs.Changes.{with_taken}
 use Rattle.world.specs.Cores.{call_in, with_history}
 use Rattle.world.specs.Events.{Adds, GoesOn, IsRefused, KeepsTheHeadline}
 use Rattle.world.specs.Shows.{Shows, WorldState}
-use Rattle.world.specs.Walks.{KeepOthers}
+use Rattle.world.specs.Walks.{KeepOthers, TellsOverlapped}
 use Rattle.world.proofs.WorldHeadline.{keeps_headline}
+use Rattle.world.proofs.WorldKeeps.{step_keeps}
 use Rattle.world.proofs.world.World.step.Goals as goal
 
+pub invariant_of-self : goal.invariant_of-self
+invariant_of-self c =
+    let before = c.self.inside.history.items in
+    let last = call_in c.step.new.self.seats c.args.process in
+    step_keeps c.self.inside.core c.step.new.self before c.take.new.history.items c.args.process c.args.flick c.step.new.told _ _ c.self.invariant c.in-Ok.ensures.shows c.in-Ok.ensures.pending
+    (c.take.ensures.items ∙ ap (with_taken before c.args.process last.0 last.1) c.reply.ensures) c.take.ensures.capacity
+
 pub returns-in-Ok-clause-accepted : goal.returns-in-Ok-clause-accepted
-returns-in-Ok-clause-accepted c = subst (λ (w : WorldState). Adds w (Step c.args.process c.args.flick) c.args.process (act_of (length w.history) (record { access = Some c.in-Ok.access; effect = Steps c.step.new.told }))) c.self.view_is (c.in-Ok.ensures.accepted c.self.inside.history.items)
+returns-in-Ok-clause-accepted c = subst (λ (w : WorldState). Adds w (Step c.args.process c.args.flick) c.args.process (act_of (length w.history) (record { access = Some c.in-Ok.made.access; effect = Steps c.step.new.told }))) c.self.view_is (c.in-Ok.ensures.accepted c.self.inside.history.items)
 
 pub returns-in-Ok-clause-shows : goal.returns-in-Ok-clause-shows
 returns-in-Ok-clause-shows c =
@@ -35,7 +43,7 @@ pub returns-in-Ok-clause-headline : goal.returns-in-Ok-clause-headline
 returns-in-Ok-clause-headline c =
     let before = c.self.inside.history.items in
     let last = call_in c.step.new.self.seats c.args.process in
-    subst (λ (w : WorldState). KeepsTheHeadline w c.args.process (act_of (length w.history) (record { access = Some c.in-Ok.access; effect = Steps c.step.new.told }))) c.self.view_is
+    subst (λ (w : WorldState). KeepsTheHeadline w c.args.process (act_of (length w.history) (record { access = Some c.in-Ok.made.access; effect = Steps c.step.new.told }))) c.self.view_is
     (keeps_headline (with_history c.self.inside.core before) (with_history c.step.new.self (with_taken before c.args.process last.0 last.1 (reply_taken (marks_told c.step.new.told)))) (Step c.args.process c.args.flick) c.args.process _
     (c.in-Ok.ensures.accepted before) (c.in-Ok.ensures.shows.goes before) c.in-Ok.ensures.setup)
 
@@ -44,3 +52,6 @@ returns-in-Ok-clause-others c = subst (λ (w : WorldState). KeepOthers w.seats c
 
 pub returns-in-Err-clause-others : goal.returns-in-Err-clause-others
 returns-in-Err-clause-others c = subst (λ (w : WorldState). KeepOthers w.seats c.args.process c.step.new.self.seats) c.self.view_is c.step.ensures.others
+
+pub returns-in-Ok-clause-overlapped : goal.returns-in-Ok-clause-overlapped
+returns-in-Ok-clause-overlapped c = subst (λ (w : WorldState). TellsOverlapped w c.in-Ok.made.access c.in-Ok.made.overlapped) c.self.view_is (c.in-Ok.ensures.overlapped c.self.inside.history.items)
